@@ -1,0 +1,13 @@
+use Rattle.std.proofs.Common.{rules, lit<}
+use Rattle.std.proofs.lemmas.Iterator.Search.{any_from_yields_List}
+use Rattle.std.proofs.lemmas.Iterator.Splits.{YieldsList-from_str_split}
+use Rattle.switch_names.specs.Path.{is_dots}
+use Rattle.switch_names.proofs.path.has_dots.Goals as goal
+use borrow.Author.Tests.{tests}
+
+-- the names are the pieces at which the text is cut
+pub returns : goal.returns
+returns c =
+    any_from_yields_List is_dots _ _ _ c.any.ensures.ran
+    (YieldsList-from_str_split 47 c.args.text.now (lit< tt) c.split.ensures.text c.split.ensures.has_more c.split.ensures.pattern)
+    (λ name b q k. search (rules, tests))

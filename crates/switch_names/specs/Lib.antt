@@ -1,0 +1,2 @@
+pub mod NameFault
+pub mod Path

@@ -1,0 +1,42 @@
+-- Paths of leaves: path_resolution(7), "Step 2: walk along the path", and pathname limits of limits.h(0p).
+use Rattle.std.specs.Prelude.{◌≡◌, ℕ, ◌&&◌, ◌||◌, ◌==◌, Bool, true, false, List, [], ◌∷◌, ◌++◌, length, nat_lt, position, Option, None, Some, option_map, slice_index, nat_eq, if◌then◌else◌}
+use Rattle.std.specs.Option.{option_or}
+use Rattle.std.specs.List.{slice_split, list_any, starts_with}
+use Rattle.switch_names.specs.declared.name_fault.NameFault.{NameFault}
+use Rattle.switch_names.specs.declared.name_fault.NameFault.TheVariants.{Empty, Long, Byte, Dot}
+
+abbrev pub slash : ℕ
+slash = 47
+
+-- the names between the slashes of a text
+abbrev pub names_of : List ℕ → List (List ℕ)
+names_of text = slice_split (λ byte. byte == slash) text
+
+abbrev pub is_empty_name : List ℕ → Bool
+is_empty_name name = length name == 0
+
+-- NUL or a line feed
+abbrev pub is_no_path_byte : ℕ → Bool
+is_no_path_byte byte = byte == 0 || byte == 10
+
+-- one or two dots
+abbrev pub is_dots : List ℕ → Bool
+is_dots (a ∷ []) = a == 46
+is_dots (a ∷ b ∷ []) = a == 46 && b == 46
+is_dots name = false
+
+-- what keeps a text from being a path, in the order in which it is sought
+abbrev pub path_fault : List ℕ → Option NameFault
+path_fault text =
+    if list_any is_empty_name (names_of text) then Some Empty
+    else if nat_lt 4096 (length text) then Some Long
+    else option_or (option_map Byte (position is_no_path_byte text)) (if list_any is_dots (names_of text) then Some Dot else None)
+
+-- a path is names joined by slashes, none empty or of dots alone, in at most 4,096 bytes
+abbrev pub IsPath : List ℕ → Type 0
+IsPath text = path_fault text ≡ None
+
+-- the first path lies strictly below the second: it begins with it and a slash
+abbrev pub is_below : List ℕ → List ℕ → Bool
+is_below path other =
+    nat_lt (length other) (length path) && (starts_with nat_eq path other && slice_index path (length other) == slash)

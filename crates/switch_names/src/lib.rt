@@ -1,0 +1,16 @@
+//! Texts, lists, and the names of paths, units and systems that every other crate speaks of.
+#![tactic(auto)]
+
+mod bytes;
+mod listed;
+mod name_fault;
+mod path;
+
+mod text;
+
+pub use bytes::Bytes;
+pub use listed::Listed;
+pub use name_fault::NameFault;
+pub use path::Path;
+
+pub use text::Text;

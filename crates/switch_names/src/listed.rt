@@ -1,0 +1,87 @@
+//! A list that contracts see as its items.
+ghost use Rattle.std.specs.Prelude.{◌≡◌, ◌<◌, ◌≤◌, ◌++◌, [], ◌∷◌, length, take, drop, Some, OnOk, OnErr, slice_get};
+
+use std::alloc::{AllocError, Global};
+use std::marker::Model;
+
+/// A list of items in order.
+#[derive(Debug, Drop)]
+pub struct Listed<T> {
+    items: Vec<T>,
+}
+
+impl<T> Model for Listed<T> {
+    ghost use Rattle.std.specs.Prelude.{List};
+
+    ghost Value = { List T };
+
+    ghost view = { λ list. list.items.items };
+}
+
+impl<T> Listed<T> {
+    /// The empty list.
+    pub fn new(alloc: Global) -> Listed<T>
+        ensures { result ≡ [] }
+    {
+        Listed {
+            items: Vec::new(alloc),
+        }
+    }
+
+    /// The items of a vector, without a copy.
+    pub fn from_vec(items: Vec<T>) -> Listed<T>
+        ensures { result ≡ items.items }
+    {
+        Listed { items }
+    }
+
+    /// The items as a vector, without a copy.
+    pub fn into_vec(self) -> Vec<T>
+        ensures { result.items ≡ self }
+    {
+        self.items
+    }
+
+    /// Adds an item at the end.
+    ///
+    /// Where memory is wanting, the item is dropped.
+    pub fn push(&mut self, item: T) -> Result<(), AllocError>
+    where
+        T: Drop,
+        ensures ok { OnOk result (self.new ≡ self.old ++ item ∷ []) }
+        ensures err { OnErr result (self.new ≡ self.old) }
+    {
+        self.items.push(item)?;
+        Ok(())
+    }
+
+    /// Puts an item before the one at a place, or at the end.
+    ///
+    /// Where memory is wanting, the item is dropped.
+    pub fn insert(&mut self, at: usize, item: T) -> Result<(), AllocError>
+    where
+        T: Drop,
+        requires { at ≤ length self.old }
+        ensures ok { OnOk result (self.new ≡ take at self.old ++ item ∷ drop at self.old) }
+        ensures err { OnErr result (self.new ≡ self.old) }
+    {
+        self.items.insert(at, item)?;
+        Ok(())
+    }
+
+    /// Takes the item at a place out.
+    pub fn remove(&mut self, at: usize) -> T
+        requires { at < length self.old }
+        ensures taken { slice_get self.old at ≡ Some result }
+        ensures rest { self.old ≡ take at self.new ++ result ∷ drop at self.new }
+    {
+        self.items.remove(at)
+    }
+
+    /// The items, lent.
+    pub fn as_slice(&self) -> &[T]
+        ensures { result.now ≡ self.now }
+    {
+        self.items.as_slice()
+    }
+}
