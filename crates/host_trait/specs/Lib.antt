@@ -1,1 +1,6 @@
+pub mod Change
+pub mod Host
 pub mod Leaf
+pub mod LeafMap
+pub mod Sink
+pub mod World

@@ -2,5 +2,10 @@
 #![tactic(auto)]
 
 mod leaf;
+mod leaf_map;
+mod sink;
+mod tree;
 
 pub use leaf::{Leaf, LeafKind, MODE_MAX};
+pub use sink::{Sink, SinkFault};
+pub use tree::{HostFault, Tree};

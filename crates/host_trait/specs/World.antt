@@ -1,0 +1,102 @@
+-- The world that a run changes: leaves by path, as a file tree without its folders has them.
+use Rattle.std.specs.Prelude.{◌≡◌, ℕ, ◌==◌, ◌&&◌, ◌||◌, not, Bool, true, false, IsTrue, IsSome, List, nat_eq, codes, drop, filter, Option, None, Some, is_none, if◌then◌else◌, refl}
+use Rattle.std.specs.Coded.{Coded, code_by, coded_list, coded_ℕ}
+use Rattle.std.specs.Cmp.Lexicographic.{slice_cmp, pointwise}
+use Rattle.std.specs.FinMap.{FinMap, get, insert, remove, keys, from_entries}
+use Rattle.std.specs.FinMap as map
+use Rattle.std.specs.List.{starts_with}
+use Rattle.std.specs.Ordering.{nat_cmp}
+use Rattle.switch_names.specs.Path.{IsPath, is_below, path_fault}
+use Rattle.host_trait.specs.declared.leaf.LeafKind.{LeafKind}
+use Rattle.host_trait.specs.declared.leaf.LeafKind.TheVariants.{File, Link}
+
+-- paths are in the order of their bytes
+abbrev pub bytes_cmp : List ℕ → List ℕ → Rattle.std.specs.declared.cmp.Ordering.Ordering
+bytes_cmp = slice_cmp nat_cmp
+
+-- the leaves of a tree by path
+abbrev pub Leaves : Type 0
+Leaves = FinMap bytes_cmp LeafKind
+
+-- all that a run sees and changes
+pub record WorldState : Type 0 where
+  pub leaves : Leaves
+
+abbrev pub world_code : Coded LeafKind → Coded WorldState
+world_code leaf = code_by Leaves (map.code (coded_list coded_ℕ) leaf) (λ w. w.leaves) (λ leaves. record { leaves = leaves }) (λ _. refl)
+
+-- whether two paths are equal
+abbrev pub is_path : List ℕ → List ℕ → Bool
+is_path p q = pointwise nat_eq p q
+
+-- whether one of two paths lies strictly below the other
+abbrev pub is_in_line : List ℕ → List ℕ → Bool
+is_in_line p q = is_below p q || is_below q p
+
+-- no leaf stands strictly above or below a path
+abbrev pub IsClear : Leaves → List ℕ → Type 0
+IsClear leaves at = (q : List ℕ) → is_in_line q at ≡ true → get leaves q ≡ None
+
+-- a leaf stands strictly above or below a path
+abbrev pub IsInTheWay : Leaves → List ℕ → Type 0
+IsInTheWay leaves at = (q : List ℕ) × (is_in_line q at ≡ true) × IsSome (get leaves q)
+
+-- leaves stand at paths, and none strictly above or below another
+pub record IsSound (leaves : Leaves) : Type 0 where
+  pub paths : (q : List ℕ) → IsSome (get leaves q) → IsPath q
+  pub apart : (q : List ℕ) → IsSome (get leaves q) → IsClear leaves q
+
+-- the leaf at one path is moved to another
+abbrev pub with_moved : Leaves → List ℕ → List ℕ → Option LeafKind → Leaves
+with_moved leaves from to None = leaves
+with_moved leaves from to (Some leaf) = insert (remove leaves from) to leaf
+
+abbrev pub moved : Leaves → List ℕ → List ℕ → Leaves
+moved leaves from to = with_moved leaves from to (get leaves from)
+
+-- where a leaf is written before it takes its place
+unfoldable pub stage : List ℕ
+stage = codes "nix/var/nixswitch.stage"
+
+-- the world without the leaf at the stage
+abbrev pub seen : WorldState → WorldState
+seen w = record w { leaves = remove w.leaves stage }
+
+-- the world with a leaf put at a path
+abbrev pub with_leaf : List ℕ → LeafKind → WorldState → WorldState
+with_leaf at leaf w = record w { leaves = insert w.leaves at leaf }
+
+-- the world without the leaf at a path
+abbrev pub without_leaf : List ℕ → WorldState → WorldState
+without_leaf at w = record w { leaves = remove w.leaves at }
+
+-- whether a path equals another or lies below it, and isn't the stage
+abbrev pub is_listed : List ℕ → List ℕ → Bool
+is_listed under q = (is_path q under || is_below q under) && not (is_path q stage)
+
+-- the paths of the leaves at or below a path, in order
+abbrev pub listed : List ℕ → Leaves → List (List ℕ)
+listed under leaves = filter (is_listed under) (keys leaves)
+
+-- the bytes of a leaf that is a file
+abbrev pub file_bytes : Option LeafKind → Option (List ℕ)
+file_bytes None = None
+file_bytes (Some (File bytes mode uid gid)) = Some bytes
+file_bytes (Some (Link target)) = None
+
+-- the path in the store that a link's target names
+abbrev pub store_place : List ℕ → Option (List ℕ)
+store_place target = if starts_with nat_eq target (codes "/nix/store/") && is_none (path_fault (drop 1 target)) then Some (drop 1 target) else None
+
+abbrev pub file_at : Leaves → Option (List ℕ) → Option (List ℕ)
+file_at leaves None = None
+file_at leaves (Some at) = file_bytes (get leaves at)
+
+abbrev pub leaf_content : Leaves → Option LeafKind → Option (List ℕ)
+leaf_content leaves None = None
+leaf_content leaves (Some (File bytes mode uid gid)) = Some bytes
+leaf_content leaves (Some (Link target)) = file_at leaves (store_place target)
+
+-- the bytes of the file at a path, or of the file in the store that a link there leads to
+abbrev pub content_of : Leaves → List ℕ → Option (List ℕ)
+content_of leaves at = leaf_content leaves (get leaves at)
