@@ -1,14 +1,18 @@
 //! Leaves by path, in std's ordered map.
-ghost use Rattle.std.specs.Prelude.{◌≡◌, IfOk, OnOk, OnErr, IsSome, IsOk};
+ghost use Rattle.std.specs.Prelude.{◌≡◌, ◌≢◌, IfOk, OnOk, OnErr, IsErrOf, IsSome, IsOk, MatchBool};
 ghost use Rattle.std.specs.FinMap.{get, insert, remove};
+ghost use Rattle.std.specs.BTreeMap.{keys};
+ghost use Rattle.std.specs.List.{list_any};
 ghost use Rattle.std.specs.Option.{option_copied};
-ghost use Rattle.host_trait.specs.World.{is_path, is_listed, listed, moved, stage};
+ghost use Rattle.switch_names.specs.Path.{IsPath};
+ghost use Rattle.host_trait.specs.World.{IsClear, IsInTheWay, IsSound, is_path, is_in_line, is_listed, listed, moved, stage};
 ghost use Rattle.host_trait.specs.LeafMap.{leaves_of};
 
 use crate::leaf::Leaf;
+use crate::world_fault::WorldFault;
 use std::alloc::{AllocError, Global};
 use std::collections::BTreeMap;
-use switch_names::{Listed, Path};
+use switch_names::{Bytes, Listed, Path};
 
 /// The place at which a leaf is written before it takes its own.
 const STAGE: &str = "nix/var/nixswitch.stage";
@@ -30,6 +34,7 @@ pub fn put_leaf(
     ensures ok { OnOk result (leaves_of leaves.new ≡ insert (leaves_of leaves.old) at leaf) }
     ensures err { OnErr result (leaves_of leaves.new ≡ leaves_of leaves.old) }
     ensures present { IsSome (get (leaves_of leaves.old) at) → IsOk result }
+    ensures sound { IsPath at → IsClear (leaves_of leaves.old) at → IsSound (leaves_of leaves.old) → IsSound (leaves_of leaves.new) }
 {
     Ok(leaves.insert(at, leaf)?)
 }
@@ -38,6 +43,7 @@ pub fn put_leaf(
 pub fn remove_leaf(leaves: &mut BTreeMap<Path, Leaf>, at: &Path) -> Option<Leaf>
     ensures was { result ≡ get (leaves_of leaves.old) at.now }
     ensures removed { leaves_of leaves.new ≡ remove (leaves_of leaves.old) at.now }
+    ensures sound { IsSound (leaves_of leaves.old) → IsSound (leaves_of leaves.new) }
 {
     leaves.remove(at)
 }
@@ -72,4 +78,70 @@ pub fn list_leaves(
         }
     }
     Ok(paths)
+}
+
+/// Whether a path lies strictly above or below another.
+fn is_in_line(path: &Path, other: &Path) -> bool
+    ensures { result ≡ is_in_line path.now other.now }
+{
+    path.is_below(other) || other.is_below(path)
+}
+
+/// Whether some key lies strictly above or below a path.
+fn any_in_line(leaves: &BTreeMap<Path, Leaf>, at: &Path) -> bool
+    ensures { result ≡ list_any (λ q. is_in_line q at.now) (keys leaves.now) }
+{
+    leaves.keys().any(|path| is_in_line(path, at))
+}
+
+/// Whether a leaf stands strictly above or below a path.
+fn has_in_line(leaves: &BTreeMap<Path, Leaf>, at: &Path) -> bool
+    ensures { MatchBool result (IsInTheWay (leaves_of leaves.now) at.now) (IsClear (leaves_of leaves.now) at.now) }
+{
+    any_in_line(leaves, at)
+}
+
+/// Puts a leaf at a path where none stands strictly above or below, and answers the one there.
+pub fn set_entry(
+    leaves: &mut BTreeMap<Path, Leaf>,
+    at: Path,
+    leaf: Leaf,
+) -> Result<Option<Leaf>, WorldFault>
+    ensures was { IfOk result (λ was. was ≡ get (leaves_of leaves.old) at) }
+    ensures ok { OnOk result (leaves_of leaves.new ≡ insert (leaves_of leaves.old) at leaf) }
+    ensures blocked { IsErrOf result WorldFault.Blocked → IsInTheWay (leaves_of leaves.old) at }
+    ensures in_the_way { IsInTheWay (leaves_of leaves.old) at → IsErrOf result WorldFault.Blocked }
+    ensures err { OnErr result (leaves_of leaves.new ≡ leaves_of leaves.old) }
+    ensures sound { IsSound (leaves_of leaves.old) → IsSound (leaves_of leaves.new) }
+{
+    if has_in_line(leaves, &at) {
+        return Err(WorldFault::Blocked);
+    }
+    let _path = at.as_str();
+    Ok(put_leaf(leaves, at, leaf)?)
+}
+
+/// Moves the leaf at a path to another, and answers the one that stood there.
+pub fn move_entry(
+    alloc: Global,
+    leaves: &mut BTreeMap<Path, Leaf>,
+    from: &Path,
+    to: &Path,
+) -> Result<Option<Leaf>, AllocError>
+    requires present { IsSome (get (leaves_of leaves.old) from.now) }
+    requires other { to.now ≢ from.now }
+    ensures was { IfOk result (λ was. was ≡ get (leaves_of leaves.old) to.now) }
+    ensures ok { OnOk result (leaves_of leaves.new ≡ moved (leaves_of leaves.old) from.now to.now) }
+    ensures err { OnErr result (leaves_of leaves.new ≡ leaves_of leaves.old) }
+    ensures sound { IsClear (leaves_of leaves.old) to.now → IsSound (leaves_of leaves.old) → IsSound (leaves_of leaves.new) }
+{
+    let _path = to.as_str();
+    let first = to.copy(alloc)?;
+    let second = to.copy(alloc)?;
+    // An empty file keeps the place, so that the second insertion takes no memory.
+    let blank = Leaf::file(Bytes::from_vec(Vec::new(alloc)), 0, 0, 0);
+    let was = put_leaf(leaves, first, blank)?;
+    let leaf = remove_leaf(leaves, from).unwrap();
+    let _blank = put_leaf(leaves, second, leaf).unwrap();
+    Ok(was)
 }

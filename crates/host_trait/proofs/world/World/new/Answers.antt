@@ -1,0 +1,8 @@
+use Rattle.std.proofs.Common.{subst, sym, ap, List, ℕ}
+use Rattle.std.specs.FinMap.{from_entries}
+use Rattle.host_trait.proofs.Sound.{sound_empty, sound_same}
+use Rattle.host_trait.specs.World.{bytes_cmp}
+use Rattle.host_trait.proofs.world.World.new.Goals as goal
+
+pub invariant_of-result : goal.invariant_of-result
+invariant_of-result c = sound_same _ _ (ap (from_entries {R = bytes_cmp}) c.new.ensures.empty) sound_empty
