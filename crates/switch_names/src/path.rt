@@ -47,7 +47,7 @@ fn has_empty_name(text: &str) -> bool
 }
 
 /// Whether a name is one or two dots.
-fn is_dots(name: &[u8]) -> bool
+pub(crate) fn is_dots(name: &[u8]) -> bool
     ensures { result ≡ is_dots name.now }
 {
     match name {
@@ -101,6 +101,16 @@ impl Path {
         if let Some(fault) = fault_of(text) {
             return Err(fault);
         }
+        Ok(Path {
+            text: Text::from_str(alloc, text)?,
+        })
+    }
+
+    /// The path of a text that is known to be one.
+    pub(crate) fn of_checked(alloc: Global, text: &str) -> Result<Path, AllocError>
+        requires { IsPath text.now }
+        ensures { IfOk result (λ path. path ≡ text.now) }
+    {
         Ok(Path {
             text: Text::from_str(alloc, text)?,
         })
