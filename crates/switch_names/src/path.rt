@@ -8,6 +8,7 @@ use crate::name_fault::NameFault;
 use crate::text::Text;
 use std::alloc::{AllocError, Global};
 use std::cmp::Ordering;
+use std::hash::{Hash, Hasher};
 use std::marker::Model;
 
 /// The most bytes that a path has.
@@ -211,5 +212,19 @@ impl Ord for Path {
 
     fn cmp(&self, other: &Path) -> Ordering {
         self.text.cmp(&other.text)
+    }
+}
+
+impl Hash for Path {
+    ghost use Rattle.std.specs.Hash as fed;
+    ghost use Rattle.std.specs.Cmp.Rules.{hashing};
+    ghost use Rattle.std.proofs.Common.{rules};
+
+    ghost hash_input = { λ path. fed.str path };
+
+    ghost respects_eq = { Prim.search (hashing, rules) };
+
+    fn hash<H: Hasher>(&self, state: &mut H) {
+        self.text.hash(state);
     }
 }
