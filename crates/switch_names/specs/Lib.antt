@@ -1,2 +1,3 @@
 pub mod NameFault
 pub mod Path
+pub mod SystemName

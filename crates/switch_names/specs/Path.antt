@@ -1,5 +1,5 @@
 -- Paths of leaves: path_resolution(7), "Step 2: walk along the path", and pathname limits of limits.h(0p).
-use Rattle.std.specs.Prelude.{◌≡◌, ℕ, ◌&&◌, ◌||◌, ◌==◌, Bool, true, false, List, [], ◌∷◌, ◌++◌, length, nat_lt, position, Option, None, Some, option_map, slice_index, nat_eq, if◌then◌else◌}
+use Rattle.std.specs.Prelude.{◌≡◌, ℕ, ◌&&◌, ◌||◌, ◌==◌, Bool, false, List, [], ◌∷◌, length, nat_lt, position, Option, None, Some, option_map, slice_index, nat_eq, if◌then◌else◌}
 use Rattle.std.specs.Option.{option_or}
 use Rattle.std.specs.List.{slice_split, list_any, starts_with}
 use Rattle.switch_names.specs.declared.name_fault.NameFault.{NameFault}

@@ -5,12 +5,12 @@ mod bytes;
 mod listed;
 mod name_fault;
 mod path;
-
+mod system_name;
 mod text;
 
 pub use bytes::Bytes;
 pub use listed::Listed;
 pub use name_fault::NameFault;
 pub use path::Path;
-
+pub use system_name::SystemName;
 pub use text::Text;

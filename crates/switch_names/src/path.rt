@@ -8,6 +8,7 @@ use crate::name_fault::NameFault;
 use crate::text::Text;
 use std::alloc::{AllocError, Global};
 use std::cmp::Ordering;
+use std::hash::{Hash, Hasher};
 use std::marker::Model;
 
 /// The most bytes that a path has.
@@ -47,7 +48,7 @@ fn has_empty_name(text: &str) -> bool
 }
 
 /// Whether a name is one or two dots.
-fn is_dots(name: &[u8]) -> bool
+pub(crate) fn is_dots(name: &[u8]) -> bool
     ensures { result ≡ is_dots name.now }
 {
     match name {
@@ -101,6 +102,16 @@ impl Path {
         if let Some(fault) = fault_of(text) {
             return Err(fault);
         }
+        Ok(Path {
+            text: Text::from_str(alloc, text)?,
+        })
+    }
+
+    /// The path of a text that is known to be one.
+    pub(crate) fn of_checked(alloc: Global, text: &str) -> Result<Path, AllocError>
+        requires { IsPath text.now }
+        ensures { IfOk result (λ path. path ≡ text.now) }
+    {
         Ok(Path {
             text: Text::from_str(alloc, text)?,
         })
@@ -201,5 +212,19 @@ impl Ord for Path {
 
     fn cmp(&self, other: &Path) -> Ordering {
         self.text.cmp(&other.text)
+    }
+}
+
+impl Hash for Path {
+    ghost use Rattle.std.specs.Hash as fed;
+    ghost use Rattle.std.specs.Cmp.Rules.{hashing};
+    ghost use Rattle.std.proofs.Common.{rules};
+
+    ghost hash_input = { λ path. fed.str path };
+
+    ghost respects_eq = { Prim.search (hashing, rules) };
+
+    fn hash<H: Hasher>(&self, state: &mut H) {
+        self.text.hash(state);
     }
 }
