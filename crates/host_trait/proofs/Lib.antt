@@ -1,2 +1,4 @@
+pub mod Moments
 pub mod Places
 pub mod Sound
+pub mod StoreTexts

@@ -118,6 +118,14 @@ impl Leaf {
         &self.kind
     }
 
+    /// What stands there, as its parts.
+    pub fn into_kind(self) -> LeafKind
+        ensures kind { result ≡ self }
+        ensures is_leaf { IsLeaf self }
+    {
+        self.kind
+    }
+
     /// Whether the two are equal in all that belongs to them.
     pub fn same(&self, other: &Leaf) -> bool
         ensures { IsTrue result ↔ (self.now ≡ other.now) }

@@ -50,14 +50,12 @@ pub trait Tree {
     /// The leaf at a path.
     fn read(&mut self, alloc: Global, at: &Path) -> Result<Option<Leaf>, HostFault>
         ensures leaf { IfOk result (λ leaf. Told (host self.old) (λ w. leaf ≡ get w.leaves at.now)) }
-        ensures same { Becomes (host self.old) (host self.new) (λ w. w) }
         ensures moments { Passes (host self.old) (host self.new) IsSame }
         ensures cause { HasCause (host self.old) (host self.new) result };
 
     /// The paths of the leaves at or below a path, in byte order, without the stage.
     fn list(&mut self, alloc: Global, under: &Path) -> Result<Listed<Path>, HostFault>
         ensures paths { IfOk result (λ paths. Told (host self.old) (λ w. paths ≡ listed under.now w.leaves)) }
-        ensures same { Becomes (host self.old) (host self.new) (λ w. w) }
         ensures moments { Passes (host self.old) (host self.new) IsSame }
         ensures cause { HasCause (host self.old) (host self.new) result };
 
