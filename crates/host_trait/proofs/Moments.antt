@@ -25,6 +25,10 @@ module _ {a : HostState} where
     silent = λ none. none;
   }
 
+-- a weaker property
+pub told_as : {a : HostState} {P : WorldState → Type 0} → Told a P → (Q : WorldState → Type 0) → ((w : WorldState) → a.world ≡ Some w → P w → Q w) → Told a Q
+told_as told Q weaker = record { has = λ w is. weaker w is (told.has w is) }
+
 module _ {a b : HostState} where
   -- a weaker relation
   pub leads_as :

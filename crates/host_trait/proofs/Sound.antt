@@ -89,8 +89,15 @@ still_none m at q r leaf clear sound is line = elim (same_or_other q at) [
   | inr other ↦ sound.apart q (present_before m at q leaf other is) r line
 ]
 
-get_other : (m : Leaves) (at r : List ℕ) (leaf : LeafKind) → eq_by_cmp bytes_cmp r at ≡ false → get (insert m at leaf) r ≡ get m r
+pub get_other : (m : Leaves) (at r : List ℕ) (leaf : LeafKind) → eq_by_cmp bytes_cmp r at ≡ false → get (insert m at leaf) r ≡ get m r
 get_other m at r leaf other = grind (gets, rules)
+
+-- a leaf put where it is in line with no path in question leaves that clear
+pub clear_insert : (m : Leaves) (at p : List ℕ) (leaf : LeafKind) → is_in_line at p ≡ false → IsClear m p → IsClear (insert m at leaf) p
+clear_insert m at p leaf apart clear q line = elim (same_or_other q at) [
+  | inl same ↦ absurd (both_ways _ apart (subst (λ x. is_in_line x p ≡ true) same line))
+  | inr other ↦ get_other m at q leaf other ∙ clear q line
+]
 
 pub sound_insert : (m : Leaves) (at : List ℕ) (leaf : LeafKind) → IsPath at → IsClear m at → IsSound m → IsSound (insert m at leaf)
 sound_insert m at leaf path clear sound = record {
