@@ -1,0 +1,30 @@
+use Rattle.std.proofs.Common.{◌≡◌, refl, sym, ap, subst, ◌∙◌, inl}
+use Rattle.host_trait.specs.World.{seen, with_leaf}
+use Rattle.host_trait.proofs.Moments.{same_as, same_then, leads_as, leads_then, told_after}
+use Rattle.host_trait.proofs.Seen.{same_leaf}
+use Rattle.tree_put.specs.Put.{IsOldOrNew, CanPut}
+use Rattle.tree_put.proofs.places.put_if_other.Goals as goal
+
+pub returns-in_err-stands-clause-moments : goal.returns-in_err-stands-clause-moments
+returns-in_err-stands-clause-moments g c = same_as c.read.ensures.moments (IsOldOrNew c.args.at.now c.args.leaf.now) (λ w is. inl refl)
+
+pub returns-then-is_leaf-clause-ok : goal.returns-then-is_leaf-clause-ok
+returns-then-is_leaf-clause-ok g c =
+    leads_as c.read.ensures.moments.tells (λ w v. seen v ≡ seen (with_leaf c.args.at.now c.args.leaf.now w))
+    (λ w v is same. ap seen (same ∙ sym (same_leaf c.args.at.now c.args.leaf.now w (sym (c.in_ok-stands.ensures.leaf.has w is) ∙ c.if-is_leaf.ensures))))
+
+pub returns-then-is_leaf-clause-moments : goal.returns-then-is_leaf-clause-moments
+returns-then-is_leaf-clause-moments g c = same_as c.read.ensures.moments (IsOldOrNew c.args.at.now c.args.leaf.now) (λ w is. inl refl)
+
+pub returns-in_err-put-clause-moments : goal.returns-in_err-put-clause-moments
+returns-in_err-put-clause-moments g c =
+    same_then c.read.ensures.moments c.put.ensures.moments (IsOldOrNew c.args.at.now c.args.leaf.now) (λ w is. inl refl) (λ w m is moment. moment)
+
+pub returns-clause-ok : goal.returns-clause-ok
+returns-clause-ok g c =
+    leads_then c.read.ensures.moments.tells c.in_ok-put.ensures.ok (λ w v. seen v ≡ seen (with_leaf c.args.at.now c.args.leaf.now w))
+    (λ w v u is_w is_v same done. subst (λ x. seen u ≡ seen (with_leaf c.args.at.now c.args.leaf.now x)) same done)
+
+pub returns-clause-moments : goal.returns-clause-moments
+returns-clause-moments g c =
+    same_then c.read.ensures.moments c.put.ensures.moments (IsOldOrNew c.args.at.now c.args.leaf.now) (λ w is. inl refl) (λ w m is moment. moment)

@@ -1,0 +1,6 @@
+//! Puts a leaf in its place in one step, whatever cuts the process.
+#![tactic(auto)]
+
+mod places;
+
+pub use places::{drop_leaf, put, put_if_other};
