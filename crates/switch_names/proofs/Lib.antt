@@ -1,3 +1,5 @@
+pub mod Endings
 pub mod Faultless
 pub mod Positions
 pub mod StorePaths
+pub mod UnitNames

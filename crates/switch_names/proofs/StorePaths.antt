@@ -6,7 +6,7 @@ use Rattle.std.proofs.lemmas.Slice.Eq.{starts_is}
 use Rattle.std.proofs.lemmas.List.Splits.{slice_split_none}
 use Rattle.std.proofs.lemmas.List.Elements.{All-weaker, All-append, All-from_recursion}
 use Rattle.switch_names.specs.Path.{IsPath, names_of, slash, is_dots, is_empty_name, is_no_path_byte}
-use Rattle.switch_names.specs.declared.name_fault.NameFault.TheVariants.{Byte}
+use Rattle.switch_names.specs.declared.name_fault.NameFault.TheVariants.{Byte, Dot}
 use Rattle.switch_names.specs.SystemName.{IsSystemPath, NamesSystem, system_fault, system_path, store_folder, store_name, store_name_fault, is_no_store_byte}
 use Rattle.switch_names.proofs.Faultless.{HasNone-from_sought, sought-from_HasNone, no_place, of_kind}
 use Rattle.switch_names.proofs.Positions.{All-from_no_position, no_position-from_All}
@@ -20,19 +20,19 @@ pub record IsStoreName (name : List ℕ) : Type 0 where
 
 pub IsStoreName-from_fault : (start : ℕ) (name : List ℕ) → store_name_fault start name ≡ None → IsStoreName name
 IsStoreName-from_fault start name none =
-    let found = HasNone-from_sought (length name == 0) (nat_lt 255 (length name)) (option_map (λ at. Byte (start + at)) (position is_no_store_byte name)) (is_dots name) none in
+    let found = HasNone-from_sought (length name == 0) (nat_lt 255 (length name)) (option_map (λ at. Byte (start + at)) (position is_no_store_byte name)) (is_dots name) Dot none in
     record {
       nonempty = found.not_empty;
       short = search rules;
       bytes = All-from_no_position is_no_store_byte name (no_place (λ at. Byte (start + at)) _ found.no_byte);
-      not_dots = found.not_dots;
+      not_dots = found.not_last;
     }
 
 pub no_fault-from_IsStoreName : (start : ℕ) (name : List ℕ) → IsStoreName name → store_name_fault start name ≡ None
 no_fault-from_IsStoreName start name is =
     let no_byte = no_position-from_All is_no_store_byte name is.bytes in
-    sought-from_HasNone (length name == 0) (nat_lt 255 (length name)) (option_map (λ at. Byte (start + at)) (position is_no_store_byte name)) (is_dots name)
-    record { not_empty = is.nonempty; not_long = grind (arith, is.short); no_byte = rw no_byte; not_dots = is.not_dots }
+    sought-from_HasNone (length name == 0) (nat_lt 255 (length name)) (option_map (λ at. Byte (start + at)) (position is_no_store_byte name)) (is_dots name) Dot
+    record { not_empty = is.nonempty; not_long = grind (arith, is.short); no_byte = rw no_byte; not_last = is.not_dots }
 
 -- a path that begins with the folder of the store is that folder and the rest
 pub store_path_is : (path : List ℕ) → starts_with nat_eq path store_folder ≡ true → path ≡ store_folder ++ store_name path
@@ -57,12 +57,12 @@ IsPath-from_name name is =
     let path : List ℕ = store_folder ++ name in
     let folder : All (λ byte. is_no_path_byte byte ≡ false) store_folder = All-from_recursion (λ byte. is_no_path_byte byte ≡ false) store_folder (search rules) in
     let bytes = no_position-from_All is_no_path_byte path (All-append (λ byte. is_no_path_byte byte ≡ false) store_folder name folder (All-weaker (λ byte. is_no_store_byte byte ≡ false) (λ byte. is_no_path_byte byte ≡ false) path_byte name is.bytes)) in
-    sought-from_HasNone (list_any is_empty_name (names_of path)) (nat_lt 4096 (length path)) (option_map Byte (position is_no_path_byte path)) (list_any is_dots (names_of path))
+    sought-from_HasNone (list_any is_empty_name (names_of path)) (nat_lt 4096 (length path)) (option_map Byte (position is_no_path_byte path)) (list_any is_dots (names_of path)) Dot
     record {
       not_empty = ap (list_any is_empty_name) names ∙ ap (λ empty. empty || false) is.nonempty;
       not_long = grind (arith, is.short, length-append {A = ℕ});
       no_byte = ap (option_map Byte) bytes;
-      not_dots = ap (list_any is_dots) names ∙ ap (λ dots. dots || false) is.not_dots;
+      not_last = ap (list_any is_dots) names ∙ ap (λ dots. dots || false) is.not_dots;
     }
 
 -- a path of the store, by its parts

@@ -1,3 +1,5 @@
 pub mod NameFault
 pub mod Path
 pub mod SystemName
+pub mod UnitKind
+pub mod UnitName

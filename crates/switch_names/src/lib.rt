@@ -7,6 +7,8 @@ mod name_fault;
 mod path;
 mod system_name;
 mod text;
+mod unit_kind;
+mod unit_name;
 
 pub use bytes::Bytes;
 pub use listed::Listed;
@@ -14,3 +16,5 @@ pub use name_fault::NameFault;
 pub use path::Path;
 pub use system_name::SystemName;
 pub use text::Text;
+pub use unit_kind::UnitKind;
+pub use unit_name::UnitName;
