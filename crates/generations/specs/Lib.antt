@@ -1,2 +1,3 @@
 pub mod Gens
 pub mod Places
+pub mod Set
