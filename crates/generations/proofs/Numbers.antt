@@ -51,8 +51,8 @@ greatest_same test other (suc n) same =
 -- a generation stands at numbers alone
 pub stands_at_number : (leaves : Leaves) (n : ℕ) → IsSome (generation_at leaves n) → is_number n ≡ true
 stands_at_number leaves n is = elim (cases_Bool (is_number n)) [
-  | inl yes ↦ yes
-  | inr no' ↦ absurd (both_ways _ (ap (λ b. is_some (cond b (option_map Rattle.generations.specs.Places.target_of (Rattle.std.specs.FinMap.get leaves (Rattle.generations.specs.Places.link_path n))) None)) no') is)
+  | inl is_one ↦ is_one
+  | inr is_none_such ↦ absurd (both_ways _ (ap (λ b. is_some (cond b (option_map Rattle.generations.specs.Places.target_of (Rattle.std.specs.FinMap.get leaves (Rattle.generations.specs.Places.link_path n))) None)) is_none_such) is)
 ]
 
 below_bound : (n : ℕ) → is_number n ≡ true → n < 2 ^ 32
@@ -72,7 +72,7 @@ unfolding highest
 highest_same m n same = greatest_same (λ k. is_some (generation_at m k)) (λ k. is_some (generation_at n k)) (2 ^ 32) (λ k. ap is_some (same k))
 
 -- a generation that is the last of a list that rises
-record Lasts (list : List Gen) (last : Gen) : Type 0 where
+record Lasts (list : List Gen) (last : Gen) : Type 1 where
   found : find (λ gen. gen.number == last.number) list ≡ Some last
   above : (m : ℕ) → last.number < m → find (λ gen. gen.number == m) list ≡ None
   member : (P : ℕ → Type 0) → AllByRecursion P (map (λ gen. gen.number) list) → P last.number
@@ -106,10 +106,8 @@ last_is (x ∷ y ∷ rest) last sorted is =
 empty_of_last : (list : List Gen) → slice_get list (length list - 1) ≡ None → list ≡ []
 empty_of_last [] is = refl
 empty_of_last (x ∷ []) is = absurd (cc)
-empty_of_last (x ∷ y ∷ rest) is = absurd (nothing_more (y ∷ rest) (omega arith) (sym (last_of_more x (y ∷ rest) (omega arith)) ∙ is))
-  where
-  nothing_more : (list : List Gen) → 0 < length list → slice_get list (length list - 1) ≡ None → ⊥
-  nothing_more list more is = let none = empty_of_last list is in omega (arith, ap length none)
+empty_of_last (x ∷ y ∷ rest) is =
+    let none = empty_of_last (y ∷ rest) (sym (last_of_more x (y ∷ rest) (omega arith)) ∙ is) in absurd (omega (arith, ap length none))
 
 -- what the last generation of a world's list says of the world
 pub record IsLastOf (leaves : Leaves) (last : Option Gen) : Type 0 where

@@ -1,5 +1,5 @@
 //! Generations of the system profile, and the numbers that they give.
-ghost use Rattle.std.specs.Prelude.{◌≡◌, Some};
+ghost use Rattle.std.specs.Prelude.{◌≡◌, ◌&&◌, Some, nat_lt, is_some};
 ghost use Rattle.generations.specs.Gens.{is_highest_of, number_for_in, previous_in};
 ghost use Rattle.generations.specs.Places.{is_of};
 
@@ -57,6 +57,13 @@ pub fn is_highest_of(gens: &Gens, system: &SystemName) -> bool
     }
 }
 
+/// Whether a generation lies below a number and names a system.
+fn is_earlier(generation: &Gen, current: u32) -> bool
+    ensures { result ≡ (nat_lt generation.now.number current && is_some generation.now.target) }
+{
+    generation.number < current && generation.target.is_some()
+}
+
 /// The greatest number below the current one whose generation names a system.
 pub fn previous(gens: &Gens) -> Option<u32>
     ensures { result ≡ previous_in gens.now.list gens.now.current }
@@ -64,7 +71,7 @@ pub fn previous(gens: &Gens) -> Option<u32>
     let current = gens.current?;
     let mut latest = None;
     for generation in gens.list.as_slice() {
-        if generation.number < current && generation.target.is_some() {
+        if is_earlier(generation, current) {
             latest = Some(generation.number);
         }
     }

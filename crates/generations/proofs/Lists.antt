@@ -1,0 +1,35 @@
+-- Lists of generations with one more at their end.
+use Rattle.std.proofs.Common.{◌≡◌, ◌+◌, ◌<◌, ℕ, Bool, true, false, cond, ◌&&◌, nat_lt, List, [], ◌∷◌, ◌++◌, length, take, get_or, Some, refl, sym, ap, ◌∙◌}
+use Rattle.std.proofs.lemmas.List.{append-nil, take_more}
+use Rattle.std.proofs.lemmas.List.Elements.{filter-append}
+use Rattle.std.specs.List.{filter}
+use Rattle.std.specs.Option.{is_some}
+use Rattle.generations.specs.declared.gens.Gen.{Gen}
+use Rattle.generations.specs.Gens.{last_number, previous_in}
+
+last_of_more : (list : List Gen) (gen : Gen) → last_number (list ++ gen ∷ []) ≡ Some gen.number
+last_of_more [] gen = refl
+last_of_more (one ∷ []) gen = refl
+last_of_more (one ∷ two ∷ rest) gen = last_of_more (two ∷ rest) gen
+
+-- the last number of a list and a choice of one more
+last_and_chosen : (list : List Gen) (gen : Gen) (chosen : Bool) → last_number (list ++ cond chosen (gen ∷ []) []) ≡ cond chosen (Some gen.number) (last_number list)
+last_and_chosen list gen true = last_of_more list gen
+last_and_chosen list gen false = ap last_number (append-nil list)
+
+last_filtered : (p : Gen → Bool) (list : List Gen) (gen : Gen) → last_number (filter p (list ++ gen ∷ [])) ≡ cond (p gen) (Some gen.number) (last_number (filter p list))
+last_filtered p list gen = ap last_number (filter-append p list (gen ∷ [])) ∙ last_and_chosen (filter p list) gen (p gen)
+
+module _ (list : List Gen) (i current : ℕ) (gen : Gen) (within : i < length list) (is : gen ≡ get_or list i gen) where
+  previous_more : previous_in (take (i + 1) list) (Some current) ≡ cond (nat_lt gen.number current && is_some gen.target) (Some gen.number) (previous_in (take i list) (Some current))
+  previous_more =
+      ap (λ l. previous_in l (Some current)) (take_more list i gen within ∙ ap (λ g. take i list ++ g ∷ []) (sym is))
+      ∙ last_filtered (λ g. nat_lt g.number current && is_some g.target) (take i list) gen
+
+  -- one generation more is the previous one where it may be
+  pub previous_chosen : (nat_lt gen.number current && is_some gen.target) ≡ true → previous_in (take (i + 1) list) (Some current) ≡ Some gen.number
+  previous_chosen may = previous_more ∙ ap (λ b. cond b (Some gen.number) (previous_in (take i list) (Some current))) may
+
+  -- and else it leaves the previous one as it is
+  pub previous_passed : (nat_lt gen.number current && is_some gen.target) ≡ false → previous_in (take (i + 1) list) (Some current) ≡ previous_in (take i list) (Some current)
+  previous_passed may = previous_more ∙ ap (λ b. cond b (Some gen.number) (previous_in (take i list) (Some current))) may
