@@ -1,2 +1,4 @@
+pub mod Apart
 pub mod Lists
 pub mod Numbers
+pub mod SetLemmas

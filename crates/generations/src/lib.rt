@@ -2,7 +2,7 @@
 #![tactic(auto)]
 
 mod gens;
-// mod setting;
+mod setting;
 
 pub use gens::{Gen, Gens, number_for, previous};
-// pub use setting::{SetFault, point, set};
+pub use setting::{SetFault, point, set};
