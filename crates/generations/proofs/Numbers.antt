@@ -55,7 +55,7 @@ stands_at_number leaves n is = elim (cases_Bool (is_number n)) [
   | inr is_none_such ↦ absurd (both_ways _ (ap (λ b. is_some (cond b (option_map Rattle.generations.specs.Places.target_of (Rattle.std.specs.FinMap.get leaves (Rattle.generations.specs.Places.link_path n))) None)) is_none_such) is)
 ]
 
-below_bound : (n : ℕ) → is_number n ≡ true → n < 2 ^ 32
+pub below_bound : (n : ℕ) → is_number n ≡ true → n < 2 ^ 32
 below_bound n is = grind arith
 
 pub highest_is : (leaves : Leaves) (k : ℕ) → IsSome (generation_at leaves k) → ((m : ℕ) → k < m → generation_at leaves m ≡ None) → highest leaves ≡ k

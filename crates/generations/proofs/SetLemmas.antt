@@ -32,10 +32,11 @@ clear_with_generation system n w p apart clear =
       | false ↦ clear_insert w.leaves (link_path n) p (Link (link_target system)) apart clear
     ]
 
-pub can_put_link : (system : List ℕ) (n : ℕ) (at : List ℕ) (w : WorldState) → at ≡ link_path n → n ≡ number_after w.leaves system → CanSet system w → CanPut at w
-can_put_link system n at w place number can = record {
+pub can_put_link : (system : List ℕ) (n : ℕ) (at : List ℕ) (w : WorldState) → at ≡ link_path n → n ≡ number_after w.leaves system →
+    is_of (generation_at w.leaves (highest w.leaves)) system ≡ false → CanSet system w → CanPut at w
+can_put_link system n at w place number other can = record {
   stage = can.stage;
-  place = subst (λ p. IsClear w.leaves p) (sym (place ∙ ap link_path number)) can.link;
+  place = subst (λ p. IsClear w.leaves p) (sym (place ∙ ap link_path number)) (can.link other);
 }
 
 pub can_point : (system : List ℕ) (w v : WorldState) → CanSet system w → seen v ≡ link_end system w → CanPut profile v

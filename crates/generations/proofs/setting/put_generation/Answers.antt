@@ -30,7 +30,8 @@ put-requires-clause-apart g c = subst (λ p. AreApart p stage) (sym c.in_ok-at.e
 pub put-requires-clause-can : goal.put-requires-clause-can
 put-requires-clause-can g c = told_as c.requires.can (CanPut c.in_ok-at.at) (λ w is can.
     can_put_link c.args.system.now c.args.number c.in_ok-at.at w c.in_ok-at.ensures
-    (number_of_world w.leaves c.args.gens.now c.args.system.now c.args.number (c.requires.gens.has w is) c.requires.number) can)
+    (number_of_world w.leaves c.args.gens.now c.args.system.now c.args.number (c.requires.gens.has w is) c.requires.number)
+    (sym (highest_of_world w.leaves c.args.gens.now c.args.system.now (c.requires.gens.has w is)) ∙ sym c.is_highest_of.ensures ∙ c.if-is_highest_of.false) can)
 
 pub returns-in_err-put-clause-moments : goal.returns-in_err-put-clause-moments
 returns-in_err-put-clause-moments g c = passes_as c.put.ensures.moments (IsLinkMoment c.args.system.now) (λ w m is moment.
