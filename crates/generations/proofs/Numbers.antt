@@ -167,3 +167,33 @@ number_from_last leaves (Some gen) system n is given =
 -- the number that a list of the world's generations gives is the world's
 pub number_of_world : (leaves : Leaves) (gens : Gens) (system : List ℕ) (n : ℕ) → IsGensOf leaves gens → number_for_in gens.list system ≡ Some n → n ≡ number_after leaves system
 number_of_world leaves gens system n is given = number_from_last leaves _ system n (last_of_world leaves gens is) given
+
+number_of_none : (leaves : Leaves) (system : List ℕ) → IsLastOf leaves None → number_after leaves system ≡ 1
+number_of_none leaves system is = ap (λ o. cond (is_of o system) (highest leaves) (highest leaves + 1)) (sym is.stands) ∙ ap (λ h. h + 1) (is.none refl)
+
+number_of_own : (leaves : Leaves) (gen : Gen) (system : List ℕ) → IsLastOf leaves (Some gen) → is_of (Some gen.target) system ≡ true → number_after leaves system ≡ gen.number
+number_of_own leaves gen system is own = ap (λ o. cond (is_of o system) (highest leaves) (highest leaves + 1)) (sym is.stands) ∙ ap (λ b. cond b (highest leaves) (highest leaves + 1)) own ∙ is.number gen refl
+
+number_of_next : (leaves : Leaves) (gen : Gen) (system : List ℕ) → IsLastOf leaves (Some gen) → is_of (Some gen.target) system ≡ false → number_after leaves system ≡ gen.number + 1
+number_of_next leaves gen system is other = ap (λ o. cond (is_of o system) (highest leaves) (highest leaves + 1)) (sym is.stands) ∙ ap (λ b. cond b (highest leaves) (highest leaves + 1)) other ∙ ap (λ h. h + 1) (is.number gen refl)
+
+own_small : (leaves : Leaves) (gen : Gen) → IsLastOf leaves (Some gen) → gen.number < 2 ^ 32
+own_small leaves gen is =
+    let small : highest leaves < 2 ^ 32 = below_bound (highest leaves) (stands_at_number leaves (highest leaves) (ap is_some (sym is.stands))) in
+    let same = is.number gen refl in omega arith
+
+number_from_world : (leaves : Leaves) (last : Option Gen) (system : List ℕ) → IsLastOf leaves last →
+    number_from last system ≡ cond (nat_lt (number_after leaves system) (2 ^ 32)) (Some (number_after leaves system)) None
+number_from_world leaves None system is = sym (ap (λ n. cond (nat_lt n (2 ^ 32)) (Some n) None) (number_of_none leaves system is))
+number_from_world leaves (Some gen) system is = elim (cases_Bool (is_of (Some gen.target) system)) [
+  | inl own ↦ ap (λ b. cond b (Some gen.number) (cond (nat_lt (gen.number + 1) (2 ^ 32)) (Some (gen.number + 1)) None)) own
+    ∙ sym (ap (λ b. cond b (Some gen.number) None) (lt-ltb gen.number (2 ^ 32) (own_small leaves gen is)))
+    ∙ sym (ap (λ n. cond (nat_lt n (2 ^ 32)) (Some n) None) (number_of_own leaves gen system is own))
+  | inr other ↦ ap (λ b. cond b (Some gen.number) (cond (nat_lt (gen.number + 1) (2 ^ 32)) (Some (gen.number + 1)) None)) other
+    ∙ sym (ap (λ n. cond (nat_lt n (2 ^ 32)) (Some n) None) (number_of_next leaves gen system is other))
+]
+
+-- the number that a list of the world's generations gives is the world's where there is a further one
+pub number_for_world : (leaves : Leaves) (gens : Gens) (system : List ℕ) → IsGensOf leaves gens →
+    number_for_in gens.list system ≡ cond (nat_lt (number_after leaves system) (2 ^ 32)) (Some (number_after leaves system)) None
+number_for_world leaves gens system is = number_from_world leaves _ system (last_of_world leaves gens is)

@@ -2,7 +2,9 @@
 #![tactic(auto)]
 
 mod gens;
+mod listing;
 mod setting;
 
-pub use gens::{Gen, Gens, number_for, previous};
-pub use setting::{SetFault, point, set};
+pub use gens::{Gen, Gens, is_highest_of, number_for, previous};
+pub use listing::all;
+pub use setting::{SetFault, generation_path, point, profile_path, set};

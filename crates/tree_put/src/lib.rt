@@ -2,5 +2,7 @@
 #![tactic(auto)]
 
 mod places;
+mod standing;
 
 pub use places::{drop_leaf, put, put_if_other};
+pub use standing::is_blocked;

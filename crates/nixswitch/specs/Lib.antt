@@ -1,0 +1,5 @@
+pub mod Boot
+pub mod BootPlaces
+pub mod Commands
+pub mod Run
+pub mod StatusTexts

@@ -1,0 +1,61 @@
+//! How a run ends.
+ghost use Rattle.std.specs.Prelude.{◌≡◌, IfOk};
+ghost use Rattle.nixswitch.specs.StatusTexts.{status_number, status_text};
+
+use crate::refusal::Refusal;
+use std::alloc::{AllocError, Global};
+use switch_names::Text;
+
+/// How a run ends.
+#[derive(Debug, Drop)]
+pub enum Status {
+    /// The command was carried out.
+    Done,
+    /// The words give no command.
+    Usage,
+    /// The command is refused. Nothing was put, and nothing changed.
+    Refused(Refusal),
+    /// A call on the host failed.
+    HostFault,
+    /// The output failed.
+    SinkFault,
+    /// There was no memory.
+    NoMemory,
+}
+
+impl Status {
+    /// The exit status.
+    pub fn number(&self) -> u8
+        ensures { result ≡ status_number self.now }
+    {
+        match self {
+            Status::Done => 0,
+            Status::Usage => 1,
+            Status::Refused(_) => 2,
+            Status::HostFault => 3,
+            Status::SinkFault => 6,
+            Status::NoMemory => 5,
+        }
+    }
+
+    /// The line for standard error, without a line feed. It is empty for `Done`.
+    pub fn text(&self, alloc: Global) -> Result<Text, AllocError>
+        ensures { IfOk result (λ text. text ≡ status_text self.now) }
+    {
+        match self {
+            Status::Done => Text::from_str(alloc, ""),
+            Status::Usage => Text::from_str(
+                alloc,
+                "usage: nixswitch ROOT switch|test|boot|dry-activate SYSTEM | rollback | generations | rehearse NUMBER",
+            ),
+            Status::Refused(refusal) => {
+                let why = refusal.text(alloc)?;
+                let line = format!(in alloc; "refused: {}", why.as_str())?;
+                Text::from_str(alloc, line.as_str())
+            }
+            Status::HostFault => Text::from_str(alloc, "fault: host"),
+            Status::SinkFault => Text::from_str(alloc, "fault: output"),
+            Status::NoMemory => Text::from_str(alloc, "no memory"),
+        }
+    }
+}
