@@ -1,2 +1,3 @@
 pub mod Gens
+pub mod LinkNumber
 pub mod Places

@@ -2,5 +2,7 @@
 #![tactic(auto)]
 
 mod gens;
+mod link_number;
 
 pub use gens::{Gen, Gens, number_for, previous};
+pub use link_number::{number_of_name, number_of_path};
