@@ -1,2 +1,4 @@
+pub mod Entries
 pub mod LinkNumbers
 pub mod Lists
+pub mod Reading

@@ -3,6 +3,8 @@
 
 mod gens;
 mod link_number;
+mod listing;
 
 pub use gens::{Gen, Gens, number_for, previous};
 pub use link_number::{number_of_name, number_of_path};
+pub use listing::all;
