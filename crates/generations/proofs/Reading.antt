@@ -2,15 +2,13 @@
 use Rattle.std.proofs.Common.{◌≡◌, ◌⊎◌, ℕ, ◌+◌, ◌<◌, ◌&&◌, ◌||◌, ◌==◌, Bool, true, false, cond, List, [], ◌∷◌, ◌++◌, length, take, get_or, map, codes, length-append, nat_lt, Option, None, Some, IsSome, IfSome, option_map, refl, sym, ap, subst, ◌∙◌, inl, inr, ⊎_elim, arith}
 use Rattle.std.proofs.lemmas.Bool.{cases_Bool, both_ways, lt-ltb}
 use Rattle.std.proofs.lemmas.Bool.Decides.{Decides-eqb}
-use Rattle.std.proofs.lemmas.Fmt.{decimal_injective}
-use Rattle.std.proofs.lemmas.List.{append_cancel_left, append_cancel_right, take_more}
+use Rattle.std.proofs.lemmas.List.{take_more}
 use Rattle.std.proofs.lemmas.List.Folds.{list_any-append}
 use Rattle.std.proofs.lemmas.Map.Views.{any-filter_same}
 use Rattle.std.proofs.lemmas.Slice.Eq.{bytes_eq-Decides}
 use Rattle.std.specs.BTreeMap.{is_at}
 use Rattle.std.specs.Cmp.Lexicographic.{texts_ties}
 use Rattle.std.specs.FinMap.{contains_key-keys, get, keys}
-use Rattle.std.specs.Fmt.{decimal}
 use Rattle.std.specs.List.{list_any}
 use Rattle.std.specs.List.Sorted.{IsStrictlySortedBy}
 use Rattle.std.specs.Map.{lookup}
@@ -20,6 +18,7 @@ use Rattle.host_trait.specs.declared.leaf.LeafKind.TheVariants.{Link}
 use Rattle.host_trait.specs.World.{Leaves, bytes_cmp, is_listed, is_path, listed, stage}
 use Rattle.host_trait.proofs.Moments.{none_or_some}
 use Rattle.host_trait.proofs.Places.{none_or_present}
+use Rattle.generations.proofs.Apart.{one_link, one_link_path}
 use Rattle.generations.specs.declared.gens.Gen.{Gen}
 use Rattle.generations.specs.declared.gens.Gens.{Gens}
 use Rattle.generations.specs.Gens.{IsGensOf, listed_at}
@@ -28,17 +27,14 @@ use Rattle.generations.specs.Places.{IsCurrent, generation_at, is_number, link_n
 use Rattle.generations.specs.Targets.{AreTargetsAt, AreTargetsOf, IsGenAt, Targets, link_to, target_in, target_with}
 
 -- links of generations have different names and paths
-pub same_name : (m n : ℕ) → is_number m ≡ true → is_number n ≡ true → link_name m ≡ link_name n → m ≡ n
-same_name m n is_m is_n same =
-    let digits : decimal m ≡ decimal n = append_cancel_right _ _ (codes "-link") (append_cancel_left (codes "system-") _ _ same) in
-    decimal_injective m n (grind arith) (grind arith) digits
+same_name : (m n : ℕ) → is_number m ≡ true → is_number n ≡ true → link_name m ≡ link_name n → m ≡ n
+same_name m n is_m is_n same = one_link m n (grind arith) (grind arith) same
 
-pub same_link : (m n : ℕ) → is_number m ≡ true → is_number n ≡ true → link_path m ≡ link_path n → m ≡ n
-unfolding link_path
-same_link m n is_m is_n same = same_name m n is_m is_n (append_cancel_left (codes "nix/var/nix/profiles/") _ _ same)
+same_link : (m n : ℕ) → is_number m ≡ true → is_number n ≡ true → link_path m ≡ link_path n → m ≡ n
+same_link m n is_m is_n same = one_link_path m n (grind arith) (grind arith) same
 
 -- a generation stands at a number alone, and only where its link does
-pub stands_parts : (leaves : Leaves) (n : ℕ) → IsSome (generation_at leaves n) → (is_number n ≡ true) × IsSome (get leaves (link_path n))
+stands_parts : (leaves : Leaves) (n : ℕ) → IsSome (generation_at leaves n) → (is_number n ≡ true) × IsSome (get leaves (link_path n))
 stands_parts leaves n is = parts (is_number n) (get leaves (link_path n)) is
   where
     parts : (b : Bool) (o : Option LeafKind) → IsSome (cond b (option_map target_of o) None) → (b ≡ true) × IsSome o

@@ -23,6 +23,10 @@ number_from (Some gen) system =
 abbrev pub number_for_in : List Gen → List ℕ → Option ℕ
 number_for_in list system = number_from (slice_get list (length list - 1)) system
 
+-- whether the highest generation names a system
+abbrev pub is_highest_of : List Gen → List ℕ → Bool
+is_highest_of list system = is_of (option_map (λ gen. gen.target) (slice_get list (length list - 1))) system
+
 -- the last number of a list
 abbrev pub last_number : List Gen → Option ℕ
 last_number [] = None

@@ -1,6 +1,6 @@
 //! Generations of the system profile, and the numbers that they give.
 ghost use Rattle.std.specs.Prelude.{◌≡◌, ◌&&◌, Some, nat_lt, is_some};
-ghost use Rattle.generations.specs.Gens.{number_for_in, previous_in};
+ghost use Rattle.generations.specs.Gens.{is_highest_of, number_for_in, previous_in};
 ghost use Rattle.generations.specs.Places.{is_of};
 
 use switch_names::{Listed, SystemName};
@@ -45,6 +45,16 @@ pub fn number_for(gens: &Gens, system: &SystemName) -> Option<u32>
         return Some(highest.number);
     }
     highest.number.checked_add(1)
+}
+
+/// Whether the highest generation names a system.
+pub fn is_highest_of(gens: &Gens, system: &SystemName) -> bool
+    ensures { result ≡ is_highest_of gens.now.list system.now }
+{
+    match gens.list.as_slice().last() {
+        Some(highest) => is_of(highest, system),
+        None => false,
+    }
 }
 
 /// Whether a generation lies below a number and names a system.

@@ -4,7 +4,9 @@
 mod gens;
 mod link_number;
 mod listing;
+mod setting;
 
 pub use gens::{Gen, Gens, number_for, previous};
 pub use link_number::{number_of_name, number_of_path};
 pub use listing::all;
+pub use setting::{SetFault, point, set};

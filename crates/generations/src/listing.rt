@@ -12,6 +12,7 @@ ghost use Rattle.generations.specs.Targets.{AreTargetsAt, AreTargetsOf, IsGenAt,
 
 use crate::gens::{Gen, Gens};
 use crate::link_number::{number_of_name, number_of_path};
+use crate::setting::profile_path;
 use host_trait::{HostFault, Leaf, LeafKind, Tree, fixed_path};
 use std::alloc::{AllocError, Global};
 use std::collections::BTreeMap;
@@ -108,13 +109,12 @@ fn read_targets<T: Tree>(alloc: Global, host: &mut T) -> Result<Targets, HostFau
 }
 
 /// The number of the generation to which the profile's leaf is a link.
-#[tactic(auto, unfolding(crate::specs::Places::profile))]
 fn read_profile<T: Tree>(alloc: Global, host: &mut T) -> Result<Option<u32>, HostFault>
     ensures number { IfOk result (λ number. Told (T.host host.old) (λ w. Bears link_to (get w.leaves profile) number)) }
     ensures moments { Passes (T.host host.old) (T.host host.new) IsSame }
     ensures cause { HasCause (T.host host.old) (T.host host.new) result }
 {
-    let path = fixed_path(alloc, "nix/var/nix/profiles/system")?;
+    let path = profile_path(alloc)?;
     let leaf = host.read(alloc, &path)?;
     let number = number_of_leaf(alloc, leaf)?;
     Ok(number)

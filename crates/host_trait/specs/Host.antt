@@ -61,6 +61,14 @@ pub record HasCause {T : Type 0} (old new : HostState) (result : Result T HostFa
   pub never_sure : IsTrue old.is_sure → IsErrOf result Device → ⊥
   pub same_last : new.last ≡ old.last
 
+-- the same of a call whose own answer hands a fault of the device on
+pub record HasCauseOf (old new : HostState) (fault : Type 0) : Type 0 where
+  pub later : old.faults ≤ new.faults
+  pub rose : fault → Rose old.faults new.faults
+  pub stays_sure : IsTrue old.is_sure → IsTrue new.is_sure
+  pub never_sure : IsTrue old.is_sure → fault → ⊥
+  pub same_last : new.last ≡ old.last
+
 -- what holds of every host
 pub record IsHost (host : HostState) : Type 0 where
   pub sound : (w : WorldState) → host.world ≡ Some w → IsSound w.leaves

@@ -91,3 +91,17 @@ and_right false b both = absurd cc
 pub ends-from_kind : (text : List ℕ) (kind : UnitKind) → kind_of text ≡ Some kind → ends_with nat_eq text (ending_of kind) ≡ true
 unfolding kind_of
 ends-from_kind text kind is = and_right _ _ (find_passes (λ kin. has_ending text (ending_of kin)) all_kinds kind is)
+
+and_left : (a b : Bool) → (a && b) ≡ true → a ≡ true
+and_left true b both = refl
+and_left false b both = absurd cc
+
+less_from_test : (m n : ℕ) → nat_lt m n ≡ true → m < n
+less_from_test m n is = grind arith
+
+-- a text of a kind is longer than its ending
+pub longer-from_kind : (text : List ℕ) (kind : UnitKind) → kind_of text ≡ Some kind → length (ending_of kind) < length text
+unfolding kind_of
+longer-from_kind text kind is =
+    less_from_test (length (ending_of kind)) (length text)
+    (and_left (nat_lt (length (ending_of kind)) (length text)) (ends_with nat_eq text (ending_of kind)) (find_passes (λ kin. has_ending text (ending_of kin)) all_kinds kind is))

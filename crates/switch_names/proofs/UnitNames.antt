@@ -10,7 +10,7 @@ use Rattle.switch_names.specs.UnitName.{IsUnitName, is_at_sign, is_no_unit_byte,
 use Rattle.switch_names.specs.declared.name_fault.NameFault.TheVariants.{Byte, Kind}
 use Rattle.switch_names.specs.declared.unit_kind.UnitKind.{UnitKind}
 use Rattle.switch_names.specs.declared.unit_kind.UnitKind.TheVariants.{Service, Socket, Target, Mount, Automount, Swap, Path, Slice, Timer, Scope, Device}
-use Rattle.switch_names.proofs.Endings.{kind_of-stem, ends-from_kind}
+use Rattle.switch_names.proofs.Endings.{kind_of-stem, ends-from_kind, longer-from_kind}
 use Rattle.switch_names.proofs.Faultless.{HasNone-from_sought, sought-from_HasNone, no_place}
 use Rattle.switch_names.proofs.Positions.{All-from_no_position, no_position-from_All}
 
@@ -66,20 +66,43 @@ IsShortName-from_name name is =
     let long = none.not_long in
     record { short = grind (arith, long); bytes = All-from_no_position is_no_unit_byte name (no_place Byte _ none.no_byte) }
 
+-- a name is something and then the ending of its kind
+pub record HasParts (name : List ℕ) (kind : UnitKind) : Type 0 where
+  pub stem : 0 < length (stem_of name)
+  pub len : length name ≡ length (stem_of name) + length (ending_of kind)
+  pub whole : name ≡ stem_of name ++ ending_of kind
+
+pub HasParts-from_kind : (name : List ℕ) (kind : UnitKind) → kind_of name ≡ Some kind → HasParts name kind
+HasParts-from_kind name kind of =
+    let ending = name_ending-of_kind name kind of in
+    let parts = stem_parts name (stem_of name) kind of (ap (λ e. take (length name - length e) name) ending) in
+    let whole : name ≡ stem_of name ++ ending_of kind = parts.1 ∙ ap (λ e. stem_of name ++ e) ending in
+    let len : length name ≡ length (stem_of name) + length (ending_of kind) = ap length whole ∙ length-append (stem_of name) (ending_of kind) in
+    record { stem = omega (arith, longer-from_kind name kind of); len = len; whole = whole }
+
+stem_bytes : (name : List ℕ) → AreUnitBytes name → AreUnitBytes (stem_of name)
+stem_bytes name bytes = All-take (λ byte. is_no_unit_byte byte ≡ false) (length name - length (name_ending name)) name bytes
+
+-- the stem of a name and the ending of another kind are a name, if they are no longer
+pub IsUnitName-with_ending : (name : List ℕ) (kind other : UnitKind) → IsUnitName name → kind_of name ≡ Some kind → length (ending_of other) ≤ length (ending_of kind) → IsUnitName (stem_of name ++ ending_of other)
+IsUnitName-with_ending name kind other is of shorter =
+    let short = IsShortName-from_name name is in
+    let parts = HasParts-from_kind name kind of in
+    IsUnitName-from_stem (stem_of name) other parts.stem (omega (arith, short.short, parts.len)) (stem_bytes name short.bytes)
+
 -- the name without its instance is one of the same kind
 pub template_is_name : (name before : List ℕ) (kind : UnitKind) → IsUnitName name → kind_of name ≡ Some kind → position_or_len is_at_sign (stem_of name) < length (stem_of name) → before ≡ before_first is_at_sign (stem_of name) → IsUnitName (before ++ 64 ∷ ending_of kind) × (kind_of (before ++ 64 ∷ ending_of kind) ≡ Some kind)
 template_is_name name before kind is of at cut =
     let short = IsShortName-from_name name is in
     let stem : List ℕ = before ++ 64 ∷ [] in
-    let whole = (stem_parts name (stem_of name) kind of (ap (λ e. take (length name - length e) name) (name_ending-of_kind name kind of))).1 in
-    let ending = name_ending-of_kind name kind of in
-    let bytes : AreUnitBytes stem = All-push (λ byte. is_no_unit_byte byte ≡ false) before 64 (All-same (λ byte. is_no_unit_byte byte ≡ false) before (before_first is_at_sign (stem_of name)) cut (All-take (λ byte. is_no_unit_byte byte ≡ false) _ (stem_of name) (All-take (λ byte. is_no_unit_byte byte ≡ false) _ name short.bytes))) refl in
+    let place : ℕ = position_or_len is_at_sign (stem_of name) in
+    let front : AreUnitBytes before = All-same (λ byte. is_no_unit_byte byte ≡ false) before (before_first is_at_sign (stem_of name)) cut (All-take (λ byte. is_no_unit_byte byte ≡ false) place (stem_of name) (stem_bytes name short.bytes)) in
+    let bytes : AreUnitBytes stem = All-push (λ byte. is_no_unit_byte byte ≡ false) before 64 front refl in
     let joined : stem ++ ending_of kind ≡ before ++ 64 ∷ ending_of kind = append_assoc before (64 ∷ []) (ending_of kind) in
     let len : length stem ≡ length before + 1 = length-append before (64 ∷ []) in
     let more : 0 < length stem = omega arith in
-    let fewer : length before ≤ position_or_len is_at_sign (stem_of name) = omega (arith, ap length cut ∙ length-take (position_or_len is_at_sign (stem_of name)) (stem_of name)) in
-    let all : length name ≡ length (stem_of name) + length (ending_of kind) = ap length whole ∙ length-append (stem_of name) (name_ending name) ∙ ap (λ e. length (stem_of name) + length e) ending in
-    let small : length stem + length (ending_of kind) ≤ 255 = omega (arith, short.short) in
+    let fewer : length before ≤ place = omega (arith, ap length cut ∙ length-take place (stem_of name)) in
+    let small : length stem + length (ending_of kind) ≤ 255 = omega (arith, short.short, (HasParts-from_kind name kind of).len) in
     subst (λ text. IsUnitName text × (kind_of text ≡ Some kind)) joined (IsUnitName-from_stem stem kind more small bytes, kind_of-stem stem kind more)
 
 -- the template of a name with an instance, from its parts

@@ -50,7 +50,7 @@ fn with_slash(alloc: Global, text: &str) -> Result<Text, AllocError>
 {
     let mut made = String::from_str(alloc, "/")?;
     made.push_str(text)?;
-    Text::from_str(alloc, made.as_str())
+    Ok(Text::from_string(made))
 }
 
 /// What follows a prefix.

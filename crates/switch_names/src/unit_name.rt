@@ -94,7 +94,7 @@ fn template_text(alloc: Global, before: &str, ending: &str) -> Result<Text, Allo
     let mut text = String::from_str(alloc, before)?;
     text.push('@')?;
     text.push_str(ending)?;
-    Text::from_str(alloc, text.as_str())
+    Ok(Text::from_string(text))
 }
 
 impl UnitName {

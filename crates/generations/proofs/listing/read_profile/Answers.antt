@@ -11,7 +11,6 @@ pub returns-in_err-path-clause-moments : goal.returns-in_err-path-clause-moments
 returns-in_err-path-clause-moments g c = started IsSame (λ w is. refl)
 
 pub returns-clause-number : goal.returns-clause-number
-unfolding profile
 returns-clause-number g c =
     told_as c.in_ok-leaf.ensures.leaf (λ w. Bears link_to (get w.leaves profile) c.in_ok-number.number)
     (λ w is leaf. subst (λ o. Bears link_to o c.in_ok-number.number) (leaf ∙ ap (get w.leaves) c.in_ok-path.ensures) c.in_ok-number.ensures)

@@ -1,0 +1,22 @@
+use Rattle.std.proofs.Common.{◌≡◌, refl, sym, ap, subst, ◌∙◌, inl}
+use Rattle.host_trait.specs.declared.leaf.LeafKind.TheVariants.{Link}
+use Rattle.host_trait.specs.World.{seen, stage, with_leaf}
+use Rattle.host_trait.proofs.Moments.{started, passes_as, leads_as}
+use Rattle.tree_put.specs.Put.{AreApart, CanPut, IsOldOrNew}
+use Rattle.generations.specs.Places.{link_name, profile, with_profile}
+use Rattle.generations.proofs.Apart.{profile_apart}
+use Rattle.generations.proofs.setting.point.Goals as goal
+
+pub returns-in_err-at-clause-moments : goal.returns-in_err-at-clause-moments
+returns-in_err-at-clause-moments g c = started (IsOldOrNew profile (Link (link_name c.args.number))) (λ w is. inl refl)
+
+pub returns-in_err-link-clause-moments : goal.returns-in_err-link-clause-moments
+returns-in_err-link-clause-moments g c = started (IsOldOrNew profile (Link (link_name c.args.number))) (λ w is. inl refl)
+
+pub put-requires-clause-apart : goal.put-requires-clause-apart
+put-requires-clause-apart g c = subst (λ p. AreApart p stage) (sym c.in_ok-at.ensures) profile_apart
+
+pub returns-clause-ok : goal.returns-clause-ok
+returns-clause-ok g c =
+    leads_as c.in_ok-put.ensures.ok (λ w v. seen v ≡ seen (with_profile c.args.number w))
+    (λ w v is new. new ∙ ap (λ p. seen (with_leaf p c.in_ok-link.link w)) c.in_ok-at.ensures ∙ ap (λ l. seen (with_leaf profile l w)) c.in_ok-link.ensures)
