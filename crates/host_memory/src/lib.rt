@@ -2,6 +2,7 @@
 #![tactic(auto)]
 
 mod failures;
+mod history;
 mod memory_sink;
 
 pub use memory_sink::MemorySink;
