@@ -1,5 +1,5 @@
 -- How a history goes on: the worlds since a time after one more call.
-use Rattle.std.proofs.Common.{◌≡◌, ◌≤◌, ◌⊎◌, ℕ, ◌+◌, ◌<◌, Bool, List, [], ◌∷◌, ◌++◌, length, drop, Option, None, Some, refl, sym, ap, subst, ◌∙◌, inl, inr, ⊎_elim, arith, eq-or-lt_of_le, length-append}
+use Rattle.std.proofs.Common.{◌≡◌, ◌≤◌, ◌⊎◌, ℕ, Bool, List, [], ◌∷◌, ◌++◌, length, drop, Option, None, Some, refl, sym, ap, subst, ◌∙◌, inl, inr, ⊎_elim, arith, eq-or-lt_of_le, length-append}
 use Rattle.std.proofs.lemmas.List.{drop-append-le, drop_all}
 use Rattle.host_memory.specs.declared.history.DoneCall.{DoneCall}
 use Rattle.host_memory.specs.declared.history.History.{History}

@@ -1,5 +1,5 @@
 -- How a history goes on by each call: what undoes the call is in its record.
-use Rattle.std.proofs.Common.{◌≡◌, ◌≢◌, ◌⊎◌, ℕ, Bool, false, List, [], ◌∷◌, ◌++◌, Option, None, Some, IsSome, refl, sym, ap, subst, ◌∙◌, inl, inr, rules, arith}
+use Rattle.std.proofs.Common.{◌≡◌, ◌≢◌, ℕ, false, List, [], ◌∷◌, ◌++◌, Option, None, Some, IsSome, refl, sym, ap, ◌∙◌, inl, inr, rules}
 use Rattle.std.specs.FinMap.{get, insert, remove, gets, get_tied}
 use Rattle.std.specs.Ordering.{eq_by_cmp}
 use Rattle.host_memory.proofs.Histories.{recorded}
@@ -9,7 +9,7 @@ use Rattle.host_memory.specs.History.{GoesOn, with_at, undone}
 use Rattle.host_trait.proofs.Places.{bytes_total, alike, same_or_other, at_same, none_or_present}
 use Rattle.host_trait.specs.Change.{finished, IsMoment, Stage, Rename, Remove}
 use Rattle.host_trait.specs.declared.leaf.LeafKind.{LeafKind}
-use Rattle.host_trait.specs.World.{Leaves, WorldState, bytes_cmp, moved, with_moved, with_leaf, without_leaf, stage}
+use Rattle.host_trait.specs.World.{Leaves, bytes_cmp, moved, with_moved, with_leaf, without_leaf, stage}
 
 put_back : (m : Leaves) (at : List ℕ) (leaf : LeafKind) (was : Option LeafKind) → get m at ≡ was → with_at (insert m at leaf) at was ≡ m
 put_back m at leaf None is = alike _ _ (λ q. let tied = get_tied bytes_total m q at in grind (gets, rules))

@@ -23,7 +23,7 @@ impl Model for MemorySink {
 
     ghost Value = { MemorySinkState };
 
-    ghost view = { λ sink. record { bytes = sink.put.items; room = sink.room; failing = sink.failures.numbers; next = sink.failures.next; faults = sink.faults } };
+    ghost view = { λ sink. record { bytes = sink.put.items; room = sink.room; failing = sink.failures.numbers.items; next = sink.failures.next; faults = sink.faults } };
 
     ghost invariant = { λ sink. vec_len sink.put + sink.room ≤ vec_capacity sink.put };
 }
