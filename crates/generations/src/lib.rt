@@ -10,3 +10,6 @@ pub use gens::{Gen, Gens, number_for, previous};
 pub use link_number::{number_of_name, number_of_path};
 pub use listing::all;
 pub use setting::{SetFault, point, set};
+
+#[cfg(test)]
+mod tests;
