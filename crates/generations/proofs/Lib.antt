@@ -1,6 +1,9 @@
 pub mod Apart
+pub mod Entries
+pub mod LinkNumbers
 pub mod Lists
 pub mod NamesLaws
 pub mod Numbers
+pub mod Reading
 pub mod SetLaws
 pub mod SetLemmas

@@ -1,3 +1,5 @@
 pub mod Gens
+pub mod LinkNumber
 pub mod Places
 pub mod Set
+pub mod Targets

@@ -1,5 +1,5 @@
 -- The world that a run changes: leaves by path, as a file tree without its folders has them.
-use Rattle.std.specs.Prelude.{◌≡◌, ℕ, ◌==◌, ◌&&◌, ◌||◌, not, Bool, true, false, IsTrue, IsSome, List, nat_eq, codes, drop, filter, Option, None, Some, is_none, if◌then◌else◌, refl}
+use Rattle.std.specs.Prelude.{◌≡◌, ℕ, ◌&&◌, ◌||◌, not, Bool, true, IsSome, List, nat_eq, codes, count_by, drop, filter, Option, None, Some, is_none, if◌then◌else◌, refl}
 use Rattle.std.specs.Coded.{Coded, code_by, coded_list, coded_ℕ}
 use Rattle.std.specs.Cmp.Lexicographic.{slice_cmp, pointwise}
 use Rattle.std.specs.FinMap.{FinMap, get, insert, remove, keys, from_entries}
@@ -77,6 +77,14 @@ is_listed under q = (is_path q under || is_below q under) && not (is_path q stag
 -- the paths of the leaves at or below a path, in order
 abbrev pub listed : List ℕ → Leaves → List (List ℕ)
 listed under leaves = filter (is_listed under) (keys leaves)
+
+-- whether a path is another than the stage
+unfoldable pub is_elsewhere : List ℕ → Bool
+is_elsewhere q = not (is_path q stage)
+
+-- how many leaves there are, the stage's left out
+abbrev pub leaf_count : Leaves → ℕ
+leaf_count leaves = count_by is_elsewhere (keys leaves)
 
 -- the bytes of a leaf that is a file
 abbrev pub file_bytes : Option LeafKind → Option (List ℕ)

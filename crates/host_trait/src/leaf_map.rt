@@ -5,7 +5,7 @@ ghost use Rattle.std.specs.BTreeMap.{keys};
 ghost use Rattle.std.specs.List.{list_any};
 ghost use Rattle.std.specs.Option.{option_copied};
 ghost use Rattle.switch_names.specs.Path.{IsPath};
-ghost use Rattle.host_trait.specs.World.{IsClear, IsInTheWay, IsSound, is_path, is_in_line, is_listed, listed, moved, stage};
+ghost use Rattle.host_trait.specs.World.{IsClear, IsInTheWay, IsSound, is_elsewhere, is_path, is_in_line, is_listed, leaf_count, listed, moved, stage};
 ghost use Rattle.host_trait.specs.LeafMap.{leaves_of};
 
 use crate::leaf::Leaf;
@@ -78,6 +78,27 @@ pub fn list_leaves(
         }
     }
     Ok(paths)
+}
+
+/// Whether a path is another than the stage's.
+#[tactic(auto, unfolding(crate::specs::World::is_elsewhere))]
+fn is_elsewhere(path: &Path) -> bool
+    ensures { result ≡ is_elsewhere path.now }
+{
+    !is_stage(path)
+}
+
+/// How many leaves there are, the stage's left out.
+pub fn count_leaves(leaves: &BTreeMap<Path, Leaf>) -> u64
+    ensures { result ≡ leaf_count (leaves_of leaves.now) }
+{
+    let mut count = 0;
+    for path in leaves.keys() {
+        if is_elsewhere(path) {
+            count += 1;
+        }
+    }
+    count
 }
 
 /// Whether a path lies strictly above or below another.

@@ -2,10 +2,10 @@
 ghost use Rattle.std.specs.Prelude.{◌≡◌, ◌≢◌, IfOk, OnOk, OnErr, IsErrOf, IsSome};
 ghost use Rattle.std.specs.FinMap as map;
 ghost use Rattle.std.specs.Option.{option_copied};
-ghost use Rattle.host_trait.specs.World.{IsClear, IsInTheWay, IsSound, listed, moved, with_leaf, without_leaf};
+ghost use Rattle.host_trait.specs.World.{IsClear, IsInTheWay, IsSound, leaf_count, listed, moved, with_leaf, without_leaf};
 
 use crate::leaf::Leaf;
-use crate::leaf_map::{find_leaf, list_leaves, move_entry, remove_leaf, set_entry};
+use crate::leaf_map::{count_leaves, find_leaf, list_leaves, move_entry, remove_leaf, set_entry};
 use crate::world_fault::WorldFault;
 use std::alloc::{AllocError, Global};
 use std::collections::BTreeMap;
@@ -49,6 +49,14 @@ impl World {
         ensures { option_copied result ≡ map.get self.now.leaves at.now }
     {
         find_leaf(&self.leaves, at)
+    }
+
+    /// How many leaves there are, the stage's left out.
+    pub fn leaf_count(&self) -> u64
+        ensures count { result ≡ leaf_count self.now.leaves }
+        ensures sound { IsSound self.now.leaves }
+    {
+        count_leaves(&self.leaves)
     }
 
     /// The paths of the leaves at or below a path, in byte order, without the stage.

@@ -1,0 +1,4 @@
+pub mod Cutting
+pub mod Histories
+pub mod Hosts
+pub mod Undoing

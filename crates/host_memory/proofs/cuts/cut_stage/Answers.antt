@@ -1,0 +1,9 @@
+use Rattle.host_memory.proofs.Cutting.{nothing_yet, goes_on_with_any, on_ok}
+use Rattle.host_memory.proofs.cuts.cut_stage.Goals as goal
+use Rattle.host_trait.specs.Change.{Stage}
+
+pub returns-in-0-clause-moments : goal.returns-in-0-clause-moments
+returns-in-0-clause-moments c = nothing_yet _ (Stage c.args.leaf.now)
+
+pub returns-in-1-clause-moments : goal.returns-in-1-clause-moments
+returns-in-1-clause-moments c = on_ok _ (goes_on_with_any _ _ c.file.result c.args.leaf.now) c.stage-in-1.ensures.moments

@@ -1,0 +1,20 @@
+use Rattle.std.proofs.Common.{◌≡◌, ℕ, List, ◌++◌, take, drop, Some, None, sym, ap, ◌∙◌}
+use Rattle.std.proofs.lemmas.List.{take-append-drop}
+use Rattle.host_memory.specs.MemorySink.{MemorySinkState}
+use Rattle.host_memory.proofs.memory_sink.MemorySinkSink.put.Goals as goal
+use Rattle.host_trait.specs.Sink.{SinkState, Puts, IsPrefixOf}
+
+-- a sink to which the beginning of a text was appended
+part_put :
+    (old new : SinkState) (before text : List ℕ) (n : ℕ) →
+    old.contents ≡ Some before → new.contents ≡ Some (before ++ take n text) → Puts old new (IsPrefixOf text)
+part_put old new before text n was now = record {
+  put = λ put is. let same : before ≡ put = cc in (take n text, now ∙ ap (λ (b : List ℕ). Some (b ++ take n text)) same, (drop n text, sym (take-append-drop n text)));
+  silent = λ none. absurd (let no : None ≡ Some before = sym none ∙ was in cc);
+}
+
+pub returns-then-fits-bytes-clause-prefix : goal.returns-then-fits-bytes-clause-prefix
+returns-then-fits-bytes-clause-prefix c =
+    part_put _ _ c.self.inside.put.items _ c.min-fits.result
+    (ap (λ (s : MemorySinkState). Some s.bytes) (sym c.self.view_is))
+    (ap (λ (s : MemorySinkState). Some s.bytes) c.fault-then-fits-bytes.ensures ∙ ap (λ (s : MemorySinkState). Some s.bytes) c.append.ensures)

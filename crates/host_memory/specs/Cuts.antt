@@ -1,0 +1,17 @@
+-- What a cut leaves of the call that it falls on.
+use Rattle.std.specs.Prelude.{ℕ, ◌%◌, ◌==◌, [], if◌then◌else◌}
+use Rattle.host_trait.specs.declared.leaf.LeafKind.{LeafKind}
+use Rattle.host_trait.specs.declared.leaf.LeafKind.TheVariants.{File}
+use Rattle.host_trait.specs.Change.{Change, Stage, Rename, Remove, finished}
+use Rattle.host_trait.specs.World.{WorldState}
+
+-- an empty file without permissions
+abbrev pub blank : LeafKind
+blank = File [] 0 0 0
+
+-- by its number modulo that of the moments: the world before the call, an empty file at the stage, the world after
+abbrev pub left_by : Change → ℕ → WorldState → WorldState
+left_by (Stage leaf) pick w =
+    if pick % 3 == 0 then w else if pick % 3 == 1 then finished (Stage blank) w else finished (Stage leaf) w
+left_by (Rename to) pick w = if pick % 2 == 0 then w else finished (Rename to) w
+left_by (Remove at) pick w = if pick % 2 == 0 then w else finished (Remove at) w

@@ -1,0 +1,50 @@
+-- A world with the record of the calls that changed it, from which its earlier worlds follow.
+use Rattle.std.specs.Prelude.{◌≡◌, ◌≤◌, ℕ, Bool, List, [], ◌∷◌, length, drop, Option, None, Some}
+use Rattle.std.specs.FinMap.{insert, remove}
+use Rattle.host_memory.specs.declared.history.DoneCall.{DoneCall}
+use Rattle.host_memory.specs.declared.history.DoneCall.TheVariants.{Staged, Renamed, Removed}
+use Rattle.host_memory.specs.declared.history.History.{History}
+use Rattle.host_trait.specs.declared.leaf.LeafKind.{LeafKind}
+use Rattle.host_trait.specs.Host.{HostState, Passes}
+use Rattle.host_trait.specs.World.{Leaves, WorldState, moved, stage}
+
+-- the leaves with what stood at a path put back there
+abbrev pub with_at : Leaves → List ℕ → Option LeafKind → Leaves
+with_at leaves at None = remove leaves at
+with_at leaves at (Some leaf) = insert leaves at leaf
+
+-- the world before a call, from the world after it
+abbrev pub undone : DoneCall → WorldState → WorldState
+undone (Staged was) w = record w { leaves = with_at w.leaves stage was }
+undone (Renamed to was) w = record w { leaves = with_at (moved w.leaves to stage) to was }
+undone (Removed at was) w = record w { leaves = with_at w.leaves at was }
+
+-- the world before some calls, of which the first is the oldest
+abbrev pub rewound : List DoneCall → WorldState → WorldState
+rewound [] w = w
+rewound (call ∷ calls) w = undone call (rewound calls w)
+
+-- the worlds since a time: the present one with the calls after some later time undone
+abbrev pub LeftSince : List DoneCall → WorldState → ℕ → WorldState → Type 0
+LeftSince calls w time m = (k : ℕ) × (time ≤ k) × (k ≤ length calls) × (m ≡ rewound (drop k calls) w)
+
+-- the host with this world and this record
+abbrev pub memory_state : List DoneCall → WorldState → Option ℕ → ℕ → Bool → HostState
+memory_state calls w last faults is_sure = record {
+  world = Some w;
+  clock = length calls;
+  left_since = LeftSince calls w;
+  last = last;
+  faults = faults;
+  is_sure = is_sure;
+}
+
+-- the host with this history
+abbrev pub state_of : History → Option ℕ → ℕ → Bool → HostState
+state_of history last faults is_sure = memory_state history.calls.items history.world last faults is_sure
+
+-- a history went on, and each moment on the way has this relation to the old world
+pub record GoesOn (old new : History) (R : WorldState → WorldState → Type 0) : Type 0 where
+  pub passes :
+      (last then_last : Option ℕ) (faults then_faults : ℕ) (is_sure then_sure : Bool) →
+      Passes (state_of old last faults is_sure) (state_of new then_last then_faults then_sure) R

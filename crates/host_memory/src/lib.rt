@@ -1,0 +1,15 @@
+//! A host and a sink in memory: what a run changes and puts out, with cuts and faults on demand.
+#![tactic(auto)]
+
+mod cuts;
+mod failures;
+mod history;
+mod memory_host;
+mod memory_sink;
+mod troubles;
+
+pub use memory_host::MemoryHost;
+pub use memory_sink::MemorySink;
+
+#[cfg(test)]
+mod tests;

@@ -1,0 +1,200 @@
+//! A host that keeps its world in memory.
+ghost use Rattle.std.specs.Prelude.{length};
+ghost use Rattle.std.specs.Option.{ForSome};
+ghost use Rattle.host_memory.specs.Troubles.{IsWithin};
+
+use crate::cuts::{cut_remove, cut_rename, cut_stage};
+use crate::history::History;
+use crate::troubles::Troubles;
+use host_trait::{HostFault, Leaf, Tree, World};
+use std::alloc::Global;
+use switch_names::{Listed, Path};
+
+/// A host in memory, with a record of the calls that changed its world. It fails where it is told to.
+#[derive(Debug, Drop)]
+pub struct MemoryHost {
+    history: History,
+    troubles: Troubles,
+    ghost within: { ForSome troubles.cut (λ cut. IsWithin cut (length history.calls.items)) },
+}
+
+impl MemoryHost {
+    ghost use Rattle.std.specs.Prelude.{◌≡◌, ◌+◌, ◌&&◌, [], None, Some, IsTrue, is_none, false};
+    ghost use Rattle.host_memory.specs.MemoryHost.{host_of, troubles_of};
+    ghost use Rattle.host_memory.specs.Troubles.{armed, is_empty};
+    ghost use Rattle.host_trait.specs.Change.{IsSame};
+    ghost use Rattle.host_trait.specs.Host.{Passes};
+
+    /// A host with this world, on which nothing fails.
+    pub fn new(alloc: Global, world: World) -> MemoryHost
+        ensures world { (host_of result).world ≡ Some world }
+        ensures clock { (host_of result).clock ≡ 0 }
+        ensures last { (host_of result).last ≡ None }
+        ensures faults { (host_of result).faults ≡ 0 }
+        ensures sure { IsTrue (host_of result).is_sure }
+        ensures troubles { troubles_of result ≡ record { cut = None; failing = []; next = 0; faults = 0 } }
+    {
+        MemoryHost {
+            history: History::new(alloc, world),
+            troubles: Troubles::new(alloc),
+        }
+    }
+
+    /// Its world.
+    pub fn world(&self) -> &World
+        ensures { (host_of self.now).world ≡ Some result.now }
+    {
+        self.history.world()
+    }
+
+    /// How many calls have failed.
+    pub fn faults(&self) -> u64
+        ensures { result ≡ (host_of self.now).faults }
+    {
+        self.troubles.faults()
+    }
+
+    /// Cuts the next changing call after so many more that finish.
+    ///
+    /// The cut leaves what `pick` gives of that call, which answers `Device`, as does each call
+    /// after it.
+    pub fn arm(&mut self, after: u64, pick: u64)
+        ensures moments { Passes (host_of self.old) (host_of self.new) IsSame }
+        ensures clock { (host_of self.new).clock ≡ (host_of self.old).clock }
+        ensures last { (host_of self.new).last ≡ Some ((host_of self.old).clock + after + 1) }
+        ensures faults { (host_of self.new).faults ≡ (host_of self.old).faults }
+        ensures sure { (host_of self.new).is_sure ≡ false }
+        ensures troubles { troubles_of self.new ≡ record (troubles_of self.old) { cut = Some (armed (host_of self.old).clock after pick) } }
+    {
+        self.troubles.arm(self.history.clock(), after, pick);
+    }
+
+    /// Fails the calls with these numbers, where the next call has the number 0.
+    ///
+    /// A call that fails so does nothing and answers `Device`.
+    pub fn fail(&mut self, calls: Listed<u64>)
+        ensures moments { Passes (host_of self.old) (host_of self.new) IsSame }
+        ensures clock { (host_of self.new).clock ≡ (host_of self.old).clock }
+        ensures last { (host_of self.new).last ≡ (host_of self.old).last }
+        ensures faults { (host_of self.new).faults ≡ (host_of self.old).faults }
+        ensures sure { (host_of self.new).is_sure ≡ (is_none (host_of self.old).last && is_empty calls) }
+        ensures troubles { troubles_of self.new ≡ record (troubles_of self.old) { failing = calls; next = 0 } }
+    {
+        self.troubles.fail(calls);
+    }
+
+    /// Takes back what `arm` and `fail` have done.
+    pub fn revive(&mut self)
+        ensures moments { Passes (host_of self.old) (host_of self.new) IsSame }
+        ensures clock { (host_of self.new).clock ≡ (host_of self.old).clock }
+        ensures last { (host_of self.new).last ≡ None }
+        ensures faults { (host_of self.new).faults ≡ (host_of self.old).faults }
+        ensures sure { IsTrue (host_of self.new).is_sure }
+        ensures troubles { troubles_of self.new ≡ record { cut = None; failing = []; next = 0; faults = (troubles_of self.old).faults } }
+    {
+        self.troubles.clear();
+    }
+}
+
+impl Tree for MemoryHost {
+    ghost use Rattle.std.specs.Prelude.{◌≡◌, ◌≢◌, ◌↔◌, IfOk, OnOk, IsErrOf, IsSome, IsTrue};
+    ghost use Rattle.std.specs.FinMap.{get};
+    ghost use Rattle.host_memory.specs.Laws.{memory_is_host};
+    ghost use Rattle.host_memory.specs.MemoryHost.{Does, after_read, host_of, is_refusing, troubles_of, verdict};
+    ghost use Rattle.host_trait.specs.Change.{finished, IsMoment, IsSame, Stage, Rename, Remove};
+    ghost use Rattle.host_trait.specs.declared.tree.HostFault.TheVariants.{Device};
+    ghost use Rattle.host_trait.specs.Host.{Told, Becomes, Passes, HasCause};
+    ghost use Rattle.host_trait.specs.World.{IsClear, listed, stage};
+
+    ghost host = { host_of };
+
+    fn read(&mut self, alloc: Global, at: &Path) -> Result<Option<Leaf>, HostFault>
+        ensures device { IsErrOf result Device ↔ IsTrue (is_refusing self.old) }
+        ensures troubles { troubles_of self.new ≡ after_read self.old }
+        ensures leaf { IfOk result (λ leaf. Told (host_of self.old) (λ w. leaf ≡ get w.leaves at.now)) }
+        ensures same { Becomes (host_of self.old) (host_of self.new) (λ w. w) }
+        ensures moments { Passes (host_of self.old) (host_of self.new) IsSame }
+        ensures cause { HasCause (host_of self.old) (host_of self.new) result }
+    {
+        self.troubles.admit()?;
+        match self.history.world().leaf(at) {
+            Some(leaf) => Ok(Some(leaf.copy(alloc)?)),
+            None => Ok(None),
+        }
+    }
+
+    fn list(&mut self, alloc: Global, under: &Path) -> Result<Listed<Path>, HostFault>
+        ensures device { IsErrOf result Device ↔ IsTrue (is_refusing self.old) }
+        ensures troubles { troubles_of self.new ≡ after_read self.old }
+        ensures paths { IfOk result (λ paths. Told (host_of self.old) (λ w. paths ≡ listed under.now w.leaves)) }
+        ensures same { Becomes (host_of self.old) (host_of self.new) (λ w. w) }
+        ensures moments { Passes (host_of self.old) (host_of self.new) IsSame }
+        ensures cause { HasCause (host_of self.old) (host_of self.new) result }
+    {
+        self.troubles.admit()?;
+        Ok(self.history.world().list(alloc, under)?)
+    }
+
+    fn write_stage(&mut self, alloc: Global, leaf: &Leaf) -> Result<(), HostFault>
+        requires { Told (host_of self.old) (λ w. IsClear w.leaves stage) }
+        ensures does { Does (Stage leaf.now) (verdict self.old) self.old self.new result }
+        ensures ok { OnOk result (Becomes (host_of self.old) (host_of self.new) (finished (Stage leaf.now))) }
+        ensures moments { Passes (host_of self.old) (host_of self.new) (IsMoment (Stage leaf.now)) }
+        ensures cause { HasCause (host_of self.old) (host_of self.new) result }
+    {
+        self.troubles.admit()?;
+        match self.troubles.due(self.history.clock()) {
+            None => {
+                self.history.stage(alloc, leaf)?;
+                Ok(())
+            }
+            Some(cut) => {
+                cut_stage(&mut self.history, alloc, leaf, cut.pick)?;
+                Err(self.troubles.fall(cut))
+            }
+        }
+    }
+
+    fn rename_stage(&mut self, alloc: Global, to: &Path) -> Result<(), HostFault>
+        requires staged { Told (host_of self.old) (λ w. IsSome (get w.leaves stage)) }
+        requires clear { Told (host_of self.old) (λ w. IsClear w.leaves to.now) }
+        requires other { to.now ≢ stage }
+        ensures does { Does (Rename to.now) (verdict self.old) self.old self.new result }
+        ensures ok { OnOk result (Becomes (host_of self.old) (host_of self.new) (finished (Rename to.now))) }
+        ensures moments { Passes (host_of self.old) (host_of self.new) (IsMoment (Rename to.now)) }
+        ensures cause { HasCause (host_of self.old) (host_of self.new) result }
+    {
+        self.troubles.admit()?;
+        match self.troubles.due(self.history.clock()) {
+            None => {
+                self.history.rename(alloc, to)?;
+                Ok(())
+            }
+            Some(cut) => {
+                cut_rename(&mut self.history, alloc, to, cut.pick)?;
+                Err(self.troubles.fall(cut))
+            }
+        }
+    }
+
+    fn remove(&mut self, alloc: Global, at: &Path) -> Result<(), HostFault>
+        ensures does { Does (Remove at.now) (verdict self.old) self.old self.new result }
+        ensures ok { OnOk result (Becomes (host_of self.old) (host_of self.new) (finished (Remove at.now))) }
+        ensures moments { Passes (host_of self.old) (host_of self.new) (IsMoment (Remove at.now)) }
+        ensures cause { HasCause (host_of self.old) (host_of self.new) result }
+    {
+        self.troubles.admit()?;
+        match self.troubles.due(self.history.clock()) {
+            None => {
+                self.history.remove(alloc, at)?;
+                Ok(())
+            }
+            Some(cut) => {
+                cut_remove(&mut self.history, alloc, at, cut.pick)?;
+                Err(self.troubles.fall(cut))
+            }
+        }
+    }
+
+    ghost is_host = { memory_is_host };
+}
