@@ -34,7 +34,7 @@ number_same m n system same =
     ap (λ o. cond (is_of o system) (highest m) (highest m + 1)) (same (highest m))
     ∙ ap (λ h. cond (is_of (generation_at n h) system) h (h + 1)) top
 
-highest_of_same : (m n : Leaves) (system : List ℕ) → ((k : ℕ) → generation_at m k ≡ generation_at n k) → is_of (generation_at m (highest m)) system ≡ is_of (generation_at n (highest n)) system
+pub highest_of_same : (m n : Leaves) (system : List ℕ) → ((k : ℕ) → generation_at m k ≡ generation_at n k) → is_of (generation_at m (highest m)) system ≡ is_of (generation_at n (highest n)) system
 highest_of_same m n system same = ap (λ o. is_of o system) (same (highest m) ∙ ap (generation_at n) (highest_same m n same))
 
 pub number_seen : (system : List ℕ) (m w : WorldState) → seen m ≡ seen w → number_after m.leaves system ≡ number_after w.leaves system
@@ -164,11 +164,13 @@ profile_is_linked system w v n is = record {
 pub record KeepsSet (system : List ℕ) (w m : WorldState) : Type 0 where
   pub number : number_after m.leaves system ≡ number_after w.leaves system
   pub same_end : set_end system m ≡ set_end system w
+  pub only_new : is_of (generation_at m.leaves (highest m.leaves)) system ≡ false → seen m ≡ seen w
 
 keeps_linked : (system : List ℕ) (w m v : WorldState) → IsLinked system w v → set_end system v ≡ set_end system w → seen m ≡ seen v → KeepsSet system w m
 keeps_linked system w m v is same_end same = record {
   number = number_seen system m v same ∙ is.number;
   same_end = end_seen system m v same ∙ same_end;
+  only_new = λ other. absurd (both_ways _ other (highest_of_same m.leaves v.leaves system (λ k. generation_seen m v k same) ∙ is.highest_of));
 }
 
 pub moment_keeps : (system : List ℕ) (w m : WorldState) → is_number (number_after w.leaves system) ≡ true → NamesSystem (slash ∷ system) system → IsSetMoment system w m → KeepsSet system w m
@@ -178,10 +180,26 @@ moment_keeps system w m number names moment =
     let is = linked_is system w number names in
     let is_set = profile_is_linked system w v n is in
     ⊎_elim
-    (λ same. record { number = number_seen system m w same; same_end = end_seen system m w same })
+    (λ same. record { number = number_seen system m w same; same_end = end_seen system m w same; only_new = λ other. same })
     (λ later. ⊎_elim
       (λ link. keeps_linked system w m v is (linked_end system w v is) link)
       (λ both. keeps_linked system w m (with_profile n v) is_set
         (linked_end system w (with_profile n v) is_set ∙ ap seen (same_leaf profile (Link (link_name n)) (with_profile n v) (at_same v.leaves profile (Link (link_name n))))) both)
       later)
     moment
+
+positive : (n : ℕ) → nat_lt 0 (n + 1) ≡ true
+positive n = grind arith
+
+-- the number that a set gives is one
+pub number_is : (leaves : Leaves) (system : List ℕ) → nat_lt (number_after leaves system) (2 ^ 32) ≡ true → is_number (number_after leaves system) ≡ true
+number_is leaves system further = elim (cases_Bool (is_of (generation_at leaves (highest leaves)) system)) [
+  | inl own ↦ subst (λ n. is_number n ≡ true) (sym (top_of leaves system own)) (stands_at_number leaves (highest leaves) (some_of (generation_at leaves (highest leaves)) own))
+  | inr other ↦ subst (λ n. is_number n ≡ true) (sym (next_of leaves system other)) (next_is (highest leaves) (subst (λ n. nat_lt n (2 ^ 32) ≡ true) (next_of leaves system other) further))
+]
+  where
+  some_of : (o : Option (Option (List ℕ))) → is_of o system ≡ true → IsSome o
+  some_of None own = absurd (both_ways false refl own)
+  some_of (Some target) own = refl
+  next_is : (n : ℕ) → nat_lt (n + 1) (2 ^ 32) ≡ true → is_number (n + 1) ≡ true
+  next_is n is = ap (λ b. b && nat_lt (n + 1) (2 ^ 32)) (positive n) ∙ is

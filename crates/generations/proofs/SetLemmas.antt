@@ -25,7 +25,7 @@ pub new_generation : (system : List ℕ) (n : ℕ) (w : WorldState) → is_of (g
 new_generation system n w is = ap (λ b. cond b w (with_leaf (link_path n) (Link (link_target system)) w)) is
 
 -- what is clear stays so where the generation's link is put
-clear_with_generation : (system : List ℕ) (n : ℕ) (w : WorldState) (p : List ℕ) → is_in_line (link_path n) p ≡ false → IsClear w.leaves p → IsClear (with_generation system n w).leaves p
+pub clear_with_generation : (system : List ℕ) (n : ℕ) (w : WorldState) (p : List ℕ) → is_in_line (link_path n) p ≡ false → IsClear w.leaves p → IsClear (with_generation system n w).leaves p
 clear_with_generation system n w p apart clear =
     elim (is_of (generation_at w.leaves (highest w.leaves)) system) as (λ b. IsClear (cond b w (with_leaf (link_path n) (Link (link_target system)) w)).leaves p) [
       | true ↦ clear

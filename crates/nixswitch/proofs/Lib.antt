@@ -1,2 +1,6 @@
+pub mod OutputLemmas
 pub mod PlanLemmas
 pub mod ResultLemmas
+pub mod RunLemmas
+pub mod StatusLemmas
+pub mod UnderwayLemmas

@@ -1,11 +1,15 @@
 -- What a run of the program promises at each moment, and what it puts out.
-use Rattle.std.specs.Prelude.{◌≡◌, ◌⊎◌, ℕ, List, [], ◌++◌, None, Some}
-use Rattle.host_trait.specs.Sink.{IsPrefixOf}
-use Rattle.host_trait.specs.World.{WorldState}
+use Rattle.std.specs.Prelude.{◌≡◌, ◌≤◌, ◌⊎◌, ℕ, List, [], ◌++◌, Option, None, Some, Result, Ok, Err}
+use Rattle.host_trait.specs.declared.tree.HostFault.TheVariants as host
+use Rattle.host_trait.specs.Host.{HasCauseOf, HostState, Leads, Passes, Rose, Told}
+use Rattle.host_trait.specs.Sink.{IsPrefixOf, Puts, SinkState}
+use Rattle.host_trait.specs.World.{WorldState, seen}
 use Rattle.generations.specs.Set.{NamesOldOrNew}
 use Rattle.nixswitch.specs.declared.command.Command.{Command}
 use Rattle.nixswitch.specs.declared.command.Command.TheVariants.{Boot}
 use Rattle.nixswitch.specs.declared.refusal.Refusal.{Refusal}
+use Rattle.nixswitch.specs.declared.refusal.RunFault.{RunFault}
+use Rattle.nixswitch.specs.declared.refusal.RunFault.TheVariants as fault
 use Rattle.nixswitch.specs.declared.status.Status.{Status}
 use Rattle.nixswitch.specs.declared.status.Status.TheVariants.{Done, Usage, Refused, HostFault, SinkFault, NoMemory}
 use Rattle.nixswitch.specs.Boot.{closing, final, refusal, report}
@@ -22,11 +26,15 @@ pub record IsUnderway (first : WorldState) (command : Command) (w : WorldState) 
 abbrev pub NamesOneOf : Command → WorldState → WorldState → Type 0
 NamesOneOf (Boot system) w m = NamesOldOrNew system w m
 
--- what each moment of a run has, given the world at its beginning
+-- what each moment of a command's run has, given the world at its beginning
+pub record IsCommandMoment (command : Command) (w m : WorldState) : Type 0 where
+  pub underway : refusal w command ≡ None → IsUnderway w command m
+  pub named : refusal w command ≡ None → NamesOneOf command w m
+  pub refused : (why : Refusal) → refusal w command ≡ Some why → m ≡ w
+
+-- what each moment of a run with these words has: without a command nothing changes
 pub record IsMomentOf (words : List (List ℕ)) (w m : WorldState) : Type 0 where
-  pub underway : (command : Command) → command_of words ≡ Some command → refusal w command ≡ None → IsUnderway w command m
-  pub named : (command : Command) → command_of words ≡ Some command → refusal w command ≡ None → NamesOneOf command w m
-  pub refused : (command : Command) (why : Refusal) → command_of words ≡ Some command → refusal w command ≡ Some why → m ≡ w
+  pub of_command : (command : Command) → command_of words ≡ Some command → IsCommandMoment command w m
   pub no_command : command_of words ≡ None → m ≡ w
 
 -- what was put by a run that ended so
@@ -37,3 +45,68 @@ IsOutputOf (Refused why) w command more = more ≡ []
 IsOutputOf HostFault w command more = (more ≡ []) ⊎ (more ≡ report w command)
 IsOutputOf SinkFault w command more = IsPrefixOf (report w command ++ closing) more
 IsOutputOf NoMemory w command more = (more ≡ []) ⊎ (more ≡ report w command)
+
+-- a fault of the output comes only where the sink's count of faults rose
+pub record IsSinkCaused (old new : SinkState) (fault : Type 0) : Type 0 where
+  pub later : old.faults ≤ new.faults
+  pub rose : fault → Rose old.faults new.faults
+
+-- what was put by a boot that ended so, whose report is this text
+abbrev pub IsBootOutput : Result (Unit {0}) RunFault → List ℕ → List ℕ → Type 0
+IsBootOutput (Ok done) text more = more ≡ text ++ closing
+IsBootOutput (Err (fault.Refused why)) text more = more ≡ []
+IsBootOutput (Err (fault.Host why)) text more = (more ≡ []) ⊎ (more ≡ text)
+IsBootOutput (Err fault.Sink) text more = IsPrefixOf (text ++ closing) more
+
+-- a fault that a host call handed on
+abbrev pub IsHostFault : RunFault → Type 0
+IsHostFault (fault.Refused why) = ⊥
+IsHostFault (fault.Host why) = Unit {0}
+IsHostFault fault.Sink = ⊥
+
+-- a run without a fault answers as the world says, or finds no memory
+abbrev pub IsAnswerTo : Option Refusal → Status → Type 0
+IsAnswerTo None status = (status ≡ Done) ⊎ (status ≡ NoMemory)
+IsAnswerTo (Some why) status = (status ≡ Refused why) ⊎ (status ≡ NoMemory)
+
+-- how a run of a command ends, from one host and sink to others
+pub record RunsCommand (host after : HostState) (sink put : SinkState) (command : Command) (status : Status) : Type 0 where
+  pub done : status ≡ Done → Leads host after (λ w v. seen v ≡ final w command)
+  pub done_not_refused : status ≡ Done → Told host (λ w. refusal w command ≡ None)
+  pub refused : (why : Refusal) → status ≡ Refused why → Told host (λ w. refusal w command ≡ Some why)
+  pub refused_output : (why : Refusal) → status ≡ Refused why → Puts sink put (λ more. more ≡ [])
+  pub not_usage : status ≡ Usage → ⊥
+  pub sink_not_refused : status ≡ SinkFault → Told host (λ w. refusal w command ≡ None)
+  pub sink_world : status ≡ SinkFault → Leads host after (λ w v. (v ≡ w) ⊎ (seen v ≡ final w command))
+  pub output : Told host (λ w. Puts sink put (IsOutputOf status w command))
+  pub completes : ¬ Rose host.faults after.faults → ¬ Rose sink.faults put.faults → Told host (λ w. IsAnswerTo (refusal w command) status)
+  pub begins : Told host (λ w. IsCommandMoment command w w)
+  pub moments : Passes host after (IsCommandMoment command)
+  pub cause : HasCauseOf host after (status ≡ HostFault)
+  pub sink_cause : IsSinkCaused sink put (status ≡ SinkFault)
+
+-- the status of a boot that ended so
+abbrev pub status_of : Result (Unit {0}) RunFault → Status
+status_of (Ok done) = Done
+status_of (Err (fault.Refused why)) = Refused why
+status_of (Err (fault.Host host.Memory)) = NoMemory
+status_of (Err (fault.Host host.Device)) = HostFault
+status_of (Err fault.Sink) = SinkFault
+
+-- how a run with these words ends
+pub record Runs (host after : HostState) (sink put : SinkState) (words : List (List ℕ)) (status : Status) : Type 0 where
+  pub usage : status ≡ Usage → command_of words ≡ None
+  pub no_command : command_of words ≡ None → (status ≡ Usage) ⊎ (status ≡ NoMemory)
+  pub usage_output : command_of words ≡ None → Puts sink put (λ more. more ≡ [])
+  pub refused : (why : Refusal) → status ≡ Refused why → (command : Command) → command_of words ≡ Some command → Told host (λ w. refusal w command ≡ Some why)
+  pub refused_output : (why : Refusal) → status ≡ Refused why → Puts sink put (λ more. more ≡ [])
+  pub done : status ≡ Done → (command : Command) → command_of words ≡ Some command → Leads host after (λ w v. seen v ≡ final w command)
+  pub done_not_refused : status ≡ Done → (command : Command) → command_of words ≡ Some command → Told host (λ w. refusal w command ≡ None)
+  pub output : (command : Command) → command_of words ≡ Some command → Told host (λ w. Puts sink put (IsOutputOf status w command))
+  pub cause : HasCauseOf host after (status ≡ HostFault)
+  pub sink_cause : IsSinkCaused sink put (status ≡ SinkFault)
+  pub sink_not_refused : status ≡ SinkFault → (command : Command) → command_of words ≡ Some command → Told host (λ w. refusal w command ≡ None)
+  pub sink_world : status ≡ SinkFault → (command : Command) → command_of words ≡ Some command → Leads host after (λ w v. (v ≡ w) ⊎ (seen v ≡ final w command))
+  pub completes : ¬ Rose host.faults after.faults → ¬ Rose sink.faults put.faults → (command : Command) → command_of words ≡ Some command → Told host (λ w. IsAnswerTo (refusal w command) status)
+  pub begins : Told host (λ w. IsMomentOf words w w)
+  pub moments : Passes host after (IsMomentOf words)

@@ -6,7 +6,7 @@ ghost use Rattle.host_trait.specs.Change.{IsSame};
 ghost use Rattle.host_trait.specs.Host.{Told, Passes, HasCause, HasCauseOf};
 ghost use Rattle.host_trait.specs.World.{content_of};
 ghost use Rattle.tree_put.specs.Put.{is_blocked};
-ghost use Rattle.generations.specs.Gens.{IsGensOf};
+ghost use Rattle.generations.specs.Gens.{IsGensOf, number_for_in};
 ghost use Rattle.nixswitch.specs.declared.refusal.Refusal.{Refusal};
 ghost use Rattle.nixswitch.specs.declared.refusal.RunFault.TheVariants.{Refused, Host, Sink};
 ghost use Rattle.nixswitch.specs.declared.command.Command.TheVariants.{Boot};
@@ -25,6 +25,8 @@ use tree_put::is_blocked;
 pub struct Plan {
     /// The generations that stand.
     pub gens: Gens,
+    /// The number of the generation that the system gets.
+    pub number: u32,
     /// What is put before anything changes.
     pub report: Text,
 }
@@ -122,6 +124,7 @@ fn plan_set<T: Tree>(
 ) -> Result<Plan, RunFault>
     requires { Told (T.host host.old) (λ w. IsGensOf w.leaves gens) }
     ensures plan { IfOk result (λ plan. Told (T.host host.old) (λ w. IsPlanOf system.now w plan.gens plan.report)) }
+    ensures number { IfOk result (λ plan. number_for_in plan.gens.list system.now ≡ Some plan.number) }
     ensures refused { (why : Refusal) → IsErrOf result (Refused why) → Told (T.host host.old) (λ w. set_refusal w.leaves system.now ≡ Some why) }
     ensures no_output { IsErrOf result Sink → ⊥ }
     ensures moments { Passes (T.host host.old) (T.host host.new) IsSame }
@@ -135,7 +138,11 @@ fn plan_set<T: Tree>(
         return Err(RunFault::Refused(Refusal::GenerationsFull));
     };
     let report = boot_report(alloc, system, number)?;
-    Ok(Plan { gens, report })
+    Ok(Plan {
+        gens,
+        number,
+        report,
+    })
 }
 
 /// Plans the set of a system.
@@ -145,6 +152,7 @@ fn plan_profile<T: Tree>(
     system: &SystemName,
 ) -> Result<Plan, RunFault>
     ensures plan { IfOk result (λ plan. Told (T.host host.old) (λ w. IsPlanOf system.now w plan.gens plan.report)) }
+    ensures number { IfOk result (λ plan. number_for_in plan.gens.list system.now ≡ Some plan.number) }
     ensures refused { (why : Refusal) → IsErrOf result (Refused why) → Told (T.host host.old) (λ w. set_refusal w.leaves system.now ≡ Some why) }
     ensures no_output { IsErrOf result Sink → ⊥ }
     ensures moments { Passes (T.host host.old) (T.host host.new) IsSame }
@@ -164,6 +172,7 @@ pub fn plan_boot<T: Tree>(
 ) -> Result<Plan, RunFault>
     ensures plan { IfOk result (λ plan. Told (T.host host.old) (λ w. IsPlanOf system.now w plan.gens plan.report)) }
     ensures not_refused { OnOk result (Told (T.host host.old) (λ w. refusal w (Boot system.now) ≡ None)) }
+    ensures number { IfOk result (λ plan. number_for_in plan.gens.list system.now ≡ Some plan.number) }
     ensures refused { (why : Refusal) → IsErrOf result (Refused why) → Told (T.host host.old) (λ w. refusal w (Boot system.now) ≡ Some why) }
     ensures no_output { IsErrOf result Sink → ⊥ }
     ensures moments { Passes (T.host host.old) (T.host host.new) IsSame }

@@ -1,8 +1,10 @@
 //! How a run ends.
 ghost use Rattle.std.specs.Prelude.{◌≡◌, IfOk};
+ghost use Rattle.nixswitch.specs.Run.{status_of};
 ghost use Rattle.nixswitch.specs.StatusTexts.{status_number, status_text};
 
-use crate::refusal::Refusal;
+use crate::refusal::{Refusal, RunFault};
+use host_trait::HostFault;
 use std::alloc::{AllocError, Global};
 use switch_names::Text;
 
@@ -21,6 +23,19 @@ pub enum Status {
     SinkFault,
     /// There was no memory.
     NoMemory,
+}
+
+/// How a boot that ended so ends the run.
+pub fn status_of(ended: Result<(), RunFault>) -> Status
+    ensures { result ≡ status_of ended }
+{
+    match ended {
+        Ok(()) => Status::Done,
+        Err(RunFault::Refused(why)) => Status::Refused(why),
+        Err(RunFault::Host(HostFault::Memory)) => Status::NoMemory,
+        Err(RunFault::Host(HostFault::Device)) => Status::HostFault,
+        Err(RunFault::Sink) => Status::SinkFault,
+    }
 }
 
 impl Status {

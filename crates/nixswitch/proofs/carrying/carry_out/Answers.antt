@@ -1,0 +1,53 @@
+use Rattle.std.proofs.Common.{◌≡◌, ◌⊎◌, ◌++◌, refl, sym, ap, subst, ◌∙◌, inl, inr}
+use Rattle.std.proofs.lemmas.Result.{err_from_is_err_and}
+use Rattle.host_trait.specs.World.{seen}
+use Rattle.host_trait.specs.Sink.{Puts, IsPrefixOf}
+use Rattle.host_trait.proofs.Moments.{started, leads_as}
+use Rattle.generations.specs.Places.{set_end}
+use Rattle.generations.specs.Set.{IsSetMoment}
+use Rattle.nixswitch.specs.Boot.{closing}
+use Rattle.nixswitch.specs.Run.{IsBootOutput, IsHostFault}
+use Rattle.nixswitch.specs.declared.refusal.RunFault.TheVariants.{Refused, Sink}
+use Rattle.nixswitch.proofs.OutputLemmas.{closing_prefix, host_output, no_refusal, no_sink, puts_as, puts_then, report_prefix, same_fault, sink_output}
+use Rattle.nixswitch.proofs.carrying.carry_out.Goals as goal
+
+pub returns-in_err-put_text-clause-output : goal.returns-in_err-put_text-clause-output
+returns-in_err-put_text-clause-output g c =
+    let p = err_from_is_err_and c.from_residual.result c.from_residual.ensures.1 in
+    puts_as c.put_text.ensures.prefix (IsBootOutput c.from_residual.result c.args.plan.now.report) (λ more is.
+      sink_output c.from_residual.result p.0 c.args.plan.now.report more p.1 (p.2 ∙ c.in_err-put_text.ensures.only c.in_err-put_text.field-0.0 refl)
+      (report_prefix c.args.plan.now.report more (subst (λ t. IsPrefixOf t more) c.as_str.ensures is)))
+
+pub returns-in_err-put_text-clause-sink_world : goal.returns-in_err-put_text-clause-sink_world
+returns-in_err-put_text-clause-sink_world g c sink = (started (λ w v. (v ≡ w) ⊎ (seen v ≡ set_end c.args.system.now w)) (λ w is. inl refl)).tells
+
+pub returns-in_err-put_text-clause-moments : goal.returns-in_err-put_text-clause-moments
+returns-in_err-put_text-clause-moments g c = started (IsSetMoment c.args.system.now) (λ w is. inl refl)
+
+pub returns-in_err-set_profile-clause-output : goal.returns-in_err-set_profile-clause-output
+returns-in_err-set_profile-clause-output g c =
+    let p = err_from_is_err_and c.from_residual-in_err-set_profile.result c.from_residual-in_err-set_profile.ensures.1 in
+    puts_as c.in_ok-put_text.ensures.ok (IsBootOutput c.from_residual-in_err-set_profile.result c.args.plan.now.report) (λ more is.
+      subst (λ r. IsBootOutput r c.args.plan.now.report more) (sym p.1)
+      (host_output p.0 c.args.plan.now.report more (subst IsHostFault (sym p.2) (c.in_err-set_profile.ensures.only c.in_err-set_profile.field-0.0 refl)) (is ∙ c.as_str.ensures)))
+
+pub returns-in_err-set_profile-clause-not_refused : goal.returns-in_err-set_profile-clause-not_refused
+returns-in_err-set_profile-clause-not_refused g c why e =
+    let p = err_from_is_err_and c.from_residual-in_err-set_profile.result c.from_residual-in_err-set_profile.ensures.1 in
+    no_refusal p.0 why (subst IsHostFault (sym p.2) (c.in_err-set_profile.ensures.only c.in_err-set_profile.field-0.0 refl)) (same_fault p.0 (Refused why) (sym p.1 ∙ e))
+
+pub returns-in_err-set_profile-clause-sink_world : goal.returns-in_err-set_profile-clause-sink_world
+returns-in_err-set_profile-clause-sink_world g c e =
+    let p = err_from_is_err_and c.from_residual-in_err-set_profile.result c.from_residual-in_err-set_profile.ensures.1 in
+    absurd (no_sink p.0 (subst IsHostFault (sym p.2) (c.in_err-set_profile.ensures.only c.in_err-set_profile.field-0.0 refl)) (same_fault p.0 Sink (sym p.1 ∙ e)))
+
+pub returns-in_err-set_profile-clause-sink_cause : goal.returns-in_err-set_profile-clause-sink_cause
+returns-in_err-set_profile-clause-sink_cause g c =
+    let p = err_from_is_err_and c.from_residual-in_err-set_profile.result c.from_residual-in_err-set_profile.ensures.1 in
+    record {
+      later = c.put_text.ensures.cause.later;
+      rose = λ e. absurd (no_sink p.0 (subst IsHostFault (sym p.2) (c.in_err-set_profile.ensures.only c.in_err-set_profile.field-0.0 refl)) (same_fault p.0 Sink (sym p.1 ∙ e)));
+    }
+
+pub returns-in_err-put_text-2-clause-sink_world : goal.returns-in_err-put_text-2-clause-sink_world
+returns-in_err-put_text-2-clause-sink_world g c e = leads_as c.in_ok-set_profile.ensures.ok (λ w v. (v ≡ w) ⊎ (seen v ≡ set_end c.args.system.now w)) (λ w v is set. inr set)
