@@ -1,5 +1,5 @@
 -- Paths below one another, as texts that are cut at a slash.
-use Rattle.std.proofs.Common.{suc, ◌≡◌, ◌⊎◌, ℕ, ◌<◌, ◌&&◌, ◌||◌, ◌==◌, Bool, true, false, nat_lt, nat_eq, slice_index, List, [], ◌∷◌, ◌++◌, length, take, drop, Some, arith, refl, sym, ap, ◌∙◌, inl, inr, ⊎_elim, lit<, length-append}
+use Rattle.std.proofs.Common.{suc, ◌≡◌, ◌⊎◌, ℕ, ◌<◌, ◌&&◌, ◌||◌, ◌==◌, Bool, true, false, nat_lt, nat_eq, slice_index, List, [], ◌∷◌, ◌++◌, length, take, drop, Some, arith, refl, sym, ap, ◌∙◌, inl, inr, ⊎_elim, lit<, length-append, append_assoc}
 use Rattle.std.proofs.Math.Seq.{drop-cons, get_or-append_seam}
 use Rattle.std.proofs.lemmas.Bool.{cases_Bool, both_ways, and_parts}
 use Rattle.std.proofs.lemmas.Bool.Decides.{Decides-eqb}
@@ -45,6 +45,20 @@ rest_below path q is =
       (starts_is Decides-eqb path q (starts_with nat_eq path q) refl).0 more.0
           ∙ ap (λ rest. q ++ rest) (drop-cons path (length q) 0 less ∙ ap (λ b. b ∷ drop (suc (length q)) path) ((Decides-eqb (slice_index path (length q)) slash).0 more.1)),
     )
+
+-- what a path lies below, it is longer than
+pub shorter_above : (path q : List ℕ) → is_below path q ≡ true → length q < length path
+shorter_above path q is =
+    less_from_test (length q) (length path) (and_parts (nat_lt (length q) (length path)) (starts_with nat_eq path q && slice_index path (length q) == slash) is).0
+
+-- what lies below a path lies below all that the path lies below
+pub below_both : (path middle q : List ℕ) → is_below path middle ≡ true → is_below middle q ≡ true → is_below path q ≡ true
+below_both path middle q first second =
+    let long = rest_below path middle first in
+    let short = rest_below middle q second in
+    ap (λ t. is_below t q)
+    (long.1 ∙ ap (λ t. t ++ slash ∷ long.0) short.1 ∙ append_assoc q (slash ∷ short.0) (slash ∷ long.0))
+    ∙ below_front q (short.0 ++ slash ∷ long.0)
 
 or_true : (a : Bool) → (a || true) ≡ true
 or_true true = refl

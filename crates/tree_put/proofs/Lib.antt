@@ -1,1 +1,2 @@
+pub mod BlockedLemmas
 pub mod PutLemmas

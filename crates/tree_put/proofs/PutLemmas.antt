@@ -36,8 +36,8 @@ pub place_clear : (at : List ℕ) (leaf : LeafKind) (w v : WorldState) → AreAp
 place_clear at leaf w v apart clear is =
     subst (λ (x : WorldState). IsClear x.leaves at) (sym is) (clear_insert w.leaves stage at leaf (apart_line at stage apart) clear)
   where
-  apart_line : (p q : List ℕ) → AreApart p q → is_in_line q p ≡ false
-  apart_line p q apart = elim (Rattle.std.proofs.lemmas.Bool.cases_Bool (is_in_line q p)) [
-    | inl is ↦ absurd (both_ways _ apart.line (in_line_either q p is))
-    | inr is ↦ is
-  ]
+    apart_line : (p q : List ℕ) → AreApart p q → is_in_line q p ≡ false
+    apart_line p q apart = elim (Rattle.std.proofs.lemmas.Bool.cases_Bool (is_in_line q p)) [
+      | inl is ↦ absurd (both_ways _ apart.line (in_line_either q p is))
+      | inr is ↦ is
+    ]

@@ -1,9 +1,10 @@
 -- A leaf takes its place in one step: rename(2), "there is no point at which another process finds it missing".
 use Rattle.std.specs.Prelude.{◌≡◌, ◌≢◌, ◌⊎◌, ℕ, Bool, false, List, Some, MatchBool}
-use Rattle.std.specs.FinMap.{get}
+use Rattle.std.specs.FinMap.{get, keys}
+use Rattle.std.specs.List.{list_any}
 use Rattle.std.specs.Ordering.{eq_by_cmp}
 use Rattle.host_trait.specs.declared.leaf.LeafKind.{LeafKind}
-use Rattle.host_trait.specs.World.{WorldState, IsClear, is_in_line, is_path, seen, stage, with_leaf, without_leaf}
+use Rattle.host_trait.specs.World.{Leaves, WorldState, IsClear, is_in_line, is_path, seen, stage, with_leaf, without_leaf}
 
 -- two paths are different, and neither lies below the other
 pub record AreApart (p q : List ℕ) : Type 0 where
@@ -26,3 +27,7 @@ IsOldOrGone at w m = (m ≡ w) ⊎ (m ≡ without_leaf at w)
 -- whether the leaf was put, since another one or none stood there
 abbrev pub IsPutIfOther : List ℕ → LeafKind → Bool → WorldState → Type 0
 IsPutIfOther at leaf put w = MatchBool put (get w.leaves at ≢ Some leaf) (get w.leaves at ≡ Some leaf)
+
+-- whether a leaf stands strictly above or below a path
+abbrev pub is_blocked : Leaves → List ℕ → Bool
+is_blocked leaves at = list_any (λ q. is_in_line q at) (keys leaves)
