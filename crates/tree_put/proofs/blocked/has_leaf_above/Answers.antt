@@ -1,10 +1,9 @@
-use Rattle.std.proofs.Common.{◌≡◌, true, false, List, ℕ, None, Some, IsSome, IfSome, refl, sym, ap, subst, ◌∙◌, rules, inr}
-use Rattle.std.specs.FinMap.{get, keys}
+use Rattle.std.proofs.Common.{◌≡◌, true, false, List, ℕ, IsSome, IfSome, refl, sym, subst, ◌∙◌, rules, inr}
+use Rattle.std.specs.FinMap.{keys}
 use Rattle.std.specs.List.{list_any}
 use Rattle.switch_names.specs.Path.{is_below}
 use Rattle.host_trait.specs.Change.{IsSame}
 use Rattle.host_trait.proofs.Moments.{started, same_then, told_as, told_before}
-use Rattle.host_trait.proofs.Places.{none_or_present}
 use Rattle.tree_put.proofs.BlockedLemmas.{IsFreeBut, above_is_left, parent_above, next_above, free_next, free_last, one_passes, none_there}
 use Rattle.tree_put.proofs.blocked.has_leaf_above.Goals as goal
 

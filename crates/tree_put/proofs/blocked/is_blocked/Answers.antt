@@ -1,7 +1,4 @@
-use Rattle.std.proofs.Common.{◌≡◌, true, ◌||◌, refl, sym, ap, ◌∙◌}
-use Rattle.std.specs.FinMap.{keys}
-use Rattle.std.specs.List.{list_any}
-use Rattle.switch_names.specs.Path.{is_below}
+use Rattle.std.proofs.Common.{refl, sym, ◌∙◌}
 use Rattle.host_trait.specs.Change.{IsSame}
 use Rattle.host_trait.proofs.Moments.{same_then, told_before}
 use Rattle.tree_put.proofs.BlockedLemmas.{blocked_below, blocked_above}
