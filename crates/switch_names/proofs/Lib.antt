@@ -1,3 +1,4 @@
+pub mod Below
 pub mod Endings
 pub mod Faultless
 pub mod Positions

@@ -1,5 +1,5 @@
 -- Paths of leaves: path_resolution(7), "Step 2: walk along the path", and pathname limits of limits.h(0p).
-use Rattle.std.specs.Prelude.{◌≡◌, ℕ, ◌&&◌, ◌||◌, ◌==◌, Bool, false, List, [], ◌∷◌, length, nat_lt, position, Option, None, Some, option_map, slice_index, nat_eq, if◌then◌else◌}
+use Rattle.std.specs.Prelude.{◌≡◌, ◌⊎◌, ℕ, ◌&&◌, ◌||◌, ◌==◌, Bool, true, false, List, [], ◌∷◌, length, nat_lt, position, Option, None, Some, option_map, slice_index, nat_eq, if◌then◌else◌}
 use Rattle.std.specs.Option.{option_or}
 use Rattle.std.specs.List.{slice_split, list_any, starts_with}
 use Rattle.switch_names.specs.declared.name_fault.NameFault.{NameFault}
@@ -40,3 +40,8 @@ IsPath text = path_fault text ≡ None
 abbrev pub is_below : List ℕ → List ℕ → Bool
 is_below path other =
     nat_lt (length other) (length path) && (starts_with nat_eq path other && slice_index path (length other) == slash)
+
+-- the path without its last name: the path lies below it, and so lies it below all else that the path does
+pub record IsParentOf (path parent : List ℕ) : Type 0 where
+  pub below : is_below path parent ≡ true
+  pub above : (q : List ℕ) → is_below path q ≡ true → (q ≡ parent) ⊎ (is_below parent q ≡ true)

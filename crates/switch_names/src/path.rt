@@ -1,7 +1,7 @@
 //! Paths of leaves below a root folder.
-ghost use Rattle.std.specs.Prelude.{◌≡◌, ◌++◌, ◌∷◌, IfOk, OnOk, position};
+ghost use Rattle.std.specs.Prelude.{◌≡◌, ℕ, ◌++◌, ◌∷◌, List, false, IfOk, OnOk, IfSome, IsNone, position};
 ghost use Rattle.std.specs.List.{list_any};
-ghost use Rattle.switch_names.specs.Path.{IsPath, path_fault, names_of, is_no_path_byte, is_empty_name, is_dots, is_below, slash};
+ghost use Rattle.switch_names.specs.Path.{IsPath, path_fault, names_of, is_no_path_byte, is_empty_name, is_dots, is_below, slash, IsParentOf};
 ghost use Rattle.switch_names.specs.NameFault.{IsRefusedBy};
 
 use crate::name_fault::NameFault;
@@ -146,6 +146,21 @@ impl Path {
         is_text_below(self.as_str().as_bytes(), other.as_str().as_bytes())
     }
 
+    /// The path without its last name, where it has several.
+    pub fn parent(&self, alloc: Global) -> Result<Option<Path>, AllocError>
+        ensures none { IfOk result (λ parent. IsNone parent → (q : List ℕ) → is_below self.now q ≡ false) }
+        ensures some { IfOk result (λ parent. IfSome parent (IsParentOf self.now)) }
+    {
+        let Some(front) = front_of(self.as_str()) else {
+            return Ok(None);
+        };
+        // The first names of a path are a path, so that memory alone can be wanting.
+        match Path::parse(alloc, front) {
+            Ok(path) => Ok(Some(path)),
+            Err(_) => Err(AllocError),
+        }
+    }
+
     /// An equal path.
     pub fn copy(&self, alloc: Global) -> Result<Path, AllocError>
         ensures { IfOk result (λ copied. copied ≡ self.now) }
@@ -161,6 +176,15 @@ fn is_text_below(text: &[u8], other: &[u8]) -> bool
     ensures { result ≡ is_below text.now other.now }
 {
     other.len() < text.len() && text.starts_with(other) && text[other.len()] == b'/'
+}
+
+/// What a text has before its last slash.
+fn front_of(text: &str) -> Option<&str>
+    ensures none { IsNone result → (q : List ℕ) → is_below text.now q ≡ false }
+    ensures some { IfSome result (λ front. IsParentOf text.now front.now) }
+{
+    let (front, _name) = text.rsplit_once('/')?;
+    Some(front)
 }
 
 impl PartialEq for Path {

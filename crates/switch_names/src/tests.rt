@@ -60,6 +60,19 @@ fn a_joined_path_is_below_its_folder(rt: HostRuntime) -> Result<(), Fail> {
 }
 
 #[test]
+fn a_parent_has_all_names_but_the_last(rt: HostRuntime) -> Result<(), Fail> {
+    let rows = [("a/b/c", "a/b"), ("a/b", "a"), ("a", "none")];
+    for (text, want) in rows {
+        let path = Path::parse(rt.alloc(), text)?;
+        match path.parent(rt.alloc())? {
+            Some(parent) => assert_eq!(rt; parent.as_str(), want, "{text}"),
+            None => assert_eq!(rt; "none", want, "{text}"),
+        }
+    }
+    Ok(())
+}
+
+#[test]
 fn systems_are_names_in_the_store(rt: HostRuntime) -> Result<(), Fail> {
     let rows = [
         ("/nix/store/x", "nix/store/x"),

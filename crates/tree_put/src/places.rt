@@ -13,12 +13,7 @@ use switch_names::Path;
 ///
 /// A cut leaves the old leaf or the new one, and every other place but the stage as it was.
 /// Source: rename(2).
-pub fn put<T: Tree>(
-    alloc: Global,
-    host: &mut T,
-    at: &Path,
-    leaf: &Leaf,
-) -> Result<(), HostFault>
+pub fn put<T: Tree>(alloc: Global, host: &mut T, at: &Path, leaf: &Leaf) -> Result<(), HostFault>
     requires apart { AreApart at.now stage }
     requires can { Told (T.host host.old) (CanPut at.now) }
     ensures ok { OnOk result (Comes (T.host host.old) (T.host host.new) (with_leaf at.now leaf.now)) }

@@ -1,8 +1,8 @@
 use Rattle.std.proofs.Common.{◌≡◌, refl, sym, ap, subst, ◌∙◌, inl}
 use Rattle.host_trait.specs.World.{seen, with_leaf}
-use Rattle.host_trait.proofs.Moments.{same_as, same_then, leads_as, leads_then, told_after}
+use Rattle.host_trait.proofs.Moments.{same_as, same_then, leads_as, leads_then}
 use Rattle.host_trait.proofs.Seen.{same_leaf}
-use Rattle.tree_put.specs.Put.{IsOldOrNew, CanPut}
+use Rattle.tree_put.specs.Put.{IsOldOrNew}
 use Rattle.tree_put.proofs.places.put_if_other.Goals as goal
 
 pub returns-in_err-stands-clause-moments : goal.returns-in_err-stands-clause-moments
