@@ -1,0 +1,119 @@
+#!/bin/sh
+# Runs the program on roots that no host wrote: symbolic links, special files, bad nodes and names.
+#
+# bench/hostile.sh [PROGRAM]
+#
+# For each root it prints whether the status is the wanted one, whether the run ended within ten
+# seconds, and whether all that lies outside the root stayed as it was. It ends with 1 where one
+# row differs. It is no part of the gate.
+set -u
+here=$(cd "$(dirname "$0")/.." && pwd)
+program=${1:-$here/crates/nixswitch/out/nixswitch}
+work=$(mktemp -d)
+trap 'chmod -R u+rwX "$work"; rm -rf "$work"' EXIT
+failed=0
+
+# A root with one system, and a folder beside it that no run may touch.
+fresh() {
+    chmod -R u+rwX "$work"
+    rm -rf "$work/root" "$work/outside"
+    mkdir -p "$work/outside/var" "$work/root/tree/nix/store/a-sys"
+    printf 'F 0644 0 0\n24.05\n' >"$work/root/tree/nix/store/a-sys/nixos-version"
+    cp -r "$work/root/tree" "$work/outside/tree"
+    echo secret >"$work/outside/file"
+}
+
+# What lies outside the root: each file with its bytes, each folder, each link.
+outside() {
+    (cd "$work/outside" && find . -printf '%y %p %l %m\n' | sort && find . -type f -exec cksum {} + | sort)
+}
+
+# run NAME STATUS [ROOT]: boots the system in the root and judges the row.
+run() {
+    before=$(outside)
+    timeout 10 "$program" "${3-$work/root}" boot nix/store/a-sys >"$work/stdout" 2>"$work/stderr"
+    status=$?
+    verdict=ok
+    [ "$status" = "$2" ] || verdict="status $status, not $2"
+    [ "$status" != 124 ] || verdict="did not end"
+    [ "$before" = "$(outside)" ] || verdict="changed what lies outside"
+    [ "$verdict" = ok ] || failed=1
+    printf '%-48s %s\n' "$1" "$verdict"
+}
+
+tree=$work/root/tree
+stage=$tree/nix/var/nixswitch.stage
+profiles=$tree/nix/var/nix/profiles
+
+fresh
+run "a plain root" 0
+run "the same root again" 0
+rm -rf "$work/root"
+run "no root" 2
+fresh
+run "an empty root text" 3 ""
+fresh && rm -rf "$work/root" && ln -s "$work/nowhere" "$work/root"
+run "a root that is a link to nothing" 2
+fresh && rm -rf "$work/root" && echo text >"$work/root"
+run "a root that is a file" 2
+
+fresh && rm -rf "$tree" && ln -s "$work/outside/tree" "$tree"
+run "the tree is a link" 3
+fresh && rm -rf "$tree/nix/store" && ln -s "$work/outside/tree/nix/store" "$tree/nix/store"
+run "a folder on the way to a read is a link" 3
+fresh && ln -s "$work/outside/var" "$tree/nix/var"
+run "a folder on the way to the stage is a link" 3
+fresh && mkdir -p "$tree/nix/var/nix" && ln -s "$work/outside/var" "$profiles"
+run "the profiles' folder is a link" 3
+fresh && rm "$tree/nix/store/a-sys/nixos-version" && ln -s "$work/outside/file" "$tree/nix/store/a-sys/nixos-version"
+run "a leaf is a link" 3
+fresh && mkdir -p "$profiles" && ln -s "$work/outside/file" "$profiles/system"
+run "the profile is a link of the file system" 3
+fresh && mkdir -p "$tree/nix/var" && ln -s "$work/outside/file" "$stage"
+run "the stage is a link" 3
+fresh && mkdir -p "$tree/nix/var" && ln -s "$work/outside/new" "$stage"
+run "the stage is a link to nothing" 3
+fresh && mkdir -p "$tree/nix/var" && ln "$work/outside/file" "$stage"
+run "the stage is a second name of a file outside" 0
+fresh && mkdir -p "$stage/a" && ln -s "$work/outside" "$stage/a/b"
+run "the stage is a folder with a link in it" 3
+fresh && mkdir -p "$stage/a/b"
+run "the stage is an empty folder" 0
+
+fresh && rm "$tree/nix/store/a-sys/nixos-version" && mkfifo "$tree/nix/store/a-sys/nixos-version"
+run "a leaf is a pipe" 3
+fresh && mkdir -p "$profiles" && mkfifo "$profiles/pipe"
+run "a pipe among the profiles" 3
+fresh && mkdir -p "$tree/nix/var" && mkfifo "$stage"
+run "the stage is a pipe" 3
+fresh && mkfifo "$tree/nix/var"
+run "a pipe on the way to the stage" 3
+
+fresh && echo junk >"$tree/nix/store/a-sys/nixos-version"
+run "a text that is no node" 3
+fresh && : >"$tree/nix/store/a-sys/nixos-version"
+run "an empty node" 3
+fresh && truncate -s 20G "$tree/nix/store/a-sys/nixos-version"
+run "a node of twenty gigabytes" 3
+fresh && mkdir -p "$profiles" && touch "$profiles/$(printf 'a\377')"
+run "a name that is no UTF-8" 3
+fresh && mkdir -p "$profiles" && touch "$profiles/$(printf 'a\nb')"
+run "a name with a line feed" 3
+
+fresh && mkdir -p "$profiles/system/a/b" "$profiles/system/c"
+run "empty folders where the profile is to stand" 0
+fresh && mkdir -p "$profiles/system/a" && printf 'L x\n' >"$profiles/system/a/leaf"
+run "a folder with a leaf where the profile is to stand" 2
+fresh && printf 'L x\n' >"$tree/nix/var"
+run "a leaf where a folder is to stand" 2
+
+if [ "$(id -u)" != 0 ]; then
+    fresh && chmod 000 "$tree/nix/store/a-sys/nixos-version"
+    run "a leaf without leave to read" 3
+    fresh && chmod 555 "$tree/nix"
+    run "a folder without leave to write" 3
+else
+    echo "run as root: the rows on permissions are left out"
+fi
+
+exit $failed

@@ -1,0 +1,18 @@
+//! A tree of leaves in a folder of the file system.
+//!
+//! Each leaf is a node file below `<root>/tree`. Nothing outside the root is read, written or
+//! removed, whatever stands below it: no symbolic link below the tree is followed.
+#![tactic(auto)]
+
+mod clearing;
+mod folders;
+mod host;
+mod listing;
+mod node_file;
+mod place;
+mod stage;
+
+pub use host::FolderHost;
+
+#[cfg(test)]
+mod tests;

@@ -1,0 +1,99 @@
+//! The leaves below a folder.
+use crate::folders::{Folders, Missing};
+use crate::place::{Found, foreign, kind_of, look};
+use host_trait::stage_path;
+use std::alloc::{AllocError, Global};
+use std::rt::Files;
+use std::{fs, io};
+use switch_names::{Listed, NameFault, Path};
+
+/// The path of a name in a folder of the tree. A name that is none of a path is a fault.
+fn path_in(alloc: Global, folder: &Path, name: &str) -> io::Result<Path> {
+    match folder.join(alloc, name) {
+        Ok(path) => Ok(path),
+        Err(NameFault::Memory) => Err(io::Error::from(AllocError)),
+        Err(_) => Err(foreign()),
+    }
+}
+
+/// Adds what stands in a folder to the folders and the leaves.
+fn push_entries<R: Files + AllocGlobal + Clone + Drop>(
+    rt: &R,
+    alloc: Global,
+    place: &str,
+    folder: &Path,
+    folders: &mut Vec<Path>,
+    leaves: &mut Vec<Path>,
+) -> io::Result<()> {
+    for entry in fs::read_dir(rt, place)? {
+        let entry = entry?;
+        let path = path_in(alloc, folder, entry.file_name())?;
+        match kind_of(&entry.metadata()?)? {
+            Found::Folder => folders.push(path)?,
+            _ => leaves.push(path)?,
+        }
+    }
+    Ok(())
+}
+
+/// The leaves below a folder of the tree.
+fn leaves_below<R: Files + AllocGlobal + Clone + Drop>(
+    rt: &R,
+    alloc: Global,
+    tree: &mut Folders,
+    under: &Path,
+) -> io::Result<Vec<Path>> {
+    let mut leaves = Vec::new(alloc);
+    let mut folders = Vec::new(alloc);
+    folders.push(under.copy(alloc)?)?;
+    for _ in 0..u64::MAX {
+        let Some(folder) = folders.pop() else {
+            break;
+        };
+        let place = tree.place(alloc, &folder)?;
+        tree.remember(alloc, place.as_str())?;
+        push_entries(
+            rt,
+            alloc,
+            place.as_str(),
+            &folder,
+            &mut folders,
+            &mut leaves,
+        )?;
+    }
+    Ok(leaves)
+}
+
+/// The leaf at a place alone, or those below it.
+fn leaves_under<R: Files + AllocGlobal + Clone + Drop>(
+    rt: &R,
+    alloc: Global,
+    tree: &mut Folders,
+    under: &Path,
+) -> io::Result<Vec<Path>> {
+    let place = tree.place(alloc, under)?;
+    let mut leaves = Vec::new(alloc);
+    if !tree.lead_to(rt, alloc, place.as_str(), Missing::Stays)? {
+        return Ok(leaves);
+    }
+    match look(rt, place.as_str())? {
+        Found::Nothing => {}
+        Found::File(_) => leaves.push(under.copy(alloc)?)?,
+        Found::Folder => leaves = leaves_below(rt, alloc, tree, under)?,
+    }
+    Ok(leaves)
+}
+
+/// The paths of the leaves at or below a path, in byte order, without the stage.
+pub fn list_leaves<R: Files + AllocGlobal + Clone + Drop>(
+    rt: &R,
+    alloc: Global,
+    tree: &mut Folders,
+    under: &Path,
+) -> io::Result<Listed<Path>> {
+    let stage = stage_path(alloc)?;
+    let mut leaves = leaves_under(rt, alloc, tree, under)?;
+    leaves.sort()?;
+    leaves.retain(|path| *path != stage);
+    Ok(Listed::from_vec(leaves))
+}

@@ -1,0 +1,68 @@
+//! What stands at a place of the file system.
+ghost use Rattle.std.specs.Prelude.{◌≡◌, ◌↔◌};
+ghost use Rattle.std.specs.IoError.{error_kind};
+
+use host_trait::HostFault;
+use std::fs::Metadata;
+use std::io::ErrorKind;
+use std::rt::Files;
+use std::{fs, io};
+
+/// The longest name that a file system can hold: `NAME_MAX` of limits.h(0p).
+const NAME_MAX: usize = 255;
+
+/// What stands at a place, where it is neither a symbolic link nor a special file.
+#[derive(Clone, Copy)]
+pub enum Found {
+    /// Nothing.
+    Nothing,
+    /// A folder.
+    Folder,
+    /// A regular file, of this many bytes.
+    File(u64),
+}
+
+/// The error at what no host wrote: a link, a special file, a text that is no node.
+pub fn foreign() -> io::Error {
+    io::Error::from(ErrorKind::InvalidData)
+}
+
+/// The fault of a call in which a file call has failed.
+pub fn fault_of(error: &io::Error) -> HostFault
+    ensures { (result ≡ HostFault.Memory) ↔ (error_kind error.now ≡ ErrorKind.OutOfMemory) }
+{
+    match error.kind() {
+        ErrorKind::OutOfMemory => HostFault::Memory,
+        _ => HostFault::Device,
+    }
+}
+
+/// Whether a name of a place is too long to stand anywhere.
+fn has_long_name(place: &str) -> bool {
+    place.split('/').any(|name| name.len() > NAME_MAX)
+}
+
+/// What is found by these metadata. A symbolic link or a special file is foreign.
+pub fn kind_of(metadata: &Metadata) -> io::Result<Found> {
+    if metadata.is_dir() {
+        Ok(Found::Folder)
+    } else if metadata.is_file() {
+        Ok(Found::File(metadata.len()))
+    } else {
+        Err(foreign())
+    }
+}
+
+/// What stands at a place, by one system call that follows no link at its end.
+///
+/// Nothing stands below a file.
+pub fn look(rt: &impl Files, place: &str) -> io::Result<Found> {
+    match fs::symlink_metadata(rt, place) {
+        Ok(metadata) => kind_of(&metadata),
+        Err(error) => match error.kind() {
+            ErrorKind::NotFound | ErrorKind::NotADirectory => Ok(Found::Nothing),
+            ErrorKind::InvalidFilename if has_long_name(place) => Ok(Found::Nothing),
+            _ => Err(error),
+        },
+    }
+}

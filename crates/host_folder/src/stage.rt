@@ -1,0 +1,100 @@
+//! The stage, at which a leaf is written before it takes its place.
+use crate::clearing::clear_folder;
+use crate::folders::{Folders, Missing};
+use crate::node_file::write_new;
+use crate::place::{Found, foreign, look};
+use host_trait::{Leaf, stage_path};
+use node_text::write_node;
+use std::alloc::Global;
+use std::rt::Files;
+use std::{fs, io};
+use switch_names::Path;
+
+/// What is known of the stage.
+#[derive(Clone, Copy)]
+pub enum Stage {
+    /// Nothing yet.
+    Unseen,
+    /// No file stands there.
+    Empty,
+    /// A leaf was written there.
+    Written,
+}
+
+/// Takes away what stands where a new file is to be written.
+fn make_room<R: Files + AllocGlobal + Clone + Drop>(
+    rt: &R,
+    alloc: Global,
+    tree: &mut Folders,
+    place: &str,
+) -> io::Result<()> {
+    match look(rt, place)? {
+        Found::Nothing => Ok(()),
+        Found::File(_) => fs::remove_file(rt, place),
+        Found::Folder => {
+            tree.forget();
+            clear_folder(rt, alloc, place)
+        }
+    }
+}
+
+/// Writes a leaf at the stage, as a new file.
+pub fn write_leaf<R: Files + AllocGlobal + Clone + Drop>(
+    rt: &R,
+    alloc: Global,
+    tree: &mut Folders,
+    stage: &mut Stage,
+    leaf: &Leaf,
+) -> io::Result<()> {
+    let text = write_node(alloc, leaf)?;
+    let place = tree.place(alloc, &stage_path(alloc)?)?;
+    tree.lead_to(rt, alloc, place.as_str(), Missing::IsMade)?;
+    if !matches!(stage, Stage::Empty) {
+        make_room(rt, alloc, tree, place.as_str())?;
+    }
+    *stage = Stage::Unseen;
+    write_new(rt, place.as_str(), text.as_slice())?;
+    *stage = Stage::Written;
+    Ok(())
+}
+
+/// Whether a regular file stands at the stage, in folders that are no links.
+fn is_staged<R: Files>(
+    rt: &R,
+    alloc: Global,
+    tree: &mut Folders,
+    stage: Stage,
+    place: &str,
+) -> io::Result<bool> {
+    if !tree.lead_to(rt, alloc, place, Missing::Stays)? {
+        return Ok(false);
+    }
+    match stage {
+        Stage::Written => Ok(true),
+        _ => Ok(matches!(look(rt, place)?, Found::File(_))),
+    }
+}
+
+/// Moves the stage's file to a place in one step.
+pub fn move_leaf<R: Files + AllocGlobal + Clone + Drop>(
+    rt: &R,
+    alloc: Global,
+    tree: &mut Folders,
+    stage: &mut Stage,
+    to: &Path,
+) -> io::Result<()> {
+    let from = tree.place(alloc, &stage_path(alloc)?)?;
+    let place = tree.place(alloc, to)?;
+    if !is_staged(rt, alloc, tree, *stage, from.as_str())? {
+        return Err(foreign());
+    }
+    tree.lead_to(rt, alloc, place.as_str(), Missing::IsMade)?;
+    if let Found::Folder = look(rt, place.as_str())? {
+        tree.forget();
+        clear_folder(rt, alloc, place.as_str())?;
+    }
+    *stage = Stage::Unseen;
+    fs::rename(rt, from.as_str(), place.as_str())?;
+    *stage = Stage::Empty;
+    Ok(())
+}

@@ -1,0 +1,4 @@
+pub mod ExactFields
+pub mod Digits
+pub mod Targets
+pub mod Nodes

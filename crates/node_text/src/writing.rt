@@ -1,0 +1,46 @@
+//! Writing a leaf.
+ghost use Rattle.std.specs.Prelude.{◌≡◌, ◌≤◌, IfOk};
+ghost use Rattle.node_text.specs.Node.{node_of, octal};
+
+use host_trait::{Leaf, LeafKind};
+use std::alloc::{AllocError, Global};
+use switch_names::Bytes;
+
+/// The four octal digits of a mode.
+fn octal(mode: u16) -> [u8; 4]
+    requires { mode ≤ 4095 }
+    ensures { result ≡ octal mode }
+{
+    [
+        b'0' + (mode / 512) as u8,
+        b'0' + (mode / 64 % 8) as u8,
+        b'0' + (mode / 8 % 8) as u8,
+        b'0' + (mode % 8) as u8,
+    ]
+}
+
+/// The text of a leaf.
+pub fn write_node(alloc: Global, leaf: &Leaf) -> Result<Bytes, AllocError>
+    ensures { IfOk result (λ text. text ≡ node_of leaf.now) }
+{
+    let mut text = Vec::new(alloc);
+    match leaf.kind() {
+        LeafKind::File {
+            bytes,
+            mode,
+            uid,
+            gid,
+        } => {
+            text.extend_from_slice(b"F ")?;
+            text.extend_from_slice(&octal(*mode))?;
+            text.extend_from_slice(format!(in alloc; " {uid} {gid}\n")?.as_bytes())?;
+            text.extend_from_slice(bytes.as_slice())?;
+        }
+        LeafKind::Link { target } => {
+            text.extend_from_slice(b"L ")?;
+            text.extend_from_slice(target.as_str().as_bytes())?;
+            text.push(b'\n')?;
+        }
+    }
+    Ok(Bytes::from_vec(text))
+}
