@@ -3,8 +3,6 @@
 
 mod blocked;
 mod places;
-mod standing;
 
 pub use blocked::is_blocked;
 pub use places::{drop_leaf, put, put_if_other};
-pub use standing::is_blocked;
