@@ -59,6 +59,7 @@ impl MemoryHost {
     /// The cut leaves what `pick` gives of that call, which answers `Device`, as does each call
     /// after it.
     pub fn arm(&mut self, after: u64, pick: u64)
+        ensures world { (host_of self.new).world ≡ (host_of self.old).world }
         ensures moments { Passes (host_of self.old) (host_of self.new) IsSame }
         ensures clock { (host_of self.new).clock ≡ (host_of self.old).clock }
         ensures last { (host_of self.new).last ≡ Some ((host_of self.old).clock + after + 1) }
@@ -73,6 +74,7 @@ impl MemoryHost {
     ///
     /// A call that fails so does nothing and answers `Device`.
     pub fn fail(&mut self, calls: Listed<u64>)
+        ensures world { (host_of self.new).world ≡ (host_of self.old).world }
         ensures moments { Passes (host_of self.old) (host_of self.new) IsSame }
         ensures clock { (host_of self.new).clock ≡ (host_of self.old).clock }
         ensures last { (host_of self.new).last ≡ (host_of self.old).last }
@@ -85,6 +87,7 @@ impl MemoryHost {
 
     /// Takes back what `arm` and `fail` have done.
     pub fn revive(&mut self)
+        ensures world { (host_of self.new).world ≡ (host_of self.old).world }
         ensures moments { Passes (host_of self.old) (host_of self.new) IsSame }
         ensures clock { (host_of self.new).clock ≡ (host_of self.old).clock }
         ensures last { (host_of self.new).last ≡ None }
