@@ -84,8 +84,7 @@ impl Troubles {
     {
         let is_listed = self.failures.next_fails();
         if is_listed || has_fallen(&self.cut) {
-            self.faults = self.faults.saturating_add(1);
-            return Err(HostFault::Device);
+            return Err(self.fault());
         }
         Ok(())
     }
@@ -111,6 +110,15 @@ impl Troubles {
             has_fallen: true,
             ..cut
         });
+        self.fault()
+    }
+
+    /// Counts a call that fails.
+    fn fault(&mut self) -> HostFault
+        ensures fault { result ≡ Device }
+        ensures new { self.new ≡ record self.old { faults = counted self.old.faults } }
+        ensures later { self.old.faults ≤ self.new.faults }
+    {
         self.faults = self.faults.saturating_add(1);
         HostFault::Device
     }
