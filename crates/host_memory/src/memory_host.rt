@@ -57,7 +57,7 @@ impl MemoryHost {
     /// Cuts the next changing call after so many more that finish.
     ///
     /// The cut leaves what `pick` gives of that call, which answers `Device`, as does each call
-    /// after it.
+    /// after it until `revive`.
     pub fn arm(&mut self, after: u64, pick: u64)
         ensures world { (host_of self.new).world ≡ (host_of self.old).world }
         ensures moments { Passes (host_of self.old) (host_of self.new) IsSame }
@@ -65,7 +65,7 @@ impl MemoryHost {
         ensures last { (host_of self.new).last ≡ Some ((host_of self.old).clock + after + 1) }
         ensures faults { (host_of self.new).faults ≡ (host_of self.old).faults }
         ensures sure { (host_of self.new).is_sure ≡ false }
-        ensures troubles { troubles_of self.new ≡ record (troubles_of self.old) { cut = Some (armed (host_of self.old).clock after pick) } }
+        ensures troubles { troubles_of self.new ≡ record (troubles_of self.old) { cut = Some (armed (troubles_of self.old).cut (host_of self.old).clock after pick) } }
     {
         self.troubles.arm(self.history.clock(), after, pick);
     }

@@ -42,14 +42,16 @@ impl Troubles {
     }
 
     /// A cut is to fall on the next changing call after so many more.
+    ///
+    /// Where one has fallen already, each call is still refused.
     pub(crate) fn arm(&mut self, clock: usize, after: u64, pick: u64)
-        ensures { self.new ≡ record self.old { cut = Some (armed clock after pick) } }
+        ensures { self.new ≡ record self.old { cut = Some (armed self.old.cut clock after pick) } }
     {
         self.cut = Some(ArmedCut {
             from: clock,
             after,
             pick,
-            has_fallen: false,
+            has_fallen: has_fallen(&self.cut),
         });
     }
 
