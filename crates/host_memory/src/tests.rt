@@ -94,6 +94,15 @@ fn may_read(alloc: Global, host: &mut MemoryHost) -> Result<bool, AllocError> {
     Ok(host.read(alloc, &to).is_ok())
 }
 
+/// How many leaves a host lists at the place.
+fn count_at_place(alloc: Global, host: &mut MemoryHost) -> Result<Option<usize>, AllocError> {
+    let to = place(alloc)?;
+    Ok(match host.list(alloc, &to) {
+        Ok(paths) => Some(paths.as_slice().len()),
+        Err(_) => None,
+    })
+}
+
 #[test]
 fn a_cut_leaves_what_its_pick_gives(rt: HostRuntime) -> Result<(), Fail> {
     for (after, pick, staged, put) in [
@@ -118,6 +127,8 @@ fn a_cut_leaves_what_its_pick_gives(rt: HostRuntime) -> Result<(), Fail> {
         assert!(rt; !may_read(rt.alloc(), &mut host)?, "at {after}, {pick}");
         assert_eq!(rt; host.faults(), 2, "at {after}, {pick}");
         host.revive();
+        let count = count_at_place(rt.alloc(), &mut host)?;
+        assert_eq!(rt; count, Some(put.iter().count()), "at {after}, {pick}");
         assert!(rt; may_read(rt.alloc(), &mut host)?, "at {after}, {pick}");
     }
     Ok(())
