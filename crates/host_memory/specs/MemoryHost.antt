@@ -1,5 +1,5 @@
 -- A host in memory: what it means as a host, and what becomes of each call.
-use Rattle.std.specs.Prelude.{◌≡◌, ◌⊎◌, Bool, length, Option, None, Some, Result, Ok, IsErrOf, if◌then◌else◌}
+use Rattle.std.specs.Prelude.{◌≡◌, ◌⊎◌, ◌+◌, ℕ, Bool, length, Option, None, Some, Result, Ok, IsErrOf, if◌then◌else◌}
 use Rattle.host_memory.specs.Cuts.{left_by}
 use Rattle.host_memory.specs.declared.cuts.ArmedCut.{ArmedCut}
 use Rattle.host_memory.specs.declared.memory_host.MemoryHost.{MemoryHost}
@@ -9,11 +9,14 @@ use Rattle.host_trait.specs.Change.{Change, finished}
 use Rattle.host_trait.specs.declared.tree.HostFault.{HostFault}
 use Rattle.host_trait.specs.declared.tree.HostFault.TheVariants.{Memory, Device}
 use Rattle.host_trait.specs.Host.{HostState}
-use Rattle.host_trait.specs.World.{WorldState}
 
 -- what is to go wrong on it
 abbrev pub troubles_of : MemoryHost → TroublesState
 troubles_of host = host.troubles
+
+-- how many calls have changed its world
+abbrev pub clock_of : MemoryHost → ℕ
+clock_of host = length host.history.calls.items
 
 -- as a host it tells its world, and its record tells the worlds of earlier moments
 abbrev pub host_of : MemoryHost → HostState
@@ -40,22 +43,29 @@ cut_or_admitted (Some cut) = Cut cut
 
 abbrev pub verdict : MemoryHost → Verdict
 verdict host =
-    if is_refusing host then Refused else cut_or_admitted (due host.troubles.cut (length host.history.calls.items))
+    if is_refusing host then Refused else cut_or_admitted (due host.troubles.cut (clock_of host))
 
--- a call left this world, and this that is to go wrong
-pub record Leaves (host : MemoryHost) (w : WorldState) (to_come : TroublesState) : Type 0 where
-  pub world : host.history.world ≡ w
-  pub troubles : host.troubles ≡ to_come
+-- a call left the world as it was, and no item in the record
+pub record Keeps (old new : MemoryHost) (to_come : TroublesState) : Type 0 where
+  pub world : new.history.world ≡ old.history.world
+  pub clock : clock_of new ≡ clock_of old
+  pub troubles : new.troubles ≡ to_come
 
--- for want of memory the call did nothing
-abbrev pub LacksMemory : MemoryHost → MemoryHost → Result (Unit {0}) HostFault → Type 0
-LacksMemory old new result = IsErrOf result Memory × Leaves new old.history.world (admitted old.troubles)
+-- a call finished
+pub record Finishes (change : Change) (old new : MemoryHost) : Type 0 where
+  pub world : new.history.world ≡ finished change old.history.world
+  pub clock : clock_of new ≡ clock_of old + 1
+  pub troubles : new.troubles ≡ admitted old.troubles
 
--- what a changing call answers and leaves, by the verdict on it
+-- a cut fell on a call: it left what its pick gives
+pub record Falls (change : Change) (cut : ArmedCut) (old new : MemoryHost) : Type 0 where
+  pub world : new.history.world ≡ left_by change cut.pick old.history.world
+  pub troubles : new.troubles ≡ record (refused old.troubles) { cut = Some (fallen cut) }
+
+-- what a changing call answers and leaves, by the verdict on it; for want of memory it leaves all as it was
 abbrev pub Does : Change → Verdict → MemoryHost → MemoryHost → Result (Unit {0}) HostFault → Type 0
-Does change Refused old new result = IsErrOf result Device × Leaves new old.history.world (refused old.troubles)
+Does change Refused old new result = IsErrOf result Device × Keeps old new (refused old.troubles)
 Does change (Cut cut) old new result =
-    LacksMemory old new result
-    ⊎ (IsErrOf result Device × Leaves new (left_by change cut.pick old.history.world) (record (refused old.troubles) { cut = Some (fallen cut) }))
+    (IsErrOf result Memory × Keeps old new (admitted old.troubles)) ⊎ (IsErrOf result Device × Falls change cut old new)
 Does change Admitted old new result =
-    LacksMemory old new result ⊎ ((result ≡ Ok tt) × Leaves new (finished change old.history.world) (admitted old.troubles))
+    (IsErrOf result Memory × Keeps old new (admitted old.troubles)) ⊎ ((result ≡ Ok tt) × Finishes change old new)

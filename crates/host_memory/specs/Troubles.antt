@@ -13,13 +13,11 @@ pub record TroublesState : Type 0 where
   -- how many calls have failed
   pub faults : ℕ
 
--- a cut armed at a time, to fall on the next changing call after so many more
-abbrev pub armed : ℕ → ℕ → ℕ → ArmedCut
-armed clock after pick = record { from = clock; after = after; pick = pick; has_fallen = false }
-
+-- a cut once it has fallen
 abbrev pub fallen : ArmedCut → ArmedCut
 fallen cut = record cut { has_fallen = true }
 
+-- whether a list has no number
 abbrev pub is_empty : List ℕ → Bool
 is_empty [] = true
 is_empty numbers = false
@@ -33,9 +31,14 @@ abbrev pub last_moment : Option ArmedCut → Option ℕ
 last_moment None = None
 last_moment (Some cut) = Some (cut.from + cut.after + 1)
 
+-- whether the cut has fallen
 abbrev pub has_fallen : Option ArmedCut → Bool
 has_fallen None = false
 has_fallen (Some cut) = cut.has_fallen
+
+-- a cut armed at a time, to fall on the next changing call after so many more; one that has fallen stays so
+abbrev pub armed : Option ArmedCut → ℕ → ℕ → ℕ → ArmedCut
+armed cut clock after pick = record { from = clock; after = after; pick = pick; has_fallen = has_fallen cut }
 
 -- a call is refused where it is listed, and once the cut has fallen
 abbrev pub is_refused : TroublesState → Bool
@@ -54,7 +57,7 @@ admitted troubles = record troubles { next = counted troubles.next }
 abbrev pub refused : TroublesState → TroublesState
 refused troubles = record troubles { next = counted troubles.next; faults = counted troubles.faults }
 
--- a clock at which a cut is armed: it has yet to fall where it hasn't
+-- the clock is where this cut lets it be: past the last call before it only once it has fallen
 pub record IsWithin (cut : ArmedCut) (clock : ℕ) : Type 0 where
   pub begun : cut.from ≤ clock
   pub ends : clock ≤ cut.from + cut.after + 1

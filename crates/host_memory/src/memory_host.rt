@@ -57,14 +57,15 @@ impl MemoryHost {
     /// Cuts the next changing call after so many more that finish.
     ///
     /// The cut leaves what `pick` gives of that call, which answers `Device`, as does each call
-    /// after it.
+    /// after it until `revive`.
     pub fn arm(&mut self, after: u64, pick: u64)
+        ensures world { (host_of self.new).world ≡ (host_of self.old).world }
         ensures moments { Passes (host_of self.old) (host_of self.new) IsSame }
         ensures clock { (host_of self.new).clock ≡ (host_of self.old).clock }
         ensures last { (host_of self.new).last ≡ Some ((host_of self.old).clock + after + 1) }
         ensures faults { (host_of self.new).faults ≡ (host_of self.old).faults }
         ensures sure { (host_of self.new).is_sure ≡ false }
-        ensures troubles { troubles_of self.new ≡ record (troubles_of self.old) { cut = Some (armed (host_of self.old).clock after pick) } }
+        ensures troubles { troubles_of self.new ≡ record (troubles_of self.old) { cut = Some (armed (troubles_of self.old).cut (host_of self.old).clock after pick) } }
     {
         self.troubles.arm(self.history.clock(), after, pick);
     }
@@ -73,6 +74,7 @@ impl MemoryHost {
     ///
     /// A call that fails so does nothing and answers `Device`.
     pub fn fail(&mut self, calls: Listed<u64>)
+        ensures world { (host_of self.new).world ≡ (host_of self.old).world }
         ensures moments { Passes (host_of self.old) (host_of self.new) IsSame }
         ensures clock { (host_of self.new).clock ≡ (host_of self.old).clock }
         ensures last { (host_of self.new).last ≡ (host_of self.old).last }
@@ -85,6 +87,7 @@ impl MemoryHost {
 
     /// Takes back what `arm` and `fail` have done.
     pub fn revive(&mut self)
+        ensures world { (host_of self.new).world ≡ (host_of self.old).world }
         ensures moments { Passes (host_of self.old) (host_of self.new) IsSame }
         ensures clock { (host_of self.new).clock ≡ (host_of self.old).clock }
         ensures last { (host_of self.new).last ≡ None }

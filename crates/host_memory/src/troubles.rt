@@ -42,14 +42,16 @@ impl Troubles {
     }
 
     /// A cut is to fall on the next changing call after so many more.
+    ///
+    /// Where one has fallen already, each call is still refused.
     pub(crate) fn arm(&mut self, clock: usize, after: u64, pick: u64)
-        ensures { self.new ≡ record self.old { cut = Some (armed clock after pick) } }
+        ensures { self.new ≡ record self.old { cut = Some (armed self.old.cut clock after pick) } }
     {
         self.cut = Some(ArmedCut {
             from: clock,
             after,
             pick,
-            has_fallen: false,
+            has_fallen: has_fallen(&self.cut),
         });
     }
 
@@ -84,8 +86,7 @@ impl Troubles {
     {
         let is_listed = self.failures.next_fails();
         if is_listed || has_fallen(&self.cut) {
-            self.faults = self.faults.saturating_add(1);
-            return Err(HostFault::Device);
+            return Err(self.fault());
         }
         Ok(())
     }
@@ -111,6 +112,15 @@ impl Troubles {
             has_fallen: true,
             ..cut
         });
+        self.fault()
+    }
+
+    /// Counts a call that fails.
+    fn fault(&mut self) -> HostFault
+        ensures fault { result ≡ Device }
+        ensures new { self.new ≡ record self.old { faults = counted self.old.faults } }
+        ensures later { self.old.faults ≤ self.new.faults }
+    {
         self.faults = self.faults.saturating_add(1);
         HostFault::Device
     }
