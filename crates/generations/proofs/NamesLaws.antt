@@ -54,7 +54,7 @@ named_after system w v is =
     let n = number_after w.leaves system in
     let after = with_profile n v in
     let there : generation_at after.leaves n ≡ Some (Some system) =
-      profile_keeps n n v ∙ ap (generation_at v.leaves) (sym is.number ∙ top_of v.leaves system is.highest_of) ∙ of_system _ system is.highest_of in
+    profile_keeps n n v ∙ ap (generation_at v.leaves) (sym is.number ∙ top_of v.leaves system is.highest_of) ∙ of_system _ system is.highest_of in
     record {
       number = n;
       current = record { linked = at_same v.leaves profile (Link (link_name n)); stands = ap is_some there };
@@ -88,7 +88,7 @@ module _ (system : List ℕ) (w : WorldState) (number : is_number (number_after 
   names_old : (get w.leaves profile ≡ Some (Link (link_name (number_after w.leaves system))) → ⊥) → (s : List ℕ) → Names after.leaves s ↔ Names w.leaves s
   names_old not_new s = (
     names_same after.leaves w.leaves profile_stays (λ k current. others_there system w number k (other_number k not_new (sym profile_stays ∙ current.linked))) s,
-    names_same w.leaves after.leaves (sym profile_stays) (λ k current. sym (others_there system w number k (other_number k not_new current.linked))) s
+    names_same w.leaves after.leaves (sym profile_stays) (λ k current. sym (others_there system w number k (other_number k not_new current.linked))) s,
   )
 
 same_link : (target text : List ℕ) → eq_by_cmp bytes_cmp target text ≡ false → Some (Link target) ≡ Some (Link text) → ⊥
@@ -134,7 +134,7 @@ moment_names system w m number names moment =
     ⊎_elim
     (λ same. names_seen_too system w m w same (inl (unchanged w)))
     (λ later. ⊎_elim
-      (λ link. names_seen_too system w m v link (names_link system w number names))
-      (λ both. names_seen_too system w m (with_profile n v) both (inr (named_after system w v (linked_is system w number names))))
-      later)
+    (λ link. names_seen_too system w m v link (names_link system w number names))
+    (λ both. names_seen_too system w m (with_profile n v) both (inr (named_after system w v (linked_is system w number names))))
+    later)
     moment

@@ -119,7 +119,7 @@ world_of_last : (leaves : Leaves) (gens : Gens) (last : Gen) → IsGensOf leaves
 world_of_last leaves gens last is lasts =
     let here : Some last.target ≡ generation_at leaves last.number = sym (ap (option_map (λ gen. gen.target)) lasts.found) ∙ is.exact last.number in
     let top : highest leaves ≡ last.number =
-      highest_is leaves last.number (ap is_some (sym here)) (λ m more. sym (is.exact m) ∙ ap (option_map (λ gen. gen.target)) (lasts.above m more)) in
+    highest_is leaves last.number (ap is_some (sym here)) (λ m more. sym (is.exact m) ∙ ap (option_map (λ gen. gen.target)) (lasts.above m more)) in
     record {
       stands = here ∙ ap (generation_at leaves) (sym top);
       none = λ e. absurd (cc);
@@ -158,11 +158,11 @@ number_from_last leaves (Some gen) system n is given =
       | false ↦ λ b e. next gen.number n e ∙ ap (λ h. h + 1) (sym top) ∙ sym (ap (λ o. cond (is_of o system) (highest leaves) (highest leaves + 1)) (sym is.stands) ∙ ap (λ c. cond c (highest leaves) (highest leaves + 1)) b)
     ] refl given
   where
-  next : (k n : ℕ) → cond (nat_lt (k + 1) (2 ^ 32)) (Some (k + 1)) None ≡ Some n → n ≡ k + 1
-  next k n e = elim (nat_lt (k + 1) (2 ^ 32)) as (λ b. cond b (Some (k + 1)) None ≡ Some n → n ≡ k + 1) [
-    | true ↦ λ h. let same : k + 1 ≡ n = cc in sym same
-    | false ↦ λ h. absurd (cc)
-  ] e
+    next : (k n : ℕ) → cond (nat_lt (k + 1) (2 ^ 32)) (Some (k + 1)) None ≡ Some n → n ≡ k + 1
+    next k n e = elim (nat_lt (k + 1) (2 ^ 32)) as (λ b. cond b (Some (k + 1)) None ≡ Some n → n ≡ k + 1) [
+      | true ↦ λ h. let same : k + 1 ≡ n = cc in sym same
+      | false ↦ λ h. absurd (cc)
+    ] e
 
 -- the number that a list of the world's generations gives is the world's
 pub number_of_world : (leaves : Leaves) (gens : Gens) (system : List ℕ) (n : ℕ) → IsGensOf leaves gens → number_for_in gens.list system ≡ Some n → n ≡ number_after leaves system
@@ -187,10 +187,10 @@ number_from_world : (leaves : Leaves) (last : Option Gen) (system : List ℕ) �
 number_from_world leaves None system is = sym (ap (λ n. cond (nat_lt n (2 ^ 32)) (Some n) None) (number_of_none leaves system is))
 number_from_world leaves (Some gen) system is = elim (cases_Bool (is_of (Some gen.target) system)) [
   | inl own ↦ ap (λ b. cond b (Some gen.number) (cond (nat_lt (gen.number + 1) (2 ^ 32)) (Some (gen.number + 1)) None)) own
-    ∙ sym (ap (λ b. cond b (Some gen.number) None) (lt-ltb gen.number (2 ^ 32) (own_small leaves gen is)))
-    ∙ sym (ap (λ n. cond (nat_lt n (2 ^ 32)) (Some n) None) (number_of_own leaves gen system is own))
+      ∙ sym (ap (λ b. cond b (Some gen.number) None) (lt-ltb gen.number (2 ^ 32) (own_small leaves gen is)))
+      ∙ sym (ap (λ n. cond (nat_lt n (2 ^ 32)) (Some n) None) (number_of_own leaves gen system is own))
   | inr other ↦ ap (λ b. cond b (Some gen.number) (cond (nat_lt (gen.number + 1) (2 ^ 32)) (Some (gen.number + 1)) None)) other
-    ∙ sym (ap (λ n. cond (nat_lt n (2 ^ 32)) (Some n) None) (number_of_next leaves gen system is other))
+      ∙ sym (ap (λ n. cond (nat_lt n (2 ^ 32)) (Some n) None) (number_of_next leaves gen system is other))
 ]
 
 -- the number that a list of the world's generations gives is the world's where there is a further one

@@ -45,9 +45,9 @@ link_seen system n m w is =
     ap (λ b. seen (cond b m (with_leaf (link_path n) (Link (link_target system)) m))) (highest_of_same m.leaves w.leaves system (λ k. generation_seen m w k is))
     ∙ either (is_of (generation_at w.leaves (highest w.leaves)) system)
   where
-  either : (b : Bool) → seen (cond b m (with_leaf (link_path n) (Link (link_target system)) m)) ≡ seen (cond b w (with_leaf (link_path n) (Link (link_target system)) w))
-  either true = is
-  either false = seen_with_leaf (link_path n) (Link (link_target system)) m w is
+    either : (b : Bool) → seen (cond b m (with_leaf (link_path n) (Link (link_target system)) m)) ≡ seen (cond b w (with_leaf (link_path n) (Link (link_target system)) w))
+    either true = is
+    either false = seen_with_leaf (link_path n) (Link (link_target system)) m w is
 
 -- worlds that are equal but for the stage have the same end
 pub end_seen : (system : List ℕ) (m w : WorldState) → seen m ≡ seen w → set_end system m ≡ set_end system w
@@ -102,10 +102,10 @@ module _ (system : List ℕ) (w : WorldState) where
   pub others_there : is_number (number_after w.leaves system) ≡ true → (k : ℕ) → k ≢ number_after w.leaves system → generation_at u.leaves k ≡ generation_at w.leaves k
   others_there number k ne = elim (cases_Bool (is_number k)) [
     | inl is ↦ generation_of u.leaves w.leaves k
-      (get_other w.leaves (link_path (number_after w.leaves system)) (link_path k) (Link (link_target system))
+        (get_other w.leaves (link_path (number_after w.leaves system)) (link_path k) (Link (link_target system))
         (other_of _ _ (λ same. ne (one_link_path k (number_after w.leaves system) (small k is) (small _ number) same))))
     | inr is ↦ ap (λ b. cond b (option_map target_of (get u.leaves (link_path k))) None) is
-      ∙ sym (ap (λ b. cond b (option_map target_of (get w.leaves (link_path k))) None) is)
+        ∙ sym (ap (λ b. cond b (option_map target_of (get w.leaves (link_path k))) None) is)
   ]
 
 -- the world with the generation's link, new or kept
@@ -131,10 +131,10 @@ new_is_linked system w other number names =
     let next = next_of w.leaves system other in
     let there = named_there system w number names in
     let top : highest after.leaves ≡ number_after w.leaves system =
-      highest_is after.leaves (number_after w.leaves system) (ap is_some there)
-      (λ m more. others_there system w number m (λ same. omega (arith, ap suc same)) ∙ above_highest w.leaves m (omega arith)) in
+    highest_is after.leaves (number_after w.leaves system) (ap is_some there)
+    (λ m more. others_there system w number m (λ same. omega (arith, ap suc same)) ∙ above_highest w.leaves m (omega arith)) in
     let is : is_of (generation_at after.leaves (highest after.leaves)) system ≡ true =
-      ap (λ k. is_of (generation_at after.leaves k) system) top ∙ ap (λ o. is_of o system) there ∙ itself system in
+    ap (λ k. is_of (generation_at after.leaves k) system) top ∙ ap (λ o. is_of o system) there ∙ itself system in
     record { number = top_of after.leaves system is ∙ top; highest_of = is }
 
 pub linked_is : (system : List ℕ) (w : WorldState) → is_number (number_after w.leaves system) ≡ true → NamesSystem (slash ∷ system) system → IsLinked system w (with_generation system (number_after w.leaves system) w)
@@ -182,10 +182,10 @@ moment_keeps system w m number names moment =
     ⊎_elim
     (λ same. record { number = number_seen system m w same; same_end = end_seen system m w same; only_new = λ other. same })
     (λ later. ⊎_elim
-      (λ link. keeps_linked system w m v is (linked_end system w v is) link)
-      (λ both. keeps_linked system w m (with_profile n v) is_set
-        (linked_end system w (with_profile n v) is_set ∙ ap seen (same_leaf profile (Link (link_name n)) (with_profile n v) (at_same v.leaves profile (Link (link_name n))))) both)
-      later)
+    (λ link. keeps_linked system w m v is (linked_end system w v is) link)
+    (λ both. keeps_linked system w m (with_profile n v) is_set
+    (linked_end system w (with_profile n v) is_set ∙ ap seen (same_leaf profile (Link (link_name n)) (with_profile n v) (at_same v.leaves profile (Link (link_name n))))) both)
+    later)
     moment
 
 positive : (n : ℕ) → nat_lt 0 (n + 1) ≡ true
@@ -198,8 +198,9 @@ number_is leaves system further = elim (cases_Bool (is_of (generation_at leaves 
   | inr other ↦ subst (λ n. is_number n ≡ true) (sym (next_of leaves system other)) (next_is (highest leaves) (subst (λ n. nat_lt n (2 ^ 32) ≡ true) (next_of leaves system other) further))
 ]
   where
-  some_of : (o : Option (Option (List ℕ))) → is_of o system ≡ true → IsSome o
-  some_of None own = absurd (both_ways false refl own)
-  some_of (Some target) own = refl
-  next_is : (n : ℕ) → nat_lt (n + 1) (2 ^ 32) ≡ true → is_number (n + 1) ≡ true
-  next_is n is = ap (λ b. b && nat_lt (n + 1) (2 ^ 32)) (positive n) ∙ is
+    some_of : (o : Option (Option (List ℕ))) → is_of o system ≡ true → IsSome o
+    some_of None own = absurd (both_ways false refl own)
+    some_of (Some target) own = refl
+
+    next_is : (n : ℕ) → nat_lt (n + 1) (2 ^ 32) ≡ true → is_number (n + 1) ≡ true
+    next_is n is = ap (λ b. b && nat_lt (n + 1) (2 ^ 32)) (positive n) ∙ is

@@ -45,15 +45,17 @@ can_point system w v can is = record {
   place = clear_seen v u profile (in_line_other profile stage profile_apart.line) is (clear_with_generation system n w profile (link_profile n).line can.profile);
 }
   where
-  n : ℕ
-  n = number_after w.leaves system
-  u : WorldState
-  u = with_generation system n w
-  in_line_other : (p q : List ℕ) → is_in_line p q ≡ false → is_in_line q p ≡ false
-  in_line_other p q none = elim (cases_Bool (is_in_line q p)) [
-    | inl is ↦ absurd (both_ways _ none (Rattle.host_trait.proofs.Sound.in_line_either q p is))
-    | inr is ↦ is
-  ]
+    n : ℕ
+    n = number_after w.leaves system
+
+    u : WorldState
+    u = with_generation system n w
+
+    in_line_other : (p q : List ℕ) → is_in_line p q ≡ false → is_in_line q p ≡ false
+    in_line_other p q none = elim (cases_Bool (is_in_line q p)) [
+      | inl is ↦ absurd (both_ways _ none (Rattle.host_trait.proofs.Sound.in_line_either q p is))
+      | inr is ↦ is
+    ]
 
 -- a put of the generation's link
 pub link_moment : (system : List ℕ) (n : ℕ) (at : List ℕ) (leaf : LeafKind) (w m : WorldState) → at ≡ link_path n → leaf ≡ Link (link_target system) → n ≡ number_after w.leaves system →
@@ -61,11 +63,11 @@ pub link_moment : (system : List ℕ) (n : ℕ) (at : List ℕ) (leaf : LeafKind
 link_moment system n at leaf w m place link number other moment =
     ⊎_elim (λ old. inl old) (λ new. inr (new ∙ link_put system n at leaf w place link number other)) moment
   where
-  link_put : (system : List ℕ) (n : ℕ) (at : List ℕ) (leaf : LeafKind) (w : WorldState) → at ≡ link_path n → leaf ≡ Link (link_target system) → n ≡ number_after w.leaves system →
-      is_of (generation_at w.leaves (highest w.leaves)) system ≡ false → seen (with_leaf at leaf w) ≡ link_end system w
-  link_put system n at leaf w place link number other =
-      ap (λ p. seen (with_leaf p leaf w)) (place ∙ ap link_path number) ∙ ap (λ l. seen (with_leaf (link_path (number_after w.leaves system)) l w)) link
-      ∙ ap seen (sym (new_generation system (number_after w.leaves system) w other))
+    link_put : (system : List ℕ) (n : ℕ) (at : List ℕ) (leaf : LeafKind) (w : WorldState) → at ≡ link_path n → leaf ≡ Link (link_target system) → n ≡ number_after w.leaves system →
+        is_of (generation_at w.leaves (highest w.leaves)) system ≡ false → seen (with_leaf at leaf w) ≡ link_end system w
+    link_put system n at leaf w place link number other =
+        ap (λ p. seen (with_leaf p leaf w)) (place ∙ ap link_path number) ∙ ap (λ l. seen (with_leaf (link_path (number_after w.leaves system)) l w)) link
+        ∙ ap seen (sym (new_generation system (number_after w.leaves system) w other))
 
 pub link_world : (system : List ℕ) (n : ℕ) (at : List ℕ) (leaf : LeafKind) (w v : WorldState) → at ≡ link_path n → leaf ≡ Link (link_target system) → n ≡ number_after w.leaves system →
     is_of (generation_at w.leaves (highest w.leaves)) system ≡ false → seen v ≡ seen (with_leaf at leaf w) → seen v ≡ link_end system w

@@ -1,7 +1,6 @@
 //! The world that a run changes, and the host that a run reads and changes it through.
 #![tactic(auto)]
 
-
 mod known_path;
 mod leaf;
 mod leaf_map;

@@ -27,9 +27,9 @@ puts_nothing a Q holds = record {
 pub puts_then : {a b c : SinkState} {P Q : List ℕ → Type 0} → Puts a b P → Puts b c Q → (R : List ℕ → Type 0) → ((first then : List ℕ) → P first → Q then → R (first ++ then)) → Puts a c R
 puts_then first second R both = record {
   put = λ before is.
-    let one = first.put before is in
-    let two = second.put (before ++ one.0) one.1 in
-    (one.0 ++ two.0, two.1 ∙ ap Some (append_assoc before one.0 two.0), both one.0 two.0 one.2 two.2);
+      let one = first.put before is in
+      let two = second.put (before ++ one.0) one.1 in
+      (one.0 ++ two.0, two.1 ∙ ap Some (append_assoc before one.0 two.0), both one.0 two.0 one.2 two.2);
   silent = λ none. second.silent (first.silent none);
 }
 
@@ -37,8 +37,8 @@ puts_then first second R both = record {
 pub report_prefix : (text more : List ℕ) → IsPrefixOf text more → IsPrefixOf (text ++ closing) more
 report_prefix text more is = (is.0 ++ closing, ap (λ t. t ++ closing) is.1 ∙ assoc more is.0 closing)
   where
-  assoc : (x y z : List ℕ) → (x ++ y) ++ z ≡ x ++ (y ++ z)
-  assoc x y z = append_assoc x y z
+    assoc : (x y z : List ℕ) → (x ++ y) ++ z ≡ x ++ (y ++ z)
+    assoc x y z = append_assoc x y z
 
 -- the report and a beginning of the closing text are one of all that is put
 pub closing_prefix : (text more : List ℕ) → IsPrefixOf closing more → IsPrefixOf (text ++ closing) (text ++ more)

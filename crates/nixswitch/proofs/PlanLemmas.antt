@@ -48,7 +48,7 @@ pub boot_is : (text verb word system : List ℕ) (named : Option (List ℕ)) →
     Some (Boot system) ≡ boot_of verb word
 boot_is text verb word system named same is named_is some =
     sym (ap (λ t. cond (pointwise nat_eq t (codes "boot")) (option_map Boot (system_of word)) None) (sym same)
-      ∙ ap (λ b. cond b (option_map Boot (system_of word)) None) (not_false _ is) ∙ ap (option_map Boot) (sym named_is ∙ some))
+    ∙ ap (λ b. cond b (option_map Boot (system_of word)) None) (not_false _ is) ∙ ap (option_map Boot) (sym named_is ∙ some))
 
 -- a list's places are the world's
 new_link_of_world : (leaves : Leaves) (gens : Gens) (system : List ℕ) → IsGensOf leaves gens → option_to_list (new_link_in gens.list system) ≡ new_link leaves system
@@ -57,10 +57,10 @@ new_link_of_world leaves gens system is =
     ∙ ap (λ n. option_to_list (cond (is_of (generation_at leaves (highest leaves)) system) None (option_map link_path n))) (number_for_world leaves gens system is)
     ∙ either (is_of (generation_at leaves (highest leaves)) system) (nat_lt (number_after leaves system) (2 ^ 32)) (number_after leaves system)
   where
-  either : (own further : Bool) (n : ℕ) → option_to_list (cond own None (option_map link_path (cond further (Some n) None))) ≡ cond own [] (cond further (link_path n ∷ []) [])
-  either true further n = refl
-  either false true n = refl
-  either false false n = refl
+    either : (own further : Bool) (n : ℕ) → option_to_list (cond own None (option_map link_path (cond further (Some n) None))) ≡ cond own [] (cond further (link_path n ∷ []) [])
+    either true further n = refl
+    either false true n = refl
+    either false false n = refl
 
 pub places_of_world : (leaves : Leaves) (gens : Gens) (system : List ℕ) → IsGensOf leaves gens → places_in gens.list system ≡ boot_places leaves system
 places_of_world leaves gens system is = ap (λ l. profile ∷ (l ++ stage ∷ [])) (new_link_of_world leaves gens system is)
@@ -75,16 +75,17 @@ turned p q none = elim (cases_Bool (is_in_line q p)) [
 pub places_apart : (list : List Gen) (system : List ℕ) → AreApartFromStage (places_in list system)
 places_apart list system = (turned profile stage profile_apart.line, rest (new_link_in list system) link_is)
   where
-  link_is : (path : List ℕ) → new_link_in list system ≡ Some path → is_in_line stage path ≡ false
-  link_is path is = linked (is_highest_of list system) (number_for_in list system) path is
-    where
-    linked : (own : Bool) (n : Option ℕ) (path : List ℕ) → cond own None (option_map link_path n) ≡ Some path → is_in_line stage path ≡ false
-    linked true n path is = absurd (cc)
-    linked false None path is = absurd (cc)
-    linked false (Some k) path is = let same : link_path k ≡ path = cc in subst (λ p. is_in_line stage p ≡ false) same (turned (link_path k) stage (link_apart k).line)
-  rest : (link : Option (List ℕ)) → ((path : List ℕ) → link ≡ Some path → is_in_line stage path ≡ false) → AreApartFromStage (option_to_list link ++ stage ∷ [])
-  rest None apart = (not_in_line stage, tt)
-  rest (Some path) apart = (apart path refl, (not_in_line stage, tt))
+    link_is : (path : List ℕ) → new_link_in list system ≡ Some path → is_in_line stage path ≡ false
+    link_is path is = linked (is_highest_of list system) (number_for_in list system) path is
+      where
+        linked : (own : Bool) (n : Option ℕ) (path : List ℕ) → cond own None (option_map link_path n) ≡ Some path → is_in_line stage path ≡ false
+        linked true n path is = absurd (cc)
+        linked false None path is = absurd (cc)
+        linked false (Some k) path is = let same : link_path k ≡ path = cc in subst (λ p. is_in_line stage p ≡ false) same (turned (link_path k) stage (link_apart k).line)
+
+    rest : (link : Option (List ℕ)) → ((path : List ℕ) → link ≡ Some path → is_in_line stage path ≡ false) → AreApartFromStage (option_to_list link ++ stage ∷ [])
+    rest None apart = (not_in_line stage, tt)
+    rest (Some path) apart = (apart path refl, (not_in_line stage, tt))
 
 -- where none of some places is blocked
 none_first : (test : List ℕ → Bool) (p : List ℕ) (ps : List (List ℕ)) → find test (p ∷ ps) ≡ None → (test p ≡ false) × (find test ps ≡ None)
@@ -105,10 +106,10 @@ can_set w system free further =
       stage = clear_of_free w.leaves stage (none_first (is_blocked w.leaves) stage [] (none_after (is_blocked w.leaves) (new_link w.leaves system) (stage ∷ []) first.1)).0;
       profile = clear_of_free w.leaves profile first.0;
       link = λ other. clear_of_free w.leaves (link_path (number_after w.leaves system))
-        (none_first (is_blocked w.leaves) (link_path (number_after w.leaves system)) (stage ∷ [])
+          (none_first (is_blocked w.leaves) (link_path (number_after w.leaves system)) (stage ∷ [])
           (subst (λ l. find (is_blocked w.leaves) (l ++ stage ∷ []) ≡ None)
-            (ap (λ b. cond b [] (cond (nat_lt (number_after w.leaves system) (2 ^ 32)) (link_path (number_after w.leaves system) ∷ []) [])) other
-              ∙ ap (λ b. cond b (link_path (number_after w.leaves system) ∷ []) []) further) first.1)).0;
+          (ap (λ b. cond b [] (cond (nat_lt (number_after w.leaves system) (2 ^ 32)) (link_path (number_after w.leaves system) ∷ []) [])) other
+          ∙ ap (λ b. cond b (link_path (number_after w.leaves system) ∷ []) []) further) first.1)).0;
     }
 
 -- what a list's number says of the world's
@@ -116,16 +117,16 @@ pub further_of : (leaves : Leaves) (gens : Gens) (system : List ℕ) (n : ℕ) �
     (n ≡ number_after leaves system) × (nat_lt (number_after leaves system) (2 ^ 32) ≡ true)
 further_of leaves gens system n is given = either (number_after leaves system) (nat_lt (number_after leaves system) (2 ^ 32)) (sym (number_for_world leaves gens system is) ∙ given)
   where
-  either : (k : ℕ) (b : Bool) → cond b (Some k) None ≡ Some n → (n ≡ k) × (b ≡ true)
-  either k true e = (let same : k ≡ n = cc in sym same, refl)
-  either k false e = absurd (cc)
+    either : (k : ℕ) (b : Bool) → cond b (Some k) None ≡ Some n → (n ≡ k) × (b ≡ true)
+    either k true e = (let same : k ≡ n = cc in sym same, refl)
+    either k false e = absurd (cc)
 
 pub full_of : (leaves : Leaves) (gens : Gens) (system : List ℕ) → IsGensOf leaves gens → number_for_in gens.list system ≡ None → nat_lt (number_after leaves system) (2 ^ 32) ≡ false
 full_of leaves gens system is given = either (nat_lt (number_after leaves system) (2 ^ 32)) (sym (number_for_world leaves gens system is) ∙ given)
   where
-  either : (b : Bool) → cond b (Some (number_after leaves system)) None ≡ None → b ≡ false
-  either true e = absurd (cc)
-  either false e = refl
+    either : (b : Bool) → cond b (Some (number_after leaves system)) None ≡ None → b ≡ false
+    either true e = absurd (cc)
+    either false e = refl
 
 -- the refusal of a set, case by case
 pub in_way_refused : (leaves : Leaves) (system place : List ℕ) → find (is_blocked leaves) (boot_places leaves system) ≡ Some place → set_refusal leaves system ≡ Some (InTheWay place)
@@ -173,13 +174,13 @@ not_some (Some x) none = absurd (none x refl)
 pub no_system : (w : WorldState) (system : List ℕ) → is_some (content_of w.leaves (version_path system)) ≡ false → refusal w (Boot system) ≡ Some NoSystem
 no_system w system is = ap (λ b. cond b (Some NoSystem) (set_refusal w.leaves system)) (none_is (content_of w.leaves (version_path system)) is)
   where
-  none_is : (o : Option (List ℕ)) → is_some o ≡ false → is_none o ≡ true
-  none_is None e = refl
-  none_is (Some x) e = absurd (both_ways true e refl)
+    none_is : (o : Option (List ℕ)) → is_some o ≡ false → is_none o ≡ true
+    none_is None e = refl
+    none_is (Some x) e = absurd (both_ways true e refl)
 
 pub has_system : (w : WorldState) (system : List ℕ) → is_some (content_of w.leaves (version_path system)) ≡ true → refusal w (Boot system) ≡ set_refusal w.leaves system
 has_system w system is = ap (λ b. cond b (Some NoSystem) (set_refusal w.leaves system)) (some_is (content_of w.leaves (version_path system)) is)
   where
-  some_is : (o : Option (List ℕ)) → is_some o ≡ true → is_none o ≡ false
-  some_is None e = absurd (both_ways false refl e)
-  some_is (Some x) e = refl
+    some_is : (o : Option (List ℕ)) → is_some o ≡ true → is_none o ≡ false
+    some_is None e = absurd (both_ways false refl e)
+    some_is (Some x) e = refl

@@ -30,17 +30,17 @@ one_of o x y first second = cc
 named_by : (word s : List ℕ) → system_of word ≡ Some s → NamesSystem s s
 named_by word s is = either (system_fault word) refl is
   where
-  either : (f : Option Rattle.switch_names.specs.declared.name_fault.NameFault.NameFault) → system_fault word ≡ f → cond (is_none f) (Some (system_path word)) None ≡ Some s → NamesSystem s s
-  either None fault some = subst (λ p. NamesSystem p p) (let same : system_path word ≡ s = cc in same) (IsSystemPath-from_named word fault)
-  either (Some f) fault some = absurd (cc)
+    either : (f : Option Rattle.switch_names.specs.declared.name_fault.NameFault.NameFault) → system_fault word ≡ f → cond (is_none f) (Some (system_path word)) None ≡ Some s → NamesSystem s s
+    either None fault some = subst (λ p. NamesSystem p p) (let same : system_path word ≡ s = cc in same) (IsSystemPath-from_named word fault)
+    either (Some f) fault some = absurd (cc)
 
 boot_names : (verb word s : List ℕ) → boot_of verb word ≡ Some (Boot s) → NamesSystem s s
 boot_names verb word s is = either (pointwise nat_eq verb (codes "boot")) (system_of word) refl is
   where
-  either : (b : Bool) (o : Option (List ℕ)) → system_of word ≡ o → cond b (option_map Boot o) None ≡ Some (Boot s) → NamesSystem s s
-  either true None named some = absurd (cc)
-  either true (Some t) named some = named_by word s (named ∙ (let same : t ≡ s = cc in ap Some same))
-  either false o named some = absurd (cc)
+    either : (b : Bool) (o : Option (List ℕ)) → system_of word ≡ o → cond b (option_map Boot o) None ≡ Some (Boot s) → NamesSystem s s
+    either true None named some = absurd (cc)
+    either true (Some t) named some = named_by word s (named ∙ (let same : t ≡ s = cc in ap Some same))
+    either false o named some = absurd (cc)
 
 command_names : (words : List (List ℕ)) (s : List ℕ) → command_of words ≡ Some (Boot s) → NamesSystem s s
 command_names [] s is = absurd (cc)

@@ -53,15 +53,15 @@ output_of (Err (fault.Host host.Device)) w command more put = put
 output_of (Err fault.Sink) w command more put = put
 
 pub answer_of :
-  (r : Result (Unit {0}) RunFault) (refusal : Option Refusal) → OnOk r (refusal ≡ None) → ((why : Refusal) → IsErrOf r (fault.Refused why) → refusal ≡ Some why) →
-  ¬ IsErrOf r (fault.Host host.Device) → ¬ IsErrOf r fault.Sink → IsAnswerTo refusal (status_of r)
+    (r : Result (Unit {0}) RunFault) (refusal : Option Refusal) → OnOk r (refusal ≡ None) → ((why : Refusal) → IsErrOf r (fault.Refused why) → refusal ≡ Some why) →
+    ¬ IsErrOf r (fault.Host host.Device) → ¬ IsErrOf r fault.Sink → IsAnswerTo refusal (status_of r)
 answer_of (Ok x) refusal ok refused host_fault sink_fault = subst (λ o. IsAnswerTo o Done) (sym ok) (inl refl)
 answer_of (Err (fault.Refused why)) refusal ok refused host_fault sink_fault = subst (λ o. IsAnswerTo o (Refused why)) (sym (refused why refl)) (inl refl)
 answer_of (Err (fault.Host host.Memory)) refusal ok refused host_fault sink_fault = no_memory refusal
   where
-  no_memory : (o : Option Refusal) → IsAnswerTo o NoMemory
-  no_memory None = inr refl
-  no_memory (Some why) = inr refl
+    no_memory : (o : Option Refusal) → IsAnswerTo o NoMemory
+    no_memory None = inr refl
+    no_memory (Some why) = inr refl
 answer_of (Err (fault.Host host.Device)) refusal ok refused host_fault sink_fault = absurd (host_fault refl)
 answer_of (Err fault.Sink) refusal ok refused host_fault sink_fault = absurd (sink_fault refl)
 

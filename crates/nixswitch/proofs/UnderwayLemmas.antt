@@ -63,10 +63,10 @@ store_same system w m moment rest =
     ⊎_elim
     (λ same. seen_at m w same (store_folder ++ rest) ne)
     (λ later. ⊎_elim
-      (λ link. seen_at m v link (store_folder ++ rest) ne ∙ linked_store system n w rest)
-      (λ both. seen_at m (with_profile n v) both (store_folder ++ rest) ne
-        ∙ get_other v.leaves profile (store_folder ++ rest) (Link (link_name n)) (other_of (store_folder ++ rest) profile (ne_of (store_folder ++ rest) profile (store_not_profile rest))) ∙ linked_store system n w rest)
-      later)
+    (λ link. seen_at m v link (store_folder ++ rest) ne ∙ linked_store system n w rest)
+    (λ both. seen_at m (with_profile n v) both (store_folder ++ rest) ne
+    ∙ get_other v.leaves profile (store_folder ++ rest) (Link (link_name n)) (other_of (store_folder ++ rest) profile (ne_of (store_folder ++ rest) profile (store_not_profile rest))) ∙ linked_store system n w rest)
+    later)
     moment
 
 left_true : (a b : Bool) → a && b ≡ true → a ≡ true
@@ -77,35 +77,35 @@ left_true false b is = is
 led_same : (m w : Leaves) → ((rest : List ℕ) → get m (store_folder ++ rest) ≡ get w (store_folder ++ rest)) → (target : List ℕ) → file_at m (store_place target) ≡ file_at w (store_place target)
 led_same m w same target =
     elim (starts_with nat_eq target (codes "/nix/store/") && is_none (path_fault (drop 1 target))) as (λ b. starts_with nat_eq target (codes "/nix/store/") && is_none (path_fault (drop 1 target)) ≡ b →
-      file_at m (cond b (Some (drop 1 target)) None) ≡ file_at w (cond b (Some (drop 1 target)) None)) [
+    file_at m (cond b (Some (drop 1 target)) None) ≡ file_at w (cond b (Some (drop 1 target)) None)) [
       | true ↦ λ is.
-        let into : target ≡ codes "/nix/store/" ++ drop 11 target = (starts_is Decides-eqb target (codes "/nix/store/") true (sym (left_true _ _ is))).0 refl in
-        ap file_bytes (ap (get m) (ap (drop 1) into) ∙ same (drop 11 target) ∙ sym (ap (get w) (ap (drop 1) into)))
+          let into : target ≡ codes "/nix/store/" ++ drop 11 target = (starts_is Decides-eqb target (codes "/nix/store/") true (sym (left_true _ _ is))).0 refl in
+          ap file_bytes (ap (get m) (ap (drop 1) into) ∙ same (drop 11 target) ∙ sym (ap (get w) (ap (drop 1) into)))
       | false ↦ λ is. refl
     ] refl
 
 content_same : (m w : Leaves) → ((rest : List ℕ) → get m (store_folder ++ rest) ≡ get w (store_folder ++ rest)) → (rest : List ℕ) → content_of m (store_folder ++ rest) ≡ content_of w (store_folder ++ rest)
 content_same m w same rest = ap (leaf_content m) (same rest) ∙ leaf_same (get w (store_folder ++ rest))
   where
-  leaf_same : (o : Option LeafKind) → leaf_content m o ≡ leaf_content w o
-  leaf_same None = refl
-  leaf_same (Some (File bytes mode uid gid)) = refl
-  leaf_same (Some (Link target)) = led_same m w same target
+    leaf_same : (o : Option LeafKind) → leaf_content m o ≡ leaf_content w o
+    leaf_same None = refl
+    leaf_same (Some (File bytes mode uid gid)) = refl
+    leaf_same (Some (Link target)) = led_same m w same target
 
 -- a system's file is in the store
 system_begins : (system : List ℕ) → NamesSystem system system → starts_with nat_eq system store_folder ≡ true
 system_begins system names = subst (λ p. starts_with nat_eq p store_folder ≡ true) names.same
     (begins (starts_with nat_eq (system_path system) store_folder) (store_name_fault (length system - length (store_name (system_path system))) (store_name (system_path system))) names.no_fault)
   where
-  begins : (b : Bool) (o : Option NameFault) → cond b o (Some Kind) ≡ None → b ≡ true
-  begins true o is = refl
-  begins false o is = absurd (cc)
+    begins : (b : Bool) (o : Option NameFault) → cond b o (Some Kind) ≡ None → b ≡ true
+    begins true o is = refl
+    begins false o is = absurd (cc)
 
 version_same : (system : List ℕ) (w m : WorldState) → NamesSystem system system → IsSetMoment system w m → content_of m.leaves (version_path system) ≡ content_of w.leaves (version_path system)
 version_same system w m names moment =
     let path = store_path_is system (system_begins system names) in
     let at : version_path system ≡ store_folder ++ (store_name system ++ codes "/nixos-version") =
-      ap (λ p. p ++ codes "/nixos-version") path ∙ append_assoc store_folder (store_name system) (codes "/nixos-version") in
+    ap (λ p. p ++ codes "/nixos-version") path ∙ append_assoc store_folder (store_name system) (codes "/nixos-version") in
     ap (content_of m.leaves) at ∙ content_same m.leaves w.leaves (store_same system w m moment) (store_name system ++ codes "/nixos-version") ∙ sym (ap (content_of w.leaves) at)
 
 -- what is clear stays so at each moment
@@ -118,9 +118,9 @@ clear_moment system w m p moment stage_apart link_apart profile_apart clear =
     ⊎_elim
     (λ same. clear_seen m w p stage_apart same clear)
     (λ later. ⊎_elim
-      (λ link. clear_seen m v p stage_apart link linked)
-      (λ both. clear_seen m (with_profile n v) p stage_apart both (clear_insert v.leaves profile p (Link (link_name n)) profile_apart linked))
-      later)
+    (λ link. clear_seen m v p stage_apart link linked)
+    (λ both. clear_seen m (with_profile n v) p stage_apart both (clear_insert v.leaves profile p (Link (link_name n)) profile_apart linked))
+    later)
     moment
 
 turned : (p q : List ℕ) → is_in_line p q ≡ false → is_in_line q p ≡ false
@@ -136,10 +136,10 @@ can_again system w m can keeps moment =
       stage = clear_moment system w m stage moment (not_in_line stage) (link_apart n).line profile_apart.line can.stage;
       profile = clear_moment system w m profile moment (turned profile stage profile_apart.line) (link_profile n).line (not_in_line profile) can.profile;
       link = λ other.
-        let same = keeps.only_new other in
-        let before : is_of (generation_at w.leaves (highest w.leaves)) system ≡ false = sym (highest_of_same m.leaves w.leaves system (λ k. generation_seen m w k same)) ∙ other in
-        subst (λ k. IsClear m.leaves (link_path k)) (sym keeps.number)
-        (clear_seen m w (link_path n) (turned (link_path n) stage (link_apart n).line) same (can.link before));
+          let same = keeps.only_new other in
+          let before : is_of (generation_at w.leaves (highest w.leaves)) system ≡ false = sym (highest_of_same m.leaves w.leaves system (λ k. generation_seen m w k same)) ∙ other in
+          subst (λ k. IsClear m.leaves (link_path k)) (sym keeps.number)
+          (clear_seen m w (link_path n) (turned (link_path n) stage (link_apart n).line) same (can.link before));
     }
 
 -- where a set is free to be made, no place of it is blocked
@@ -147,7 +147,7 @@ free_of_can : (w : WorldState) (system : List ℕ) → CanSet system w → find 
 free_of_can w system can =
     ap (λ b. cond b (Some profile) (find (is_blocked w.leaves) (new_link w.leaves system ++ stage ∷ []))) (free_of_clear w.leaves profile can.profile)
     ∙ elim (is_of (generation_at w.leaves (highest w.leaves)) system) as (λ b. is_of (generation_at w.leaves (highest w.leaves)) system ≡ b →
-        find (is_blocked w.leaves) (cond b [] (cond (nat_lt (number_after w.leaves system) (2 ^ 32)) (link_path (number_after w.leaves system) ∷ []) []) ++ stage ∷ []) ≡ None) [
+    find (is_blocked w.leaves) (cond b [] (cond (nat_lt (number_after w.leaves system) (2 ^ 32)) (link_path (number_after w.leaves system) ∷ []) []) ++ stage ∷ []) ≡ None) [
       | true ↦ λ is. last_free
       | false ↦ λ is. elim (nat_lt (number_after w.leaves system) (2 ^ 32)) as (λ b. find (is_blocked w.leaves) (cond b (link_path (number_after w.leaves system) ∷ []) [] ++ stage ∷ []) ≡ None) [
         | true ↦ ap (λ b. cond b (Some (link_path (number_after w.leaves system))) (find (is_blocked w.leaves) (stage ∷ []))) (free_of_clear w.leaves (link_path (number_after w.leaves system)) (can.link is)) ∙ last_free
@@ -155,8 +155,8 @@ free_of_can w system can =
       ]
     ] refl
   where
-  last_free : find (is_blocked w.leaves) (stage ∷ []) ≡ None
-  last_free = ap (λ b. cond b (Some stage) None) (free_of_clear w.leaves stage can.stage)
+    last_free : find (is_blocked w.leaves) (stage ∷ []) ≡ None
+    last_free = ap (λ b. cond b (Some stage) None) (free_of_clear w.leaves stage can.stage)
 
 -- what a world that isn't refused has
 record IsFree (system : List ℕ) (w : WorldState) : Type 0 where
@@ -170,21 +170,22 @@ free_of system w none =
     let second = parts (find (is_blocked w.leaves) (boot_places w.leaves system)) (nat_lt (number_after w.leaves system) (2 ^ 32)) first.1 in
     record { version = first.0; places = second.0; further = second.1 }
   where
-  split : (b : Bool) (o : Option Refusal) → cond b (Some NoSystem) o ≡ None → (b ≡ false) × (o ≡ None)
-  split true o is = absurd (cc)
-  split false o is = (refl, is)
-  parts : (o : Option (List ℕ)) (b : Bool) → option_or (option_map InTheWay o) (cond b None (Some GenerationsFull)) ≡ None → (o ≡ None) × (b ≡ true)
-  parts None true is = (refl, refl)
-  parts None false is = absurd (cc)
-  parts (Some place) b is = absurd (cc)
+    split : (b : Bool) (o : Option Refusal) → cond b (Some NoSystem) o ≡ None → (b ≡ false) × (o ≡ None)
+    split true o is = absurd (cc)
+    split false o is = (refl, is)
+
+    parts : (o : Option (List ℕ)) (b : Bool) → option_or (option_map InTheWay o) (cond b None (Some GenerationsFull)) ≡ None → (o ≡ None) × (b ≡ true)
+    parts None true is = (refl, refl)
+    parts None false is = absurd (cc)
+    parts (Some place) b is = absurd (cc)
 
 again : (system : List ℕ) (w m : WorldState) → NamesSystem system system → KeepsSet system w m → IsSetMoment system w m → IsFree system w → refusal m (Boot system) ≡ None
 again system w m names keeps moment free =
     ap (λ o. cond (is_none o) (Some NoSystem) (set_refusal m.leaves system)) (version_same system w m names moment)
     ∙ ap (λ b. cond b (Some NoSystem) (set_refusal m.leaves system)) free.version
     ∙ not_refused m.leaves system
-      (free_of_can m system (can_again system w m (can_set w system free.places free.further) keeps moment))
-      (ap (λ n. nat_lt n (2 ^ 32)) keeps.number ∙ free.further)
+    (free_of_can m system (can_again system w m (can_set w system free.places free.further) keeps moment))
+    (ap (λ n. nat_lt n (2 ^ 32)) keeps.number ∙ free.further)
 
 -- each moment of a set is one of a boot that isn't refused
 pub boot_moment : (system : List ℕ) (w m : WorldState) → NamesSystem system system → NamesSystem (slash ∷ system) system → refusal w (Boot system) ≡ None → IsSetMoment system w m → IsCommandMoment (Boot system) w m
@@ -202,8 +203,8 @@ boot_moment system w m names link none moment =
       refused = λ why is. absurd (none_or_why (refusal w (Boot system)) why none is);
     }
   where
-  none_or_why : (o : Option Refusal) (why : Refusal) → o ≡ None → o ≡ Some why → ⊥
-  none_or_why o why none some = cc
+    none_or_why : (o : Option Refusal) (why : Refusal) → o ≡ None → o ≡ Some why → ⊥
+    none_or_why o why none some = cc
 
 -- the world at the beginning is one
 pub boot_begins : (system : List ℕ) (w : WorldState) → NamesSystem system system → NamesSystem (slash ∷ system) system → IsCommandMoment (Boot system) w w

@@ -40,11 +40,7 @@ fn version_path(alloc: Global, system: &SystemName) -> Result<Path, AllocError>
 }
 
 /// Whether a system has its file.
-fn has_version<T: Tree>(
-    alloc: Global,
-    host: &mut T,
-    system: &SystemName,
-) -> Result<bool, HostFault>
+fn has_version<T: Tree>(alloc: Global, host: &mut T, system: &SystemName) -> Result<bool, HostFault>
     ensures has { IfOk result (λ has. Told (T.host host.old) (λ w. has ≡ is_some (content_of w.leaves (version_path system.now)))) }
     ensures moments { Passes (T.host host.old) (T.host host.new) IsSame }
     ensures cause { HasCause (T.host host.old) (T.host host.new) result }
@@ -55,11 +51,7 @@ fn has_version<T: Tree>(
 }
 
 /// The path of the link of the generation that a set makes, where it makes one.
-fn new_link(
-    alloc: Global,
-    gens: &Gens,
-    system: &SystemName,
-) -> Result<Option<Path>, AllocError>
+fn new_link(alloc: Global, gens: &Gens, system: &SystemName) -> Result<Option<Path>, AllocError>
     ensures { IfOk result (λ link. link ≡ new_link_in gens.now.list system.now) }
 {
     if is_highest_of(gens, system) {
@@ -72,11 +64,7 @@ fn new_link(
 }
 
 /// The places that a boot writes, in byte order.
-fn boot_places(
-    alloc: Global,
-    gens: &Gens,
-    system: &SystemName,
-) -> Result<Listed<Path>, AllocError>
+fn boot_places(alloc: Global, gens: &Gens, system: &SystemName) -> Result<Listed<Path>, AllocError>
     ensures { IfOk result (λ places. places ≡ places_in gens.now.list system.now) }
 {
     let mut places = Listed::new(alloc);
@@ -146,11 +134,7 @@ fn plan_set<T: Tree>(
 }
 
 /// Plans the set of a system.
-fn plan_profile<T: Tree>(
-    alloc: Global,
-    host: &mut T,
-    system: &SystemName,
-) -> Result<Plan, RunFault>
+fn plan_profile<T: Tree>(alloc: Global, host: &mut T, system: &SystemName) -> Result<Plan, RunFault>
     ensures plan { IfOk result (λ plan. Told (T.host host.old) (λ w. IsPlanOf system.now w plan.gens plan.report)) }
     ensures number { IfOk result (λ plan. number_for_in plan.gens.list system.now ≡ Some plan.number) }
     ensures refused { (why : Refusal) → IsErrOf result (Refused why) → Told (T.host host.old) (λ w. set_refusal w.leaves system.now ≡ Some why) }

@@ -46,12 +46,7 @@ fn command_status<T: Tree, S: Sink>(
 }
 
 /// Reads the words and carries their command out.
-fn answer<T: Tree, S: Sink>(
-    alloc: Global,
-    words: &[Text],
-    host: &mut T,
-    out: &mut S,
-) -> Status
+fn answer<T: Tree, S: Sink>(alloc: Global, words: &[Text], host: &mut T, out: &mut S) -> Status
     ensures { Runs (T.host host.old) (T.host host.new) (S.sink out.old) (S.sink out.new) words.now result }
 {
     match read_words(alloc, words) {
@@ -67,12 +62,7 @@ fn answer<T: Tree, S: Sink>(
 /// that wasn't cut leaves: see `each_moment`, where `IsUnderway` says so of each world that a cut
 /// may leave. At each of them the profile names the system that it named before or the one of the
 /// command.
-pub fn run<T: Tree, S: Sink>(
-    alloc: Global,
-    words: &[Text],
-    host: &mut T,
-    out: &mut S,
-) -> Status
+pub fn run<T: Tree, S: Sink>(alloc: Global, words: &[Text], host: &mut T, out: &mut S) -> Status
     // Words that give no command.
     ensures usage { result ≡ Status.Usage → command_of words.now ≡ None }
     ensures no_command { command_of words.now ≡ None → (result ≡ Status.Usage) ⊎ (result ≡ Status.NoMemory) }

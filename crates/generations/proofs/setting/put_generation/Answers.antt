@@ -13,7 +13,7 @@ use Rattle.generations.proofs.setting.put_generation.Goals as goal
 pub returns-then-is_highest_of-clause-ok : goal.returns-then-is_highest_of-clause-ok
 returns-then-is_highest_of-clause-ok g c = (started (λ w v. seen v ≡ link_end c.args.system.now w) (λ w is.
     ap seen (sym (kept_generation c.args.system.now (number_after w.leaves c.args.system.now) w
-      (sym (highest_of_world w.leaves c.args.gens.now c.args.system.now (c.requires.gens.has w is)) ∙ sym c.is_highest_of.ensures ∙ c.if-is_highest_of.true))))).tells
+    (sym (highest_of_world w.leaves c.args.gens.now c.args.system.now (c.requires.gens.has w is)) ∙ sym c.is_highest_of.ensures ∙ c.if-is_highest_of.true))))).tells
 
 pub returns-then-is_highest_of-clause-moments : goal.returns-then-is_highest_of-clause-moments
 returns-then-is_highest_of-clause-moments g c = started (IsLinkMoment c.args.system.now) (λ w is. inl refl)

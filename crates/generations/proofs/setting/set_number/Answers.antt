@@ -22,17 +22,17 @@ returns-in_err-point-clause-moments g c =
     goes_on c.put_generation.ensures.moments c.in_ok-put_generation.ensures.ok c.point.ensures.moments (IsSetMoment c.args.system.now)
     (λ w m is moment. link_is_set c.args.system.now w m moment)
     (λ w v m is is_v linked moment. profile_moment c.args.system.now c.args.number w v m
-      (number_of_world w.leaves c.args.gens.now c.args.system.now c.args.number (c.requires.gens.has w is) c.requires.number) linked moment)
+    (number_of_world w.leaves c.args.gens.now c.args.system.now c.args.number (c.requires.gens.has w is) c.requires.number) linked moment)
 
 pub returns-clause-ok : goal.returns-clause-ok
 returns-clause-ok g c =
     leads_then c.in_ok-put_generation.ensures.ok c.in_ok-point.ensures.ok (λ w v. seen v ≡ set_end c.args.system.now w)
     (λ w v u is is_v linked new. profile_world c.args.system.now c.args.number w v u
-      (number_of_world w.leaves c.args.gens.now c.args.system.now c.args.number (c.requires.gens.has w is) c.requires.number) linked new)
+    (number_of_world w.leaves c.args.gens.now c.args.system.now c.args.number (c.requires.gens.has w is) c.requires.number) linked new)
 
 pub returns-clause-moments : goal.returns-clause-moments
 returns-clause-moments g c =
     goes_on c.put_generation.ensures.moments c.in_ok-put_generation.ensures.ok c.point.ensures.moments (IsSetMoment c.args.system.now)
     (λ w m is moment. link_is_set c.args.system.now w m moment)
     (λ w v m is is_v linked moment. profile_moment c.args.system.now c.args.number w v m
-      (number_of_world w.leaves c.args.gens.now c.args.system.now c.args.number (c.requires.gens.has w is) c.requires.number) linked moment)
+    (number_of_world w.leaves c.args.gens.now c.args.system.now c.args.number (c.requires.gens.has w is) c.requires.number) linked moment)

@@ -36,8 +36,10 @@ returns-in_err-plan-clause-refused g c why e =
 pub returns-in_err-plan-clause-output : goal.returns-in_err-plan-clause-output
 returns-in_err-plan-clause-output g c =
     let p = err_from_is_err_and c.from_residual.result c.from_residual.ensures.1 in
-    record { has = λ w is. puts_nothing (g.S.Sink.sink c.args.out.now) (IsBootOutput c.from_residual.result (report w (Boot c.args.system.now)))
-      (subst (λ r. IsBootOutput r (report w (Boot c.args.system.now)) []) (sym p.1) (nothing_output p.0 (report w (Boot c.args.system.now)))) }
+    record {
+      has = λ w is. puts_nothing (g.S.Sink.sink c.args.out.now) (IsBootOutput c.from_residual.result (report w (Boot c.args.system.now)))
+          (subst (λ r. IsBootOutput r (report w (Boot c.args.system.now)) []) (sym p.1) (nothing_output p.0 (report w (Boot c.args.system.now))));
+    }
 
 pub returns-in_err-plan-clause-moments : goal.returns-in_err-plan-clause-moments
 returns-in_err-plan-clause-moments g c = same_as c.plan_boot.ensures.moments (IsCommandMoment (Boot c.args.system.now))
@@ -59,7 +61,7 @@ carry_out-requires-clause-plan g c =
 pub returns-clause-ok : goal.returns-clause-ok
 returns-clause-ok g c = on_ok_as c.carry_out.result c.carry_out.ensures.ok (Leads (g.T.Tree.host c.args.host.now) (g.T.Tree.host c.carry_out.new.host) (λ w v. seen v ≡ final w (Boot c.args.system.now)))
     (λ led. leads_then c.plan_boot.ensures.moments.tells led (λ w v. seen v ≡ final w (Boot c.args.system.now))
-      (λ w v u is is_v same came. came ∙ ap (λ x. final x (Boot c.args.system.now)) same))
+    (λ w v u is is_v same came. came ∙ ap (λ x. final x (Boot c.args.system.now)) same))
 
 pub returns-clause-ok_not_refused : goal.returns-clause-ok_not_refused
 returns-clause-ok_not_refused g c = on_ok_always c.carry_out.result (Told (g.T.Tree.host c.args.host.now) (λ w. refusal w (Boot c.args.system.now) ≡ None)) c.in_ok-plan.ensures.not_refused
@@ -80,7 +82,7 @@ returns-clause-sink_world g c e = leads_then c.plan_boot.ensures.moments.tells (
 pub returns-clause-output : goal.returns-clause-output
 returns-clause-output g c = told_as c.in_ok-plan.ensures.plan (λ w. Puts (g.S.Sink.sink c.args.out.now) (g.S.Sink.sink c.carry_out.new.out) (IsBootOutput c.carry_out.result (report w (Boot c.args.system.now))))
     (λ w is plan. puts_as c.carry_out.ensures.output (IsBootOutput c.carry_out.result (report w (Boot c.args.system.now)))
-      (λ more put. subst (λ t. IsBootOutput c.carry_out.result t more) plan.text put))
+    (λ more put. subst (λ t. IsBootOutput c.carry_out.result t more) plan.text put))
 
 pub returns-clause-moments : goal.returns-clause-moments
 returns-clause-moments g c = same_then c.plan_boot.ensures.moments c.carry_out.ensures.moments (IsCommandMoment (Boot c.args.system.now))

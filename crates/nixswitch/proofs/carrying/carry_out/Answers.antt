@@ -15,8 +15,8 @@ pub returns-in_err-put_text-clause-output : goal.returns-in_err-put_text-clause-
 returns-in_err-put_text-clause-output g c =
     let p = err_from_is_err_and c.from_residual.result c.from_residual.ensures.1 in
     puts_as c.put_text.ensures.prefix (IsBootOutput c.from_residual.result c.args.plan.now.report) (λ more is.
-      sink_output c.from_residual.result p.0 c.args.plan.now.report more p.1 (p.2 ∙ c.in_err-put_text.ensures.only c.in_err-put_text.field-0.0 refl)
-      (report_prefix c.args.plan.now.report more (subst (λ t. IsPrefixOf t more) c.as_str.ensures is)))
+    sink_output c.from_residual.result p.0 c.args.plan.now.report more p.1 (p.2 ∙ c.in_err-put_text.ensures.only c.in_err-put_text.field-0.0 refl)
+    (report_prefix c.args.plan.now.report more (subst (λ t. IsPrefixOf t more) c.as_str.ensures is)))
 
 pub returns-in_err-put_text-clause-sink_world : goal.returns-in_err-put_text-clause-sink_world
 returns-in_err-put_text-clause-sink_world g c sink = (started (λ w v. (v ≡ w) ⊎ (seen v ≡ set_end c.args.system.now w)) (λ w is. inl refl)).tells
@@ -28,8 +28,8 @@ pub returns-in_err-set_profile-clause-output : goal.returns-in_err-set_profile-c
 returns-in_err-set_profile-clause-output g c =
     let p = err_from_is_err_and c.from_residual-in_err-set_profile.result c.from_residual-in_err-set_profile.ensures.1 in
     puts_as c.in_ok-put_text.ensures.ok (IsBootOutput c.from_residual-in_err-set_profile.result c.args.plan.now.report) (λ more is.
-      subst (λ r. IsBootOutput r c.args.plan.now.report more) (sym p.1)
-      (host_output p.0 c.args.plan.now.report more (subst IsHostFault (sym p.2) (c.in_err-set_profile.ensures.only c.in_err-set_profile.field-0.0 refl)) (is ∙ c.as_str.ensures)))
+    subst (λ r. IsBootOutput r c.args.plan.now.report more) (sym p.1)
+    (host_output p.0 c.args.plan.now.report more (subst IsHostFault (sym p.2) (c.in_err-set_profile.ensures.only c.in_err-set_profile.field-0.0 refl)) (is ∙ c.as_str.ensures)))
 
 pub returns-in_err-set_profile-clause-not_refused : goal.returns-in_err-set_profile-clause-not_refused
 returns-in_err-set_profile-clause-not_refused g c why e =

@@ -32,7 +32,9 @@ loop-place-preserved g c =
       way = same_then c.loop-place.invariant.way c.is_blocked.ensures.moments IsSame (λ w is. refl) (λ w m is same. same);
       cause = search rules;
       apart = apart_next c.args.places.now c.loop-place.place-index c.place-item.result c.loop-place-test.true c.place-item.is c.loop-place.invariant.apart;
-      first = record { has = λ w is.
-        first_next (is_blocked w.leaves) c.args.places.now c.loop-place.place-index c.place-item.result c.loop-place-test.true c.place-item.is
-        (sym (told.has w is) ∙ c.if-branch.false) ∙ c.loop-place.invariant.first.has w is };
+      first = record {
+        has = λ w is.
+            first_next (is_blocked w.leaves) c.args.places.now c.loop-place.place-index c.place-item.result c.loop-place-test.true c.place-item.is
+            (sym (told.has w is) ∙ c.if-branch.false) ∙ c.loop-place.invariant.first.has w is;
+      };
     }

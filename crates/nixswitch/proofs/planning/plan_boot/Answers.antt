@@ -17,7 +17,7 @@ returns-clause-plan g c = if_ok_as c.plan_profile.result c.plan_profile.ensures.
 pub returns-clause-not_refused : goal.returns-clause-not_refused
 returns-clause-not_refused g c = on_ok_from c.plan_profile.result c.plan_profile.ensures.plan (Told (g.T.Tree.host c.args.host.now) (λ w. refusal w (Boot c.args.system.now) ≡ None))
     (λ plan told. told_as (told_before c.has_version.ensures.moments told) (λ w. refusal w (Boot c.args.system.now) ≡ None)
-      (λ w is plan. has_system w c.args.system.now (sym (c.in_ok-has_version.ensures.has.has w is) ∙ c.if-not-branch.false) ∙ plan.none))
+    (λ w is plan. has_system w c.args.system.now (sym (c.in_ok-has_version.ensures.has.has w is) ∙ c.if-not-branch.false) ∙ plan.none))
 
 pub returns-clause-refused : goal.returns-clause-refused
 returns-clause-refused g c why is = told_as (told_before c.has_version.ensures.moments (c.plan_profile.ensures.refused why is)) (λ w. refusal w (Boot c.args.system.now) ≡ Some why)

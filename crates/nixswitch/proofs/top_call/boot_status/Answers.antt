@@ -22,9 +22,11 @@ returns g c =
       sink_not_refused = λ is. e.sink_not_refused (sink_of r is);
       sink_world = λ is. e.sink_world (sink_of r is);
       output = record { has = λ w told. puts_as (e.output.has w told) (IsOutputOf (status_of r) w (Boot c.args.system.now)) (λ more put. output_of r w (Boot c.args.system.now) more put) };
-      completes = λ no_host no_sink. record { has = λ w told.
-        answer_of r (refusal w (Boot c.args.system.now)) (on_ok_told r e.ok_not_refused (λ t. t.has w told)) (λ why is. (e.refused why is).has w told)
-        (λ is. no_host (e.cause.rose is)) (λ is. no_sink (e.sink_cause.rose is)) };
+      completes = λ no_host no_sink. record {
+        has = λ w told.
+            answer_of r (refusal w (Boot c.args.system.now)) (on_ok_told r e.ok_not_refused (λ t. t.has w told)) (λ why is. (e.refused why is).has w told)
+            (λ is. no_host (e.cause.rose is)) (λ is. no_sink (e.sink_cause.rose is));
+      };
       begins = e.begins;
       moments = e.moments;
       cause = record {
