@@ -1,7 +1,7 @@
 -- How the moments of several calls, one after the other, join.
-use Rattle.std.proofs.Common.{◌≡◌, ◌≤◌, ◌⊎◌, ℕ, Option, None, Some, refl, sym, ap, subst, ◌∙◌, inl, inr, ⊎_elim, arith}
+use Rattle.std.proofs.Common.{◌≡◌, ◌≤◌, ◌⊎◌, Option, None, Some, refl, sym, subst, inl, inr, ⊎_elim, arith}
 use Rattle.host_trait.specs.Change.{IsSame}
-use Rattle.host_trait.specs.Host.{HostState, Told, Leads, Becomes, Passes, EachMoment, IsHost}
+use Rattle.host_trait.specs.Host.{HostState, Told, Leads, Passes, EachMoment, IsHost}
 use Rattle.host_trait.specs.World.{WorldState}
 
 pub none_or_some : {X : Type 0} (o : Option X) → (o ≡ None) ⊎ ((x : X) × (o ≡ Some x))

@@ -1,12 +1,12 @@
 -- Worlds that are equal but for the stage.
-use Rattle.std.proofs.Common.{◌≡◌, ◌≢◌, ◌⊎◌, ℕ, Bool, true, false, cond, List, Option, None, Some, IsSome, refl, sym, ap, subst, ◌∙◌, inl, inr, rules}
+use Rattle.std.proofs.Common.{◌≡◌, ◌≢◌, ℕ, true, false, List, Some, sym, ap, subst, ◌∙◌, inl, inr, rules}
 use Rattle.std.proofs.lemmas.Bool.{both_ways}
-use Rattle.std.specs.FinMap.{FinMap, get, insert, remove, get_tied, gets}
+use Rattle.std.specs.FinMap.{get, insert, remove, get_tied, gets}
 use Rattle.std.specs.Ordering.{eq_by_cmp}
 use Rattle.host_trait.specs.declared.leaf.LeafKind.{LeafKind}
-use Rattle.host_trait.specs.World.{Leaves, WorldState, bytes_cmp, is_in_line, is_path, IsClear, moved, with_moved, seen, stage, with_leaf, without_leaf}
+use Rattle.host_trait.specs.World.{Leaves, WorldState, bytes_cmp, is_in_line, IsClear, moved, with_moved, seen, stage, with_leaf}
 use Rattle.host_trait.proofs.Places.{alike, bytes_total, same_or_other}
-use Rattle.host_trait.proofs.Sound.{not_in_line, get_other}
+use Rattle.host_trait.proofs.Sound.{not_in_line}
 
 world_of : (m n : Leaves) (w : WorldState) → m ≡ n → record w { leaves = m } ≡ record w { leaves = n }
 world_of m n w is = ap (λ (l : Leaves). record w { leaves = l }) is

@@ -3,14 +3,14 @@ use Rattle.std.proofs.Common.{◌≡◌, ◌≢◌, ◌⊎◌, ℕ, ◌<◌, ◌
 use Rattle.std.proofs.lemmas.Bool.{cases_Bool, both_ways}
 use Rattle.std.specs.BTreeMap.{is_at}
 use Rattle.std.specs.Cmp.{eq_by_cmp_equiv}
-use Rattle.std.specs.FinMap.{FinMap, get, insert, remove, from_entries, gets, get-empty, get_tied, empty}
+use Rattle.std.specs.FinMap.{get, insert, remove, from_entries, gets, get-empty, get_tied, empty}
 use Rattle.std.specs.List.{list_any}
 use Rattle.std.specs.Map.{lookup, keys_of}
-use Rattle.std.specs.Ordering.{eq_by_cmp, is_eq}
+use Rattle.std.specs.Ordering.{eq_by_cmp}
 use Rattle.switch_names.specs.Path.{IsPath, is_below}
 use Rattle.host_trait.specs.declared.leaf.LeafKind.{LeafKind}
 use Rattle.host_trait.specs.World.{Leaves, bytes_cmp, is_in_line, IsClear, IsInTheWay, IsSound, moved, with_moved}
-use Rattle.host_trait.proofs.Places.{bytes_total, alike, found, same_or_other, none_or_present, at_same}
+use Rattle.host_trait.proofs.Places.{bytes_total, alike, found, same_or_other, none_or_present}
 
 or_comm : (a b : Bool) → a || b ≡ b || a
 or_comm true true = refl

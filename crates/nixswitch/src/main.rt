@@ -8,6 +8,8 @@ mod out_sink;
 mod planning;
 mod refusal;
 mod status;
+#[cfg(test)]
+mod tests;
 mod top_call;
 
 use crate::out_sink::OutSink;

@@ -1,4 +1,4 @@
-use Rattle.std.proofs.Common.{subst, sym, ap, List, ℕ}
+use Rattle.std.proofs.Common.{ap}
 use Rattle.std.specs.FinMap.{from_entries}
 use Rattle.host_trait.proofs.Sound.{sound_empty, sound_same}
 use Rattle.host_trait.specs.World.{bytes_cmp}
