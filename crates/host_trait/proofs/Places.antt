@@ -35,18 +35,18 @@ module _ {X : Type 0} where
 
   -- entries that differ at one place, where they have a value, make maps that differ so
   pub given :
-    (es fs : List (List ℕ × X)) (k : List ℕ) (v : X) →
-    ((q : List ℕ) → lookup (is_at (bytes_cmp q)) fs ≡ cond (is_at (bytes_cmp k) q) (Some v) (lookup (is_at (bytes_cmp q)) es)) →
-    from_entries {R = bytes_cmp} fs ≡ insert (from_entries es) k v
+      (es fs : List (List ℕ × X)) (k : List ℕ) (v : X) →
+      ((q : List ℕ) → lookup (is_at (bytes_cmp q)) fs ≡ cond (is_at (bytes_cmp k) q) (Some v) (lookup (is_at (bytes_cmp q)) es)) →
+      from_entries {R = bytes_cmp} fs ≡ insert (from_entries es) k v
   given es fs k v is = alike _ _ (λ q.
       found fs q ∙ is q ∙ ap (λ b. cond b (Some v) (lookup (is_at (bytes_cmp q)) es)) ((eq_by_cmp_equiv bytes_total).symm k q)
       ∙ sym (get-insert bytes_total (from_entries es) k v q ∙ ap (cond (is_at (bytes_cmp q) k) (Some v)) (found es q)))
 
   -- and so where they have none
   pub gone :
-    (es fs : List (List ℕ × X)) (k : List ℕ) →
-    ((q : List ℕ) → lookup (is_at (bytes_cmp q)) fs ≡ cond (is_at (bytes_cmp k) q) None (lookup (is_at (bytes_cmp q)) es)) →
-    from_entries {R = bytes_cmp} fs ≡ remove (from_entries es) k
+      (es fs : List (List ℕ × X)) (k : List ℕ) →
+      ((q : List ℕ) → lookup (is_at (bytes_cmp q)) fs ≡ cond (is_at (bytes_cmp k) q) None (lookup (is_at (bytes_cmp q)) es)) →
+      from_entries {R = bytes_cmp} fs ≡ remove (from_entries es) k
   gone es fs k is = alike _ _ (λ q.
       found fs q ∙ is q ∙ ap (λ b. cond b None (lookup (is_at (bytes_cmp q)) es)) ((eq_by_cmp_equiv bytes_total).symm k q)
       ∙ sym (get-remove bytes_total (from_entries es) k q ∙ ap (cond (is_at (bytes_cmp q) k) None) (found es q)))

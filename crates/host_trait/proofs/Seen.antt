@@ -52,7 +52,7 @@ pub renamed : (at : List ℕ) (leaf : LeafKind) (w : WorldState) → at ≢ stag
 renamed at leaf w ne =
     let other = other_of at stage ne in
     world_of _ _ w (ap (λ (l : Leaves). remove l stage) (unfolded_move (insert w.leaves stage leaf) stage at leaf (at_stage w.leaves stage leaf))
-      ∙ alike _ _ (λ q. let tied = get_tied bytes_total w.leaves q at in grind (gets, rules)))
+    ∙ alike _ _ (λ q. let tied = get_tied bytes_total w.leaves q at in grind (gets, rules)))
 
 put_again : (m : Leaves) (at : List ℕ) (leaf : LeafKind) → get m at ≡ Some leaf → insert m at leaf ≡ m
 put_again m at leaf is = alike _ _ (λ q. let tied = get_tied bytes_total m q at in grind (gets, rules))
@@ -67,10 +67,11 @@ seen_put m n at leaf is = elim (same_or_other at stage) [
   | inr other ↦ swap m leaf other ∙ ap (λ (l : Leaves). insert l at leaf) is ∙ sym (swap n leaf other)
 ]
   where
-  over : (l : Leaves) (leaf : LeafKind) → remove (insert l stage leaf) stage ≡ remove l stage
-  over l leaf = alike _ _ (λ q. grind (gets, rules))
-  swap : (l : Leaves) (leaf : LeafKind) → eq_by_cmp bytes_cmp at stage ≡ false → remove (insert l at leaf) stage ≡ insert (remove l stage) at leaf
-  swap l leaf other = alike _ _ (λ q. let tied = get_tied bytes_total l q at in grind (gets, rules))
+    over : (l : Leaves) (leaf : LeafKind) → remove (insert l stage leaf) stage ≡ remove l stage
+    over l leaf = alike _ _ (λ q. grind (gets, rules))
+
+    swap : (l : Leaves) (leaf : LeafKind) → eq_by_cmp bytes_cmp at stage ≡ false → remove (insert l at leaf) stage ≡ insert (remove l stage) at leaf
+    swap l leaf other = alike _ _ (λ q. let tied = get_tied bytes_total l q at in grind (gets, rules))
 
 -- a put makes of worlds that are equal but for the stage such worlds
 pub seen_with_leaf : (at : List ℕ) (leaf : LeafKind) (v w : WorldState) → seen v ≡ seen w → seen (with_leaf at leaf v) ≡ seen (with_leaf at leaf w)

@@ -34,8 +34,8 @@ itself k = (eq_by_cmp_equiv bytes_total).refl k
 module _ {X : Type 0} where
   -- a key that passes a test has a value
   pub any_listed :
-    (test : List ℕ → Bool) (es : List (List ℕ × X)) → list_any test (keys_of es) ≡ true →
-    (q : List ℕ) × (test q ≡ true) × IsSome (lookup (is_at (bytes_cmp q)) es)
+      (test : List ℕ → Bool) (es : List (List ℕ × X)) → list_any test (keys_of es) ≡ true →
+      (q : List ℕ) × (test q ≡ true) × IsSome (lookup (is_at (bytes_cmp q)) es)
   any_listed test [] is = absurd (both_ways false refl is)
   any_listed test (e ∷ es) is =
       elim (test e.0) as (λ b. test e.0 ≡ b → b || list_any test (keys_of es) ≡ true → (q : List ℕ) × (test q ≡ true) × IsSome (lookup (is_at (bytes_cmp q)) (e ∷ es))) [
@@ -43,14 +43,14 @@ module _ {X : Type 0} where
         | false ↦ λ t h. let rest = any_listed test es h in (rest.0, rest.1, in_either rest.0 (is_at (bytes_cmp rest.0) e.0) rest.2)
       ] refl is
     where
-    in_either : (q : List ℕ) (b : Bool) → IsSome (lookup (is_at (bytes_cmp q)) es) → IsSome (cond b (Some e.1) (lookup (is_at (bytes_cmp q)) es))
-    in_either q true h = refl
-    in_either q false h = h
+      in_either : (q : List ℕ) (b : Bool) → IsSome (lookup (is_at (bytes_cmp q)) es) → IsSome (cond b (Some e.1) (lookup (is_at (bytes_cmp q)) es))
+      in_either q true h = refl
+      in_either q false h = h
 
   -- where no key passes a test, what passes has no value
   pub none_listed :
-    (test : List ℕ → Bool) (es : List (List ℕ × X)) → list_any test (keys_of es) ≡ false →
-    (q : List ℕ) → test q ≡ true → lookup (is_at (bytes_cmp q)) es ≡ None
+      (test : List ℕ → Bool) (es : List (List ℕ × X)) → list_any test (keys_of es) ≡ false →
+      (q : List ℕ) → test q ≡ true → lookup (is_at (bytes_cmp q)) es ≡ None
   none_listed test [] is q t = refl
   none_listed test (e ∷ es) is q t =
       let parts = Rattle.std.proofs.lemmas.Bool.or_parts (test e.0) (list_any test (keys_of es)) is in
@@ -145,9 +145,9 @@ still_there m after from to place leaf is other new = elim (same_or_other from p
 
 -- a leaf put at a place, taken out elsewhere and put there again, has moved
 pub moved_by_steps :
-  (m after rest last : Leaves) (from to place again : List ℕ) (blank leaf : LeafKind) →
-  place ≡ to → again ≡ to → to ≢ from → get m from ≡ Some leaf →
-  after ≡ insert m place blank → rest ≡ remove after from → last ≡ insert rest again leaf → last ≡ moved m from to
+    (m after rest last : Leaves) (from to place again : List ℕ) (blank leaf : LeafKind) →
+    place ≡ to → again ≡ to → to ≢ from → get m from ≡ Some leaf →
+    after ≡ insert m place blank → rest ≡ remove after from → last ≡ insert rest again leaf → last ≡ moved m from to
 moved_by_steps m after rest last from to place again blank leaf first second other was new without with_it =
     let apart : eq_by_cmp bytes_cmp to from ≡ false = elim (same_or_other to from) [ inl same ↦ absurd (other same) | inr is ↦ is ] in
     with_it ∙ ap (λ (n : Leaves). insert n again leaf) (without ∙ ap (λ (n : Leaves). remove n from) new)
@@ -156,14 +156,14 @@ moved_by_steps m after rest last from to place again blank leaf first second oth
 
 -- a leaf put at a place is there after another one is taken out elsewhere
 pub kept_place :
-  (m after rest : Leaves) (from to place again : List ℕ) (blank : LeafKind) →
-  place ≡ to → again ≡ to → to ≢ from → after ≡ insert m place blank → rest ≡ remove after from → IsSome (get rest again)
+    (m after rest : Leaves) (from to place again : List ℕ) (blank : LeafKind) →
+    place ≡ to → again ≡ to → to ≢ from → after ≡ insert m place blank → rest ≡ remove after from → IsSome (get rest again)
 kept_place m after rest from to place again blank first second other new without =
     let apart : eq_by_cmp bytes_cmp to from ≡ false = elim (same_or_other to from) [ inl same ↦ absurd (other same) | inr is ↦ is ] in
     let is : get (remove (insert m to blank) from) to ≡ Some blank = grind (gets, rules) in
     subst (λ o. IsSome o)
     (sym (ap (λ (n : Leaves). get n again) (without ∙ ap (λ (n : Leaves). remove n from) (new ∙ ap (λ p. insert m p blank) first))
-      ∙ ap (λ p. get (remove (insert m to blank) from) p) second ∙ is)) refl
+    ∙ ap (λ p. get (remove (insert m to blank) from) p) second ∙ is)) refl
 
 pub on_ok_at : {T E P : Type 0} (r : Result T E) (x : T) → r ≡ Ok x → OnOk r P → P
 on_ok_at {P = P} r x is holds = subst (λ v. OnOk v P) is holds

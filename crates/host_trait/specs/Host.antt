@@ -39,8 +39,8 @@ Comes old new f = Leads old new (λ w v. seen v ≡ seen (f w))
 pub record Passes (old new : HostState) (R : WorldState → WorldState → Type 0) : Type 0 where
   pub later : old.clock ≤ new.clock
   pub nothing_else :
-    (t : ℕ) (m : WorldState) → t ≤ old.clock → new.left_since t m →
-    old.left_since t m ⊎ ((w : WorldState) × (old.world ≡ Some w) × R w m)
+      (t : ℕ) (m : WorldState) → t ≤ old.clock → new.left_since t m →
+      old.left_since t m ⊎ ((w : WorldState) × (old.world ≡ Some w) × R w m)
   pub keeps : (t : ℕ) (m : WorldState) → t ≤ old.clock → old.left_since t m → new.left_since t m
   pub tells : Leads old new R
   pub silent : old.world ≡ None → new.world ≡ None

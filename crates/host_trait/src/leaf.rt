@@ -166,9 +166,12 @@ fn is_same_kind(kind: &LeafKind, other: &LeafKind) -> bool
                 && gid == other_gid
                 && bytes.as_slice() == other_bytes.as_slice()
         }
-        (LeafKind::Link { target }, LeafKind::Link { target: other_target }) => {
-            target.as_str() == other_target.as_str()
-        }
+        (
+            LeafKind::Link { target },
+            LeafKind::Link {
+                target: other_target,
+            },
+        ) => { target.as_str() == other_target.as_str() }
         _ => false,
     }
 }

@@ -1,12 +1,13 @@
 //! The world that a run changes, and the host that a run reads and changes it through.
 #![tactic(auto)]
 
-
 mod known_path;
 mod leaf;
 mod leaf_map;
 mod reading;
 mod sink;
+#[cfg(test)]
+mod tests;
 mod tree;
 mod world;
 mod world_fault;

@@ -59,11 +59,7 @@ fn file_content<T: Tree>(
 /// The bytes of the file at a path, or of the file in the store that a link there leads to.
 ///
 /// One link is followed, and only into the store.
-pub fn content<T: Tree>(
-    alloc: Global,
-    host: &mut T,
-    at: &Path,
-) -> Result<Option<Bytes>, HostFault>
+pub fn content<T: Tree>(alloc: Global, host: &mut T, at: &Path) -> Result<Option<Bytes>, HostFault>
     ensures content { IfOk result (λ bytes. Told (T.host host.old) (λ w. bytes ≡ content_of w.leaves at.now)) }
     ensures moments { Passes (T.host host.old) (T.host host.new) IsSame }
     ensures cause { HasCause (T.host host.old) (T.host host.new) result }

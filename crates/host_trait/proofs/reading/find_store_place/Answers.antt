@@ -11,6 +11,6 @@ pub returns-in_default : goal.returns-in_default
 returns-in_default c =
     let lacks = no_store c.args.target.now (strip_prefix_char 47 c.args.target.now None c.in_default.ensures.cases (lit< tt)) in
     let is : starts_with nat_eq c.args.target.now (codes "/nix/store/") ≡ true =
-      sym (c.if-not-starts_with.ensures.value ∙ ap (λ t. starts_with nat_eq t c.as_bytes-2.result.now) c.as_bytes.ensures.value
-        ∙ ap (λ t. starts_with nat_eq c.args.target.now t) c.as_bytes-2.ensures.value) in
+    sym (c.if-not-starts_with.ensures.value ∙ ap (λ t. starts_with nat_eq t c.as_bytes-2.result.now) c.as_bytes.ensures.value
+    ∙ ap (λ t. starts_with nat_eq c.args.target.now t) c.as_bytes-2.ensures.value) in
     absurd (both_ways _ lacks is)
