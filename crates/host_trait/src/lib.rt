@@ -6,6 +6,8 @@ mod leaf;
 mod leaf_map;
 mod reading;
 mod sink;
+#[cfg(test)]
+mod tests;
 mod tree;
 mod world;
 mod world_fault;
