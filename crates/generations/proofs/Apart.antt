@@ -4,7 +4,7 @@ use Rattle.std.proofs.lemmas.List.{append_cancel_left, append_cancel_right}
 use Rattle.std.proofs.lemmas.Fmt.{decimal_injective}
 use Rattle.std.specs.Fmt.{decimal}
 use Rattle.switch_names.specs.Path.{is_below}
-use Rattle.host_trait.specs.World.{is_in_line, is_path, stage}
+use Rattle.host_trait.specs.World.{is_path, stage}
 use Rattle.tree_put.specs.Put.{AreApart}
 use Rattle.generations.specs.Places.{link_name, link_path, profile}
 

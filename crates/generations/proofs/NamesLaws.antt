@@ -1,22 +1,22 @@
 -- At each moment of a set the profile names what it named, or the system that is set.
-use Rattle.std.proofs.Common.{◌≡◌, ◌≢◌, ◌⊎◌, ◌↔◌, ℕ, ◌+◌, ◌^◌, ◌<◌, Bool, true, false, cond, nat_eq, List, ◌∷◌, Option, None, Some, IsSome, is_some, refl, sym, ap, subst, ◌∙◌, inl, inr, ⊎_elim}
+use Rattle.std.proofs.Common.{◌≡◌, ◌≢◌, ◌⊎◌, ◌↔◌, ℕ, true, false, nat_eq, List, ◌∷◌, Option, None, Some, IsSome, is_some, refl, sym, ap, subst, ◌∙◌, inl, inr, ⊎_elim}
 use Rattle.std.proofs.lemmas.Bool.{cases_Bool, both_ways}
 use Rattle.std.specs.Cmp.{eq_by_cmp_equiv}
 use Rattle.std.specs.Cmp.Lexicographic.{pointwise, texts_ties}
-use Rattle.std.specs.FinMap.{get, insert}
+use Rattle.std.specs.FinMap.{get}
 use Rattle.std.specs.Ordering.{eq_by_cmp}
 use Rattle.switch_names.specs.Path.{slash}
 use Rattle.switch_names.specs.SystemName.{NamesSystem}
 use Rattle.host_trait.specs.declared.leaf.LeafKind.{LeafKind}
 use Rattle.host_trait.specs.declared.leaf.LeafKind.TheVariants.{File, Link}
-use Rattle.host_trait.specs.World.{Leaves, WorldState, bytes_cmp, seen, stage, with_leaf}
+use Rattle.host_trait.specs.World.{Leaves, WorldState, bytes_cmp, seen, with_leaf}
 use Rattle.host_trait.proofs.Places.{at_same, bytes_total, same_or_other}
 use Rattle.host_trait.proofs.Seen.{seen_at, other_of}
 use Rattle.host_trait.proofs.Sound.{get_other}
 use Rattle.tree_put.proofs.PutLemmas.{apart_ne}
-use Rattle.generations.specs.Places.{IsCurrent, Names, generation_at, highest, is_number, is_of, link_name, link_path, link_target, number_after, profile, set_end, with_generation, with_profile}
-use Rattle.generations.specs.Set.{IsSetMoment, NamesOldOrNew, link_end}
-use Rattle.generations.proofs.Apart.{link_profile, one_link, profile_apart, profile_link}
+use Rattle.generations.specs.Places.{IsCurrent, Names, generation_at, highest, is_number, is_of, link_name, link_path, link_target, number_after, profile, with_generation, with_profile}
+use Rattle.generations.specs.Set.{IsSetMoment, NamesOldOrNew}
+use Rattle.generations.proofs.Apart.{profile_apart, profile_link}
 use Rattle.generations.proofs.SetLaws.{IsLinked, generation_seen, linked_is, named_there, others_there, profile_keeps, top_of}
 use Rattle.generations.proofs.SetLemmas.{kept_generation, new_generation}
 

@@ -2,19 +2,19 @@
 use Rattle.std.proofs.Common.{◌≡◌, ◌≢◌, ◌⊎◌, ◌↔◌, ℕ, zero, suc, ◌+◌, ◌^◌, ◌<◌, ◌≤◌, Bool, true, false, cond, ◌&&◌, nat_lt, nat_eq, List, ◌∷◌, Option, None, Some, IsSome, is_some, option_map, refl, sym, ap, subst, ◌∙◌, inl, inr, ⊎_elim, arith, rules}
 use Rattle.std.proofs.lemmas.Bool.{cases_Bool, cases_order, both_ways}
 use Rattle.std.specs.Cmp.Lexicographic.{nat_list_eq_equiv}
-use Rattle.std.specs.FinMap.{get, insert}
+use Rattle.std.specs.FinMap.{get}
 use Rattle.switch_names.specs.Path.{slash}
-use Rattle.switch_names.specs.SystemName.{NamesSystem, system_fault, system_path}
+use Rattle.switch_names.specs.SystemName.{NamesSystem, system_path}
 use Rattle.host_trait.specs.declared.leaf.LeafKind.{LeafKind}
-use Rattle.host_trait.specs.declared.leaf.LeafKind.TheVariants.{File, Link}
-use Rattle.host_trait.specs.World.{Leaves, WorldState, seen, stage, with_leaf}
+use Rattle.host_trait.specs.declared.leaf.LeafKind.TheVariants.{Link}
+use Rattle.host_trait.specs.World.{Leaves, WorldState, seen, with_leaf}
 use Rattle.host_trait.proofs.Places.{at_same}
 use Rattle.host_trait.proofs.Seen.{seen_at, seen_with_leaf, same_leaf, other_of}
 use Rattle.host_trait.proofs.Sound.{get_other}
 use Rattle.tree_put.proofs.PutLemmas.{apart_ne}
-use Rattle.generations.specs.Places.{IsCurrent, Names, generation_at, greatest_below, highest, is_number, is_of, link_name, link_path, link_target, number_after, profile, set_end, system_of, target_of, with_generation, with_profile}
-use Rattle.generations.specs.Set.{IsSetMoment, link_end}
-use Rattle.generations.proofs.Apart.{link_apart, link_profile, one_link, one_link_path, profile_apart, profile_link}
+use Rattle.generations.specs.Places.{generation_at, greatest_below, highest, is_number, is_of, link_name, link_path, link_target, number_after, profile, set_end, target_of, with_generation, with_profile}
+use Rattle.generations.specs.Set.{IsSetMoment}
+use Rattle.generations.proofs.Apart.{link_apart, link_profile, one_link_path}
 use Rattle.generations.proofs.Numbers.{highest_is, highest_same, stands_at_number, below_bound}
 use Rattle.generations.proofs.SetLemmas.{kept_generation, new_generation}
 

@@ -1,21 +1,15 @@
 -- What a set leaves, world by world.
-use Rattle.std.proofs.Common.{◌≡◌, ◌≢◌, ◌⊎◌, ℕ, ◌+◌, ◌^◌, ◌<◌, Bool, true, false, cond, ◌&&◌, nat_lt, nat_eq, List, ◌∷◌, Option, None, Some, IsSome, is_some, option_map, refl, sym, ap, subst, ◌∙◌, inl, inr, ⊎_elim, arith, rules}
+use Rattle.std.proofs.Common.{◌≡◌, ℕ, true, false, cond, List, sym, ap, subst, ◌∙◌, inl, inr, ⊎_elim}
 use Rattle.std.proofs.lemmas.Bool.{cases_Bool, both_ways}
-use Rattle.std.specs.Cmp.Lexicographic.{nat_list_eq_equiv}
-use Rattle.std.specs.FinMap.{get, insert}
-use Rattle.switch_names.specs.SystemName.{NamesSystem}
 use Rattle.host_trait.specs.declared.leaf.LeafKind.{LeafKind}
-use Rattle.host_trait.specs.declared.leaf.LeafKind.TheVariants.{File, Link}
-use Rattle.host_trait.specs.World.{Leaves, WorldState, IsClear, is_in_line, is_path, seen, stage, with_leaf}
-use Rattle.host_trait.proofs.Places.{at_same}
-use Rattle.host_trait.proofs.Seen.{seen_at, seen_with_leaf, clear_seen, stage_clear_seen, same_leaf, other_of}
+use Rattle.host_trait.specs.declared.leaf.LeafKind.TheVariants.{Link}
+use Rattle.host_trait.specs.World.{WorldState, IsClear, is_in_line, seen, stage, with_leaf}
+use Rattle.host_trait.proofs.Seen.{seen_with_leaf, clear_seen, stage_clear_seen}
 use Rattle.host_trait.proofs.Sound.{clear_insert, get_other}
-use Rattle.tree_put.specs.Put.{AreApart, CanPut, IsOldOrNew}
-use Rattle.tree_put.proofs.PutLemmas.{apart_ne}
-use Rattle.generations.specs.Places.{generation_at, highest, is_number, is_of, link_name, link_path, link_target, number_after, profile, set_end, system_of, target_of, with_generation, with_profile}
+use Rattle.tree_put.specs.Put.{CanPut, IsOldOrNew}
+use Rattle.generations.specs.Places.{generation_at, highest, is_of, link_name, link_path, link_target, number_after, profile, set_end, with_generation, with_profile}
 use Rattle.generations.specs.Set.{CanSet, IsLinkMoment, IsSetMoment, link_end}
-use Rattle.generations.proofs.Apart.{profile_apart, link_apart, link_profile, profile_link}
-use Rattle.generations.proofs.Numbers.{highest_is, highest_same}
+use Rattle.generations.proofs.Apart.{profile_apart, link_apart, link_profile}
 
 -- the generation's link, put or kept
 pub kept_generation : (system : List ℕ) (n : ℕ) (w : WorldState) → is_of (generation_at w.leaves (highest w.leaves)) system ≡ true → with_generation system n w ≡ w

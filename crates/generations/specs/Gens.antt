@@ -1,5 +1,5 @@
 -- Lists of generations in ascending order.
-use Rattle.std.specs.Prelude.{◌≡◌, ◌<◌, ◌&&◌, ◌==◌, ℕ, ◌+◌, ◌-◌, ◌^◌, length, slice_get, Bool, true, false, List, [], ◌∷◌, nat_lt, Option, None, Some, IfSome, is_some, option_map, map, filter, if◌then◌else◌}
+use Rattle.std.specs.Prelude.{◌≡◌, ◌&&◌, ◌==◌, ℕ, ◌+◌, ◌-◌, ◌^◌, length, slice_get, Bool, List, [], ◌∷◌, nat_lt, Option, None, Some, IfSome, is_some, option_map, map, filter, if◌then◌else◌}
 use Rattle.std.specs.List.{find}
 use Rattle.std.specs.List.Sorted.{IsStrictlySortedBy}
 use Rattle.std.specs.Ordering.{nat_cmp}

@@ -1,5 +1,5 @@
 -- Where the generations of the system profile stand: Nix manual, "Profiles".
-use Rattle.std.specs.Prelude.{◌≡◌, ◌<◌, ◌&&◌, ◌==◌, ℕ, zero, suc, ◌+◌, ◌^◌, Bool, true, false, List, ◌∷◌, ◌++◌, codes, nat_eq, nat_lt, Option, None, Some, IsSome, is_none, is_some, option_map, if◌then◌else◌}
+use Rattle.std.specs.Prelude.{◌≡◌, ◌&&◌, ℕ, zero, suc, ◌+◌, ◌^◌, Bool, false, List, ◌∷◌, ◌++◌, codes, nat_eq, nat_lt, Option, None, Some, IsSome, is_none, is_some, option_map, if◌then◌else◌}
 use Rattle.std.specs.Cmp.Lexicographic.{pointwise}
 use Rattle.std.specs.FinMap.{get}
 use Rattle.std.specs.Fmt.{decimal}

@@ -4,6 +4,7 @@
 mod booting;
 mod carrying;
 mod command;
+mod laws;
 mod out_sink;
 mod planning;
 mod refusal;

@@ -1,9 +1,10 @@
 //! Boots over a host in memory: how they end, what they put, and what a cut leaves.
+use crate::out_sink::OutSink;
 use crate::refusal::Refusal;
 use crate::status::Status;
 use crate::top_call::run;
 use host_memory::{MemoryHost, MemorySink};
-use host_trait::{Leaf, LeafKind, World};
+use host_trait::{Leaf, LeafKind, Sink, World};
 use std::alloc::{AllocError, Global};
 use std::test::Fail;
 use switch_names::{Bytes, Listed, Path, Text};
@@ -260,5 +261,12 @@ fn a_status_says_why_in_words(rt: HostRuntime) -> Result<(), Fail> {
     ] {
         assert_eq!(rt; status.text(alloc)?.as_str(), text);
     }
+    Ok(())
+}
+
+#[test]
+fn standard_output_takes_no_bytes_without_a_fault(rt: HostRuntime) -> Result<(), Fail> {
+    let mut out = OutSink::new(&rt)?;
+    assert!(rt; out.put(b"").is_ok());
     Ok(())
 }

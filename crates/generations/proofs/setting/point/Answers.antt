@@ -1,8 +1,8 @@
 use Rattle.std.proofs.Common.{◌≡◌, refl, sym, ap, subst, ◌∙◌, inl}
 use Rattle.host_trait.specs.declared.leaf.LeafKind.TheVariants.{Link}
 use Rattle.host_trait.specs.World.{seen, stage, with_leaf}
-use Rattle.host_trait.proofs.Moments.{started, passes_as, leads_as}
-use Rattle.tree_put.specs.Put.{AreApart, CanPut, IsOldOrNew}
+use Rattle.host_trait.proofs.Moments.{started, leads_as}
+use Rattle.tree_put.specs.Put.{AreApart, IsOldOrNew}
 use Rattle.generations.specs.Places.{link_name, profile, with_profile}
 use Rattle.generations.proofs.Apart.{profile_apart}
 use Rattle.generations.proofs.setting.point.Goals as goal

@@ -1,9 +1,8 @@
-use Rattle.std.proofs.Common.{◌≡◌, false, true, ℕ, refl, sym, ap, subst, ◌∙◌, inl}
-use Rattle.host_trait.specs.World.{WorldState, seen, stage}
+use Rattle.std.proofs.Common.{◌≡◌, refl, sym, ap, subst, ◌∙◌, inl}
+use Rattle.host_trait.specs.World.{seen, stage}
 use Rattle.host_trait.proofs.Moments.{started, passes_as, leads_as, told_as}
 use Rattle.tree_put.specs.Put.{AreApart, CanPut}
-use Rattle.generations.specs.Places.{generation_at, highest, is_of, number_after}
-use Rattle.generations.specs.Gens.{IsGensOf}
+use Rattle.generations.specs.Places.{number_after}
 use Rattle.generations.specs.Set.{IsLinkMoment, link_end}
 use Rattle.generations.proofs.Apart.{link_apart}
 use Rattle.generations.proofs.Numbers.{highest_of_world, number_of_world}
