@@ -1,7 +1,6 @@
 -- What is put out, one text after another.
-use Rattle.std.proofs.Common.{◌≡◌, ◌⊎◌, ℕ, List, [], ◌++◌, Option, None, Some, Result, Ok, Err, IsErrOf, append_assoc, refl, sym, ap, subst, ◌∙◌, inl, inr}
+use Rattle.std.proofs.Common.{◌≡◌, ℕ, List, [], ◌++◌, Some, Result, Err, IsErrOf, append_assoc, refl, sym, ap, subst, ◌∙◌, inl, inr}
 use Rattle.std.proofs.lemmas.List.{append-nil}
-use Rattle.host_trait.specs.declared.tree.HostFault.{HostFault}
 use Rattle.host_trait.specs.Sink.{SinkState, Puts, IsPrefixOf}
 use Rattle.nixswitch.specs.declared.refusal.Refusal.{Refusal}
 use Rattle.nixswitch.specs.declared.refusal.RunFault.{RunFault}

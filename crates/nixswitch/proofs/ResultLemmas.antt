@@ -1,5 +1,5 @@
 -- Facts of results, carried from one property to another.
-use Rattle.std.proofs.Common.{Result, Ok, Err, IfOk, OnOk, ◌≡◌, subst}
+use Rattle.std.proofs.Common.{Result, Ok, Err, IfOk, OnOk}
 
 pub if_ok_as : {T E : Type 0} {P : T → Type 0} (r : Result T E) → IfOk r P → (Q : T → Type 0) → ((x : T) → P x → Q x) → IfOk r Q
 if_ok_as (Ok x) holds Q weaker = weaker x holds

@@ -1,6 +1,5 @@
 -- From a command's run to that of the words which give it.
-use Rattle.std.proofs.Common.{◌≡◌, ◌⊎◌, ℕ, Bool, true, false, cond, nat_eq, codes, List, [], ◌∷◌, Option, None, Some, is_none, option_map, refl, sym, ap, subst, ◌∙◌, inl, inr, arith}
-use Rattle.std.proofs.lemmas.Bool.{both_ways}
+use Rattle.std.proofs.Common.{◌≡◌, ◌⊎◌, ℕ, Bool, true, false, cond, nat_eq, codes, List, [], ◌∷◌, Option, None, Some, is_none, option_map, refl, ap, subst, ◌∙◌, inl, inr, arith}
 use Rattle.std.specs.Cmp.Lexicographic.{pointwise}
 use Rattle.switch_names.specs.SystemName.{NamesSystem, system_fault, system_path}
 use Rattle.switch_names.proofs.StorePaths.{IsSystemPath-from_named, NamesSystem-with_slash}
@@ -13,10 +12,10 @@ use Rattle.nixswitch.specs.declared.command.Command.{Command}
 use Rattle.nixswitch.specs.declared.command.Command.TheVariants.{Boot}
 use Rattle.nixswitch.specs.declared.refusal.Refusal.{Refusal}
 use Rattle.nixswitch.specs.declared.status.Status.{Status}
-use Rattle.nixswitch.specs.declared.status.Status.TheVariants.{Done, Usage, Refused, HostFault, SinkFault, NoMemory}
+use Rattle.nixswitch.specs.declared.status.Status.TheVariants.{Usage, HostFault, NoMemory}
 use Rattle.nixswitch.specs.Boot.{final, refusal}
 use Rattle.nixswitch.specs.Commands.{boot_of, command_of}
-use Rattle.nixswitch.specs.Run.{IsAnswerTo, IsCommandMoment, IsMomentOf, IsOutputOf, Runs, RunsCommand}
+use Rattle.nixswitch.specs.Run.{IsAnswerTo, IsCommandMoment, IsMomentOf, IsOutputOf, IsUnchangedOrAt, Runs, RunsCommand}
 use Rattle.nixswitch.proofs.OutputLemmas.{puts_nothing}
 use Rattle.nixswitch.proofs.UnderwayLemmas.{boot_begins}
 
@@ -81,7 +80,7 @@ module _ {host after : HostState} {sink put : SinkState} where
     cause = runs.cause;
     sink_cause = runs.sink_cause;
     sink_not_refused = λ s other named. subst (λ (c : Command). Told host (λ w. refusal w c ≡ None)) (one_of _ _ _ is named) (runs.sink_not_refused s);
-    sink_world = λ s other named. subst (λ (c : Command). Leads host after (λ w v. (v ≡ w) ⊎ (seen v ≡ final w c))) (one_of _ _ _ is named) (runs.sink_world s);
+    sink_world = λ s other named. subst (λ (c : Command). IsUnchangedOrAt host after (λ w. final w c)) (one_of _ _ _ is named) (runs.sink_world s);
     completes = λ no_host no_sink other named. subst (λ (c : Command). Told host (λ w. IsAnswerTo (refusal w c) status)) (one_of _ _ _ is named) (runs.completes no_host no_sink);
     begins = record { has = λ w told. begins words w };
     moments = passes_as runs.moments (IsMomentOf words) (λ w m told moment. moment_of words command w m is moment);

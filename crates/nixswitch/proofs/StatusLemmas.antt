@@ -1,5 +1,5 @@
 -- From how a boot ended to how the run ends.
-use Rattle.std.proofs.Common.{◌≡◌, ◌⊎◌, ℕ, List, [], Option, None, Some, Result, Ok, Err, OnOk, IsErrOf, refl, sym, ap, subst, ◌∙◌, inl, inr}
+use Rattle.std.proofs.Common.{◌≡◌, ℕ, List, Option, None, Some, Result, Ok, Err, OnOk, IsErrOf, refl, sym, ap, subst, inl, inr}
 use Rattle.host_trait.specs.declared.tree.HostFault.TheVariants as host
 use Rattle.host_trait.specs.World.{WorldState}
 use Rattle.nixswitch.specs.declared.command.Command.{Command}

@@ -1,5 +1,5 @@
 -- A boot that was cut isn't refused when it is made again.
-use Rattle.std.proofs.Common.{◌≡◌, ◌≢◌, ◌⊎◌, ℕ, ◌^◌, ◌<◌, Bool, true, false, cond, ◌&&◌, nat_lt, nat_eq, codes, List, [], ◌∷◌, ◌++◌, ◌-◌, length, drop, append_assoc, Option, None, Some, IsSome, is_none, is_some, option_map, refl, sym, ap, subst, ◌∙◌, inl, inr, ⊎_elim, arith}
+use Rattle.std.proofs.Common.{◌≡◌, ◌≢◌, ℕ, ◌^◌, Bool, true, false, cond, ◌&&◌, nat_lt, nat_eq, codes, List, [], ◌∷◌, ◌++◌, ◌-◌, length, drop, append_assoc, Option, None, Some, is_none, option_map, refl, sym, ap, subst, ◌∙◌, inl, inr, ⊎_elim}
 use Rattle.std.proofs.lemmas.Bool.{both_ways, cases_Bool}
 use Rattle.std.proofs.lemmas.Bool.Decides.{Decides-eqb}
 use Rattle.std.proofs.lemmas.Slice.Eq.{starts_is}
@@ -11,25 +11,25 @@ use Rattle.switch_names.specs.Path.{path_fault, slash}
 use Rattle.switch_names.specs.declared.name_fault.NameFault.{NameFault}
 use Rattle.switch_names.specs.declared.name_fault.NameFault.TheVariants.{Kind}
 use Rattle.switch_names.proofs.StorePaths.{store_path_is}
-use Rattle.switch_names.specs.SystemName.{NamesSystem, store_folder, store_name, store_name_fault, system_fault, system_path}
+use Rattle.switch_names.specs.SystemName.{NamesSystem, store_folder, store_name, store_name_fault, system_path}
 use Rattle.host_trait.specs.declared.leaf.LeafKind.{LeafKind}
 use Rattle.host_trait.specs.declared.leaf.LeafKind.TheVariants.{File, Link}
-use Rattle.host_trait.specs.World.{IsClear, Leaves, file_bytes, is_path, WorldState, content_of, file_at, is_in_line, leaf_content, seen, stage, store_place, with_leaf}
-use Rattle.host_trait.proofs.Seen.{clear_seen, other_of, seen_at, stage_clear_seen}
+use Rattle.host_trait.specs.World.{IsClear, Leaves, file_bytes, is_path, WorldState, content_of, file_at, is_in_line, leaf_content, stage, store_place, with_leaf}
+use Rattle.host_trait.proofs.Seen.{clear_seen, other_of, seen_at}
 use Rattle.host_trait.proofs.Sound.{clear_insert, get_other, in_line_either, not_in_line}
 use Rattle.tree_put.specs.Put.{is_blocked}
-use Rattle.tree_put.proofs.BlockedLemmas.{clear_of_free, free_of_clear}
-use Rattle.generations.specs.Places.{generation_at, highest, is_number, is_of, link_name, link_path, link_target, number_after, profile, set_end, with_generation, with_profile}
-use Rattle.generations.specs.Set.{CanSet, IsSetMoment, NamesOldOrNew, link_end}
-use Rattle.generations.proofs.Apart.{link_apart, link_profile, profile_apart, profile_link}
+use Rattle.tree_put.proofs.BlockedLemmas.{free_of_clear}
+use Rattle.generations.specs.Places.{generation_at, highest, is_of, link_name, link_path, link_target, number_after, profile, with_generation, with_profile}
+use Rattle.generations.specs.Set.{CanSet, IsSetMoment}
+use Rattle.generations.proofs.Apart.{link_apart, link_profile, profile_apart}
 use Rattle.generations.proofs.NamesLaws.{moment_names}
 use Rattle.generations.proofs.SetLaws.{KeepsSet, generation_seen, highest_of_same, moment_keeps, number_is}
 use Rattle.generations.proofs.SetLemmas.{clear_with_generation}
 use Rattle.nixswitch.specs.declared.command.Command.TheVariants.{Boot}
 use Rattle.nixswitch.specs.declared.refusal.Refusal.{Refusal}
 use Rattle.nixswitch.specs.declared.refusal.Refusal.TheVariants.{NoSystem, InTheWay, GenerationsFull}
-use Rattle.nixswitch.specs.Boot.{boot_places, boot_report, final, new_link, refusal, report, set_refusal, version_path}
-use Rattle.nixswitch.specs.Run.{IsCommandMoment, IsUnderway}
+use Rattle.nixswitch.specs.Boot.{boot_places, boot_report, new_link, refusal, set_refusal, version_path}
+use Rattle.nixswitch.specs.Run.{IsCommandMoment}
 use Rattle.nixswitch.proofs.PlanLemmas.{can_set, not_refused}
 
 ne_of : (p q : List ℕ) → is_path p q ≡ false → p ≢ q

@@ -1,5 +1,5 @@
 -- The places that a boot writes, by the list of the generations.
-use Rattle.std.specs.Prelude.{◌≡◌, ◌++◌, ℕ, false, List, [], ◌∷◌, Option, None, Some, if◌then◌else◌, option_map, option_to_list}
+use Rattle.std.specs.Prelude.{◌≡◌, ◌++◌, ℕ, false, List, [], ◌∷◌, Option, None, if◌then◌else◌, option_map, option_to_list}
 use Rattle.std.specs.List.{AllByRecursion}
 use Rattle.host_trait.specs.World.{is_in_line, stage}
 use Rattle.generations.specs.declared.gens.Gen.{Gen}

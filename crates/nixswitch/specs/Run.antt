@@ -1,6 +1,7 @@
 -- What a run of the program promises at each moment, and what it puts out.
 use Rattle.std.specs.Prelude.{◌≡◌, ◌≤◌, ◌⊎◌, ℕ, List, [], ◌++◌, Option, None, Some, Result, Ok, Err}
 use Rattle.host_trait.specs.declared.tree.HostFault.TheVariants as host
+use Rattle.host_trait.specs.Change.{IsSame}
 use Rattle.host_trait.specs.Host.{HasCauseOf, HostState, Leads, Passes, Rose, Told}
 use Rattle.host_trait.specs.Sink.{IsPrefixOf, Puts, SinkState}
 use Rattle.host_trait.specs.World.{WorldState, seen}
@@ -64,6 +65,10 @@ IsHostFault (fault.Refused why) = ⊥
 IsHostFault (fault.Host why) = Unit {0}
 IsHostFault fault.Sink = ⊥
 
+-- nothing has changed at any moment, or the world is at its end
+abbrev pub IsUnchangedOrAt : HostState → HostState → (WorldState → WorldState) → Type 0
+IsUnchangedOrAt host after end = Passes host after IsSame ⊎ Leads host after (λ w v. seen v ≡ end w)
+
 -- a run without a fault answers as the world says, or finds no memory
 abbrev pub IsAnswerTo : Option Refusal → Status → Type 0
 IsAnswerTo None status = (status ≡ Done) ⊎ (status ≡ NoMemory)
@@ -77,7 +82,7 @@ pub record RunsCommand (host after : HostState) (sink put : SinkState) (command 
   pub refused_output : (why : Refusal) → status ≡ Refused why → Puts sink put (λ more. more ≡ [])
   pub not_usage : status ≡ Usage → ⊥
   pub sink_not_refused : status ≡ SinkFault → Told host (λ w. refusal w command ≡ None)
-  pub sink_world : status ≡ SinkFault → Leads host after (λ w v. (v ≡ w) ⊎ (seen v ≡ final w command))
+  pub sink_world : status ≡ SinkFault → IsUnchangedOrAt host after (λ w. final w command)
   pub output : Told host (λ w. Puts sink put (IsOutputOf status w command))
   pub completes : ¬ Rose host.faults after.faults → ¬ Rose sink.faults put.faults → Told host (λ w. IsAnswerTo (refusal w command) status)
   pub begins : Told host (λ w. IsCommandMoment command w w)
@@ -106,7 +111,7 @@ pub record Runs (host after : HostState) (sink put : SinkState) (words : List (L
   pub cause : HasCauseOf host after (status ≡ HostFault)
   pub sink_cause : IsSinkCaused sink put (status ≡ SinkFault)
   pub sink_not_refused : status ≡ SinkFault → (command : Command) → command_of words ≡ Some command → Told host (λ w. refusal w command ≡ None)
-  pub sink_world : status ≡ SinkFault → (command : Command) → command_of words ≡ Some command → Leads host after (λ w v. (v ≡ w) ⊎ (seen v ≡ final w command))
+  pub sink_world : status ≡ SinkFault → (command : Command) → command_of words ≡ Some command → IsUnchangedOrAt host after (λ w. final w command)
   pub completes : ¬ Rose host.faults after.faults → ¬ Rose sink.faults put.faults → (command : Command) → command_of words ≡ Some command → Told host (λ w. IsAnswerTo (refusal w command) status)
   pub begins : Told host (λ w. IsMomentOf words w w)
   pub moments : Passes host after (IsMomentOf words)

@@ -8,7 +8,7 @@ ghost use Rattle.nixswitch.specs.declared.command.Command.TheVariants.{Boot};
 ghost use Rattle.nixswitch.specs.declared.refusal.Refusal.{Refusal};
 ghost use Rattle.nixswitch.specs.declared.refusal.RunFault.TheVariants.{Refused, Host, Sink};
 ghost use Rattle.nixswitch.specs.Boot.{final, refusal, report};
-ghost use Rattle.nixswitch.specs.Run.{IsBootOutput, IsCommandMoment, IsSinkCaused};
+ghost use Rattle.nixswitch.specs.Run.{IsBootOutput, IsCommandMoment, IsSinkCaused, IsUnchangedOrAt};
 
 use crate::carrying::carry_out;
 use crate::planning::plan_boot;
@@ -29,7 +29,7 @@ pub fn boot<T: Tree, S: Sink>(
     ensures refused { (why : Refusal) → IsErrOf result (Refused why) → Told (T.host host.old) (λ w. refusal w (Boot system.now) ≡ Some why) }
     ensures refused_output { (why : Refusal) → IsErrOf result (Refused why) → Puts (S.sink out.old) (S.sink out.new) (λ more. more ≡ []) }
     ensures sink_not_refused { IsErrOf result Sink → Told (T.host host.old) (λ w. refusal w (Boot system.now) ≡ None) }
-    ensures sink_world { IsErrOf result Sink → Leads (T.host host.old) (T.host host.new) (λ w v. (v ≡ w) ⊎ (seen v ≡ final w (Boot system.now))) }
+    ensures sink_world { IsErrOf result Sink → IsUnchangedOrAt (T.host host.old) (T.host host.new) (λ w. final w (Boot system.now)) }
     ensures output { Told (T.host host.old) (λ w. Puts (S.sink out.old) (S.sink out.new) (IsBootOutput result (report w (Boot system.now)))) }
     ensures begins { Told (T.host host.old) (λ w. IsCommandMoment (Boot system.now) w w) }
     ensures moments { Passes (T.host host.old) (T.host host.new) (IsCommandMoment (Boot system.now)) }

@@ -11,7 +11,7 @@ ghost use Rattle.nixswitch.specs.declared.refusal.Refusal.{Refusal};
 ghost use Rattle.nixswitch.specs.declared.refusal.RunFault.{RunFault};
 ghost use Rattle.nixswitch.specs.declared.refusal.RunFault.TheVariants.{Refused, Host, Sink};
 ghost use Rattle.nixswitch.specs.Boot.{IsPlanOf};
-ghost use Rattle.nixswitch.specs.Run.{IsBootOutput, IsHostFault, IsSinkCaused};
+ghost use Rattle.nixswitch.specs.Run.{IsBootOutput, IsHostFault, IsSinkCaused, IsUnchangedOrAt};
 
 use crate::planning::Plan;
 use crate::refusal::{Refusal, RunFault};
@@ -70,7 +70,7 @@ pub fn carry_out<T: Tree, S: Sink>(
     ensures ok { OnOk result (Leads (T.host host.old) (T.host host.new) (λ w v. seen v ≡ set_end system.now w)) }
     ensures output { Puts (S.sink out.old) (S.sink out.new) (IsBootOutput result plan.now.report) }
     ensures not_refused { (why : Refusal) → IsErrOf result (Refused why) → ⊥ }
-    ensures sink_world { IsErrOf result Sink → Leads (T.host host.old) (T.host host.new) (λ w v. (v ≡ w) ⊎ (seen v ≡ set_end system.now w)) }
+    ensures sink_world { IsErrOf result Sink → IsUnchangedOrAt (T.host host.old) (T.host host.new) (set_end system.now) }
     ensures moments { Passes (T.host host.old) (T.host host.new) (IsSetMoment system.now) }
     ensures cause { HasCauseOf (T.host host.old) (T.host host.new) (IsErrOf result (Host Device)) }
     ensures sink_cause { IsSinkCaused (S.sink out.old) (S.sink out.new) (IsErrOf result Sink) }

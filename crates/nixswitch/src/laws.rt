@@ -8,11 +8,9 @@ ghost use Rattle.nixswitch.specs.Run.{IsUnderway};
 /// A run that isn't refused is underway in the world where it begins.
 pub fn a_run_begins_underway()
     ensures { (first : WorldState) (command : Command) → refusal first command ≡ None → IsUnderway first command first }
-{
-}
+{}
 
 /// A run that is underway in a world, from which one is underway in another, is underway there.
 pub fn a_run_stays_underway()
     ensures { (first w m : WorldState) (command : Command) → IsUnderway first command w → IsUnderway w command m → IsUnderway first command m }
-{
-}
+{}

@@ -8,7 +8,7 @@ ghost use Rattle.nixswitch.specs.declared.command.Command.TheVariants.{Boot};
 ghost use Rattle.nixswitch.specs.declared.refusal.Refusal.{Refusal};
 ghost use Rattle.nixswitch.specs.Boot.{final, refusal};
 ghost use Rattle.nixswitch.specs.Commands.{command_of};
-ghost use Rattle.nixswitch.specs.Run.{IsAnswerTo, IsMomentOf, IsOutputOf, Runs, RunsCommand};
+ghost use Rattle.nixswitch.specs.Run.{IsAnswerTo, IsMomentOf, IsOutputOf, IsUnchangedOrAt, Runs, RunsCommand};
 
 use crate::booting::boot;
 use crate::command::{Command, read_words};
@@ -84,7 +84,7 @@ pub fn run<T: Tree, S: Sink>(alloc: Global, words: &[Text], host: &mut T, out: &
     ensures same_last { (T.host host.new).last ≡ (T.host host.old).last }
     ensures sink_fault { result ≡ Status.SinkFault → Rose (S.sink out.old).faults (S.sink out.new).faults }
     ensures sink_not_refused { result ≡ Status.SinkFault → (command : Command) → command_of words.now ≡ Some command → Told (T.host host.old) (λ w. refusal w command ≡ None) }
-    ensures sink_world { result ≡ Status.SinkFault → (command : Command) → command_of words.now ≡ Some command → Leads (T.host host.old) (T.host host.new) (λ w v. (v ≡ w) ⊎ (seen v ≡ final w command)) }
+    ensures sink_world { result ≡ Status.SinkFault → (command : Command) → command_of words.now ≡ Some command → IsUnchangedOrAt (T.host host.old) (T.host host.new) (λ w. final w command) }
 
     // Without a fault the answer is the world's.
     ensures completes { ¬ Rose (T.host host.old).faults (T.host host.new).faults → ¬ Rose (S.sink out.old).faults (S.sink out.new).faults → (command : Command) → command_of words.now ≡ Some command → Told (T.host host.old) (λ w. IsAnswerTo (refusal w command) result) }

@@ -1,11 +1,12 @@
-use Rattle.std.proofs.Common.{◌≡◌, ◌⊎◌, ℕ, List, [], Err, IsErrOf, None, refl, sym, ap, subst, ◌∙◌, inl, inr, ⊎_elim, arith}
+use Rattle.std.proofs.Common.{◌≡◌, ◌⊎◌, ℕ, List, [], Err, None, refl, sym, ap, subst, ◌∙◌, inl, inr, ⊎_elim, arith}
 use Rattle.std.proofs.lemmas.Result.{err_from_is_err_and}
 use Rattle.switch_names.specs.SystemName.{NamesSystem}
 use Rattle.switch_names.proofs.StorePaths.{NamesSystem-with_slash}
+use Rattle.host_trait.specs.Change.{IsSame}
 use Rattle.host_trait.specs.Host.{Told, Leads}
 use Rattle.host_trait.specs.Sink.{Puts}
 use Rattle.host_trait.specs.World.{WorldState, seen}
-use Rattle.host_trait.proofs.Moments.{leads_as, leads_then, same_as, same_then, told_after, told_as}
+use Rattle.host_trait.proofs.Moments.{leads_then, same_as, same_then, told_after, told_as}
 use Rattle.nixswitch.specs.declared.command.Command.TheVariants.{Boot}
 use Rattle.nixswitch.specs.declared.refusal.RunFault.TheVariants.{Refused, Sink}
 use Rattle.nixswitch.specs.Boot.{IsPlanOf, final, refusal, report}
@@ -76,8 +77,11 @@ pub returns-clause-sink_not_refused : goal.returns-clause-sink_not_refused
 returns-clause-sink_not_refused g c e = c.in_ok-plan.ensures.not_refused
 
 pub returns-clause-sink_world : goal.returns-clause-sink_world
-returns-clause-sink_world g c e = leads_then c.plan_boot.ensures.moments.tells (c.carry_out.ensures.sink_world e) (λ w v. (v ≡ w) ⊎ (seen v ≡ final w (Boot c.args.system.now)))
-    (λ w v u is is_v same came. ⊎_elim (λ still. inl (still ∙ same)) (λ set. inr (set ∙ ap (λ x. final x (Boot c.args.system.now)) same)) came)
+returns-clause-sink_world g c e = ⊎_elim
+    (λ still. inl (same_then c.plan_boot.ensures.moments still IsSame (λ w is. refl) (λ w m is same. same)))
+    (λ set. inr (leads_then c.plan_boot.ensures.moments.tells set (λ w v. seen v ≡ final w (Boot c.args.system.now))
+    (λ w v u is is_v same came. came ∙ ap (λ x. final x (Boot c.args.system.now)) same)))
+    (c.carry_out.ensures.sink_world e)
 
 pub returns-clause-output : goal.returns-clause-output
 returns-clause-output g c = told_as c.in_ok-plan.ensures.plan (λ w. Puts (g.S.Sink.sink c.args.out.now) (g.S.Sink.sink c.carry_out.new.out) (IsBootOutput c.carry_out.result (report w (Boot c.args.system.now))))

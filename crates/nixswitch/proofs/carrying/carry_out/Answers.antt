@@ -1,14 +1,14 @@
-use Rattle.std.proofs.Common.{◌≡◌, ◌⊎◌, ◌++◌, refl, sym, ap, subst, ◌∙◌, inl, inr}
+use Rattle.std.proofs.Common.{◌≡◌, ◌⊎◌, refl, sym, subst, ◌∙◌, inl, inr}
 use Rattle.std.proofs.lemmas.Result.{err_from_is_err_and}
+use Rattle.host_trait.specs.Change.{IsSame}
 use Rattle.host_trait.specs.World.{seen}
-use Rattle.host_trait.specs.Sink.{Puts, IsPrefixOf}
+use Rattle.host_trait.specs.Sink.{IsPrefixOf}
 use Rattle.host_trait.proofs.Moments.{started, leads_as}
 use Rattle.generations.specs.Places.{set_end}
 use Rattle.generations.specs.Set.{IsSetMoment}
-use Rattle.nixswitch.specs.Boot.{closing}
 use Rattle.nixswitch.specs.Run.{IsBootOutput, IsHostFault}
 use Rattle.nixswitch.specs.declared.refusal.RunFault.TheVariants.{Refused, Sink}
-use Rattle.nixswitch.proofs.OutputLemmas.{closing_prefix, host_output, no_refusal, no_sink, puts_as, puts_then, report_prefix, same_fault, sink_output}
+use Rattle.nixswitch.proofs.OutputLemmas.{host_output, no_refusal, no_sink, puts_as, report_prefix, same_fault, sink_output}
 use Rattle.nixswitch.proofs.carrying.carry_out.Goals as goal
 
 pub returns-in_err-put_text-clause-output : goal.returns-in_err-put_text-clause-output
@@ -19,7 +19,7 @@ returns-in_err-put_text-clause-output g c =
     (report_prefix c.args.plan.now.report more (subst (λ t. IsPrefixOf t more) c.as_str.ensures is)))
 
 pub returns-in_err-put_text-clause-sink_world : goal.returns-in_err-put_text-clause-sink_world
-returns-in_err-put_text-clause-sink_world g c sink = (started (λ w v. (v ≡ w) ⊎ (seen v ≡ set_end c.args.system.now w)) (λ w is. inl refl)).tells
+returns-in_err-put_text-clause-sink_world g c sink = inl (started IsSame (λ w is. refl))
 
 pub returns-in_err-put_text-clause-moments : goal.returns-in_err-put_text-clause-moments
 returns-in_err-put_text-clause-moments g c = started (IsSetMoment c.args.system.now) (λ w is. inl refl)
@@ -50,4 +50,4 @@ returns-in_err-set_profile-clause-sink_cause g c =
     }
 
 pub returns-in_err-put_text-2-clause-sink_world : goal.returns-in_err-put_text-2-clause-sink_world
-returns-in_err-put_text-2-clause-sink_world g c e = leads_as c.in_ok-set_profile.ensures.ok (λ w v. (v ≡ w) ⊎ (seen v ≡ set_end c.args.system.now w)) (λ w v is set. inr set)
+returns-in_err-put_text-2-clause-sink_world g c e = inr c.in_ok-set_profile.ensures.ok

@@ -1,4 +1,4 @@
-use Rattle.std.proofs.Common.{refl, rules, sym, ◌∙◌, arith}
+use Rattle.std.proofs.Common.{refl, rules, sym, ◌∙◌}
 use Rattle.host_trait.specs.Change.{IsSame}
 use Rattle.host_trait.proofs.Moments.{same_then, started, told_before}
 use Rattle.tree_put.specs.Put.{is_blocked}

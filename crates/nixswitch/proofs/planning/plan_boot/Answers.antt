@@ -1,12 +1,10 @@
-use Rattle.std.proofs.Common.{◌≡◌, None, Some, true, refl, sym, ◌∙◌}
+use Rattle.std.proofs.Common.{◌≡◌, None, Some, refl, sym, ◌∙◌}
 use Rattle.host_trait.specs.Change.{IsSame}
 use Rattle.host_trait.specs.Host.{Told}
-use Rattle.host_trait.specs.World.{WorldState}
-use Rattle.host_trait.proofs.Moments.{same_as, same_then, told_as, told_before}
+use Rattle.host_trait.proofs.Moments.{same_then, told_as, told_before}
 use Rattle.nixswitch.specs.Boot.{IsPlanOf, refusal}
 use Rattle.nixswitch.specs.declared.command.Command.TheVariants.{Boot}
-use Rattle.nixswitch.specs.declared.refusal.Refusal.TheVariants.{NoSystem}
-use Rattle.nixswitch.proofs.PlanLemmas.{has_system, no_system}
+use Rattle.nixswitch.proofs.PlanLemmas.{has_system}
 use Rattle.nixswitch.proofs.ResultLemmas.{if_ok_as, on_ok_from}
 use Rattle.nixswitch.proofs.planning.plan_boot.Goals as goal
 

@@ -7,7 +7,7 @@ use Rattle.generations.specs.Gens.{IsGensOf}
 use Rattle.nixswitch.specs.Boot.{IsPlanOf}
 use Rattle.nixswitch.proofs.ResultLemmas.{if_ok_as}
 use Rattle.nixswitch.proofs.planning.plan_profile.Goals as goal
-use Rattle.std.proofs.Common.{subst, sym, ◌≡◌}
+use Rattle.std.proofs.Common.{subst, sym}
 
 pub plan_set-requires : goal.plan_set-requires
 plan_set-requires g c = told_after c.all.ensures.moments c.all.ensures.moments.tells (λ w. IsGensOf w.leaves c.in_ok-gens.gens)

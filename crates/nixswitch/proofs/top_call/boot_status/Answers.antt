@@ -1,9 +1,7 @@
-use Rattle.std.proofs.Common.{◌≡◌, refl, sym, ap, subst, ◌∙◌}
-use Rattle.host_trait.specs.Host.{HasCauseOf}
-use Rattle.host_trait.specs.World.{WorldState}
+use Rattle.std.proofs.Common.{sym, subst}
 use Rattle.nixswitch.specs.declared.command.Command.TheVariants.{Boot}
 use Rattle.nixswitch.specs.declared.status.Status.{Status}
-use Rattle.nixswitch.specs.Run.{IsAnswerTo, IsOutputOf, RunsCommand, status_of}
+use Rattle.nixswitch.specs.Run.{IsOutputOf, RunsCommand, status_of}
 use Rattle.nixswitch.specs.Boot.{refusal}
 use Rattle.nixswitch.proofs.OutputLemmas.{puts_as}
 use Rattle.nixswitch.proofs.StatusLemmas.{answer_of, done_of, host_of, no_usage, on_ok_told, output_of, refused_of, sink_of}
