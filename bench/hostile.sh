@@ -3,15 +3,24 @@
 #
 # bench/hostile.sh [PROGRAM]
 #
+# Needs a shell, the coreutils and findutils. The rows on permissions need a user other than root.
+# Where strace is there and may trace, it also looks at what is opened.
+#
 # For each root it prints whether the status is the wanted one, whether the run ended within ten
-# seconds, and whether all that lies outside the root stayed as it was. It ends with 1 where one
-# row differs. It is no part of the gate.
+# seconds, and whether all that lies outside the root stayed as it was and unopened. It ends with 1
+# where one row differs. It is no part of the gate.
 set -u
 here=$(cd "$(dirname "$0")/.." && pwd)
 program=${1:-$here/crates/nixswitch/out/nixswitch}
-work=$(mktemp -d)
+work=$(cd "$(mktemp -d)" && pwd -P)
 trap 'chmod -R u+rwX "$work"; rm -rf "$work"' EXIT
 failed=0
+trace=
+if strace -o "$work/opened" true 2>"$work/stderr"; then
+    trace="strace -f -y -e trace=open,openat,openat2,creat -o $work/opened"
+else
+    echo "strace isn't there or may not trace: what is opened isn't looked at"
+fi
 
 # A root with one system, and a folder beside it that no run may touch.
 fresh() {
@@ -31,14 +40,17 @@ outside() {
 # run NAME STATUS [ROOT]: boots the system in the root and judges the row.
 run() {
     before=$(outside)
-    timeout 10 "$program" "${3-$work/root}" boot nix/store/a-sys >"$work/stdout" 2>"$work/stderr"
+    : >"$work/opened"
+    # shellcheck disable=SC2086
+    timeout 10 $trace "$program" "${3-$work/root}" boot nix/store/a-sys >"$work/stdout" 2>"$work/stderr"
     status=$?
     verdict=ok
     [ "$status" = "$2" ] || verdict="status $status, not $2"
     [ "$status" != 124 ] || verdict="did not end"
     [ "$before" = "$(outside)" ] || verdict="changed what lies outside"
+    ! grep -qF "<$work/outside" "$work/opened" || verdict="opened what lies outside"
     [ "$verdict" = ok ] || failed=1
-    printf '%-48s %s\n' "$1" "$verdict"
+    printf '%-52s %s\n' "$1" "$verdict"
 }
 
 tree=$work/root/tree
@@ -93,6 +105,8 @@ fresh && echo junk >"$tree/nix/store/a-sys/nixos-version"
 run "a text that is no node" 3
 fresh && : >"$tree/nix/store/a-sys/nixos-version"
 run "an empty node" 3
+fresh && printf 'L /nix/store/../../../../outside/file\n' >"$tree/nix/store/a-sys/nixos-version"
+run "a link of the tree that leads out of it" 2
 fresh && truncate -s 20G "$tree/nix/store/a-sys/nixos-version"
 run "a node of twenty gigabytes" 3
 fresh && mkdir -p "$profiles" && touch "$profiles/$(printf 'a\377')"
@@ -102,6 +116,10 @@ run "a name with a line feed" 3
 
 fresh && mkdir -p "$profiles/system/a/b" "$profiles/system/c"
 run "empty folders where the profile is to stand" 0
+fresh && mkdir -p "$profiles/system/$(printf 'a/%.0s' $(seq 1000))"
+run "folders a thousand deep where the profile is to stand" 0
+fresh && mkdir -p "$profiles/system/$(printf 'aaaa/%.0s' $(seq 2000))"
+run "folders deeper than a path may be" 3
 fresh && mkdir -p "$profiles/system/a" && printf 'L x\n' >"$profiles/system/a/leaf"
 run "a folder with a leaf where the profile is to stand" 2
 fresh && printf 'L x\n' >"$tree/nix/var"

@@ -1,0 +1,201 @@
+#!/bin/bash
+# Kills the program at each call of a boot that changes a file, and lets the next run end it.
+#
+# bench/kill.sh [PROGRAM]
+#
+# Needs bash, awk, the coreutils, findutils, and strace with leave to trace.
+#
+# An uncut boot is traced first, from two roots: one without a profile, and one with three
+# generations whose profile is the second. Then each of its calls that change a file or write to
+# standard output is a place for the kill, twice: at its entry, where the call has no effect, and
+# after it. As strace kills at an entry only, the kill after a call is at the entry of the one that
+# follows. strace counts each kind of call by itself, so a place is named by kind and number.
+#
+# A row passes where the run was killed at its place, the profile then named what it named before
+# or the new system, the next run ended with 0 and the uncut boot's output, and each file and
+# folder but the stage is as the uncut boot leaves it. Each place is tried with one kill, and with a
+# second one at the same place of the run after it, where that run comes to it.
+# It ends with 1 where a row fails. It is no part of the gate.
+set -u
+export LC_ALL=C
+here=$(cd "$(dirname "$0")/.." && pwd)
+program=${1:-$here/crates/nixswitch/out/nixswitch}
+if [ ! -x "$program" ]; then
+    echo "no program at $program" >&2
+    exit 1
+fi
+work=$(cd "$(mktemp -d)" && pwd -P)
+trap 'rm -rf "$work"' EXIT
+if ! strace -o "$work/calls" true 2>"$work/stderr"; then
+    echo "strace isn't there or may not trace" >&2
+    exit 1
+fi
+root=$work/root
+tree=$root/tree
+profiles=$tree/nix/var/nix/profiles
+passed=0
+failed=0
+
+# A root with the system to boot and no profile.
+make_empty() {
+    rm -rf "$root"
+    mkdir -p "$tree/nix/store/a-sys"
+    printf 'F 0644 0 0\n24.05\n' >"$tree/nix/store/a-sys/nixos-version"
+}
+
+# A root with three generations, of which the profile names the second.
+make_three() {
+    local number
+    make_empty
+    mkdir -p "$profiles"
+    for number in 1 2 3; do
+        printf 'L /nix/store/s-%d\n' $number >"$profiles/system-$number-link"
+    done
+    printf 'L system-2-link\n' >"$profiles/system"
+}
+
+# Boots the system, by way of the words given.
+boot() {
+    "$@" "$program" "$root" boot nix/store/a-sys >"$work/stdout" 2>"$work/stderr"
+}
+
+# Boots the system up to the call of this kind and number, and says whether it was killed there.
+killed_boot() {
+    { boot strace -f -o "$work/calls" --inject="$1:signal=KILL:when=$2"; } 2>"$work/shell"
+    [ $? = 137 ] && [ "$(grep -c "^[0-9]* *$1(" "$work/calls")" = "$2" ]
+}
+
+# The number of calls in the last trace.
+call_count() {
+    grep -c '^[0-9]* *[a-z_0-9]*(' "$work/calls"
+}
+
+# Each folder and each file with its text, without the stage.
+files() {
+    (cd "$root" &&
+        find . -path ./tree/nix/var/nixswitch.stage -prune -o -printf '%y %p %l\n' | sort &&
+        find . -path ./tree/nix/var/nixswitch.stage -prune -o -type f -print0 | sort -z | xargs -0 tail -v -c +1)
+}
+
+# The store path that the profile names, or `none`, or `broken` where it names no generation.
+profile_system() {
+    local link
+    if [ ! -e "$profiles/system" ]; then
+        echo none
+        return
+    fi
+    link=$(sed -n 's/^L \(system-[1-9][0-9]*-link\)$/\1/p' "$profiles/system")
+    if [ -n "$link" ] && [ -f "$profiles/$link" ]; then
+        sed 's/^L //' "$profiles/$link"
+    else
+        echo broken
+    fi
+}
+
+# Lists the places of the traced boot, a line each: the kind and the number of the call at whose
+# entry the kill comes, its number among all calls, and what the place is.
+places() {
+    awk -v root="$root/" '
+        # What a call is on, as a word.
+        function subject(call) {
+            if (call ~ /^write\(1</)
+                return "standard output"
+            gsub(root, "", call)
+            gsub(/AT_FDCWD<[^>]*>/, "", call)
+            sub(/^[^"<]*["<]/, "", call)
+            if (match(call, /", "/))
+                call = substr(call, 1, RSTART - 1) " to " substr(call, RSTART + RLENGTH)
+            sub(/[">].*/, "", call)
+            return call
+        }
+        function is_place(kind, call) {
+            if (call ~ /^p?writev?[0-9]*\([12]</)
+                return call ~ /^write\(1</
+            if (!index(call, root))
+                return 0
+            if (kind ~ /^open/)
+                return call ~ /O_(WRONLY|RDWR|CREAT|TRUNC)/
+            return kind ~ /^(p?write|creat|f?truncate|fallocate|mk|rename|link|symlink|unlink|rmdir|[fl]?ch(mod|own)|u?time|futime|[fl]?setxattr)/
+        }
+        { sub(/^[0-9]+ +/, "") }
+        !/^[a-z_0-9]+\(/ { next }
+        {
+            kind = $0
+            sub(/\(.*/, "", kind)
+            number[kind]++
+            calls++
+            if (place != "")
+                print kind, number[kind], calls, "after " place
+            place = ""
+            if (is_place(kind, $0)) {
+                place = kind " " subject($0)
+                print kind, number[kind], calls, "before " place
+            }
+        }
+    ' "$work/calls"
+}
+
+# note NAME VERDICT: counts a row and prints it.
+note() {
+    if [ "$2" = ok ]; then
+        passed=$((passed + 1))
+    else
+        failed=$((failed + 1))
+    fi
+    printf '%-101s %s\n' "$1" "$2"
+}
+
+# Sets `verdict` where the profile names neither what it named before nor the new system.
+judge_moment() {
+    local now
+    now=$(profile_system)
+    [ "$now" = "$was" ] || [ "$now" = /nix/store/a-sys ] || verdict="the profile names $now"
+}
+
+# row NAME KIND NUMBER CALLS TRIES: tries to kill that many boots at a place, ends the next one, and
+# judges. The first must be killed, at the call with this number among all.
+row() {
+    local verdict=ok kills=0 try status
+    "$make"
+    for ((try = 1; try <= $5; try++)); do
+        if killed_boot "$2" "$3"; then
+            kills=$((kills + 1))
+        fi
+        if [ $try = 1 ] && { [ $kills = 0 ] || [ "$(call_count)" != "$4" ]; }; then
+            verdict='was not killed there'
+        fi
+        judge_moment
+    done
+    boot
+    status=$?
+    cmp -s "$work/stdout" "$work/output" || verdict='the next run has another output'
+    [ "$(files)" = "$final" ] || verdict='the next run leaves other files'
+    [ $status = 0 ] || verdict="the next run ends with $status: $(cat "$work/stderr")"
+    note "$1, kills: $kills of $5" "$verdict"
+}
+
+# root_rows NAME MAKE: the rows of one root.
+root_rows() {
+    local kind number calls place
+    make=$2
+    "$make"
+    was=$(profile_system)
+    if ! boot strace -f -y -o "$work/calls" || [ "$(profile_system)" != /nix/store/a-sys ]; then
+        note "$1: the uncut boot" "went wrong: $(cat "$work/stderr")"
+        return
+    fi
+    final=$(files)
+    cp "$work/stdout" "$work/output"
+    places >"$work/places"
+    echo "$1: the profile names $was, $(wc -l <"$work/places") places"
+    while read -r kind number calls place; do
+        row "$place" "$kind" "$number" "$calls" 1
+        row "$place" "$kind" "$number" "$calls" 2
+    done <"$work/places"
+}
+
+echo "strace kills at a call's entry only: a kill after a call is at the entry of the next one"
+root_rows 'no profile' make_empty
+root_rows 'three generations, the profile at the second' make_three
+echo "$passed passed, $failed failed"
+[ $failed = 0 ]
