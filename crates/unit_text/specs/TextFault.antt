@@ -1,0 +1,34 @@
+-- What keeps bytes from being a unit text, and what a reader of one answers.
+use Rattle.std.specs.Prelude.{◌≡◌, ◌⊎◌, ℕ, ◌≤◌, Bool, true, false, nat_le, List, [], ◌∷◌, Option, None, Some, option_map, IfErr, Result, if◌then◌else◌}
+use Rattle.std.specs.Option.{option_or}
+use Rattle.unit_text.specs.declared.text_fault.TextFault.{TextFault}
+use Rattle.unit_text.specs.declared.text_fault.TextFault.TheVariants.{Utf8, Memory}
+use Rattle.unit_text.specs.Lines.{Joined, lines, joined, first_bad}
+use Rattle.unit_text.specs.Statement.{trimmed, capped, statement_fault, section_after}
+
+abbrev pub utf8_fault : ℕ → TextFault
+utf8_fault number = Utf8 (capped number)
+
+-- a line that isn't UTF-8 stands at this line or before it
+abbrev pub is_reached : Option ℕ → ℕ → Bool
+is_reached None last = false
+is_reached (Some bad) last = nat_le bad last
+
+-- why a joined line is refused: one that spans a line that isn't UTF-8 has no other fault
+abbrev pub joined_fault : Option (List ℕ) → Option ℕ → Joined → Option TextFault
+joined_fault section bad line =
+    if is_reached bad line.last then option_map utf8_fault bad else statement_fault section line.first (trimmed line.text)
+
+-- the first fault of joined lines that stand in this section
+abbrev pub first_fault : Option (List ℕ) → Option ℕ → List Joined → Option TextFault
+first_fault section bad [] = option_map utf8_fault bad
+first_fault section bad (line ∷ rest) =
+    option_or (joined_fault section bad line) (first_fault (section_after section (trimmed line.text)) bad rest)
+
+-- the fault with the least line number of some bytes
+abbrev pub text_fault : List ℕ → Option TextFault
+text_fault bytes = first_fault None (first_bad 1 (lines bytes)) (joined 1 (lines bytes))
+
+-- where bytes are refused, it is by this fault, unless memory ran out
+abbrev pub IsRefusedBy : {T : Type 0} → Result T TextFault → Option TextFault → Type 0
+IsRefusedBy result fault = IfErr result (λ given. (given ≡ Memory) ⊎ (fault ≡ Some given))
