@@ -1,5 +1,5 @@
 -- The keys of a unit text with their values, so that they are found without going through all assignments.
-use Rattle.std.specs.Prelude.{◌≡◌, ℕ, ◌≤◌, ◌×◌, List, length, map, take, drop}
+use Rattle.std.specs.Prelude.{◌≡◌, ℕ, ◌≤◌, List, length, map, take, drop}
 use Rattle.std.specs.List.{AllByRecursion}
 use Rattle.std.specs.declared.cmp.Ordering.TheVariants.{Less}
 use Rattle.unit_text.specs.declared.assignment.Assignment.{Assignment}

@@ -1,17 +1,13 @@
 -- Lines and joined lines of a unit file: systemd.syntax(7), "Introduction".
 use Rattle.std.specs.Prelude.{◌≡◌, ℕ, ◌+◌, ◌-◌, ◌||◌, ◌==◌, Bool, true, false, MatchOption, List, [], ◌∷◌, ◌++◌, length, take, slice_index, Option, None, Some, if◌then◌else◌}
 use Rattle.std.specs.Borrow.{Bor}
+use Rattle.std.specs.List.{onto_first}
 use Rattle.std.specs.Str.{is_utf8}
 
 -- the lines of some bytes: a line feed ends a line, and one at the end begins no further line
 abbrev pub lines : List ℕ → List (List ℕ)
 lines [] = []
-lines (byte ∷ bytes) = if byte == 10 then [] ∷ lines bytes else onto_first_line byte (lines bytes)
-
--- the lines with a byte in front of the first
-abbrev pub onto_first_line : ℕ → List (List ℕ) → List (List ℕ)
-onto_first_line byte [] = (byte ∷ []) ∷ []
-onto_first_line byte (line ∷ rest) = (byte ∷ line) ∷ rest
+lines (byte ∷ bytes) = if byte == 10 then [] ∷ lines bytes else onto_first byte (lines bytes)
 
 -- a space or a tab
 abbrev pub is_blank : ℕ → Bool

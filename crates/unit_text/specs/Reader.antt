@@ -1,5 +1,5 @@
 -- What is still to come of a file that was read up to a line.
-use Rattle.std.specs.Prelude.{◌≡◌, ℕ, ◌+◌, ◌<◌, Bool, false, List, [], ◌∷◌, ◌++◌, Option, None, Some, IfSome}
+use Rattle.std.specs.Prelude.{◌≡◌, ℕ, ◌+◌, ◌<◌, Bool, false, List, [], ◌∷◌, ◌++◌, Option, None, Some, IfSome, unwrap_or}
 use Rattle.std.specs.Option.{option_or}
 use Rattle.std.specs.String.{string_bytes}
 use Rattle.unit_text.specs.declared.assignment.Assignment.{Assignment}
@@ -36,17 +36,27 @@ pub record Takes (old new : Body) (number : ℕ) (text : List ℕ) : Type 0 wher
   pub section : new.section ≡ section_after old.section text
   pub assignments : new.assignments.items ≡ old.assignments.items ++ assigned old.section text
 
+-- the joined line that ends with this line
+abbrev pub ended : Option Part → ℕ → List ℕ → Joined
+ended None number line = record { first = number; last = number; text = line }
+ended (Some part) number line = record { first = part.first; last = number; text = string_bytes part.text ++ line }
+
 -- a joined line was taken
 pub record Completes (old new : Reader) (line : Joined) : Type 0 where
   pub unreached : is_reached old.bad line.last ≡ false
   pub body : Takes old.body new.body line.first (trimmed line.text)
   pub bad : new.bad ≡ old.bad
-  pub part : new.part ≡ old.part
 
 -- a part of a joined line was kept
-pub record Holds (old new : Reader) (part : Joined) : Type 0 where
-  pub part : (lines : List Joined) → with_part new.part lines ≡ with_part old.part (continued part lines)
+pub record Holds (old new : Reader) (kept : Joined) : Type 0 where
+  pub going_on : (lines : List Joined) → with_part new.part lines ≡ with_part old.part (continued kept lines)
   pub bad : new.bad ≡ old.bad
+  pub body : new.body ≡ old.body
+
+-- a line that isn't UTF-8 was noted
+pub record Marks (old new : Reader) (number : ℕ) : Type 0 where
+  pub bad : new.bad ≡ Some (unwrap_or old.bad number)
+  pub part : new.part ≡ old.part
   pub body : new.body ≡ old.body
 
 -- one more line was read, and nothing was lost

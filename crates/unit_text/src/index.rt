@@ -1,5 +1,5 @@
 //! The keys of a unit text with their values.
-ghost use Rattle.std.specs.Prelude.{◌≡◌, ◌<◌, ◌++◌, ◌∷◌, [], Some, List, length, OnOk, OnErr, IfOk, IfErr, slice_get};
+ghost use Rattle.std.specs.Prelude.{◌≡◌, ◌<◌, ◌≤◌, ◌++◌, ◌∷◌, [], Some, List, length, OnOk, OnErr, IfOk, IfErr, slice_get, insert, remove, vec_len};
 ghost use Rattle.std.specs.List.Sorted.{IsStrictlySortedBy};
 ghost use Rattle.unit_text.specs.declared.assignment.Assignment.{Assignment};
 ghost use Rattle.unit_text.specs.UnitKey.{key_cmp, key_of};
@@ -55,7 +55,12 @@ impl Index {
     }
 
     /// Forgets a key.
-    fn remove(&mut self, at: usize) {
+    fn remove(&mut self, at: usize)
+        requires key { at < length self.old.keys }
+        requires values { at < vec_len self.old.values }
+        ensures keys { self.new.keys ≡ remove self.old.keys at }
+        ensures values { self.new.values.items ≡ remove self.old.values.items at }
+    {
         self.keys.remove(at);
         self.values.remove(at);
     }
@@ -67,7 +72,14 @@ impl Index {
         at: usize,
         key: UnitKey,
         value: Text,
-    ) -> Result<(), AllocError> {
+    ) -> Result<(), AllocError>
+        requires key { at ≤ length self.old.keys }
+        requires values { at ≤ vec_len self.old.values }
+        ensures keys { OnOk result (self.new.keys ≡ insert self.old.keys at key) }
+        ensures values { OnOk result (self.new.values.items ≡ insert self.old.values.items at (value ∷ [])) }
+        ensures same_keys { OnErr result (self.new.keys ≡ self.old.keys) }
+        ensures same_values { OnErr result (self.new.values.items ≡ self.old.values.items) }
+    {
         let mut values = Listed::new(alloc);
         values.push(value)?;
         self.values.insert(at, values)?;

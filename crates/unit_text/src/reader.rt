@@ -1,9 +1,9 @@
 //! Reads a unit file line by line.
-ghost use Rattle.std.specs.Prelude.{◌≡◌, ◌<◌, ◌∷◌, [], ◌+◌, ℕ, List, OnOk, IfOk, IfSome, true, None};
-ghost use Rattle.unit_text.specs.Lines.{is_comment, with_space};
-ghost use Rattle.unit_text.specs.Statement.{trimmed, statement_fault};
-ghost use Rattle.unit_text.specs.TextFault.{IsRefusedBy, joined_fault};
-ghost use Rattle.unit_text.specs.Reader.{fault_left, assignments_left, Takes, Completes, Holds, ReadsOn};
+ghost use Rattle.std.specs.Prelude.{◌≡◌, ◌<◌, ◌∷◌, ◌++◌, [], ℕ, List, OnOk, IfOk, IfErr, IfSome, unwrap_or, true, false, None};
+ghost use Rattle.unit_text.specs.Lines.{is_comment};
+ghost use Rattle.unit_text.specs.Statement.{begins_section, is_empty, statement_fault};
+ghost use Rattle.unit_text.specs.TextFault.{IsRefusedBy, joined_fault, utf8_fault};
+ghost use Rattle.unit_text.specs.Reader.{fault_left, assignments_left, ended, Takes, Completes, Holds, Marks, ReadsOn};
 
 use crate::assignment::Assignment;
 use crate::lines::{before_backslash, is_comment};
@@ -22,7 +22,12 @@ pub struct Body {
 }
 
 impl Body {
-    fn begin_section(&mut self, alloc: Global, number: u64, text: &str) -> Result<(), TextFault> {
+    fn begin_section(&mut self, alloc: Global, number: u64, text: &str) -> Result<(), TextFault>
+        requires some { is_empty text.now ≡ false }
+        requires section { begins_section text.now ≡ true }
+        ensures ok { OnOk result (Takes self.old self.new number text.now) }
+        ensures fault { IsRefusedBy result (statement_fault self.old.section number text.now) }
+    {
         let Some(name) = section_name(text) else {
             return Err(TextFault::Section(capped(number)));
         };
@@ -30,7 +35,12 @@ impl Body {
         Ok(())
     }
 
-    fn assign(&mut self, alloc: Global, number: u64, text: &str) -> Result<(), TextFault> {
+    fn assign(&mut self, alloc: Global, number: u64, text: &str) -> Result<(), TextFault>
+        requires some { is_empty text.now ≡ false }
+        requires no_section { begins_section text.now ≡ false }
+        ensures ok { OnOk result (Takes self.old self.new number text.now) }
+        ensures fault { IsRefusedBy result (statement_fault self.old.section number text.now) }
+    {
         let Some((key, value)) = key_and_value(text) else {
             return Err(TextFault::Key(capped(number)));
         };
@@ -113,7 +123,10 @@ impl Reader {
     }
 
     /// Keeps a line that goes on, of which this stands before the backslash.
-    fn hold(&mut self, alloc: Global, number: u64, before: &str) -> Result<(), TextFault> {
+    fn hold(&mut self, alloc: Global, number: u64, before: &str) -> Result<(), TextFault>
+        ensures ok { OnOk result (Holds self.old self.new (record { first = number; last = number; text = before.now ++ 32 ∷ [] })) }
+        ensures fault { IsRefusedBy result None }
+    {
         let mut part = match self.part.take() {
             Some(part) => part,
             None => Part {
@@ -130,7 +143,11 @@ impl Reader {
     }
 
     /// Takes the last line of a joined line.
-    fn end(&mut self, alloc: Global, number: u64, line: &str) -> Result<(), TextFault> {
+    fn end(&mut self, alloc: Global, number: u64, line: &str) -> Result<(), TextFault>
+        ensures ok { OnOk result (Completes self.old self.new (ended self.old.part number line.now)) }
+        ensures part { OnOk result (self.new.part ≡ None) }
+        ensures fault { IsRefusedBy result (joined_fault self.old.body.section self.old.bad (ended self.old.part number line.now)) }
+    {
         match self.part.take() {
             None => self.complete(alloc, number, number, line),
             Some(mut part) => {
@@ -141,7 +158,11 @@ impl Reader {
     }
 
     /// Takes a line that isn't UTF-8.
-    fn take_bad(&mut self, number: u64, line: &[u8]) -> Result<(), TextFault> {
+    fn take_bad(&mut self, number: u64, line: &[u8]) -> Result<(), TextFault>
+        ensures ok { OnOk result (Marks self.old self.new number) }
+        ensures comment { OnOk result (is_comment line.now ≡ true) }
+        ensures fault { IfErr result (λ fault. (is_comment line.now ≡ false) × (fault ≡ utf8_fault (unwrap_or self.old.bad number))) }
+    {
         let bad = self.bad.unwrap_or(number);
         self.bad = Some(bad);
         if is_comment(line) {

@@ -1,7 +1,8 @@
 //! What a joined line says.
-ghost use Rattle.std.specs.Prelude.{◌≡◌, ◌<◌, length, min, MatchOption, option_copied, IsTrue};
-ghost use Rattle.std.specs.List.{list_any, prefix_len, suffix_len, before_first, after_first};
-ghost use Rattle.unit_text.specs.Statement.{is_trimmed, trimmed_start, trimmed_end, trimmed, begins_section, is_bracket, section_name, is_equals, is_assignment, key_part, value_part, capped};
+ghost use Rattle.std.specs.Prelude.{◌≡◌, true, false, MatchOption};
+ghost use Rattle.std.specs.Option.{option_copied};
+ghost use Rattle.std.specs.List.{list_any, prefix_len, suffix_len};
+ghost use Rattle.unit_text.specs.Statement.{is_trimmed, trimmed_start, trimmed_end, trimmed, begins_section, is_bracket, section_name, is_assignment, key_part, value_part, capped};
 
 /// Whether a byte is a space, a tab or a carriage return.
 fn is_trimmed(byte: u8) -> bool
