@@ -1,5 +1,5 @@
 -- What a joined line says: systemd.syntax(7), "Introduction".
-use Rattle.std.specs.Prelude.{ℕ, ◌+◌, ◌-◌, ◌&&◌, ◌||◌, ◌==◌, Bool, true, false, not, List, [], ◌∷◌, ◌++◌, length, take, drop, min, slice_index, slice_range, Option, None, Some, is_some, is_none, if◌then◌else◌}
+use Rattle.std.specs.Prelude.{ℕ, ◌+◌, ◌-◌, ◌&&◌, ◌||◌, ◌==◌, Bool, true, false, not, List, [], ◌∷◌, ◌++◌, length, take, drop, min, slice_index, Option, None, Some, is_some, is_none, if◌then◌else◌}
 use Rattle.std.specs.List.{list_any, prefix_len, suffix_len, before_first, after_first}
 use Rattle.std.specs.Option.{option_or}
 use Rattle.unit_text.specs.declared.assignment.Assignment.{Assignment}
@@ -30,11 +30,21 @@ begins_section text = slice_index text 0 == 91
 abbrev pub is_bracket : ℕ → Bool
 is_bracket byte = byte == 91 || byte == 93
 
--- a section ends with `]`, and its name, between the two, isn't empty and has no bracket
+abbrev pub ends_section : List ℕ → Bool
+ends_section text = slice_index text (length text - 1) == 93
+
+-- what stands between the first and the last byte
+abbrev pub between_ends : List ℕ → List ℕ
+between_ends text = take (length text - 2) (drop 1 text)
+
+-- a name of a section isn't empty and has no bracket
+abbrev pub is_section_name : List ℕ → Bool
+is_section_name name = not (is_empty name) && not (list_any is_bracket name)
+
+-- the name of a section, which begins with `[` and ends with `]`
 abbrev pub section_name : List ℕ → Option (List ℕ)
 section_name text =
-    let name = slice_range text 1 (length text - 1) in
-    if begins_section text && slice_index text (length text - 1) == 93 && not (is_empty name) && not (list_any is_bracket name) then Some name else None
+    if begins_section text && ends_section text && is_section_name (between_ends text) then Some (between_ends text) else None
 
 abbrev pub is_equals : ℕ → Bool
 is_equals byte = byte == 61

@@ -111,6 +111,7 @@ impl Reader {
         last: u64,
         text: &str,
     ) -> Result<(), TextFault>
+        ensures part { self.new.part ≡ self.old.part }
         ensures ok { OnOk result (Completes self.old self.new (record { first = first; last = last; text = text.now })) }
         ensures fault { IsRefusedBy result (joined_fault self.old.body.section self.old.bad (record { first = first; last = last; text = text.now })) }
     {
@@ -148,13 +149,11 @@ impl Reader {
         ensures part { OnOk result (self.new.part ≡ None) }
         ensures fault { IsRefusedBy result (joined_fault self.old.body.section self.old.bad (ended self.old.part number line.now)) }
     {
-        match self.part.take() {
-            None => self.complete(alloc, number, number, line),
-            Some(mut part) => {
-                part.text.push_str(line)?;
-                self.complete(alloc, part.first, number, part.text.as_str())
-            }
+        if let Some(mut part) = self.part.take() {
+            part.text.push_str(line)?;
+            return self.complete(alloc, part.first, number, part.text.as_str());
         }
+        self.complete(alloc, number, number, line)
     }
 
     /// Takes a line that isn't UTF-8.
@@ -199,9 +198,10 @@ impl Reader {
         if let Some(part) = self.part.take() {
             self.complete(alloc, part.first, part.last, part.text.as_str())?;
         }
-        if let Some(bad) = self.bad {
-            return Err(TextFault::Utf8(capped(bad)));
+        let Reader { bad, part: _, body } = self;
+        match bad {
+            Some(bad) => Err(TextFault::Utf8(capped(bad))),
+            None => Ok(body.assignments),
         }
-        Ok(self.body.assignments)
     }
 }

@@ -1,8 +1,8 @@
 //! What a joined line says.
-ghost use Rattle.std.specs.Prelude.{◌≡◌, true, false, MatchOption};
+ghost use Rattle.std.specs.Prelude.{◌≡◌, ◌&&◌, true, false, MatchOption};
 ghost use Rattle.std.specs.Option.{option_copied};
 ghost use Rattle.std.specs.List.{list_any, prefix_len, suffix_len};
-ghost use Rattle.unit_text.specs.Statement.{is_trimmed, trimmed_start, trimmed_end, trimmed, begins_section, is_bracket, section_name, is_assignment, key_part, value_part, capped};
+ghost use Rattle.unit_text.specs.Statement.{is_trimmed, trimmed_start, trimmed_end, trimmed, begins_section, ends_section, between_ends, is_bracket, section_name, is_assignment, key_part, value_part, capped};
 
 /// Whether a byte is a space, a tab or a carriage return.
 fn is_trimmed(byte: u8) -> bool
@@ -58,15 +58,23 @@ fn has_bracket(name: &[u8]) -> bool
     name.iter().any(|byte| *byte == b'[' || *byte == b']')
 }
 
-/// The name between the brackets of a section.
+/// What stands between a bracket at either end.
+fn between_brackets(text: &str) -> Option<&str>
+    ensures { MatchOption result ((begins_section text.now && ends_section text.now) ≡ false) (λ name. ((begins_section text.now && ends_section text.now) ≡ true) × (name.now ≡ between_ends text.now)) }
+{
+    match text.strip_prefix('[') {
+        None => None,
+        Some(rest) => rest.strip_suffix(']'),
+    }
+}
+
+/// The name of a section.
 pub fn section_name(text: &str) -> Option<&str>
     ensures { option_copied result ≡ section_name text.now }
 {
-    let name = text.strip_prefix('[')?.strip_suffix(']')?;
-    if name.is_empty() || has_bracket(name.as_bytes()) {
-        None
-    } else {
-        Some(name)
+    match between_brackets(text) {
+        Some(name) if !name.is_empty() && !has_bracket(name.as_bytes()) => Some(name),
+        _ => None,
     }
 }
 
@@ -75,12 +83,12 @@ pub fn key_and_value(text: &str) -> Option<(&str, &str)>
     requires { begins_section text.now ≡ false }
     ensures { MatchOption result (is_assignment text.now ≡ false) (λ parts. (is_assignment text.now ≡ true) × (parts.0.now ≡ key_part text.now) × (parts.1.now ≡ value_part text.now)) }
 {
-    let (key, value) = text.split_once('=')?;
-    let key = trimmed(key);
-    if key.is_empty() {
-        None
-    } else {
-        Some((key, trimmed(value)))
+    match text.split_once('=') {
+        None => None,
+        Some((key, value)) => {
+            let key = trimmed(key);
+            if key.is_empty() { None } else { Some((key, trimmed(value))) }
+        }
     }
 }
 
