@@ -2,11 +2,12 @@
 ghost use Rattle.std.specs.Prelude.{◌≡◌, ◌<◌, ◌∷◌, ◌++◌, [], ℕ, List, OnOk, IfOk, IfErr, IfSome, unwrap_or, true, false, None};
 ghost use Rattle.unit_text.specs.Lines.{is_comment};
 ghost use Rattle.unit_text.specs.Statement.{begins_section, is_empty, statement_fault};
-ghost use Rattle.unit_text.specs.TextFault.{IsRefusedBy, joined_fault, utf8_fault};
+ghost use Rattle.unit_text.specs.TextFault.{IsRefusedBy, joined_fault, text_fault, utf8_fault};
+ghost use Rattle.unit_text.specs.UnitText.{assignments};
 ghost use Rattle.unit_text.specs.Reader.{fault_left, assignments_left, ended, Takes, Completes, Holds, Marks, ReadsOn};
 
 use crate::assignment::Assignment;
-use crate::lines::{before_backslash, is_comment};
+use crate::lines::{before_backslash, is_comment, without_line_feed};
 use crate::statement::{begins_section, capped, key_and_value, section_name, trimmed};
 use crate::text_fault::TextFault;
 use crate::unit_key::UnitKey;
@@ -204,4 +205,19 @@ impl Reader {
             None => Ok(body.assignments),
         }
     }
+}
+
+/// The assignments of a unit file.
+pub fn read(alloc: Global, bytes: &[u8]) -> Result<Vec<Assignment>, TextFault>
+    ensures ok { IfOk result (λ all. all.items ≡ assignments bytes.now) }
+    ensures sound { OnOk result (text_fault bytes.now ≡ None) }
+    ensures fault { IsRefusedBy result (text_fault bytes.now) }
+{
+    let mut reader = Reader::new(alloc);
+    let mut number = 0;
+    for line in bytes.lines_with_terminator() {
+        number += 1;
+        reader.take(alloc, number, without_line_feed(line))?;
+    }
+    reader.finish(alloc)
 }

@@ -8,11 +8,9 @@ ghost use Rattle.unit_text.specs.UnitText.{AreKeysOf, assignments, flag_of, valu
 use crate::assignment::{Assignment, copies};
 use crate::flag::truth;
 use crate::index::Index;
-use crate::lines::without_line_feed;
-use crate::reader::Reader;
+use crate::reader::read;
 use crate::text_fault::TextFault;
 use crate::unit_key::UnitKey;
-use bstr::ByteSlice;
 use std::alloc::{AllocError, Global};
 use std::marker::Model;
 use switch_names::{Listed, Text};
@@ -47,13 +45,7 @@ pub fn parse(alloc: Global, bytes: &[u8]) -> Result<UnitText, TextFault>
     ensures sound { OnOk result (text_fault bytes.now ≡ None) }
     ensures fault { IsRefusedBy result (text_fault bytes.now) }
 {
-    let mut reader = Reader::new(alloc);
-    let mut number = 0;
-    for line in bytes.lines_with_terminator() {
-        number += 1;
-        reader.take(alloc, number, without_line_feed(line))?;
-    }
-    let assignments = reader.finish(alloc)?;
+    let assignments = read(alloc, bytes)?;
     Ok(UnitText::from_assignments(alloc, assignments)?)
 }
 
