@@ -43,16 +43,19 @@ pub record AreKeysOf (text : List Assignment) (keys : List UnitKey) : Type 0 whe
   pub sorted : IsStrictlySortedBy key_cmp keys
   pub exact : (key : UnitKey) → has_key keys key ≡ has_value text key
 
--- a text in lower case is one of some words
-abbrev pub is_word : List (List ℕ) → List ℕ → Bool
-is_word words text = list_any (λ word. pointwise nat_eq (str_to_ascii_lowercase text) word) words
+-- a text is this word, whatever the case of its letters
+abbrev pub is_word : List ℕ → List ℕ → Bool
+is_word word text = pointwise nat_eq (str_to_ascii_lowercase text) (str_to_ascii_lowercase word)
 
--- what a value says as a flag, whatever the case of its letters
+abbrev pub says_true : List ℕ → Bool
+says_true text = is_word (codes "1") text || is_word (codes "yes") text || is_word (codes "true") text || is_word (codes "on") text
+
+abbrev pub says_false : List ℕ → Bool
+says_false text = is_word (codes "0") text || is_word (codes "no") text || is_word (codes "false") text || is_word (codes "off") text
+
+-- what a value says as a flag
 abbrev pub truth : List ℕ → Option Bool
-truth text =
-    if is_word (codes "1" ∷ codes "yes" ∷ codes "true" ∷ codes "on" ∷ []) text then Some true
-    else if is_word (codes "0" ∷ codes "no" ∷ codes "false" ∷ codes "off" ∷ []) text then Some false
-    else None
+truth text = if says_true text then Some true else if says_false text then Some false else None
 
 -- a flag is the last value where that says true or false, else the default
 abbrev pub flag_of : List Assignment → UnitKey → Bool → Bool

@@ -1,23 +1,27 @@
 //! Flags.
 ghost use Rattle.std.specs.Prelude.{◌≡◌};
-ghost use Rattle.unit_text.specs.UnitText.{is_word, truth};
-ghost use Rattle.std.specs.List.{list_any};
+ghost use Rattle.unit_text.specs.UnitText.{is_word, says_true, says_false, truth};
 
-fn says_true(text: &str) -> bool {
-    text.eq_ignore_ascii_case("1")
-        || text.eq_ignore_ascii_case("yes")
-        || text.eq_ignore_ascii_case("true")
-        || text.eq_ignore_ascii_case("on")
+/// Whether a text is this word, whatever the case of its letters.
+fn is_word(word: &str, text: &str) -> bool
+    ensures { result ≡ is_word word.now text.now }
+{
+    text.eq_ignore_ascii_case(word)
 }
 
-fn says_false(text: &str) -> bool {
-    text.eq_ignore_ascii_case("0")
-        || text.eq_ignore_ascii_case("no")
-        || text.eq_ignore_ascii_case("false")
-        || text.eq_ignore_ascii_case("off")
+fn says_true(text: &str) -> bool
+    ensures { result ≡ says_true text.now }
+{
+    is_word("1", text) || is_word("yes", text) || is_word("true", text) || is_word("on", text)
 }
 
-/// What a value says as a flag, whatever the case of its letters.
+fn says_false(text: &str) -> bool
+    ensures { result ≡ says_false text.now }
+{
+    is_word("0", text) || is_word("no", text) || is_word("false", text) || is_word("off", text)
+}
+
+/// What a value says as a flag.
 pub fn truth(text: &str) -> Option<bool>
     ensures { result ≡ truth text.now }
 {
