@@ -1,5 +1,7 @@
 pub mod EndLemmas
+pub mod IndexLemmas
 pub mod KeyLemmas
 pub mod LineLemmas
 pub mod ReaderLemmas
 pub mod TrimLemmas
+pub mod ValueLemmas

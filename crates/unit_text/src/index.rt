@@ -1,5 +1,5 @@
 //! The keys of a unit text with their values.
-ghost use Rattle.std.specs.Prelude.{◌≡◌, ◌<◌, ◌≤◌, ◌++◌, ◌∷◌, [], Some, List, length, OnOk, OnErr, IfOk, IfErr, slice_get, insert, remove, vec_len};
+ghost use Rattle.std.specs.Prelude.{◌≡◌, ◌<◌, ◌≤◌, ◌++◌, ◌∷◌, [], Some, List, length, OnOk, OnErr, IfOk, IfErr, slice_get, slice_index_or, slice_set, insert, remove, vec_len};
 ghost use Rattle.std.specs.List.Sorted.{IsStrictlySortedBy};
 ghost use Rattle.unit_text.specs.declared.assignment.Assignment.{Assignment};
 ghost use Rattle.unit_text.specs.UnitKey.{key_cmp, key_of};
@@ -90,20 +90,33 @@ impl Index {
         Ok(())
     }
 
+    /// Adds a value to those of a key.
+    fn add_value(&mut self, at: usize, value: Text) -> Result<(), AllocError>
+        requires { at < vec_len self.old.values }
+        ensures keys { self.new.keys ≡ self.old.keys }
+        ensures values { OnOk result (self.new.values.items ≡ slice_set self.old.values.items at (slice_index_or self.old.values.items at [] ++ value ∷ [])) }
+        ensures same_values { OnErr result (self.new.values.items ≡ self.old.values.items) }
+    {
+        self.values[at].push(value)
+    }
+
     /// Applies one more assignment.
     pub fn apply(&mut self, alloc: Global, assignment: Assignment) -> Result<(), AllocError>
-        requires { IsStrictlySortedBy key_cmp self.old.keys }
+        requires sorted { IsStrictlySortedBy key_cmp self.old.keys }
+        requires as_many { vec_len self.old.values ≡ length self.old.keys }
         ensures ok { (text : List Assignment) → IsIndexOf text self.old → OnOk result (IsIndexOf (text ++ assignment ∷ []) self.new) }
         ensures err { (text : List Assignment) → IsIndexOf text self.old → OnErr result (IsIndexOf text self.new) }
     {
         let Assignment { at: key, value } = assignment;
         let is_empty = value.as_str().is_empty();
         match self.find(key.section.as_str(), key.key.as_str()) {
-            Ok(at) if is_empty => self.remove(at),
-            Ok(at) => self.values[at].push(value)?,
-            Err(_) if is_empty => (),
-            Err(at) => self.insert(alloc, at, key, value)?,
+            Ok(at) if is_empty => {
+                self.remove(at);
+                Ok(())
+            }
+            Ok(at) => self.add_value(at, value),
+            Err(_) if is_empty => Ok(()),
+            Err(at) => self.insert(alloc, at, key, value),
         }
-        Ok(())
     }
 }
