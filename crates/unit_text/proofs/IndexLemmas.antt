@@ -49,6 +49,15 @@ other_parts (k ∷ front) back key f b = (f.0, other_parts front back key f.1 b)
 not_empty : (values : List (List ℕ)) (value : List ℕ) → not (length (values ++ value ∷ []) == 0) ≡ true
 not_empty values value = ap not (ne_eqb _ 0 (let n = length_push values value in λ e. omega arith))
 
+lacks_parts : (keys : List UnitKey) (key : UnitKey) (at : ℕ) → IsPlaceFor keys key at → AreOther keys key
+lacks_parts keys key at place =
+    subst (λ (ks : List UnitKey). AreOther ks key) (take-append-drop at keys) (other_parts _ _ key (below_other _ key place.lower) (above_other _ key place.higher))
+
+-- a key that stands in no list has no value
+pub missing_values : (text : List Assignment) (keys : List UnitKey) (key : UnitKey) (at : ℕ) → AreKeysOf text keys → IsPlaceFor keys key at → values_of text key ≡ []
+missing_values text keys key at are place =
+    nil_from_length _ (eqb-true _ 0 (not-false _ (sym (are.exact key) ∙ other_lacks keys key (lacks_parts keys key at place))))
+
 module _ (text : List Assignment) (one : Assignment) where
   abbrev more : List Assignment
   more = text ++ one ∷ []
@@ -129,19 +138,10 @@ module _ (text : List Assignment) (one : Assignment) where
             ∙ sym (ap (map (values_of more)) (keys ∙ split) ∙ map-append (values_of more) front (one.at ∷ back));
         }
 
-    -- the key stands in no list
-    lacks : (at : ℕ) → IsPlaceFor old.keys one.at at → AreOther (take at old.keys) one.at × AreOther (drop at old.keys) one.at
-    lacks at place = (below_other _ one.at place.lower, above_other _ one.at place.higher)
-
-    lacks_all : (at : ℕ) → IsPlaceFor old.keys one.at at → AreOther old.keys one.at
-    lacks_all at place =
-        let parts = lacks at place in
-        subst (λ (ks : List UnitKey). AreOther ks one.at) (take-append-drop at old.keys) (other_parts _ _ one.at parts.0 parts.1)
-
-    -- and is cleared
+    -- the key stands in no list, and is cleared
     pub skips : (at : ℕ) → IsPlaceFor old.keys one.at at → is_empty one.value ≡ true → new.keys ≡ old.keys → new.values.items ≡ old.values.items → IsIndexOf more new
     skips at place none keys values =
-        let other = lacks_all at place in
+        let other = lacks_parts old.keys one.at at place in
         record {
           keys = record {
             sorted = subst (IsStrictlySortedBy key_cmp) (sym keys) is.keys.sorted;
@@ -153,26 +153,23 @@ module _ (text : List Assignment) (one : Assignment) where
           values = values ∙ is.values ∙ sym (others_keep old.keys other) ∙ sym (ap (map (values_of more)) keys);
         }
 
-    none_given : AreOther old.keys one.at → values_of text one.at ≡ []
-    none_given other =
-        nil_from_length _ (eqb-true _ 0 (not-false _ (sym (is.keys.exact one.at) ∙ other_lacks old.keys one.at other)))
-
-    -- and gets its first value
+    -- the key stands in no list, and gets its first value
     pub inserts : (at : ℕ) → IsPlaceFor old.keys one.at at → is_empty one.value ≡ false
         → new.keys ≡ insert old.keys at one.at → new.values.items ≡ insert old.values.items at (one.value ∷ []) → IsIndexOf more new
     inserts at place some keys values =
         let front = take at old.keys in
         let back = drop at old.keys in
-        let parts = lacks at place in
+        let before = below_other front one.at place.lower in
+        let after = above_other back one.at place.higher in
         let whole = take-append-drop at old.keys in
         let added : values_of more one.at ≡ one.value ∷ [] =
-            values_added text one one.at (same_self one.at) some ∙ ap (λ vs. vs ++ one.value ∷ []) (none_given (lacks_all at place)) in
+            values_added text one one.at (same_self one.at) some ∙ ap (λ vs. vs ++ one.value ∷ []) (missing_values text old.keys one.at at is.keys place) in
         record {
           keys = record {
             sorted = subst (IsStrictlySortedBy key_cmp) (sym keys) (sorted_insert front one.at back (subst (IsStrictlySortedBy key_cmp) (sym whole) is.keys.sorted) place.lower place.higher);
             exact = exact_by
                 (ap (λ (ks : List UnitKey). has_key ks one.at) keys ∙ has_round front back one.at one.at
-                ∙ (λ i. other_lacks front one.at parts.0 i || (same_self one.at i || has_key back one.at))
+                ∙ (λ i. other_lacks front one.at before i || (same_self one.at i || has_key back one.at))
                 ∙ sym (ap (λ (vs : List (List ℕ)). not (length vs == 0)) added))
                 (λ key e.
                     ap (λ (ks : List UnitKey). has_key ks key) keys ∙ has_round front back one.at key ∙ ap (λ b. has_key front key || (b || has_key back key)) e
@@ -181,6 +178,6 @@ module _ (text : List Assignment) (one : Assignment) where
           values =
             values ∙ ap (λ (vs : List (List (List ℕ))). insert vs at (one.value ∷ [])) is.values
             ∙ (λ i. take-map (values_of text) at old.keys i ++ (one.value ∷ []) ∷ drop-map (values_of text) at old.keys i)
-            ∙ sym (λ i. others_keep front parts.0 i ++ added i ∷ others_keep back parts.1 i)
+            ∙ sym (λ i. others_keep front before i ++ added i ∷ others_keep back after i)
             ∙ sym (ap (map (values_of more)) keys ∙ map-append (values_of more) front (one.at ∷ back));
         }

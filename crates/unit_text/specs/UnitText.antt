@@ -1,5 +1,5 @@
 -- The values of a unit text: systemd.syntax(7), "Introduction", and of an empty assignment systemd.unit(5), "Description".
-use Rattle.std.specs.Prelude.{◌≡◌, ℕ, ◌-◌, ◌||◌, ◌==◌, Bool, true, false, not, List, [], ◌∷◌, ◌++◌, length, filter, map, slice_get, Option, None, Some, unwrap_or, option_and_then, nat_eq, codes, if◌then◌else◌}
+use Rattle.std.specs.Prelude.{◌≡◌, ℕ, ◌-◌, ◌||◌, ◌==◌, Bool, true, false, not, List, [], ◌∷◌, ◌++◌, length, take, filter, map, slice_get, Option, None, Some, unwrap_or, option_and_then, nat_eq, codes, if◌then◌else◌}
 use Rattle.std.specs.Cmp.Lexicographic.{pointwise}
 use Rattle.std.specs.List.{list_any}
 use Rattle.std.specs.List.Sorted.{IsStrictlySortedBy}
@@ -42,6 +42,11 @@ has_value text key = not (length (values_of text key) == 0)
 pub record AreKeysOf (text : List Assignment) (keys : List UnitKey) : Type 0 where
   pub sorted : IsStrictlySortedBy key_cmp keys
   pub exact : (key : UnitKey) → has_key keys key ≡ has_value text key
+
+-- the first assignments of a later text, or none, were applied
+pub record HasFrontOf (old later new : List Assignment) : Type 0 where
+  pub applied : ℕ
+  pub front : new ≡ old ++ take applied later
 
 -- a text is this word, whatever the case of its letters
 abbrev pub is_word : List ℕ → List ℕ → Bool

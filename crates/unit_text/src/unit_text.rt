@@ -3,7 +3,7 @@ ghost use Rattle.std.specs.Prelude.{◌≡◌, ◌≢◌, ◌++◌, ◌∷◌, [
 ghost use Rattle.unit_text.specs.Statement.{is_empty};
 ghost use Rattle.unit_text.specs.TextFault.{IsRefusedBy, text_fault};
 ghost use Rattle.unit_text.specs.UnitKey.{key_of};
-ghost use Rattle.unit_text.specs.UnitText.{AreKeysOf, assignments, flag_of, values_of};
+ghost use Rattle.unit_text.specs.UnitText.{AreKeysOf, HasFrontOf, assignments, flag_of, values_of};
 
 use crate::assignment::{Assignment, copies};
 use crate::flag::truth;
@@ -85,6 +85,7 @@ impl UnitText {
     /// Where memory is wanting, some of them, from the first one on, have been applied.
     pub fn add(&mut self, alloc: Global, later: &UnitText) -> Result<(), AllocError>
         ensures ok { OnOk result (self.new ≡ self.old ++ later.now) }
+        ensures err { OnErr result (HasFrontOf self.old later.now self.new) }
     {
         for assignment in later.assignments.as_slice() {
             self.push(alloc, assignment.copy(alloc)?)?;
