@@ -25,9 +25,10 @@ last_other byte text pos lacks = ne_eqb _ byte (λ e. by text pos lacks e)
 pub last_same : (byte : ℕ) (text front : List ℕ) → text ≡ front ++ byte ∷ [] → (get_or text (length text - 1) 0 ≡ byte) × (take (length text - 1) text ≡ front)
 last_same byte text front e =
     let long = ap length e ∙ length_push front byte in
-    let n : length text - 1 ≡ length front = omega arith in
-    ( ap (λ i. get_or text i 0) n ∙ (ap (λ t. get_or t (length front) 0) e ∙ get_or_push front byte 0 (length front) refl)
-    , ap (λ i. take i text) n ∙ (ap (take (length front)) e ∙ take_at front (byte ∷ []) (length front) refl) )
+    let n : length text - 1 ≡ length front = omega arith in (
+      ap (λ i. get_or text i 0) n ∙ (ap (λ t. get_or t (length front) 0) e ∙ get_or_push front byte 0 (length front) refl),
+      ap (λ i. take i text) n ∙ (ap (take (length front)) e ∙ take_at front (byte ∷ []) (length front) refl),
+    )
 
 -- the clause of `strip_suffix` at a backslash
 pub split_at_backslash : (line : List ℕ) (r : Option (Bor (List ℕ))) → MatchOption r ((front : List ℕ) → line ≢ front ++ (92 ∷ [])) (λ x. line ≡ x.now ++ (92 ∷ [])) → IsSplitAtBackslash line r
@@ -57,9 +58,10 @@ brackets_found text rest name e f =
     let last = last_same 93 text (91 ∷ name) whole in
     let long = ap length whole in
     let size = length_push name 93 in
-    let n : length text - 2 ≡ length name = omega arith in
-    ( ap (λ t. begins_section t && ends_section text) whole ∙ eq-eqb _ 93 last.0
-    , sym (ap (λ i. take i (drop 1 text)) n ∙ (ap (λ t. take (length name) (drop 1 t)) whole ∙ take_at name (93 ∷ []) (length name) refl)) )
+    let n : length text - 2 ≡ length name = omega arith in (
+      ap (λ t. begins_section t && ends_section text) whole ∙ eq-eqb _ 93 last.0,
+      sym (ap (λ i. take i (drop 1 text)) n ∙ (ap (λ t. take (length name) (drop 1 t)) whole ∙ take_at name (93 ∷ []) (length name) refl)),
+    )
 
 -- nothing passes where the first place that passes is the end
 pub none_passes : {X : Type 0} (p : X → Bool) (xs : List X) → position_or_len p xs ≡ length xs → list_any p xs ≡ false

@@ -1,7 +1,7 @@
 -- An index after one more assignment.
 use Rattle.std.proofs.Common.{◌≡◌, ℕ, ◌+◌, ◌-◌, ◌<◌, ◌≤◌, Bool, true, false, not, eqb, ◌==◌, ◌||◌, min, List, [], ◌∷◌, ◌++◌, length, get_or, take, drop, set, map, refl, sym, ap, ◌∙◌, subst, zero, suc, arith, Some}
 use Rattle.std.specs.List.{insert, remove, list_any, slice_get}
-use Rattle.std.specs.List.Sorted.{IsStrictlySortedBy}
+use Rattle.std.specs.List.Sorted.{IsStrictlySortedBy, IsStableBy}
 use Rattle.std.proofs.lemmas.Bool.{not-false, eqb-true, ne_eqb}
 use Rattle.std.proofs.lemmas.List.{append_assoc, map-append, length-append, length-take, length-take-le, length-drop, length-map, length_push, get_or_at, set_at, take-append-drop, take_at, drop_at, drop-drop, take-map, drop-map, nil_from_length, drop_more}
 use Rattle.std.proofs.lemmas.List.Folds.{list_any-append}
@@ -14,7 +14,7 @@ use Rattle.unit_text.specs.UnitKey.{key_cmp, is_same_key, has_key}
 use Rattle.unit_text.specs.UnitText.{AreKeysOf, has_value, values_of}
 use Rattle.unit_text.specs.Index.{IsIndexOf, IsPlaceFor}
 use Rattle.unit_text.proofs.KeyLemmas.{same_key, same_self, other_lacks, below_other, above_other, AreOther, sorted_insert, sorted_remove, sorted_below, sorted_above}
-use Rattle.unit_text.proofs.ValueLemmas.{values_other, values_cleared, values_added}
+use Rattle.unit_text.proofs.ValueLemmas.{values_other, values_cleared, values_added, is_lower, values_stable}
 
 -- what `remove` of a list leaves
 pub removed_is : {X : Type 0} (old new : List X) (at : ℕ) (x : X) → at < length old → old ≡ take at new ++ x ∷ drop at new → new ≡ remove old at
@@ -96,14 +96,14 @@ module _ (text : List Assignment) (one : Assignment) where
                 (ap (λ (ks : List UnitKey). has_key ks one.at) keys ∙ other_lacks (front ++ back) one.at (other_parts front back one.at before after)
                 ∙ sym (ap (λ (vs : List (List ℕ)). not (length vs == 0)) (values_cleared text one one.at (same_self one.at) none)))
                 (λ key e.
-                    ap (λ (ks : List UnitKey). has_key ks key) keys ∙ has_parts front back key
-                    ∙ sym (ap (λ (ks : List UnitKey). has_key ks key) split ∙ has_round front back one.at key ∙ ap (λ b. has_key front key || (b || has_key back key)) e));
+                ap (λ (ks : List UnitKey). has_key ks key) keys ∙ has_parts front back key
+                ∙ sym (ap (λ (ks : List UnitKey). has_key ks key) split ∙ has_round front back one.at key ∙ ap (λ b. has_key front key || (b || has_key back key)) e));
           };
           values =
-            values ∙ ap (λ (vs : List (List (List ℕ))). remove vs at) is.values
-            ∙ (λ i. take-map (values_of text) at old.keys i ++ drop-map (values_of text) (suc at) old.keys i)
-            ∙ sym (λ i. others_keep front before i ++ others_keep back after i)
-            ∙ sym (ap (map (values_of more)) keys ∙ map-append (values_of more) front back);
+              values ∙ ap (λ (vs : List (List (List ℕ))). remove vs at) is.values
+              ∙ (λ i. take-map (values_of text) at old.keys i ++ drop-map (values_of text) (suc at) old.keys i)
+              ∙ sym (λ i. others_keep front before i ++ others_keep back after i)
+              ∙ sym (ap (map (values_of more)) keys ∙ map-append (values_of more) front back);
         }
 
     -- the key stands in the list, and gets one more value
@@ -119,9 +119,9 @@ module _ (text : List Assignment) (one : Assignment) where
         let added = values_added text one one.at (same_self one.at) some in
         let size : length (map (values_of text) front) ≡ at = length-map front (values_of text) ∙ length-take-le at old.keys (omega arith) in
         let all : old.values.items ≡ map (values_of text) front ++ values_of text one.at ∷ map (values_of text) back =
-            is.values ∙ ap (map (values_of text)) split ∙ map-append (values_of text) front (one.at ∷ back) in
+        is.values ∙ ap (map (values_of text)) split ∙ map-append (values_of text) front (one.at ∷ back) in
         let had : get_or old.values.items at [] ≡ values_of text one.at =
-            ap (λ (vs : List (List (List ℕ))). get_or vs at []) all ∙ get_or_at (map (values_of text) front) (values_of text one.at) (map (values_of text) back) [] at size in
+        ap (λ (vs : List (List (List ℕ))). get_or vs at []) all ∙ get_or_at (map (values_of text) front) (values_of text one.at) (map (values_of text) back) [] at size in
         record {
           keys = record {
             sorted = subst (IsStrictlySortedBy key_cmp) (sym keys) is.keys.sorted;
@@ -132,10 +132,10 @@ module _ (text : List Assignment) (one : Assignment) where
                 (λ key e. ap (λ (ks : List UnitKey). has_key ks key) keys);
           };
           values =
-            values ∙ (λ i. set (all i) at (had i ++ one.value ∷ []))
-            ∙ set_at (map (values_of text) front) (values_of text one.at) (map (values_of text) back) (values_of text one.at ++ one.value ∷ []) at size
-            ∙ sym (λ i. others_keep front before i ++ added i ∷ others_keep back after i)
-            ∙ sym (ap (map (values_of more)) (keys ∙ split) ∙ map-append (values_of more) front (one.at ∷ back));
+              values ∙ (λ i. set (all i) at (had i ++ one.value ∷ []))
+              ∙ set_at (map (values_of text) front) (values_of text one.at) (map (values_of text) back) (values_of text one.at ++ one.value ∷ []) at size
+              ∙ sym (λ i. others_keep front before i ++ added i ∷ others_keep back after i)
+              ∙ sym (ap (map (values_of more)) (keys ∙ split) ∙ map-append (values_of more) front (one.at ∷ back));
         }
 
     -- the key stands in no list, and is cleared
@@ -163,7 +163,7 @@ module _ (text : List Assignment) (one : Assignment) where
         let after = above_other back one.at place.higher in
         let whole = take-append-drop at old.keys in
         let added : values_of more one.at ≡ one.value ∷ [] =
-            values_added text one one.at (same_self one.at) some ∙ ap (λ vs. vs ++ one.value ∷ []) (missing_values text old.keys one.at at is.keys place) in
+        values_added text one one.at (same_self one.at) some ∙ ap (λ vs. vs ++ one.value ∷ []) (missing_values text old.keys one.at at is.keys place) in
         record {
           keys = record {
             sorted = subst (IsStrictlySortedBy key_cmp) (sym keys) (sorted_insert front one.at back (subst (IsStrictlySortedBy key_cmp) (sym whole) is.keys.sorted) place.lower place.higher);
@@ -172,12 +172,24 @@ module _ (text : List Assignment) (one : Assignment) where
                 ∙ (λ i. other_lacks front one.at before i || (same_self one.at i || has_key back one.at))
                 ∙ sym (ap (λ (vs : List (List ℕ)). not (length vs == 0)) added))
                 (λ key e.
-                    ap (λ (ks : List UnitKey). has_key ks key) keys ∙ has_round front back one.at key ∙ ap (λ b. has_key front key || (b || has_key back key)) e
-                    ∙ sym (ap (λ (ks : List UnitKey). has_key ks key) (sym whole) ∙ has_parts front back key));
+                ap (λ (ks : List UnitKey). has_key ks key) keys ∙ has_round front back one.at key ∙ ap (λ b. has_key front key || (b || has_key back key)) e
+                ∙ sym (ap (λ (ks : List UnitKey). has_key ks key) (sym whole) ∙ has_parts front back key));
           };
           values =
-            values ∙ ap (λ (vs : List (List (List ℕ))). insert vs at (one.value ∷ [])) is.values
-            ∙ (λ i. take-map (values_of text) at old.keys i ++ (one.value ∷ []) ∷ drop-map (values_of text) at old.keys i)
-            ∙ sym (λ i. others_keep front before i ++ added i ∷ others_keep back after i)
-            ∙ sym (ap (map (values_of more)) keys ∙ map-append (values_of more) front (one.at ∷ back));
+              values ∙ ap (λ (vs : List (List (List ℕ))). insert vs at (one.value ∷ [])) is.values
+              ∙ (λ i. take-map (values_of text) at old.keys i ++ (one.value ∷ []) ∷ drop-map (values_of text) at old.keys i)
+              ∙ sym (λ i. others_keep front before i ++ added i ∷ others_keep back after i)
+              ∙ sym (ap (map (values_of more)) keys ∙ map-append (values_of more) front (one.at ∷ back));
         }
+
+-- an index doesn't depend on the order of the keys
+pub index_stable : (text ordered : List Assignment) (index : Index) → IsStableBy is_lower text ordered → IsIndexOf ordered index → IsIndexOf text index
+index_stable text ordered index h is =
+    let same : (key : UnitKey) → values_of ordered key ≡ values_of text key = λ key. values_stable text ordered key h in
+    record {
+      keys = record {
+        sorted = is.keys.sorted;
+        exact = λ key. is.keys.exact key ∙ ap (λ (vs : List (List ℕ)). not (length vs == 0)) (same key);
+      };
+      values = is.values ∙ (λ i. map (λ key. same key i) index.keys);
+    }

@@ -131,4 +131,4 @@ pub searchable : (keys : List UnitKey) (key : UnitKey) → IsStrictlySortedBy ke
 searchable keys key s =
     searchable_from_sorted key_total (λ k. k) keys key
     (λ k d low lt. let less = Less-from_sorted key_cmp keys k (k + 1) d s (omega arith) lt in
-        ap is_lt (key_total.antisymm (get_or keys (k + 1) d) (get_or keys k d) ∙ ap ordering_reverse less))
+    ap is_lt (key_total.antisymm (get_or keys (k + 1) d) (get_or keys k d) ∙ ap ordering_reverse less))

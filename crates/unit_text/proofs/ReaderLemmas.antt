@@ -155,13 +155,13 @@ module _ (old new : Reader) (number : ℕ) (line : List ℕ) (before : IsBelow o
   refuses_bad rest u c =
       ap (λ bad. first_fault old.body.section bad (with_part old.part (joined number (line ∷ rest)))) (bad_is rest u)
       ∙ reached_fault old.body.section _ number _ (at_most old.bad number before)
-        (part_reaches number old.part _ (line_reaches number line rest (reaches_any (number + 1) rest) c))
+      (part_reaches number old.part _ (line_reaches number line rest (reaches_any (number + 1) rest) c))
 
   pub reads_held : is_utf8 line ≡ true → is_comment line ≡ false → is_continued line ≡ true
       → Holds old new (record { first = number; last = number; text = with_space line }) → ReadsOn old new number line
   reads_held u c k h =
       let goes_on : (rest : List (List ℕ)) → with_part new.part (joined (number + 1) rest) ≡ with_part old.part (joined number (line ∷ rest)) =
-          λ rest. h.going_on (joined (number + 1) rest) ∙ ap (with_part old.part) (sym (joined_held line number rest c k)) in
+      λ rest. h.going_on (joined (number + 1) rest) ∙ ap (with_part old.part) (sym (joined_held line number rest c k)) in
       record {
         fault = λ rest.
             (λ i. first_fault (h.body i).section (option_or (h.bad i) (first_bad (number + 1) rest)) (goes_on rest i))
@@ -176,13 +176,13 @@ module _ (old new : Reader) (number : ℕ) (line : List ℕ) (before : IsBelow o
   -- the fault of the line that ends, and then those of what follows
   left_is : (rest : List (List ℕ)) → is_utf8 line ≡ true → is_comment line ≡ false → is_continued line ≡ false
       → fault_left old number (line ∷ rest)
-        ≡ option_or (joined_fault old.body.section old.bad (ended old.part number line))
-          (first_fault (section_after old.body.section (trimmed (ended old.part number line).text)) (option_or old.bad (first_bad (number + 1) rest)) (joined (number + 1) rest))
+      ≡ option_or (joined_fault old.body.section old.bad (ended old.part number line))
+      (first_fault (section_after old.body.section (trimmed (ended old.part number line).text)) (option_or old.bad (first_bad (number + 1) rest)) (joined (number + 1) rest))
   left_is rest u c k =
       let whole = ended old.part number line in
       (λ i. first_fault old.body.section (option_or old.bad (bad_if line number rest true u i)) (ends rest c k i))
       ∙ ap (λ fault. option_or fault (first_fault (section_after old.body.section (trimmed whole.text)) (option_or old.bad (first_bad (number + 1) rest)) (joined (number + 1) rest)))
-        (same_fault old.body.section old.bad whole (number + 1) rest (let at = last_is old.part number line in omega arith))
+      (same_fault old.body.section old.bad whole (number + 1) rest (let at = last_is old.part number line in omega arith))
 
   sound_is : (whole : Joined) → is_reached old.bad whole.last ≡ false → statement_fault old.body.section whole.first (trimmed whole.text) ≡ None → joined_fault old.body.section old.bad whole ≡ None
   sound_is whole r s = ap (λ b. cond b (option_map utf8_fault old.bad) (statement_fault old.body.section whole.first (trimmed whole.text))) r ∙ s

@@ -87,7 +87,11 @@ pub fn key_and_value(text: &str) -> Option<(&str, &str)>
         None => None,
         Some((key, value)) => {
             let key = trimmed(key);
-            if key.is_empty() { None } else { Some((key, trimmed(value))) }
+            if key.is_empty() {
+                None
+            } else {
+                Some((key, trimmed(value)))
+            }
         }
     }
 }

@@ -30,7 +30,7 @@ returns-in-Ok-2-clause-ok c text is =
     let found = c.in-Ok.ensures.found ∙ ap Some (λ i. key_of (c.as_str-2.ensures i) (c.as_str-3.ensures i)) in
     on_ok_weaker c.add_value.result
     (adds text c.args.assignment c.args.self.now c.add_value.new.self is c.in-Ok.at (within _ _ _ found) found
-        (ap (λ t. length t == 0) (sym c.as_str.ensures) ∙ sym c.if-is_empty.ensures) c.add_value.ensures.keys)
+    (ap (λ t. length t == 0) (sym c.as_str.ensures) ∙ sym c.if-is_empty.ensures) c.add_value.ensures.keys)
     c.add_value.ensures.values
 
 pub returns-in-Err-clause-ok : goal.returns-in-Err-clause-ok
@@ -44,5 +44,5 @@ returns-clause-ok c text is =
     let place = subst (λ (key : UnitKey). IsPlaceFor c.args.self.now.keys key c.in-Err.field-0) (λ i. key_of (c.as_str-2.ensures i) (c.as_str-3.ensures i)) c.in-Err.ensures.missing in
     both c.insert.result
     (inserts text c.args.assignment c.args.self.now c.insert.new.self is c.in-Err.field-0 place
-        (ap (λ t. length t == 0) (sym c.as_str.ensures) ∙ sym c.if-is_empty-2.ensures))
+    (ap (λ t. length t == 0) (sym c.as_str.ensures) ∙ sym c.if-is_empty-2.ensures))
     c.insert.ensures.keys c.insert.ensures.values
