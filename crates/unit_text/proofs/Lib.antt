@@ -1,4 +1,5 @@
 pub mod EndLemmas
+pub mod FaultLemmas
 pub mod IndexLemmas
 pub mod KeyLemmas
 pub mod LineLemmas

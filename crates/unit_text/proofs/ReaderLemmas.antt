@@ -42,17 +42,17 @@ last_is None number line = refl
 last_is (Some part) number line = refl
 
 module _ (line : List ℕ) (number : ℕ) (rest : List (List ℕ)) where
-  bad_if : (b : Bool) → is_utf8 line ≡ b → first_bad number (line ∷ rest) ≡ cond b (first_bad (number + 1) rest) (Some number)
+  pub bad_if : (b : Bool) → is_utf8 line ≡ b → first_bad number (line ∷ rest) ≡ cond b (first_bad (number + 1) rest) (Some number)
   bad_if b u = ap (λ t. cond t (first_bad (number + 1) rest) (Some number)) u
 
-  joined_comment : is_comment line ≡ true → joined number (line ∷ rest) ≡ joined (number + 1) rest
+  pub joined_comment : is_comment line ≡ true → joined number (line ∷ rest) ≡ joined (number + 1) rest
   joined_comment c = rw c refl
 
-  joined_held : is_comment line ≡ false → is_continued line ≡ true
+  pub joined_held : is_comment line ≡ false → is_continued line ≡ true
       → joined number (line ∷ rest) ≡ continued (record { first = number; last = number; text = with_space line }) (joined (number + 1) rest)
   joined_held c k = rw (c, k) refl
 
-  joined_ended : is_comment line ≡ false → is_continued line ≡ false
+  pub joined_ended : is_comment line ≡ false → is_continued line ≡ false
       → joined number (line ∷ rest) ≡ record { first = number; last = number; text = line } ∷ joined (number + 1) rest
   joined_ended c k = rw (c, k) refl
 

@@ -1,7 +1,7 @@
 //! Unit texts.
-ghost use Rattle.std.specs.Prelude.{◌≡◌, ◌≢◌, ◌++◌, ◌∷◌, [], None, OnOk, OnErr, IfOk};
-ghost use Rattle.unit_text.specs.Statement.{is_empty};
-ghost use Rattle.unit_text.specs.TextFault.{IsRefusedBy, text_fault};
+ghost use Rattle.std.specs.Prelude.{◌≡◌, ◌≢◌, ◌⊎◌, ◌++◌, ◌∷◌, [], ℕ, None, OnOk, OnErr, IfOk, IfErr};
+ghost use Rattle.unit_text.specs.declared.text_fault.TextFault.{TextFault};
+ghost use Rattle.unit_text.specs.TextFault.{IsFault, IsFirstFault, IsRefusedBy, text_fault};
 ghost use Rattle.unit_text.specs.UnitKey.{key_of};
 ghost use Rattle.unit_text.specs.UnitText.{AreKeysOf, HasFrontOf, assignments, flag_of, values_of};
 
@@ -42,11 +42,13 @@ impl Model for UnitText {
 /// The fault is the one with the least line number.
 pub fn parse(alloc: Global, bytes: &[u8]) -> Result<UnitText, TextFault>
     ensures ok { IfOk result (λ text. text ≡ assignments bytes.now) }
-    ensures sound { OnOk result (text_fault bytes.now ≡ None) }
     ensures fault { IsRefusedBy result (text_fault bytes.now) }
+
+    // The same by the faults of the file: there is none, or it is the first of them.
+    ensures sound { OnOk result ((number : ℕ) (fault : TextFault) → ¬ IsFault bytes.now number fault) }
+    ensures first { IfErr result (λ fault. (fault ≡ TextFault.Memory) ⊎ IsFirstFault bytes.now fault) }
 {
-    let assignments = read(alloc, bytes)?;
-    Ok(UnitText::from_assignments(alloc, assignments)?)
+    UnitText::from_bytes(alloc, bytes)
 }
 
 impl UnitText {
@@ -58,6 +60,15 @@ impl UnitText {
             assignments: Vec::new(alloc),
             index: Index::new(alloc),
         }
+    }
+
+    fn from_bytes(alloc: Global, bytes: &[u8]) -> Result<UnitText, TextFault>
+        ensures ok { IfOk result (λ text. text ≡ assignments bytes.now) }
+        ensures sound { OnOk result (text_fault bytes.now ≡ None) }
+        ensures fault { IsRefusedBy result (text_fault bytes.now) }
+    {
+        let assignments = read(alloc, bytes)?;
+        Ok(UnitText::from_assignments(alloc, assignments)?)
     }
 
     fn from_assignments(alloc: Global, assignments: Vec<Assignment>) -> Result<UnitText, AllocError>
