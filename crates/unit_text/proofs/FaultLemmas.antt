@@ -116,43 +116,46 @@ module _ (bytes : List ℕ) where
   -- a line that isn't UTF-8 is reached
   at_bad : (section : Option (List ℕ)) (bad : ℕ) (line : Joined) (rest : List Joined) → IsFirstBad (Some bad) (IsBad bytes) → AreInOrder (line.last + 1) rest → bad ≤ line.last
       → IsAnswer section (line ∷ rest) (Some (utf8_fault bad))
-  at_bad section bad line rest h o reach =
-      ( bad
-      , inl (h.0, refl)
-      , λ other that among.
-          ⊎_elim (λ b. h.1 other b.0)
-          (λ w. ⊎_elim
-              (λ here. let at = here.0 in ⊎_elim (λ lt. omega arith) (λ le. absurd (here.1 bad h.0 le reach)) (cases_lt bad line.first))
-              (λ there. let low = wrong_from rest (section_after section (trimmed line.text)) (line.last + 1) other that o there in omega arith)
-              w)
-          among )
+  at_bad section bad line rest h o reach = (
+    bad,
+    inl (h.0, refl),
+    λ other that among.
+        ⊎_elim (λ b. h.1 other b.0)
+        (λ w. ⊎_elim
+        (λ here. let at = here.0 in ⊎_elim (λ lt. omega arith) (λ le. absurd (here.1 bad h.0 le reach)) (cases_lt bad line.first))
+        (λ there. let low = wrong_from rest (section_after section (trimmed line.text)) (line.last + 1) other that o there in omega arith)
+        w)
+        among,
+  )
 
   -- a joined line that is no statement
   at_wrong : (section : Option (List ℕ)) (line : Joined) (rest : List Joined) (fault : TextFault) → line.first ≤ line.last → AreInOrder (line.last + 1) rest
       → ((number : ℕ) → IsBad bytes number → line.last < number) → statement_fault section line.first (trimmed line.text) ≡ Some fault → IsAnswer section (line ∷ rest) (Some fault)
-  at_wrong section line rest fault long o clean e =
-      ( line.first
-      , inr (inl (refl, λ number bad low high. let above = clean number bad in absurd (omega arith), e))
-      , λ other that among.
-          ⊎_elim (λ b. let above = clean other b.0 in omega arith)
-          (λ w. ⊎_elim (λ here. let at = here.0 in omega arith) (λ there. let low = wrong_from rest (section_after section (trimmed line.text)) (line.last + 1) other that o there in omega arith) w)
-          among )
+  at_wrong section line rest fault long o clean e = (
+    line.first,
+    inr (inl (refl, λ number bad low high. let above = clean number bad in absurd (omega arith), e)),
+    λ other that among.
+        ⊎_elim (λ b. let above = clean other b.0 in omega arith)
+        (λ w. ⊎_elim (λ here. let at = here.0 in omega arith) (λ there. let low = wrong_from rest (section_after section (trimmed line.text)) (line.last + 1) other that o there in omega arith) w)
+        among,
+  )
 
   -- a joined line that is a statement
   at_sound : (section : Option (List ℕ)) (line : Joined) (rest : List Joined) (answer : Option TextFault) → statement_fault section line.first (trimmed line.text) ≡ None
       → IsAnswer (section_after section (trimmed line.text)) rest answer → IsAnswer section (line ∷ rest) answer
   at_sound section line rest None e h =
       λ number fault among.
-          ⊎_elim (λ b. h number fault (inl b))
-          (λ w. ⊎_elim (λ here. none-some fault (sym e ∙ subst (λ (n : ℕ). statement_fault section n (trimmed line.text) ≡ Some fault) here.0 here.2)) (λ there. h number fault (inr there)) w)
-          among
-  at_sound section line rest (Some fault) e h =
-      ( h.0
-      , ⊎_elim (λ b. inl b) (λ w. inr (inr w)) h.1
-      , λ other that among.
-          ⊎_elim (λ b. h.2 other that (inl b))
-          (λ w. ⊎_elim (λ here. absurd (none-some that (sym e ∙ subst (λ (n : ℕ). statement_fault section n (trimmed line.text) ≡ Some that) here.0 here.2))) (λ there. h.2 other that (inr there)) w)
-          among )
+      ⊎_elim (λ b. h number fault (inl b))
+      (λ w. ⊎_elim (λ here. none-some fault (sym e ∙ subst (λ (n : ℕ). statement_fault section n (trimmed line.text) ≡ Some fault) here.0 here.2)) (λ there. h number fault (inr there)) w)
+      among
+  at_sound section line rest (Some fault) e h = (
+    h.0,
+    ⊎_elim (λ b. inl b) (λ w. inr (inr w)) h.1,
+    λ other that among.
+        ⊎_elim (λ b. h.2 other that (inl b))
+        (λ w. ⊎_elim (λ here. absurd (none-some that (sym e ∙ subst (λ (n : ℕ). statement_fault section n (trimmed line.text) ≡ Some that) here.0 here.2))) (λ there. h.2 other that (inr there)) w)
+        among,
+  )
 
   reached_by : (bad : Option ℕ) (last : ℕ) → is_reached bad last ≡ true → (number : ℕ) × (bad ≡ Some number) × (number ≤ last)
   reached_by None last e = absurd (false≢true e)
@@ -172,14 +175,14 @@ module _ (bytes : List ℕ) where
           let reached = reached_by bad line.last e in
           subst (λ (t : Bool). IsAnswer section (line ∷ rest) (option_or (cond t (option_map utf8_fault bad) (statement_fault section line.first (trimmed line.text))) next)) (sym e)
           (subst (λ (b : Option ℕ). IsAnswer section (line ∷ rest) (option_or (option_map utf8_fault b) next)) (sym reached.1)
-              (at_bad section reached.0 line rest (subst (λ (b : Option ℕ). IsFirstBad b (IsBad bytes)) reached.1 h) o reached.2))
+          (at_bad section reached.0 line rest (subst (λ (b : Option ℕ). IsFirstBad b (IsBad bytes)) reached.1 h) o reached.2))
       by false e None s =
           subst (λ (t : Bool). IsAnswer section (line ∷ rest) (option_or (cond t (option_map utf8_fault bad) (statement_fault section line.first (trimmed line.text))) next)) (sym e)
           (subst (λ (f : Option TextFault). IsAnswer section (line ∷ rest) (option_or f next)) (sym s) (at_sound section line rest next s that))
       by false e (Some fault) s =
           subst (λ (t : Bool). IsAnswer section (line ∷ rest) (option_or (cond t (option_map utf8_fault bad) (statement_fault section line.first (trimmed line.text))) next)) (sym e)
           (subst (λ (f : Option TextFault). IsAnswer section (line ∷ rest) (option_or f next)) (sym s)
-              (at_wrong section line rest fault long o (clean_by bad line.last h e) s))
+          (at_wrong section line rest fault long o (clean_by bad line.last h e) s))
 
   answer : (js : List Joined) (section : Option (List ℕ)) (from : ℕ) (bad : Option ℕ) → IsFirstBad bad (IsBad bytes) → AreInOrder from js → IsAnswer section js (first_fault section bad js)
   answer [] section from bad h o = at_end section bad h

@@ -84,7 +84,7 @@ impl Index {
         values.push(value)?;
         self.values.insert(at, values)?;
         if let Err(fault) = self.keys.insert(at, key) {
-            self.values.remove(at);
+            let _ = self.values.remove(at);
             return Err(fault);
         }
         Ok(())

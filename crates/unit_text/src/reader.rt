@@ -182,11 +182,11 @@ impl Reader {
             return self.take_bad(number, line);
         };
         if is_comment(line) {
-            Ok(())
-        } else if let Some(before) = before_backslash(text) {
-            self.hold(alloc, number, before)
-        } else {
-            self.end(alloc, number, text)
+            return Ok(());
+        }
+        match before_backslash(text) {
+            Some(before) => self.hold(alloc, number, before),
+            None => self.end(alloc, number, text),
         }
     }
 

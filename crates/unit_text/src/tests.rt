@@ -23,16 +23,40 @@ fn values_are_those_after_the_last_empty_one(rt: HostRuntime) -> Result<(), Fail
         ("a list", "[S]\nK=1\nK=2\n", "1|2|"),
         ("a cleared list", "[S]\nK=A=1\nK=\nK=B=2", "B=2|"),
         ("a cleared key", "[S]\nK=1\nK= \t\n", ""),
-        ("a joined line", "[S]\nK=/bin/x \\\n# note\n; more\n  --y\n", "/bin/x    --y|"),
-        ("a comment that ends in a backslash", "[S]\n# a \\\nK=1\n", "1|"),
+        (
+            "a joined line",
+            "[S]\nK=/bin/x \\\n# note\n; more\n  --y\n",
+            "/bin/x    --y|",
+        ),
+        (
+            "a comment that ends in a backslash",
+            "[S]\n# a \\\nK=1\n",
+            "1|",
+        ),
         ("a backslash at the end", "[S]\nK=a\\", "a|"),
-        ("a backslash before a comment at the end", "[S]\nK=a\\\n#b", "a|"),
+        (
+            "a backslash before a comment at the end",
+            "[S]\nK=a\\\n#b",
+            "a|",
+        ),
         ("blanks at a beginning", "[S]\nK=a\\\n \t b\n", "a  \t b|"),
-        ("an empty line that is joined", "[S]\nK=a\\\n\nK=b\n", "a|b|"),
+        (
+            "an empty line that is joined",
+            "[S]\nK=a\\\n\nK=b\n",
+            "a|b|",
+        ),
         ("carriage returns", "[S]\r\n K\t= 1 \r\n", "1|"),
-        ("a backslash before a carriage return", "[S]\r\nK=a\\\r\nK=b\r\n", "a\\|b|"),
+        (
+            "a backslash before a carriage return",
+            "[S]\r\nK=a\\\r\nK=b\r\n",
+            "a\\|b|",
+        ),
         ("an equals sign in a value", "[S]\nK==a=b\n", "=a=b|"),
-        ("a section that comes again", "[S]\nK=1\n[T]\nK=2\n[S]\nK=3\n", "1|3|"),
+        (
+            "a section that comes again",
+            "[S]\nK=1\n[T]\nK=2\n[S]\nK=3\n",
+            "1|3|",
+        ),
         ("other sections and keys", "[S ]\nK=1\n[S]\nk=2\n", ""),
         ("a section on two lines", "[\\\n#\nS]\nK=1\n[S]\nK=2", "2|"),
     ] {
@@ -81,7 +105,10 @@ fn later_assignments_go_after_the_present_ones(rt: HostRuntime) -> Result<(), Fa
     let mut text = parse(alloc, b"[S]\nK=1\n[A]\nZ=1\nB=1")?;
     text.add(alloc, &parse(alloc, b"[S]\nK=\nL=on\n[A]\nB=2")?)?;
     assert_eq!(rt; text.values("S", "K").len(), 0);
-    assert_eq!(rt; shown(alloc, text.copy(alloc)?.values("A", "B"))?.as_str(), "1|2|");
+    assert_eq!(rt;
+        shown(alloc, text.copy(alloc)?.values("A", "B"))?.as_str(),
+        "1|2|"
+    );
     let mut keys = String::new(alloc);
     for at in text.keys().as_slice() {
         keys.push_str(at.section.as_str())?;
@@ -97,7 +124,10 @@ fn later_assignments_go_after_the_present_ones(rt: HostRuntime) -> Result<(), Fa
 
 #[test]
 fn a_flag_is_read_from_the_last_value(rt: HostRuntime) -> Result<(), Fail> {
-    let text = parse(rt.alloc(), b"[S]\na=1\nb=yEs\nc=TRUE\nd=on\ne=0\nf=No\ng=false\nh=OFF\ni=t\nj=no\nj=yes\nk=no\nk=")?;
+    let text = parse(
+        rt.alloc(),
+        b"[S]\na=1\nb=yEs\nc=TRUE\nd=on\ne=0\nf=No\ng=false\nh=OFF\ni=t\nj=no\nj=yes\nk=no\nk=",
+    )?;
     for (key, unset, set) in [
         ("a", true, true),
         ("b", true, true),

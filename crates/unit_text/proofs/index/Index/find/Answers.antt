@@ -26,18 +26,18 @@ missing keys key (Err at) s within h =
       higher = all_from _ keys at (λ k d low lt. key_total.antisymm key (get_or keys k d) ∙ ap ordering_reverse (cut.1 k d low lt));
     }
 
-pub returns-clause-found : goal.returns-clause-found
-returns-clause-found c =
+-- the search compares each key with the one that is sought
+answers : (c : goal.After-binary_search_by) → IsBinarySearchResult (λ other. key_cmp other (key_of c.args.section.now c.args.key.now)) c.args.self.now.keys c.binary_search_by.result
+answers c =
     let key = key_of c.args.section.now c.args.key.now in
-    let answer = c.binary_search_by.ensures.position (λ other. key_cmp other key) (always_returns_same _ _ _ (λ a r q k. search rules)) in
-    found c.args.self.now.keys key c.binary_search_by.result
-    (subst (λ (ks : List UnitKey). IsSearchInRange c.binary_search_by.result (length ks)) c.as_slice.ensures c.binary_search_by.ensures.bound)
-    (subst (λ (ks : List UnitKey). IsBinarySearchResult (λ other. key_cmp other key) ks c.binary_search_by.result) c.as_slice.ensures answer)
+    subst (λ (keys : List UnitKey). IsBinarySearchResult (λ other. key_cmp other key) keys c.binary_search_by.result) c.as_slice.ensures
+    (c.binary_search_by.ensures.position (λ other. key_cmp other key) (always_returns_same _ _ _ (λ a r q k. search rules)))
+
+in_range : (c : goal.After-binary_search_by) → IsSearchInRange c.binary_search_by.result (length c.args.self.now.keys)
+in_range c = subst (λ (keys : List UnitKey). IsSearchInRange c.binary_search_by.result (length keys)) c.as_slice.ensures c.binary_search_by.ensures.bound
+
+pub returns-clause-found : goal.returns-clause-found
+returns-clause-found c = found c.args.self.now.keys (key_of c.args.section.now c.args.key.now) c.binary_search_by.result (in_range c) (answers c)
 
 pub returns-clause-missing : goal.returns-clause-missing
-returns-clause-missing c =
-    let key = key_of c.args.section.now c.args.key.now in
-    let answer = c.binary_search_by.ensures.position (λ other. key_cmp other key) (always_returns_same _ _ _ (λ a r q k. search rules)) in
-    missing c.args.self.now.keys key c.binary_search_by.result c.requires
-    (subst (λ (ks : List UnitKey). IsSearchInRange c.binary_search_by.result (length ks)) c.as_slice.ensures c.binary_search_by.ensures.bound)
-    (subst (λ (ks : List UnitKey). IsBinarySearchResult (λ other. key_cmp other key) ks c.binary_search_by.result) c.as_slice.ensures answer)
+returns-clause-missing c = missing c.args.self.now.keys (key_of c.args.section.now c.args.key.now) c.binary_search_by.result c.requires (in_range c) (answers c)

@@ -41,27 +41,27 @@ returns-in-Some-clause-ok c =
     (subst (λ (text : List ℕ). Holds c.args.self.now c.hold.new.self (record { first = c.args.number; last = c.args.number; text = text })) (split.1 ∙ ap with_space same) held))
     c.hold.ensures.ok
 
-pub returns-in_default-before_backslash-clause-ok :
-    goal.returns-in_default-before_backslash-clause-ok
-returns-in_default-before_backslash-clause-ok c =
+pub returns-in-None-clause-ok :
+    goal.returns-in-None-clause-ok
+returns-in-None-clause-ok c =
     let same = c.in-Ok.ensures.cases.0 in
     both c.end.result
     (λ done part. reads_ended c.args.self.now c.end.new.self c.args.number c.args.line.now c.requires
     (is_utf8-from_IsUtf8 _ c.in-Ok.ensures.cases.1) (sym c.if-is_comment.ensures)
-    (sym (ap is_continued same) ∙ c.in_default-before_backslash.ensures)
+    (sym (ap is_continued same) ∙ c.in-None.ensures)
     (subst (λ (text : List ℕ). Completes c.args.self.now c.end.new.self (ended c.args.self.now.part c.args.number text)) same done) part)
     c.end.ensures.ok c.end.ensures.part
 
-pub returns-in_default-before_backslash-clause-fault :
-    goal.returns-in_default-before_backslash-clause-fault
-returns-in_default-before_backslash-clause-fault c rest =
+pub returns-in-None-clause-fault :
+    goal.returns-in-None-clause-fault
+returns-in-None-clause-fault c rest =
     let same = c.in-Ok.ensures.cases.0 in
     let old = c.args.self.now in
     IfErr-weaker c.end.result _ _
     (λ fault h. ⊎_elim inl
     (λ is. inr (refuses_ended old c.end.new.self c.args.number c.args.line.now c.requires rest fault
     (is_utf8-from_IsUtf8 _ c.in-Ok.ensures.cases.1) (sym c.if-is_comment.ensures)
-    (sym (ap is_continued same) ∙ c.in_default-before_backslash.ensures)
+    (sym (ap is_continued same) ∙ c.in-None.ensures)
     (ap (λ text. joined_fault old.body.section old.bad (ended old.part c.args.number text)) (sym same) ∙ is)))
     h)
     c.end.ensures.fault
