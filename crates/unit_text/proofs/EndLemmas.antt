@@ -1,11 +1,10 @@
 -- A text by its first and its last byte.
-use Rattle.std.proofs.Common.{◌≡◌, ◌≢◌, ℕ, ◌+◌, ◌-◌, ◌<◌, ◌≤◌, Bool, true, false, eqb, cond, not, ◌&&◌, ◌||◌, List, [], ◌∷◌, ◌++◌, length, get_or, take, drop, refl, sym, ap, ◌∙◌, subst, zero, suc, arith, rules, Option, None, Some, MatchOption}
+use Rattle.std.proofs.Common.{◌≡◌, ◌≢◌, ℕ, ◌+◌, ◌-◌, ◌<◌, Bool, true, false, eqb, cond, not, ◌&&◌, ◌||◌, List, [], ◌∷◌, ◌++◌, length, get_or, take, drop, refl, sym, ap, ◌∙◌, suc, arith, Option, None, Some, MatchOption}
 use Rattle.std.specs.Borrow.{Bor}
 use Rattle.std.specs.List.{list_any, position_or_len}
-use Rattle.std.specs.Str.Pattern.{FindsCharPrefix, FindsCharSuffix}
-use Rattle.std.proofs.lemmas.Bool.{eqb-true, ne_eqb, eq-eqb}
-use Rattle.std.proofs.lemmas.List.{take_more, take_all, take_at, get_or_past, get_or_push, length_push}
-use Rattle.unit_text.specs.Lines.{is_continued, with_space, IsSplitAtBackslash}
+use Rattle.std.proofs.lemmas.Bool.{ne_eqb, eq-eqb}
+use Rattle.std.proofs.lemmas.List.{take_more, take_all, take_at, get_or_push, length_push}
+use Rattle.unit_text.specs.Lines.{IsSplitAtBackslash}
 use Rattle.unit_text.specs.Statement.{begins_section, ends_section, between_ends}
 
 last_split : (text : List ℕ) → 0 < length text → text ≡ take (length text - 1) text ++ get_or text (length text - 1) 0 ∷ []

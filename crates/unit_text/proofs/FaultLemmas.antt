@@ -1,16 +1,14 @@
 -- The fault that is given is the one with the least line number.
-use Rattle.std.proofs.Common.{◌≡◌, ℕ, ◌+◌, ◌-◌, ◌<◌, ◌≤◌, Bool, true, false, leb, cond, List, [], ◌∷◌, ◌++◌, length, zero, suc, refl, sym, ap, ◌∙◌, subst, inl, inr, ◌⊎◌, ⊎_elim, arith, Option, None, Some, Result, Ok, Err, IfErr, OnOk, IfOk}
+use Rattle.std.proofs.Common.{◌≡◌, ℕ, ◌+◌, ◌-◌, ◌<◌, ◌≤◌, Bool, true, false, cond, List, [], ◌∷◌, zero, suc, refl, sym, ap, ◌∙◌, subst, inl, inr, ◌⊎◌, ⊎_elim, arith, Option, None, Some}
 use Rattle.std.specs.List.{slice_get}
 use Rattle.std.specs.Option.{option_or, option_map}
 use Rattle.std.specs.Str.{is_utf8}
 use Rattle.std.proofs.lemmas.Bool.{leb-true, leb-false, false≢true, cases_lt}
 use Rattle.std.proofs.lemmas.Option.{none-some}
-use Rattle.std.proofs.lemmas.Result.{IfErr-weaker, on_ok_weaker}
 use Rattle.unit_text.specs.declared.text_fault.TextFault.{TextFault}
-use Rattle.unit_text.specs.declared.text_fault.TextFault.TheVariants.{Memory}
 use Rattle.unit_text.specs.Lines.{Joined, lines, is_comment, is_continued, with_space, continued, joined, first_bad}
 use Rattle.unit_text.specs.Statement.{trimmed, section_after, statement_fault}
-use Rattle.unit_text.specs.TextFault.{is_reached, utf8_fault, joined_fault, first_fault, text_fault, IsRefusedBy, IsBad, IsClean, IsWrongIn, IsFault, IsFirstFault}
+use Rattle.unit_text.specs.TextFault.{is_reached, utf8_fault, joined_fault, first_fault, text_fault, IsBad, IsWrongIn, IsFault, IsFirstFault}
 use Rattle.unit_text.specs.TextFault.IsFault.{NotUtf8, NoStatement}
 use Rattle.unit_text.proofs.ReaderLemmas.{joined_comment, joined_held, joined_ended, bad_if}
 

@@ -1,9 +1,9 @@
 -- An index after one more assignment.
-use Rattle.std.proofs.Common.{◌≡◌, ℕ, ◌+◌, ◌-◌, ◌<◌, ◌≤◌, Bool, true, false, not, eqb, ◌==◌, ◌||◌, min, List, [], ◌∷◌, ◌++◌, length, get_or, take, drop, set, map, refl, sym, ap, ◌∙◌, subst, zero, suc, arith, Some}
-use Rattle.std.specs.List.{insert, remove, list_any, slice_get}
+use Rattle.std.proofs.Common.{◌≡◌, ℕ, ◌+◌, ◌<◌, Bool, true, false, not, ◌==◌, ◌||◌, List, [], ◌∷◌, ◌++◌, length, get_or, take, drop, set, map, refl, sym, ap, ◌∙◌, subst, suc, arith, Some}
+use Rattle.std.specs.List.{insert, remove, slice_get}
 use Rattle.std.specs.List.Sorted.{IsStrictlySortedBy, IsStableBy}
 use Rattle.std.proofs.lemmas.Bool.{not-false, eqb-true, ne_eqb}
-use Rattle.std.proofs.lemmas.List.{append_assoc, map-append, length-append, length-take, length-take-le, length-drop, length-map, length_push, get_or_at, set_at, take-append-drop, take_at, drop_at, drop-drop, take-map, drop-map, nil_from_length, drop_more}
+use Rattle.std.proofs.lemmas.List.{map-append, length-append, length-take, length-take-le, length-drop, length-map, length_push, get_or_at, set_at, take-append-drop, take_at, drop_at, drop-drop, take-map, drop-map, nil_from_length, drop_more}
 use Rattle.std.proofs.lemmas.List.Folds.{list_any-append}
 use Rattle.std.proofs.lemmas.Option.{get_or_from_slice_get}
 use Rattle.unit_text.specs.declared.assignment.Assignment.{Assignment}

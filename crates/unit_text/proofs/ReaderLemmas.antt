@@ -1,5 +1,5 @@
 -- What one more line leaves to be read.
-use Rattle.std.proofs.Common.{◌≡◌, ℕ, ◌+◌, ◌<◌, ◌≤◌, Bool, true, false, leb, cond, List, [], ◌∷◌, ◌++◌, refl, sym, ap, ◌∙◌, subst, inl, inr, ◌⊎◌, append_assoc, arith, Option, None, Some, Result, Ok, Err, IfSome, IfErr, unwrap_or}
+use Rattle.std.proofs.Common.{◌≡◌, ℕ, ◌+◌, ◌<◌, ◌≤◌, Bool, true, false, cond, List, [], ◌∷◌, ◌++◌, refl, sym, ap, ◌∙◌, subst, append_assoc, arith, Option, None, Some, IfSome, unwrap_or}
 use Rattle.std.specs.Option.{option_or, option_map}
 use Rattle.std.specs.Str.{IsUtf8, is_utf8}
 use Rattle.std.proofs.lemmas.Bool.{lt-leb, le-leb}
@@ -7,12 +7,11 @@ use Rattle.std.proofs.lemmas.Str.{IsUtf8-from_is_utf8}
 use Rattle.unit_text.specs.declared.reader.Part.{Part}
 use Rattle.unit_text.specs.declared.reader.Reader.{Reader}
 use Rattle.unit_text.specs.declared.text_fault.TextFault.{TextFault}
-use Rattle.unit_text.specs.declared.text_fault.TextFault.TheVariants.{Memory}
 use Rattle.unit_text.specs.Lines.{Joined, is_comment, is_continued, with_space, continued, joined, first_bad}
 use Rattle.unit_text.specs.Statement.{trimmed, section_after, statement_fault, assigned}
-use Rattle.unit_text.specs.TextFault.{is_reached, utf8_fault, joined_fault, first_fault, IsRefusedBy}
+use Rattle.unit_text.specs.TextFault.{is_reached, utf8_fault, joined_fault, first_fault}
 use Rattle.unit_text.specs.UnitText.{assignments_in}
-use Rattle.unit_text.specs.Reader.{joined_part, with_part, fault_left, assignments_left, ended, Takes, Completes, Holds, Marks, ReadsOn}
+use Rattle.unit_text.specs.Reader.{with_part, fault_left, ended, Completes, Holds, Marks, ReadsOn}
 
 abbrev IsBelow : Option ℕ → ℕ → Type 0
 IsBelow bad number = IfSome bad (λ line. line < number)

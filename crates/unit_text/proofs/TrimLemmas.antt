@@ -1,5 +1,5 @@
 -- Where a text is trimmed, it may be cut.
-use Rattle.std.proofs.Common.{◌≡◌, ℕ, ◌+◌, ◌-◌, ◌<◌, ◌≤◌, Bool, true, List, length, get_or, reverse, refl, sym, ap, ◌∙◌, subst, zero, suc, arith, rules}
+use Rattle.std.proofs.Common.{◌≡◌, ℕ, ◌-◌, ◌<◌, true, List, length, reverse, refl, subst, zero, suc, arith}
 use Rattle.std.specs.List.{prefix_len, suffix_len}
 use Rattle.std.specs.Str.{IsUtf8, IsCharBoundary}
 use Rattle.std.proofs.lemmas.Bool.Decides.{nat_tests}

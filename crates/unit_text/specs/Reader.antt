@@ -1,5 +1,5 @@
 -- What is still to come of a file that was read up to a line.
-use Rattle.std.specs.Prelude.{◌≡◌, ℕ, ◌+◌, ◌<◌, Bool, false, List, [], ◌∷◌, ◌++◌, Option, None, Some, IfSome, unwrap_or}
+use Rattle.std.specs.Prelude.{◌≡◌, ℕ, ◌+◌, ◌<◌, false, List, ◌∷◌, ◌++◌, Option, None, Some, IfSome, unwrap_or}
 use Rattle.std.specs.Option.{option_or}
 use Rattle.std.specs.String.{string_bytes}
 use Rattle.unit_text.specs.declared.assignment.Assignment.{Assignment}

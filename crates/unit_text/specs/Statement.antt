@@ -1,5 +1,5 @@
 -- What a joined line says: systemd.syntax(7), "Introduction".
-use Rattle.std.specs.Prelude.{ℕ, ◌+◌, ◌-◌, ◌&&◌, ◌||◌, ◌==◌, Bool, true, false, not, List, [], ◌∷◌, ◌++◌, length, take, drop, min, slice_index, Option, None, Some, is_some, is_none, if◌then◌else◌}
+use Rattle.std.specs.Prelude.{ℕ, ◌-◌, ◌&&◌, ◌||◌, ◌==◌, Bool, not, List, [], ◌∷◌, length, take, drop, min, slice_index, Option, None, Some, is_some, is_none, if◌then◌else◌}
 use Rattle.std.specs.List.{list_any, prefix_len, suffix_len, before_first, after_first}
 use Rattle.std.specs.Option.{option_or}
 use Rattle.unit_text.specs.declared.assignment.Assignment.{Assignment}

@@ -1,4 +1,4 @@
-use Rattle.std.proofs.Common.{ℕ, Option, None, IfSome, ◌+◌, ◌<◌, ◌++◌, ap, ◌∙◌, sym, subst, map, arith}
+use Rattle.std.proofs.Common.{ℕ, Option, IfSome, ◌<◌, ◌++◌, ap, ◌∙◌, sym, subst, map, arith}
 use Rattle.std.specs.Option.{option_or}
 use Rattle.unit_text.specs.Lines.{without_line_feed, joined, first_bad}
 use Rattle.unit_text.specs.TextFault.{first_fault}

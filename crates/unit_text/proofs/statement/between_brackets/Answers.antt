@@ -1,4 +1,4 @@
-use Rattle.std.proofs.Common.{◌≡◌, ◌&&◌, ◌≢◌, true, false, List, ◌∷◌, ◌++◌, [], ℕ, ap, Option, None, Some, MatchOption, lit<}
+use Rattle.std.proofs.Common.{◌≡◌, ◌&&◌, ◌≢◌, true, false, List, ◌∷◌, ◌++◌, [], ℕ, Option, None, Some, MatchOption, lit<}
 use Rattle.std.specs.Borrow.{Bor}
 use Rattle.std.proofs.lemmas.Bool.{and_left, and_right}
 use Rattle.std.proofs.lemmas.Str.Pattern.{strip_prefix_char, strip_suffix_char}

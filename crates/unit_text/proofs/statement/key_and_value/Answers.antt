@@ -1,7 +1,7 @@
-use Rattle.std.proofs.Common.{◌&&◌, ◌≡◌, false, Bool, not, ap, ◌∙◌, lit<, None}
+use Rattle.std.proofs.Common.{not, lit<, None}
 use Rattle.std.proofs.lemmas.Bool.{and_left, and_right}
 use Rattle.std.proofs.lemmas.Str.Pattern.{split_once_first}
-use Rattle.unit_text.specs.Statement.{begins_section, is_equals, is_empty, key_part}
+use Rattle.unit_text.specs.Statement.{begins_section, is_equals}
 use Rattle.unit_text.proofs.EndLemmas.{none_passes}
 use Rattle.unit_text.proofs.statement.key_and_value.Goals as goal
 

@@ -1,4 +1,4 @@
-use Rattle.std.proofs.Common.{◌≡◌, ◌<◌, ◌≤◌, ◌==◌, ◌++◌, ◌∷◌, [], ℕ, List, length, true, false, refl, sym, ap, ◌∙◌, subst, ⊎_elim, OnOk, Result, Ok, Err, None, Some, arith}
+use Rattle.std.proofs.Common.{◌≡◌, ◌<◌, ◌==◌, ℕ, List, length, refl, sym, ap, ◌∙◌, subst, ⊎_elim, OnOk, Result, Ok, Err, Some}
 use Rattle.std.specs.List.{slice_get}
 use Rattle.std.proofs.lemmas.Bool.{cases_lt}
 use Rattle.std.proofs.lemmas.Option.{slice_get_past, none-some}

@@ -1,8 +1,7 @@
-use Rattle.std.proofs.Common.{◌≡◌, ℕ, ◌≤◌, ◌<◌, List, length, get_or, refl, sym, ap, ◌∙◌, subst, Ok, Err, Some, Result, IfOk, IfErr, rules, arith}
-use Rattle.std.specs.List.{slice_get, HoldsAt}
+use Rattle.std.proofs.Common.{◌≡◌, ℕ, List, length, get_or, ap, ◌∙◌, subst, Ok, Err, Some, Result, IfOk, IfErr, rules, arith}
+use Rattle.std.specs.List.{slice_get}
 use Rattle.std.specs.List.Sorted.{IsBinarySearchResult, IsSearchInRange, IsStrictlySortedBy}
 use Rattle.std.specs.Ordering.{ordering_reverse}
-use Rattle.std.specs.declared.cmp.Ordering.TheVariants.{Less, Equal}
 use Rattle.std.proofs.lemmas.Fn.{always_returns_same}
 use Rattle.std.proofs.lemmas.Option.{slice_get-get_or}
 use Rattle.unit_text.specs.declared.unit_key.UnitKey.{UnitKey}

@@ -1,4 +1,4 @@
-use Rattle.std.proofs.Common.{◌≡◌, [], List, map, sym, ap, ◌∙◌, subst}
+use Rattle.std.proofs.Common.{[], List, map, sym, ap, ◌∙◌, subst}
 use Rattle.std.specs.List.Sorted.{IsStrictlySortedBy}
 use Rattle.unit_text.specs.declared.unit_key.UnitKey.{UnitKey}
 use Rattle.unit_text.specs.UnitKey.{key_cmp, has_key}

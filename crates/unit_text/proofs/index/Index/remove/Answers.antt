@@ -1,5 +1,4 @@
 use Rattle.unit_text.proofs.IndexLemmas.{removed_is}
-use Rattle.unit_text.proofs.ValueLemmas.{values_stable}
 use Rattle.unit_text.proofs.index.Index.remove.Goals as goal
 
 pub returns-clause-keys : goal.returns-clause-keys

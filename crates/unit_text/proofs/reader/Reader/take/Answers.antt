@@ -1,9 +1,7 @@
-use Rattle.std.proofs.Common.{◌≡◌, ◌+◌, ◌++◌, ◌∷◌, [], true, false, ℕ, List, inl, inr, ⊎_elim, OnOk, IfOk, Result, Ok, Err, Some, refl, sym, ap, ◌∙◌, subst}
-use Rattle.std.specs.Str.{is_utf8}
+use Rattle.std.proofs.Common.{ℕ, List, inl, inr, ⊎_elim, OnOk, Result, Ok, Err, Some, sym, ap, ◌∙◌, subst}
 use Rattle.std.proofs.lemmas.Result.{on_ok_weaker, IfErr-weaker}
 use Rattle.std.proofs.lemmas.Str.{is_utf8-from_IsUtf8}
-use Rattle.unit_text.specs.declared.text_fault.TextFault.{TextFault}
-use Rattle.unit_text.specs.Lines.{is_comment, is_continued, with_space}
+use Rattle.unit_text.specs.Lines.{is_continued, with_space}
 use Rattle.unit_text.specs.Reader.{Holds, Completes, ended}
 use Rattle.unit_text.specs.TextFault.{joined_fault}
 use Rattle.unit_text.proofs.ReaderLemmas.{not_utf8, reads_comment, reads_bad_comment, refuses_bad, reads_held, reads_ended, refuses_ended}
