@@ -36,6 +36,8 @@ SYSTEM is a built system: nix/store/NAME, with or without a slash before it.
 
 boot SYSTEM  makes a generation for the system and points the profile to it, for the next boot
 
+The line that stands for a wrong usage also names commands that are still to come.
+
 exit status: 0 done, 1 usage, 2 refused, 3 fault of the host, 5 no memory, 6 fault of the output
 ";
 

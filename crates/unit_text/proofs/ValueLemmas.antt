@@ -1,0 +1,90 @@
+-- What one more assignment changes.
+use Rattle.std.proofs.Common.{◌≡◌, ℕ, Bool, true, false, not, cond, ◌&&◌, ◌||◌, List, [], ◌∷◌, ◌++◌, map, refl, sym, ap, ◌∙◌}
+use Rattle.std.specs.List.{filter, list_any}
+use Rattle.std.specs.List.Sorted.{ties, IsStableBy}
+use Rattle.std.specs.Ordering.{is_lt, ordering_reverse}
+use Rattle.std.specs.declared.cmp.Ordering.{Ordering}
+use Rattle.std.specs.declared.cmp.Ordering.TheVariants.{Less, Equal, Greater}
+use Rattle.std.proofs.lemmas.List.{append-nil, map-append}
+use Rattle.std.proofs.lemmas.List.Elements.{filter-append}
+use Rattle.std.proofs.lemmas.List.Folds.{list_any-append}
+use Rattle.unit_text.specs.declared.assignment.Assignment.{Assignment}
+use Rattle.unit_text.specs.declared.unit_key.UnitKey.{UnitKey}
+use Rattle.unit_text.specs.Statement.{is_empty}
+use Rattle.unit_text.specs.UnitKey.{key_cmp, is_same_key}
+use Rattle.unit_text.specs.UnitText.{given, after_last_empty, values_of}
+use Rattle.unit_text.proofs.KeyLemmas.{key_total, exact_keys, same_self, less_other, greater_other}
+
+or_false : (b : Bool) → (b || false) ≡ b
+or_false true = refl
+or_false false = refl
+
+-- one more value clears the earlier ones, or goes to the end
+after_push : (values : List (List ℕ)) (value : List ℕ) → after_last_empty (values ++ value ∷ []) ≡ cond (is_empty value) [] (after_last_empty values ++ value ∷ [])
+after_push [] value = ap (λ b. cond b [] (value ∷ [])) (or_false (is_empty value))
+after_push (v ∷ values) value =
+    ap (λ b. cond (is_empty v || b) (after_last_empty (values ++ value ∷ [])) (v ∷ (values ++ value ∷ []))) (list_any-append is_empty values (value ∷ []))
+    ∙ ap (λ vs. cond (is_empty v || (list_any is_empty values || (is_empty value || false))) vs (v ∷ (values ++ value ∷ []))) (after_push values value)
+    ∙ by (is_empty v) (list_any is_empty values) (is_empty value)
+  where
+    by : (a b c : Bool) → cond (a || (b || (c || false))) (cond c [] (after_last_empty values ++ value ∷ [])) (v ∷ (values ++ value ∷ []))
+        ≡ cond c [] (cond (a || b) (after_last_empty values) (v ∷ values) ++ value ∷ [])
+    by true b true = refl
+    by true b false = refl
+    by false true true = refl
+    by false true false = refl
+    by false false true = refl
+    by false false false = refl
+
+module _ (text : List Assignment) (one : Assignment) (key : UnitKey) where
+  given_push : given (text ++ one ∷ []) key ≡ given text key ++ cond (is_same_key key one.at) (one.value ∷ []) []
+  given_push =
+      ap (map (λ (a : Assignment). a.value)) (filter-append (λ (a : Assignment). is_same_key key a.at) text (one ∷ []))
+      ∙ map-append (λ (a : Assignment). a.value) (filter (λ (a : Assignment). is_same_key key a.at) text) (filter (λ (a : Assignment). is_same_key key a.at) (one ∷ []))
+      ∙ ap (λ vs. given text key ++ vs) (by (is_same_key key one.at))
+    where
+      by : (b : Bool) → map (λ (a : Assignment). a.value) (cond b (one ∷ []) []) ≡ cond b (one.value ∷ []) []
+      by true = refl
+      by false = refl
+
+  values_push : values_of (text ++ one ∷ []) key ≡ after_last_empty (given text key ++ cond (is_same_key key one.at) (one.value ∷ []) [])
+  values_push = ap after_last_empty given_push
+
+  pub values_other : is_same_key key one.at ≡ false → values_of (text ++ one ∷ []) key ≡ values_of text key
+  values_other e = values_push ∙ ap (λ b. after_last_empty (given text key ++ cond b (one.value ∷ []) [])) e ∙ ap after_last_empty (append-nil (given text key))
+
+  values_same : is_same_key key one.at ≡ true → values_of (text ++ one ∷ []) key ≡ cond (is_empty one.value) [] (values_of text key ++ one.value ∷ [])
+  values_same e = values_push ∙ ap (λ b. after_last_empty (given text key ++ cond b (one.value ∷ []) [])) e ∙ after_push (given text key) one.value
+
+  pub values_cleared : is_same_key key one.at ≡ true → is_empty one.value ≡ true → values_of (text ++ one ∷ []) key ≡ []
+  values_cleared e none = values_same e ∙ ap (λ b. cond b [] (values_of text key ++ one.value ∷ [])) none
+
+  pub values_added : is_same_key key one.at ≡ true → is_empty one.value ≡ false → values_of (text ++ one ∷ []) key ≡ values_of text key ++ one.value ∷ []
+  values_added e some = values_same e ∙ ap (λ b. cond b [] (values_of text key ++ one.value ∷ [])) some
+
+-- ---- a stable order of assignments by their keys
+
+abbrev pub is_lower : Assignment → Assignment → Bool
+is_lower a b = is_lt (key_cmp a.at b.at)
+
+abbrev tied : Ordering → Ordering → Bool
+tied o p = not (is_lt o) && not (is_lt p)
+
+ties_same : (a b : Assignment) → ties is_lower a b ≡ is_same_key a.at b.at
+ties_same a b = by (key_cmp a.at b.at) refl
+  where
+    by : (o : Ordering) → key_cmp a.at b.at ≡ o → ties is_lower a b ≡ is_same_key a.at b.at
+    by Less e = ap (λ o. tied o (key_cmp b.at a.at)) e ∙ sym (less_other a.at b.at e)
+    by Equal e =
+        let back = key_total.antisymm b.at a.at ∙ ap ordering_reverse e in
+        (λ i. tied (e i) (back i)) ∙ sym (ap (λ k. is_same_key k b.at) (exact_keys a.at b.at e) ∙ same_self b.at)
+    by Greater e =
+        let back : key_cmp b.at a.at ≡ Less = key_total.antisymm b.at a.at ∙ ap ordering_reverse e in
+        (λ i. tied (e i) (back i)) ∙ sym (greater_other a.at b.at back)
+
+-- which values a key has doesn't depend on the order of the keys
+pub values_stable : (text ordered : List Assignment) (key : UnitKey) → IsStableBy is_lower text ordered → values_of ordered key ≡ values_of text key
+values_stable text ordered key h =
+    let one : Assignment = record { at = key; value = [] } in
+    let of_key : (xs : List Assignment) → filter (ties is_lower one) xs ≡ filter (λ a. is_same_key key a.at) xs = λ xs. λ i. filter (λ a. ties_same one a i) xs in
+    ap (λ (xs : List Assignment). after_last_empty (map (λ (a : Assignment). a.value) xs)) (sym (of_key ordered) ∙ h one ∙ of_key text)

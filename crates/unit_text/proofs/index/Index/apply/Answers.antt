@@ -1,0 +1,48 @@
+use Rattle.std.proofs.Common.{◌≡◌, ◌<◌, ◌==◌, ℕ, List, length, refl, sym, ap, ◌∙◌, subst, ⊎_elim, OnOk, Result, Ok, Err, Some}
+use Rattle.std.specs.List.{slice_get}
+use Rattle.std.proofs.lemmas.Bool.{cases_lt}
+use Rattle.std.proofs.lemmas.Option.{slice_get_past, none-some}
+use Rattle.std.proofs.lemmas.Result.{on_ok_weaker}
+use Rattle.unit_text.specs.declared.unit_key.UnitKey.{UnitKey}
+use Rattle.unit_text.specs.UnitKey.{key_of}
+use Rattle.unit_text.specs.Index.{IsPlaceFor}
+use Rattle.unit_text.proofs.IndexLemmas.{drops, adds, skips, inserts}
+use Rattle.unit_text.proofs.index.Index.apply.Goals as goal
+
+within : {X : Type 0} (xs : List X) (at : ℕ) (x : X) → slice_get xs at ≡ Some x → at < length xs
+within xs at x e = ⊎_elim (λ h. h) (λ h. absurd (none-some x (sym (slice_get_past xs at h) ∙ e))) (cases_lt at (length xs))
+
+both : {T E P Q R : Type 0} (r : Result T E) → (P → Q → R) → OnOk r P → OnOk r Q → OnOk r R
+both (Ok x) f p q = f p q
+both (Err e) f p q = tt
+
+pub returns-in-Ok-clause-ok : goal.returns-in-Ok-clause-ok
+returns-in-Ok-clause-ok c text is =
+    let found = c.in-Ok.ensures.found ∙ ap Some (λ i. key_of (c.as_str-2.ensures i) (c.as_str-3.ensures i)) in
+    drops text c.args.assignment c.args.self.now c.remove.new.self is c.in-Ok.at (within _ _ _ found) found
+    (ap (λ t. length t == 0) (sym c.as_str.ensures) ∙ sym c.if-is_empty.ensures) c.remove.ensures.keys c.remove.ensures.values
+
+pub add_value-requires : goal.add_value-requires
+add_value-requires c = subst (λ (n : ℕ). c.in-Ok.at < n) (sym c.requires.as_many) (within _ _ _ c.in-Ok.ensures.found)
+
+pub returns-in-Ok-2-clause-ok : goal.returns-in-Ok-2-clause-ok
+returns-in-Ok-2-clause-ok c text is =
+    let found = c.in-Ok.ensures.found ∙ ap Some (λ i. key_of (c.as_str-2.ensures i) (c.as_str-3.ensures i)) in
+    on_ok_weaker c.add_value.result
+    (adds text c.args.assignment c.args.self.now c.add_value.new.self is c.in-Ok.at (within _ _ _ found) found
+    (ap (λ t. length t == 0) (sym c.as_str.ensures) ∙ sym c.if-is_empty.ensures) c.add_value.ensures.keys)
+    c.add_value.ensures.values
+
+pub returns-in-Err-clause-ok : goal.returns-in-Err-clause-ok
+returns-in-Err-clause-ok c text is =
+    let place = subst (λ (key : UnitKey). IsPlaceFor c.args.self.now.keys key c.in-Err.field-0) (λ i. key_of (c.as_str-2.ensures i) (c.as_str-3.ensures i)) c.in-Err.ensures.missing in
+    skips text c.args.assignment c.args.self.now c.args.self.now is c.in-Err.field-0 place
+    (ap (λ t. length t == 0) (sym c.as_str.ensures) ∙ sym c.if-is_empty-2.ensures) refl refl
+
+pub returns-clause-ok : goal.returns-clause-ok
+returns-clause-ok c text is =
+    let place = subst (λ (key : UnitKey). IsPlaceFor c.args.self.now.keys key c.in-Err.field-0) (λ i. key_of (c.as_str-2.ensures i) (c.as_str-3.ensures i)) c.in-Err.ensures.missing in
+    both c.insert.result
+    (inserts text c.args.assignment c.args.self.now c.insert.new.self is c.in-Err.field-0 place
+    (ap (λ t. length t == 0) (sym c.as_str.ensures) ∙ sym c.if-is_empty-2.ensures))
+    c.insert.ensures.keys c.insert.ensures.values

@@ -1,0 +1,7 @@
+pub mod Index
+pub mod Lines
+pub mod Reader
+pub mod Statement
+pub mod TextFault
+pub mod UnitKey
+pub mod UnitText

@@ -1,0 +1,36 @@
+//! Assignments of a unit file.
+ghost use Rattle.std.specs.Prelude.{◌≡◌, IfOk};
+
+use crate::unit_key::UnitKey;
+use std::alloc::{AllocError, Global};
+use switch_names::Text;
+
+/// A value that a key is given. An empty one clears the earlier values.
+#[derive(Debug, Drop)]
+pub struct Assignment {
+    pub at: UnitKey,
+    pub value: Text,
+}
+
+impl Assignment {
+    /// An equal assignment.
+    pub fn copy(&self, alloc: Global) -> Result<Assignment, AllocError>
+        ensures { IfOk result (λ copied. copied ≡ self.now) }
+    {
+        Ok(Assignment {
+            at: self.at.copy(alloc)?,
+            value: self.value.copy(alloc)?,
+        })
+    }
+}
+
+/// Equal assignments.
+pub fn copies(alloc: Global, assignments: &[Assignment]) -> Result<Vec<Assignment>, AllocError>
+    ensures { IfOk result (λ copied. copied.items ≡ assignments.now) }
+{
+    let mut copied = Vec::with_capacity(alloc, assignments.len())?;
+    for assignment in assignments {
+        copied.push(assignment.copy(alloc)?)?;
+    }
+    Ok(copied)
+}

@@ -1,0 +1,18 @@
+//! Unit files: their lines, and the values that their keys are given.
+#![tactic(auto)]
+
+mod assignment;
+mod flag;
+mod index;
+mod lines;
+mod reader;
+mod statement;
+#[cfg(test)]
+mod tests;
+mod text_fault;
+mod unit_key;
+mod unit_text;
+
+pub use text_fault::TextFault;
+pub use unit_key::UnitKey;
+pub use unit_text::{UnitText, parse};
