@@ -11,14 +11,14 @@ move_leaf-requires-clause-present g c =
     let leaves = c.new-world.result.leaves in
     let leaf = c.in_ok-link.field-0 in
     let there = ap (λ (w : WorldState). get w.leaves c.in_ok-from.from) c.in_ok-was.ensures.ok
-      ∙ ap (λ p. get (insert leaves p leaf) c.in_ok-from.from) c.in_ok-copy.ensures ∙ at_same leaves c.in_ok-from.from leaf in
+    ∙ ap (λ p. get (insert leaves p leaf) c.in_ok-from.from) c.in_ok-copy.ensures ∙ at_same leaves c.in_ok-from.from leaf in
     subst (λ o. IsSome o) (sym there) refl
 
 -- and none stands above or below the one that it is moved to
 pub move_leaf-requires-clause-clear : goal.move_leaf-requires-clause-clear
 move_leaf-requires-clause-clear g c q line =
     let apart : is_in_line c.in_ok-copy.field-0 c.in_ok-to.to ≡ false = ap (λ p. is_in_line p c.in_ok-to.to) (c.in_ok-copy.ensures ∙ c.in_ok-from.ensures.ok)
-      ∙ ap (is_in_line (120 ∷ [])) c.in_ok-to.ensures.ok in
+    ∙ ap (is_in_line (120 ∷ [])) c.in_ok-to.ensures.ok in
     ap (λ (w : WorldState). get w.leaves q) c.in_ok-was.ensures.ok
     ∙ clear_insert c.new-world.result.leaves c.in_ok-copy.field-0 c.in_ok-to.to c.in_ok-link.field-0 apart
-      (λ r in_line. ap (λ (w : WorldState). get w.leaves r) c.new-world.ensures ∙ get-empty bytes_cmp r) q line
+    (λ r in_line. ap (λ (w : WorldState). get w.leaves r) c.new-world.ensures ∙ get-empty bytes_cmp r) q line
