@@ -1,5 +1,5 @@
 -- From a command's run to that of the words which give it.
-use Rattle.std.proofs.Common.{◌≡◌, ◌⊎◌, ℕ, Bool, true, false, cond, nat_eq, codes, List, [], ◌∷◌, Option, None, Some, is_none, option_map, refl, ap, subst, ◌∙◌, inl, inr, arith}
+use Rattle.std.proofs.Common.{◌≡◌, ℕ, Bool, true, false, cond, nat_eq, codes, List, [], ◌∷◌, Option, None, Some, is_none, option_map, refl, ap, subst, ◌∙◌, inl, inr, arith}
 use Rattle.std.specs.Cmp.Lexicographic.{pointwise}
 use Rattle.switch_names.specs.SystemName.{NamesSystem, system_fault, system_path}
 use Rattle.switch_names.proofs.StorePaths.{IsSystemPath-from_named, NamesSystem-with_slash}

@@ -4,6 +4,8 @@
 mod booting;
 mod carrying;
 mod command;
+#[cfg(test)]
+mod generation_tests;
 mod laws;
 mod out_sink;
 mod planning;

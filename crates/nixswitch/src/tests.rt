@@ -24,17 +24,26 @@ fn world_of(alloc: Global, systems: &[&str], links: &[(&str, &str)]) -> Result<W
     Ok(world)
 }
 
+/// A line for a link that stands at a place of a world.
+fn link_line(alloc: Global, world: &World, at: &Path) -> Result<String, AllocError> {
+    match world.leaf(at) {
+        Some(leaf) => match leaf.kind() {
+            LeafKind::Link { target } => {
+                format!(in alloc; "{} {}|", at.as_str(), target.as_str())
+            }
+            LeafKind::File { .. } => Ok(String::new(alloc)),
+        },
+        None => Ok(String::new(alloc)),
+    }
+}
+
 /// The links below `nix/var`, a line each.
 fn links_of(alloc: Global, world: &World) -> Result<String, Fail> {
     let mut text = String::new(alloc);
     let all = world.list(alloc, &Path::parse(alloc, "nix/var")?)?;
-    for path in all.as_slice() {
-        if let Some(leaf) = world.leaf(path) {
-            if let LeafKind::Link { target } = leaf.kind() {
-                let line = format!(in alloc; "{} {}|", path.as_str(), target.as_str())?;
-                text.push_str(line.as_str())?;
-            }
-        }
+    for at in all.as_slice() {
+        let line = link_line(alloc, world, at)?;
+        text.push_str(line.as_str())?;
     }
     Ok(text)
 }

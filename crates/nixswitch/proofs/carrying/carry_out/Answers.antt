@@ -1,10 +1,8 @@
-use Rattle.std.proofs.Common.{◌≡◌, ◌⊎◌, refl, sym, subst, ◌∙◌, inl, inr}
+use Rattle.std.proofs.Common.{refl, sym, subst, ◌∙◌, inl, inr}
 use Rattle.std.proofs.lemmas.Result.{err_from_is_err_and}
 use Rattle.host_trait.specs.Change.{IsSame}
-use Rattle.host_trait.specs.World.{seen}
 use Rattle.host_trait.specs.Sink.{IsPrefixOf}
-use Rattle.host_trait.proofs.Moments.{started, leads_as}
-use Rattle.generations.specs.Places.{set_end}
+use Rattle.host_trait.proofs.Moments.{started}
 use Rattle.generations.specs.Set.{IsSetMoment}
 use Rattle.nixswitch.specs.Run.{IsBootOutput, IsHostFault}
 use Rattle.nixswitch.specs.declared.refusal.RunFault.TheVariants.{Refused, Sink}

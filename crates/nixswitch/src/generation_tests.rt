@@ -1,0 +1,108 @@
+//! Which generations are found in the profiles' folder, and the numbers that they give.
+use generations::{Gens, all, number_for, number_of_name, number_of_path, previous};
+use host_memory::MemoryHost;
+use host_trait::{Leaf, World};
+use std::alloc::{AllocError, Global};
+use std::test::Fail;
+use switch_names::{Path, SystemName};
+
+/// A host whose profiles' folder has links with these names and targets.
+fn host_of(alloc: Global, links: &[(&str, &str)]) -> Result<MemoryHost, Fail> {
+    let mut world = World::new(alloc);
+    for (name, target) in links {
+        let at = format!(in alloc; "nix/var/nix/profiles/{name}")?;
+        world.set_leaf(Path::parse(alloc, at.as_str())?, Leaf::link(alloc, target)?)?;
+    }
+    Ok(MemoryHost::new(alloc, world))
+}
+
+/// The generations with their systems, the current and the previous one, and the next number.
+fn written(alloc: Global, gens: &Gens, system: &SystemName) -> Result<String, AllocError> {
+    let mut text = String::new(alloc);
+    for generation in gens.list.as_slice() {
+        let target = match &generation.target {
+            Some(target) => target.as_str(),
+            None => "nothing",
+        };
+        let number = generation.number;
+        text.push_str(format!(in alloc; "{number} {target}, ")?.as_str())?;
+    }
+    let current = gens.current;
+    let previous = previous(gens);
+    let next = number_for(gens, system);
+    text.push_str(format!(in alloc; "{current:?} {previous:?} {next:?}")?.as_str())?;
+    Ok(text)
+}
+
+#[test]
+fn generations_are_the_links_whose_names_are_written_so(rt: HostRuntime) -> Result<(), Fail> {
+    let alloc = rt.alloc();
+    let system = SystemName::parse(alloc, "nix/store/b")?;
+    let none: &[(&str, &str)] = &[];
+    let rows: [(&str, &[(&str, &str)], &str); 5] = [
+        ("no links", none, "None None Some(1)"),
+        (
+            "the numbers ascend, and other names are passed over",
+            &[
+                ("system", "system-2-link"),
+                ("system-0-link", "/nix/store/a"),
+                ("system-01-link", "/nix/store/a"),
+                ("system-1-link", "/nix/store/a"),
+                ("system-10-link", "/home/a"),
+                ("system-2-link", "nix/store/b"),
+                ("system-3-link.tmp", "/nix/store/a"),
+                ("system-4294967296-link", "/nix/store/a"),
+                ("user-3-link", "/nix/store/a"),
+            ],
+            "1 nix/store/a, 2 nix/store/b, 10 nothing, Some(2) Some(1) Some(11)",
+        ),
+        (
+            "the current one has to stand",
+            &[
+                ("system", "system-3-link"),
+                ("system-1-link", "/nix/store/a"),
+            ],
+            "1 nix/store/a, None None Some(2)",
+        ),
+        (
+            "the highest keeps its number for its system",
+            &[
+                ("system", "system-7-link"),
+                ("system-7-link", "/nix/store/b"),
+            ],
+            "7 nix/store/b, Some(7) None Some(7)",
+        ),
+        (
+            "none follows the last number",
+            &[("system-4294967295-link", "/nix/store/a")],
+            "4294967295 nix/store/a, None None None",
+        ),
+    ];
+    for (row, links, want) in rows {
+        let mut host = host_of(alloc, links)?;
+        let gens = all(alloc, &mut host)?;
+        let text = written(alloc, &gens, &system)?;
+        assert_eq!(rt; text.as_str(), want, "{row}");
+    }
+    Ok(())
+}
+
+#[test]
+fn a_link_bears_a_number_by_its_name_and_by_its_path(rt: HostRuntime) -> Result<(), Fail> {
+    let alloc = rt.alloc();
+    for (name, want) in [
+        ("system-12-link", Some(12)),
+        ("system-012-link", None),
+        ("system", None),
+    ] {
+        let path = format!(in alloc; "nix/var/nix/profiles/{name}")?;
+        assert_eq!(rt; number_of_name(alloc, name)?, want, "{name}");
+        assert_eq!(rt; number_of_path(alloc, path.as_str())?, want, "{name}");
+        assert_eq!(rt;
+            number_of_path(alloc, name)?,
+            None,
+            "{name} alone is no path of a link"
+        );
+    }
+    Ok(())
+}
