@@ -58,7 +58,8 @@ module _ {X : Type 0} where
   no_entries [] e = refl
   no_entries (x ∷ es) e = absurd (omega arith)
 
-  ordered_entries : (es : List (List ℕ × X)) → IsStrictlySortedBy bytes_cmp (keys_of es) → entries (from_entries {R = bytes_cmp} es) ≡ es
+  -- the entries of a map of sorted entries
+  pub ordered_entries : (es : List (List ℕ × X)) → IsStrictlySortedBy bytes_cmp (keys_of es) → entries (from_entries {R = bytes_cmp} es) ≡ es
   unfolding IsStrictlySortedBy
   ordered_entries [] sorted = no_entries _ (sym (len-entries empty) ∙ len-empty bytes_cmp X)
   ordered_entries (e ∷ es) sorted =

@@ -1,6 +1,9 @@
+pub mod Bytes
 pub mod Change
 pub mod Host
 pub mod Leaf
 pub mod LeafMap
+pub mod Manager
 pub mod Sink
+pub mod States
 pub mod World

@@ -1,18 +1,14 @@
 -- The world that a run changes: leaves by path, as a file tree without its folders has them.
 use Rattle.std.specs.Prelude.{◌≡◌, ℕ, ◌&&◌, ◌||◌, not, Bool, true, IsSome, List, nat_eq, codes, count_by, drop, filter, Option, None, Some, is_none, if◌then◌else◌, refl}
 use Rattle.std.specs.Coded.{Coded, code_by, coded_list, coded_ℕ}
-use Rattle.std.specs.Cmp.Lexicographic.{slice_cmp, pointwise}
-use Rattle.std.specs.FinMap.{FinMap, get, insert, remove, keys, from_entries}
+use Rattle.std.specs.Cmp.Lexicographic.{pointwise}
+use Rattle.std.specs.FinMap.{FinMap, get, insert, remove, keys}
 use Rattle.std.specs.FinMap as map
 use Rattle.std.specs.List.{starts_with}
-use Rattle.std.specs.Ordering.{nat_cmp}
 use Rattle.switch_names.specs.Path.{IsPath, is_below, path_fault}
+pub use Rattle.host_trait.specs.Bytes.{bytes_cmp}
 use Rattle.host_trait.specs.declared.leaf.LeafKind.{LeafKind}
 use Rattle.host_trait.specs.declared.leaf.LeafKind.TheVariants.{File, Link}
-
--- paths are in the order of their bytes
-abbrev pub bytes_cmp : List ℕ → List ℕ → Rattle.std.specs.declared.cmp.Ordering.Ordering
-bytes_cmp = slice_cmp nat_cmp
 
 -- the leaves of a tree by path
 abbrev pub Leaves : Type 0

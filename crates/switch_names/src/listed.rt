@@ -1,5 +1,5 @@
 //! A list that contracts see as its items.
-ghost use Rattle.std.specs.Prelude.{◌≡◌, ◌<◌, ◌≤◌, ◌++◌, [], ◌∷◌, length, take, drop, Some, OnOk, OnErr, slice_get};
+ghost use Rattle.std.specs.Prelude.{◌≡◌, ◌<◌, ◌≤◌, ◌++◌, [], ◌∷◌, length, take, drop, Some, OnOk, OnErr, slice_get, slice_set};
 
 use std::alloc::{AllocError, Global};
 use std::marker::Model;
@@ -76,6 +76,15 @@ impl<T> Listed<T> {
         ensures rest { self.old ≡ take at self.new ++ result ∷ drop at self.new }
     {
         self.items.remove(at)
+    }
+
+    /// Puts an item in the place of another, and hands that one back.
+    pub fn replace(&mut self, at: usize, item: T) -> T
+        requires { at < length self.old }
+        ensures was { slice_get self.old at ≡ Some result }
+        ensures new { self.new ≡ slice_set self.old at item }
+    {
+        std::mem::replace(&mut self.items[at], item)
     }
 
     /// The items, lent.

@@ -1,0 +1,51 @@
+//! What a service manager did, and what fails when it starts it.
+ghost use Rattle.std.specs.Prelude.{◌≡◌, IfOk};
+
+use std::alloc::{AllocError, Global};
+use switch_names::{Text, UnitName};
+
+/// What is done to a unit: systemctl(1), "Unit Commands".
+#[derive(Clone, Copy, Debug, PartialEq, Eq)]
+pub enum Act {
+    /// It is stopped.
+    Stop,
+    /// It is told to read its configuration anew.
+    Reload,
+    /// It is stopped, and then started.
+    Restart,
+    /// It is started, where it isn't yet.
+    Start,
+}
+
+/// One act in the journal.
+#[derive(Debug, Drop)]
+pub struct Entry {
+    /// The unit on which it was done.
+    pub unit: UnitName,
+    /// What was done.
+    pub act: Act,
+    /// Where the definitions lay that the manager had loaded at that moment.
+    pub loaded: Text,
+}
+
+/// A unit that fails when it is started under these definitions.
+#[derive(Debug, Drop)]
+pub struct Bad {
+    /// Where the definitions lie.
+    pub loaded: Text,
+    /// The unit that fails.
+    pub unit: UnitName,
+}
+
+impl Entry {
+    /// An equal entry.
+    pub fn copy(&self, alloc: Global) -> Result<Entry, AllocError>
+        ensures { IfOk result (λ copied. copied ≡ self.now) }
+    {
+        Ok(Entry {
+            unit: self.unit.copy(alloc)?,
+            act: self.act,
+            loaded: self.loaded.copy(alloc)?,
+        })
+    }
+}

@@ -1,0 +1,35 @@
+//! The service manager's part of a world.
+ghost use Rattle.std.specs.Prelude.{◌≡◌, []};
+ghost use Rattle.std.specs.FinMap as map;
+
+use crate::entry::{Bad, Entry};
+use crate::states::States;
+use std::alloc::Global;
+use switch_names::{Listed, Text};
+
+/// What a service manager knows and has done.
+#[derive(Debug, Drop)]
+pub struct ManagerState {
+    /// The states of its units.
+    pub states: States,
+    /// Where the definitions lie that it has loaded.
+    pub loaded: Text,
+    /// The units that fail when they are started, with the definitions under which they do.
+    pub bad: Listed<Bad>,
+    /// What it has done, the oldest first.
+    pub journal: Listed<Entry>,
+}
+
+impl ManagerState {
+    /// A manager that has loaded nothing, and of which every unit is inactive.
+    pub fn new(alloc: Global) -> ManagerState
+        ensures { result ≡ record { states = map.empty; loaded = []; bad = []; journal = [] } }
+    {
+        ManagerState {
+            states: States::new(alloc),
+            loaded: Text::new(alloc),
+            bad: Listed::new(alloc),
+            journal: Listed::new(alloc),
+        }
+    }
+}
