@@ -1,6 +1,8 @@
 pub mod Moments
 pub mod Orders
 pub mod Places
+pub mod Plain
+pub mod SameLeaves
 pub mod Seen
 pub mod Sound
 pub mod StateLists

@@ -76,4 +76,6 @@ seen_put m n at leaf is = elim (same_or_other at stage) [
 -- a put makes of worlds that are equal but for the stage such worlds
 pub seen_with_leaf : (at : List ℕ) (leaf : LeafKind) (v w : WorldState) → seen v ≡ seen w → seen (with_leaf at leaf v) ≡ seen (with_leaf at leaf w)
 seen_with_leaf at leaf v w is =
-    ap (λ (l : Leaves). record w { leaves = l }) (seen_put v.leaves w.leaves at leaf (leaves_of_world _ _ is))
+    let leaves = seen_put v.leaves w.leaves at leaf (leaves_of_world _ _ is) in
+    let manager = ap (λ (x : WorldState). x.manager) is in
+    λ i. record { leaves = leaves i; manager = manager i }

@@ -1,6 +1,7 @@
 -- What a service manager does: systemctl(1), "Unit Commands" and "Manager State Commands".
 use Rattle.std.specs.Prelude.{◌≡◌, ℕ, ◌&&◌, Bool, true, false, List, [], ◌∷◌, ◌++◌, nat_eq, position, None, if◌then◌else◌}
 use Rattle.std.specs.Cmp.Lexicographic.{pointwise}
+use Rattle.std.specs.FinMap.{empty}
 use Rattle.std.specs.List.{AllByRecursion, list_any}
 use Rattle.switch_names.specs.Path.{is_no_path_byte}
 use Rattle.host_trait.specs.declared.entry.Act.{Act}
@@ -10,6 +11,10 @@ use Rattle.host_trait.specs.declared.manager_state.ManagerState.{ManagerState}
 use Rattle.host_trait.specs.declared.unit_state.State.{State}
 use Rattle.host_trait.specs.declared.unit_state.State.TheVariants.{Active, Inactive, Failed}
 use Rattle.host_trait.specs.States.{state_of, with_state}
+
+-- a manager that has loaded nothing, and of which every unit is inactive
+abbrev pub empty_manager : ManagerState
+empty_manager = record { states = empty; loaded = []; bad = []; journal = [] }
 
 -- a text without a NUL or a line feed
 abbrev pub IsPlain : List ℕ → Type 0

@@ -1,6 +1,6 @@
--- The world that a run changes: leaves by path, as a file tree without its folders has them.
-use Rattle.std.specs.Prelude.{◌≡◌, ℕ, ◌&&◌, ◌||◌, not, Bool, true, IsSome, List, nat_eq, codes, count_by, drop, filter, Option, None, Some, is_none, if◌then◌else◌, refl}
-use Rattle.std.specs.Coded.{Coded, code_by, coded_list, coded_ℕ}
+-- The world that a run changes: leaves by path, as a file tree without its folders has them, and a service manager.
+use Rattle.std.specs.Prelude.{◌≡◌, ◌≢◌, ℕ, ◌&&◌, ◌||◌, not, Bool, true, IsSome, List, nat_eq, codes, count_by, drop, filter, Option, None, Some, is_none, if◌then◌else◌, refl}
+use Rattle.std.specs.Coded.{Coded, code_by, coded×, coded_list, coded_ℕ}
 use Rattle.std.specs.Cmp.Lexicographic.{pointwise}
 use Rattle.std.specs.FinMap.{FinMap, get, insert, remove, keys}
 use Rattle.std.specs.FinMap as map
@@ -9,6 +9,9 @@ use Rattle.switch_names.specs.Path.{IsPath, is_below, path_fault}
 pub use Rattle.host_trait.specs.Bytes.{bytes_cmp}
 use Rattle.host_trait.specs.declared.leaf.LeafKind.{LeafKind}
 use Rattle.host_trait.specs.declared.leaf.LeafKind.TheVariants.{File, Link}
+use Rattle.host_trait.specs.declared.manager_state.ManagerState.{ManagerState}
+use Rattle.host_trait.specs.Manager.{empty_manager}
+use Rattle.host_trait.specs.States.{UnitStates}
 
 -- the leaves of a tree by path
 abbrev pub Leaves : Type 0
@@ -17,9 +20,16 @@ Leaves = FinMap bytes_cmp LeafKind
 -- all that a run sees and changes
 pub record WorldState : Type 0 where
   pub leaves : Leaves
+  pub manager : ManagerState
 
-abbrev pub world_code : Coded LeafKind → Coded WorldState
-world_code leaf = code_by Leaves (map.code (coded_list coded_ℕ) leaf) (λ w. w.leaves) (λ leaves. record { leaves = leaves }) (λ _. refl)
+abbrev pub world_code : Coded LeafKind → Coded ManagerState → Coded WorldState
+world_code leaf manager =
+    code_by (Leaves × ManagerState) (coded× (map.code (coded_list coded_ℕ) leaf) manager)
+    (λ w. (w.leaves, w.manager)) (λ parts. record { leaves = parts.0; manager = parts.1 }) (λ _. refl)
+
+-- the world without a leaf, with a manager that has done nothing
+abbrev pub empty_world : WorldState
+empty_world = record { leaves = map.empty; manager = empty_manager }
 
 -- whether two paths are equal
 abbrev pub is_path : List ℕ → List ℕ → Bool
@@ -58,6 +68,19 @@ stage = codes "nix/var/nixswitch.stage"
 abbrev pub seen : WorldState → WorldState
 seen w = record w { leaves = remove w.leaves stage }
 
+-- what two runs have to leave alike: the leaves but for the stage, the states of units, and what is loaded
+pub record Shown : Type 0 where
+  pub leaves : Leaves
+  pub states : UnitStates
+  pub loaded : List ℕ
+
+abbrev pub shown : WorldState → Shown
+shown w = record { leaves = remove w.leaves stage; states = w.manager.states; loaded = w.manager.loaded }
+
+-- two trees have the same at a path, unless that is the stage
+abbrev pub IsSameAt : Leaves → Leaves → List ℕ → Type 0
+IsSameAt leaves other path = path ≢ stage → get leaves path ≡ get other path
+
 -- the world with a leaf put at a path
 abbrev pub with_leaf : List ℕ → LeafKind → WorldState → WorldState
 with_leaf at leaf w = record w { leaves = insert w.leaves at leaf }
@@ -65,6 +88,10 @@ with_leaf at leaf w = record w { leaves = insert w.leaves at leaf }
 -- the world without the leaf at a path
 abbrev pub without_leaf : List ℕ → WorldState → WorldState
 without_leaf at w = record w { leaves = remove w.leaves at }
+
+-- the world with a manager in another state
+abbrev pub with_manager : ManagerState → WorldState → WorldState
+with_manager manager w = record w { manager = manager }
 
 -- whether a path equals another or lies below it, and isn't the stage
 abbrev pub is_listed : List ℕ → List ℕ → Bool

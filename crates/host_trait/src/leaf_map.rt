@@ -1,11 +1,11 @@
 //! Leaves by path, in std's ordered map.
-ghost use Rattle.std.specs.Prelude.{◌≡◌, ◌≢◌, IfOk, OnOk, OnErr, IsErrOf, IsSome, IsOk, MatchBool};
+ghost use Rattle.std.specs.Prelude.{◌≡◌, ◌≢◌, ◌↔◌, IfOk, OnOk, OnErr, IsErrOf, IsSome, IsOk, IsTrue, MatchBool};
 ghost use Rattle.std.specs.FinMap.{get, insert, remove};
 ghost use Rattle.std.specs.BTreeMap.{keys};
-ghost use Rattle.std.specs.List.{list_any};
+ghost use Rattle.std.specs.List.{AllByRecursion, list_any};
 ghost use Rattle.std.specs.Option.{option_copied};
 ghost use Rattle.switch_names.specs.Path.{IsPath};
-ghost use Rattle.host_trait.specs.World.{IsClear, IsInTheWay, IsSound, is_elsewhere, is_path, is_in_line, is_listed, leaf_count, listed, moved, stage};
+ghost use Rattle.host_trait.specs.World.{IsSameAt, IsClear, IsInTheWay, IsSound, is_elsewhere, is_path, is_in_line, is_listed, leaf_count, listed, moved, stage};
 ghost use Rattle.host_trait.specs.LeafMap.{leaves_of};
 
 use crate::leaf::Leaf;
@@ -165,4 +165,37 @@ pub fn move_entry(
     let leaf = remove_leaf(leaves, from).unwrap();
     let _blank = put_leaf(leaves, second, leaf).unwrap();
     Ok(was)
+}
+
+/// Whether two maps have the same at a path, unless that is the stage's.
+fn is_same_at(leaves: &BTreeMap<Path, Leaf>, other: &BTreeMap<Path, Leaf>, path: &Path) -> bool
+    ensures { IsTrue result ↔ IsSameAt (leaves_of leaves.now) (leaves_of other.now) path.now }
+{
+    if is_stage(path) {
+        return true;
+    }
+    match (find_leaf(leaves, path), find_leaf(other, path)) {
+        (Some(leaf), Some(that)) => leaf.same(that),
+        (None, None) => true,
+        _ => false,
+    }
+}
+
+/// Whether two maps have the same at each path of the second.
+fn are_same_at_paths(leaves: &BTreeMap<Path, Leaf>, other: &BTreeMap<Path, Leaf>) -> bool
+    ensures { IsTrue result ↔ AllByRecursion (IsSameAt (leaves_of leaves.now) (leaves_of other.now)) (keys other.now) }
+{
+    for path in other.keys() {
+        if !is_same_at(leaves, other, path) {
+            return false;
+        }
+    }
+    true
+}
+
+/// Whether two maps have the same leaves but for the stage's.
+pub fn are_same_leaves(leaves: &BTreeMap<Path, Leaf>, other: &BTreeMap<Path, Leaf>) -> bool
+    ensures { IsTrue result ↔ (remove (leaves_of leaves.now) stage ≡ remove (leaves_of other.now) stage) }
+{
+    are_same_at_paths(leaves, other) && are_same_at_paths(other, leaves)
 }

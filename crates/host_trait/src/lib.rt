@@ -5,6 +5,7 @@ mod entry;
 mod known_path;
 mod leaf;
 mod leaf_map;
+mod manager;
 mod manager_state;
 mod reading;
 mod sink;
@@ -17,8 +18,9 @@ mod world;
 mod world_fault;
 
 pub use entry::{Act, Bad, Entry};
-pub use known_path::{fixed_path, stage_path};
+pub use known_path::{definitions_path, fixed_path, stage_path};
 pub use leaf::{Leaf, LeafKind, MODE_MAX};
+pub use manager::Manager;
 pub use manager_state::ManagerState;
 pub use reading::content;
 pub use sink::{Sink, SinkFault};

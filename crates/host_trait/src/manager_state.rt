@@ -1,6 +1,6 @@
 //! The service manager's part of a world.
-ghost use Rattle.std.specs.Prelude.{◌≡◌, []};
-ghost use Rattle.std.specs.FinMap as map;
+ghost use Rattle.std.specs.Prelude.{◌≡◌};
+ghost use Rattle.host_trait.specs.Manager.{empty_manager};
 
 use crate::entry::{Bad, Entry};
 use crate::states::States;
@@ -23,7 +23,7 @@ pub struct ManagerState {
 impl ManagerState {
     /// A manager that has loaded nothing, and of which every unit is inactive.
     pub fn new(alloc: Global) -> ManagerState
-        ensures { result ≡ record { states = map.empty; loaded = []; bad = []; journal = [] } }
+        ensures { result ≡ empty_manager }
     {
         ManagerState {
             states: States::new(alloc),

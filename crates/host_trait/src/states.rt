@@ -1,5 +1,5 @@
 //! The states of units.
-ghost use Rattle.std.specs.Prelude.{◌≡◌, ◌≢◌, IfOk, IfErr, OnOk, OnErr, Some, slice_get};
+ghost use Rattle.std.specs.Prelude.{◌≡◌, ◌≢◌, ◌↔◌, IfOk, IfErr, OnOk, OnErr, IsTrue, Some, slice_get};
 ghost use Rattle.std.specs.FinMap as map;
 ghost use Rattle.host_trait.specs.States.{AreStates, IsPlaceFor, IsSortedList, listed_states, state_of, states_of, units_of, with_state};
 
@@ -98,6 +98,13 @@ fn set_in(list: &mut Listed<UnitState>, unit: UnitName, state: State) -> Result<
     }
 }
 
+/// Whether two lists of units are equal.
+fn are_same_lists(list: &[UnitState], other: &[UnitState]) -> bool
+    ensures { IsTrue result ↔ (list.now ≡ other.now) }
+{
+    list == other
+}
+
 impl States {
     /// No unit is other than inactive.
     pub fn new(alloc: Global) -> States
@@ -129,5 +136,12 @@ impl States {
         ensures err { OnErr result (self.new ≡ self.old) }
     {
         set_in(&mut self.list, unit, state)
+    }
+
+    /// Whether the two have each unit in the same state.
+    pub fn same(&self, other: &States) -> bool
+        ensures { IsTrue result ↔ (self.now ≡ other.now) }
+    {
+        are_same_lists(self.list.as_slice(), other.list.as_slice())
     }
 }

@@ -1,46 +1,58 @@
 //! The world that a run changes.
-ghost use Rattle.std.specs.Prelude.{◌≡◌, ◌≢◌, IfOk, OnOk, OnErr, IsErrOf, IsSome};
+ghost use Rattle.std.specs.Prelude.{◌≡◌, ◌≢◌, ◌++◌, ◌∷◌, [], ◌↔◌, IfOk, OnOk, OnErr, IsErrOf, IsSome, IsTrue};
 ghost use Rattle.std.specs.FinMap as map;
 ghost use Rattle.std.specs.Option.{option_copied};
-ghost use Rattle.host_trait.specs.World.{IsClear, IsInTheWay, IsSound, leaf_count, listed, moved, with_leaf, without_leaf};
+ghost use Rattle.host_trait.specs.Manager.{HasPlainTexts, IsPlain, loading};
+ghost use Rattle.host_trait.specs.States.{with_state};
+ghost use Rattle.host_trait.specs.World.{IsClear, IsInTheWay, IsSound, empty_world, leaf_count, listed, moved, shown, with_leaf, with_manager, without_leaf};
 
+use crate::entry::{Bad, Entry};
 use crate::leaf::Leaf;
-use crate::leaf_map::{count_leaves, find_leaf, list_leaves, move_entry, remove_leaf, set_entry};
+use crate::leaf_map::{
+    are_same_leaves, count_leaves, find_leaf, list_leaves, move_entry, remove_leaf, set_entry,
+};
+use crate::manager_state::ManagerState;
+use crate::states::States;
+use crate::unit_state::State;
 use crate::world_fault::WorldFault;
 use std::alloc::{AllocError, Global};
 use std::collections::BTreeMap;
 use std::marker::Model;
-use switch_names::{Listed, Path};
+use switch_names::{Listed, Path, Text, UnitName};
 
-/// Leaves at paths, none strictly above or below another.
+/// Leaves at paths, none strictly above or below another, and a service manager.
 ///
 /// A refusal of any call leaves a world as it was.
 #[derive(Debug, Drop)]
 pub struct World {
     leaves: BTreeMap<Path, Leaf>,
+    manager: ManagerState,
 }
 
 impl Model for World {
     ghost use Rattle.host_trait.specs.World.{WorldState, world_code, IsSound};
     ghost use Rattle.host_trait.specs.contracts.leaf.LeafKind as kind;
+    ghost use Rattle.host_trait.specs.contracts.manager_state.ManagerState as service;
     ghost use Rattle.host_trait.specs.LeafMap.{leaves_of};
+    ghost use Rattle.host_trait.specs.Manager.{HasPlainTexts};
 
     ghost Value = { WorldState };
 
-    ghost coded = { world_code kind.the_row.coded };
+    ghost coded = { world_code kind.the_row.coded service.the_row.coded };
 
-    ghost view = { λ world. record { leaves = leaves_of world.leaves } };
+    ghost view = { λ world. record { leaves = leaves_of world.leaves; manager = world.manager } };
 
-    ghost invariant = { λ world. IsSound (leaves_of world.leaves) };
+    ghost invariant = { λ world. IsSound (leaves_of world.leaves) × HasPlainTexts world.manager };
 }
 
 impl World {
     /// The empty world.
     pub fn new(alloc: Global) -> World
-        ensures { result ≡ record { leaves = map.empty } }
+        ensures { result ≡ empty_world }
     {
         World {
             leaves: BTreeMap::new(alloc),
+            manager: ManagerState::new(alloc),
         }
     }
 
@@ -103,5 +115,71 @@ impl World {
         ensures sound { IsSound self.new.leaves }
     {
         move_entry(alloc, &mut self.leaves, from, to)
+    }
+    /// The units that aren't inactive, with their states.
+    pub fn states(&self) -> &States
+        ensures { result.now ≡ self.now.manager.states }
+    {
+        &self.manager.states
+    }
+
+    /// Where the definitions lie that the manager has loaded.
+    pub fn loaded(&self) -> &Text
+        ensures text { result.now ≡ self.now.manager.loaded }
+        ensures plain { HasPlainTexts self.now.manager }
+    {
+        &self.manager.loaded
+    }
+
+    /// What the manager has done, the oldest first.
+    pub fn journal(&self) -> &Listed<Entry>
+        ensures { result.now ≡ self.now.manager.journal }
+    {
+        &self.manager.journal
+    }
+
+    /// Brings a unit to a state, without an entry.
+    pub fn set_state(&mut self, unit: UnitName, state: State) -> Result<(), AllocError>
+        ensures ok { OnOk result (self.new ≡ with_manager (record self.old.manager { states = with_state unit state self.old.manager.states }) self.old) }
+        ensures err { OnErr result (self.new ≡ self.old) }
+    {
+        self.manager.states.set(unit, state)
+    }
+
+    /// Says where the definitions lie that the manager has loaded.
+    pub fn set_loaded(&mut self, text: Text)
+        requires { IsPlain text }
+        ensures { self.new ≡ with_manager (loading text self.old.manager) self.old }
+    {
+        self.manager.loaded = text;
+    }
+
+    /// Adds a unit that fails when it is started under these definitions.
+    pub fn add_bad(&mut self, bad: Bad) -> Result<(), AllocError>
+        requires { IsPlain bad.loaded }
+        ensures ok { OnOk result (self.new ≡ with_manager (record self.old.manager { bad = self.old.manager.bad ++ bad ∷ [] }) self.old) }
+        ensures err { OnErr result (self.new ≡ self.old) }
+    {
+        self.manager.bad.push(bad)
+    }
+
+    /// Puts another state of the manager in, and hands the present one back.
+    pub fn swap_manager(&mut self, with: ManagerState) -> ManagerState
+        requires { HasPlainTexts with }
+        ensures was { result ≡ self.old.manager }
+        ensures plain { HasPlainTexts result }
+        ensures new { self.new ≡ with_manager with self.old }
+    {
+        std::mem::replace(&mut self.manager, with)
+    }
+
+    /// Whether two worlds have the same leaves but for the stage, the same states of units, and the
+    /// same definitions loaded.
+    pub fn same_seen(&self, other: &World) -> bool
+        ensures { IsTrue result ↔ (shown self.now ≡ shown other.now) }
+    {
+        self.manager.loaded == other.manager.loaded
+            && self.manager.states.same(&other.manager.states)
+            && are_same_leaves(&self.leaves, &other.leaves)
     }
 }
