@@ -1,4 +1,5 @@
 pub mod Cutting
 pub mod Histories
 pub mod Hosts
+pub mod ManagerUndoing
 pub mod Undoing

@@ -1,23 +1,38 @@
 -- A world with the record of the calls that changed it, from which its earlier worlds follow.
-use Rattle.std.specs.Prelude.{◌≡◌, ◌≤◌, ℕ, Bool, List, [], ◌∷◌, length, drop, Option, None, Some}
+use Rattle.std.specs.Prelude.{◌≡◌, ◌≤◌, ◌-◌, ℕ, Bool, List, [], ◌∷◌, length, drop, take, Option, None, Some}
 use Rattle.std.specs.FinMap.{insert, remove}
 use Rattle.host_memory.specs.declared.history.DoneCall.{DoneCall}
-use Rattle.host_memory.specs.declared.history.DoneCall.TheVariants.{Staged, Renamed, Removed}
+use Rattle.host_memory.specs.declared.history.DoneCall.TheVariants.{Staged, Renamed, Removed, Performed, Halted, Loaded}
 use Rattle.host_memory.specs.declared.history.History.{History}
 use Rattle.host_trait.specs.declared.leaf.LeafKind.{LeafKind}
 use Rattle.host_trait.specs.Host.{HostState, Passes}
-use Rattle.host_trait.specs.World.{Leaves, WorldState, moved, stage}
+use Rattle.host_trait.specs.declared.manager_state.ManagerState.{ManagerState}
+use Rattle.host_trait.specs.declared.unit_state.State.{State}
+use Rattle.host_trait.specs.Manager.{loading}
+use Rattle.host_trait.specs.States.{with_state}
+use Rattle.host_trait.specs.World.{Leaves, WorldState, moved, stage, with_manager}
 
 -- the leaves with what stood at a path put back there
 abbrev pub with_at : Leaves → List ℕ → Option LeafKind → Leaves
 with_at leaves at None = remove leaves at
 with_at leaves at (Some leaf) = insert leaves at leaf
 
+-- the manager with a unit in this state
+abbrev pub with_unit : List ℕ → State → ManagerState → ManagerState
+with_unit unit state manager = record manager { states = with_state unit state manager.states }
+
+-- a list without its last item
+abbrev pub without_last : {X : Type 0} → List X → List X
+without_last items = take (length items - 1) items
+
 -- the world before a call, from the world after it
 abbrev pub undone : DoneCall → WorldState → WorldState
 undone (Staged was) w = record w { leaves = with_at w.leaves stage was }
 undone (Renamed to was) w = record w { leaves = with_at (moved w.leaves to stage) to was }
 undone (Removed at was) w = record w { leaves = with_at w.leaves at was }
+undone (Performed unit was) w = with_manager (record (with_unit unit was w.manager) { journal = without_last w.manager.journal }) w
+undone (Halted unit was) w = with_manager (with_unit unit was w.manager) w
+undone (Loaded was) w = with_manager (loading was w.manager) w
 
 -- the world before some calls, of which the first is the oldest
 abbrev pub rewound : List DoneCall → WorldState → WorldState

@@ -9,6 +9,7 @@ use Rattle.host_memory.specs.History.{LeftSince, rewound}
 use Rattle.host_memory.specs.MemoryHost.{host_of}
 use Rattle.host_memory.specs.Troubles.{IsWithin, last_moment}
 use Rattle.host_trait.specs.Host.{IsHost}
+use Rattle.host_trait.specs.Manager.{HasPlainTexts}
 use Rattle.host_trait.specs.World.{WorldState, IsSound}
 
 some_is : {X : Type 0} (x y : X) → Some x ≡ Some y → x ≡ y
@@ -30,6 +31,7 @@ ends_by (Some c) clock n within is = let w = within c refl in let e = some_is _ 
 pub memory_is_host : (h : MemoryHost) → IsHost (host_of h)
 memory_is_host h = record {
   sound = λ w is. subst (λ (x : WorldState). IsSound x.leaves) (some_is _ _ is) h.history.sound;
+  plain = λ w is. subst (λ (x : WorldState). HasPlainTexts x.manager) (some_is _ _ is) h.history.plain;
   counts_now = λ t m early is. subst (λ x. LeftSince h.history.calls.items h.history.world t x) (some_is _ _ is) (now_counts _ _ t early);
   only_now = λ m left. ap (λ (x : WorldState). Some x) (sym (only_now _ _ m left));
   ends = λ n is. ends_by h.troubles.cut (length h.history.calls.items) n h.within is;

@@ -1,11 +1,17 @@
 //! A world with the record of the calls that changed it.
+ghost use Rattle.host_trait.specs.Manager.{HasPlainTexts};
+ghost use Rattle.host_trait.specs.States.{AreStates, state_of};
 ghost use Rattle.host_trait.specs.World.{IsSound};
+ghost use Rattle.std.proofs.Props.{props};
+ghost use Rattle.host_memory.specs.Plain.{bad_is_plain_once, entry_is_plain_once};
+ghost use Rattle.std.specs.Prelude.{◌≡◌};
 
-use host_trait::{Leaf, World, WorldFault, stage_path};
+use crate::calls::{call_of, halt_of, load_of, step_world};
+use host_trait::{Act, Leaf, State, World, WorldFault, stage_path};
 use std::alloc::{AllocError, Global};
-use switch_names::Path;
+use switch_names::{Path, Text, UnitName};
 
-/// A changing call that has finished, with the leaf that it replaced.
+/// A changing call that has finished, with the leaf, state or text that it replaced.
 #[derive(Debug, Drop)]
 pub(crate) enum DoneCall {
     /// A leaf was written at the stage.
@@ -14,6 +20,12 @@ pub(crate) enum DoneCall {
     Renamed(Path, Option<Leaf>),
     /// The leaf at this path was removed.
     Removed(Path, Option<Leaf>),
+    /// Something was done to this unit, which had been in this state.
+    Performed(UnitName, State),
+    /// This unit was stopped half way through a restart.
+    Halted(UnitName, State),
+    /// Other definitions were loaded than these.
+    Loaded(Text),
 }
 
 /// A world, and the calls that changed it, the oldest first.
@@ -22,22 +34,26 @@ pub(crate) struct History {
     world: World,
     calls: Vec<DoneCall>,
     ghost sound: { IsSound world.leaves },
+    ghost plain: { HasPlainTexts world.manager } by { Prim.hlevel (props, bad_is_plain_once, entry_is_plain_once) },
 }
 
 impl History {
     ghost use Rattle.std.specs.Prelude.{◌≡◌, ◌≢◌, ◌+◌, [], length, IsSome, OnOk, OnErr};
     ghost use Rattle.std.specs.FinMap.{get};
     ghost use Rattle.host_memory.specs.History.{GoesOn};
-    ghost use Rattle.host_trait.specs.Change.{finished, IsMoment, Stage, Rename, Remove};
-    ghost use Rattle.host_trait.specs.World.{IsClear, stage};
+    ghost use Rattle.host_trait.specs.Change.{finished, IsMoment, Stage, Rename, Remove, Perform, DaemonReload};
+    ghost use Rattle.host_trait.specs.declared.entry.Act.TheVariants.{Restart};
+    ghost use Rattle.host_trait.specs.Manager.{halted};
+    ghost use Rattle.host_trait.specs.World.{IsClear, stage, with_manager};
 
     /// A world that no call has changed.
     pub(crate) fn new(alloc: Global, world: World) -> History
         ensures world { result.world ≡ world }
         ensures calls { result.calls.items ≡ [] }
     {
-        // The count is asked for what it says of the world: that it is sound.
+        // These are asked for what they say of the world: that it is sound, and its texts plain.
         let _count = world.leaf_count();
+        let _loaded = world.loaded();
         History {
             world,
             calls: Vec::new(alloc),
@@ -110,4 +126,66 @@ impl History {
         self.calls.push_reserved(DoneCall::Removed(place, was));
         Ok(())
     }
+    /// Does something to a unit, and enters it.
+    pub(crate) fn perform(
+        &mut self,
+        alloc: Global,
+        act: Act,
+        unit: &UnitName,
+    ) -> Result<(), AllocError>
+        ensures world { OnOk result (self.new.world ≡ finished (Perform act unit.now) self.old.world) }
+        ensures clock { OnOk result (length self.new.calls.items ≡ length self.old.calls.items + 1) }
+        ensures moments { OnOk result (GoesOn self.old self.new (IsMoment (Perform act unit.now))) }
+        ensures err { OnErr result ((self.new.world ≡ self.old.world) × (self.new.calls.items ≡ self.old.calls.items)) }
+    {
+        self.calls.reserve(1)?;
+        let name = unit.copy(alloc)?;
+        let call = call_of(alloc, act, unit)?;
+        let was = state_in(&self.world, unit);
+        step_world(&mut self.world, alloc, &call)?;
+        self.calls.push_reserved(DoneCall::Performed(name, was));
+        Ok(())
+    }
+
+    /// Goes half way through a restart of a unit.
+    pub(crate) fn halt(&mut self, alloc: Global, unit: &UnitName) -> Result<(), AllocError>
+        ensures world { OnOk result (self.new.world ≡ with_manager (halted unit.now self.old.world.manager) self.old.world) }
+        ensures clock { OnOk result (length self.new.calls.items ≡ length self.old.calls.items + 1) }
+        ensures moments { OnOk result (GoesOn self.old self.new (IsMoment (Perform Restart unit.now))) }
+        ensures err { OnErr result ((self.new.world ≡ self.old.world) × (self.new.calls.items ≡ self.old.calls.items)) }
+    {
+        self.calls.reserve(1)?;
+        let name = unit.copy(alloc)?;
+        let call = halt_of(alloc, unit)?;
+        let was = state_in(&self.world, unit);
+        step_world(&mut self.world, alloc, &call)?;
+        self.calls.push_reserved(DoneCall::Halted(name, was));
+        Ok(())
+    }
+
+    /// Loads the definitions to which the link at their place leads.
+    pub(crate) fn load(&mut self, alloc: Global) -> Result<(), AllocError>
+        ensures world { OnOk result (self.new.world ≡ finished DaemonReload self.old.world) }
+        ensures clock { OnOk result (length self.new.calls.items ≡ length self.old.calls.items + 1) }
+        ensures moments { OnOk result (GoesOn self.old self.new (IsMoment DaemonReload)) }
+        ensures err { OnErr result ((self.new.world ≡ self.old.world) × (self.new.calls.items ≡ self.old.calls.items)) }
+    {
+        self.calls.reserve(1)?;
+        let call = load_of(alloc, &self.world)?;
+        let was = self.world.loaded().copy(alloc)?;
+        step_world(&mut self.world, alloc, &call)?;
+        self.calls.push_reserved(DoneCall::Loaded(was));
+        Ok(())
+    }
+}
+
+/// The state of a unit in a world.
+fn state_in(world: &World, unit: &UnitName) -> State
+    ensures state { result ≡ state_of world.now.manager.states unit.now }
+    ensures are_states { AreStates world.now.manager.states }
+{
+    let states = world.states();
+    // The list is asked for what it says of the states: that none of them is inactive.
+    let _list = states.list();
+    states.of(unit)
 }

@@ -1,6 +1,7 @@
 //! A host and a sink in memory: what a run changes and puts out, with cuts and faults on demand.
 #![tactic(auto)]
 
+mod calls;
 mod cuts;
 mod failures;
 mod history;

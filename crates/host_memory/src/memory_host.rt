@@ -3,12 +3,12 @@ ghost use Rattle.std.specs.Prelude.{length};
 ghost use Rattle.std.specs.Option.{ForSome};
 ghost use Rattle.host_memory.specs.Troubles.{IsWithin};
 
-use crate::cuts::{cut_remove, cut_rename, cut_stage};
+use crate::cuts::{cut_load, cut_perform, cut_remove, cut_rename, cut_stage};
 use crate::history::History;
 use crate::troubles::Troubles;
-use host_trait::{HostFault, Leaf, Tree, World};
+use host_trait::{Act, HostFault, Leaf, Manager, States, Tree, World};
 use std::alloc::Global;
-use switch_names::{Listed, Path};
+use switch_names::{Listed, Path, UnitName};
 
 /// A host in memory, with a record of the calls that changed its world. It fails where it is told to.
 #[derive(Debug, Drop)]
@@ -200,4 +200,109 @@ impl Tree for MemoryHost {
     }
 
     ghost is_host = { memory_is_host };
+}
+
+impl MemoryHost {
+    ghost use Rattle.std.specs.Prelude.{OnOk};
+    ghost use Rattle.host_memory.specs.MemoryHost.{Does, host_of, verdict};
+    ghost use Rattle.host_trait.specs.Change.{finished, IsMoment, Perform};
+    ghost use Rattle.host_trait.specs.Host.{Becomes, HasCause, Passes};
+
+    /// Does something to a unit, or fails, or is cut.
+    fn perform(&mut self, alloc: Global, act: Act, unit: &UnitName) -> Result<(), HostFault>
+        ensures does { Does (Perform act unit.now) (verdict self.old) self.old self.new result }
+        ensures ok { OnOk result (Becomes (host_of self.old) (host_of self.new) (finished (Perform act unit.now))) }
+        ensures moments { Passes (host_of self.old) (host_of self.new) (IsMoment (Perform act unit.now)) }
+        ensures cause { HasCause (host_of self.old) (host_of self.new) result }
+    {
+        self.troubles.admit()?;
+        match self.troubles.due(self.history.clock()) {
+            None => {
+                self.history.perform(alloc, act, unit)?;
+                Ok(())
+            }
+            Some(cut) => {
+                cut_perform(&mut self.history, alloc, act, unit, cut.pick)?;
+                Err(self.troubles.fall(cut))
+            }
+        }
+    }
+}
+
+impl Manager for MemoryHost {
+    ghost use Rattle.std.specs.Prelude.{◌≡◌, ◌↔◌, IfOk, OnOk, IsErrOf, IsTrue};
+    ghost use Rattle.host_memory.specs.MemoryHost.{Does, after_read, host_of, is_refusing, troubles_of, verdict};
+    ghost use Rattle.host_trait.specs.Change.{finished, IsMoment, IsSame, Perform, DaemonReload};
+    ghost use Rattle.host_trait.specs.declared.entry.Act.TheVariants.{Stop, Reload, Restart, Start};
+    ghost use Rattle.host_trait.specs.declared.tree.HostFault.TheVariants.{Device};
+    ghost use Rattle.host_trait.specs.declared.unit_state.State.TheVariants.{Active};
+    ghost use Rattle.host_trait.specs.Host.{Told, Becomes, Passes, HasCause};
+    ghost use Rattle.host_trait.specs.States.{state_of};
+
+    fn units(&mut self, alloc: Global) -> Result<States, HostFault>
+        ensures device { IsErrOf result Device ↔ IsTrue (is_refusing self.old) }
+        ensures troubles { troubles_of self.new ≡ after_read self.old }
+        ensures states { IfOk result (λ states. Told (host_of self.old) (λ w. states ≡ w.manager.states)) }
+        ensures moments { Passes (host_of self.old) (host_of self.new) IsSame }
+        ensures cause { HasCause (host_of self.old) (host_of self.new) result }
+    {
+        self.troubles.admit()?;
+        Ok(self.history.world().states().copy(alloc)?)
+    }
+
+    fn stop(&mut self, alloc: Global, unit: &UnitName) -> Result<(), HostFault>
+        ensures does { Does (Perform Stop unit.now) (verdict self.old) self.old self.new result }
+        ensures ok { OnOk result (Becomes (host_of self.old) (host_of self.new) (finished (Perform Stop unit.now))) }
+        ensures moments { Passes (host_of self.old) (host_of self.new) (IsMoment (Perform Stop unit.now)) }
+        ensures cause { HasCause (host_of self.old) (host_of self.new) result }
+    {
+        self.perform(alloc, Act::Stop, unit)
+    }
+
+    fn start(&mut self, alloc: Global, unit: &UnitName) -> Result<(), HostFault>
+        ensures does { Does (Perform Start unit.now) (verdict self.old) self.old self.new result }
+        ensures ok { OnOk result (Becomes (host_of self.old) (host_of self.new) (finished (Perform Start unit.now))) }
+        ensures moments { Passes (host_of self.old) (host_of self.new) (IsMoment (Perform Start unit.now)) }
+        ensures cause { HasCause (host_of self.old) (host_of self.new) result }
+    {
+        self.perform(alloc, Act::Start, unit)
+    }
+
+    fn restart(&mut self, alloc: Global, unit: &UnitName) -> Result<(), HostFault>
+        ensures does { Does (Perform Restart unit.now) (verdict self.old) self.old self.new result }
+        ensures ok { OnOk result (Becomes (host_of self.old) (host_of self.new) (finished (Perform Restart unit.now))) }
+        ensures moments { Passes (host_of self.old) (host_of self.new) (IsMoment (Perform Restart unit.now)) }
+        ensures cause { HasCause (host_of self.old) (host_of self.new) result }
+    {
+        self.perform(alloc, Act::Restart, unit)
+    }
+
+    fn reload(&mut self, alloc: Global, unit: &UnitName) -> Result<(), HostFault>
+        requires { Told (host_of self.old) (λ w. state_of w.manager.states unit.now ≡ Active) }
+        ensures does { Does (Perform Reload unit.now) (verdict self.old) self.old self.new result }
+        ensures ok { OnOk result (Becomes (host_of self.old) (host_of self.new) (finished (Perform Reload unit.now))) }
+        ensures moments { Passes (host_of self.old) (host_of self.new) (IsMoment (Perform Reload unit.now)) }
+        ensures cause { HasCause (host_of self.old) (host_of self.new) result }
+    {
+        self.perform(alloc, Act::Reload, unit)
+    }
+
+    fn daemon_reload(&mut self, alloc: Global) -> Result<(), HostFault>
+        ensures does { Does DaemonReload (verdict self.old) self.old self.new result }
+        ensures ok { OnOk result (Becomes (host_of self.old) (host_of self.new) (finished DaemonReload)) }
+        ensures moments { Passes (host_of self.old) (host_of self.new) (IsMoment DaemonReload) }
+        ensures cause { HasCause (host_of self.old) (host_of self.new) result }
+    {
+        self.troubles.admit()?;
+        match self.troubles.due(self.history.clock()) {
+            None => {
+                self.history.load(alloc)?;
+                Ok(())
+            }
+            Some(cut) => {
+                cut_load(&mut self.history, alloc, cut.pick)?;
+                Err(self.troubles.fall(cut))
+            }
+        }
+    }
 }

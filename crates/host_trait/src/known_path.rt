@@ -1,7 +1,6 @@
 //! Paths that the program knows by heart.
 ghost use Rattle.std.specs.Prelude.{◌≡◌, IfOk, None};
 ghost use Rattle.switch_names.specs.Path.{path_fault};
-ghost use Rattle.host_trait.specs.Change.{definitions_place};
 ghost use Rattle.host_trait.specs.World.{stage};
 
 use std::alloc::{AllocError, Global};
@@ -21,12 +20,4 @@ pub fn stage_path(alloc: Global) -> Result<Path, AllocError>
     ensures { IfOk result (λ path. path ≡ stage) }
 {
     fixed_path(alloc, "nix/var/nixswitch.stage")
-}
-
-/// The place of the link that leads to the definitions that a manager loads.
-#[tactic(auto, unfolding(crate::specs::Change::definitions_place))]
-pub fn definitions_path(alloc: Global) -> Result<Path, AllocError>
-    ensures { IfOk result (λ path. path ≡ definitions_place) }
-{
-    fixed_path(alloc, "etc/static")
 }

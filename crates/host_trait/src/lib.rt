@@ -1,6 +1,7 @@
 //! The world that a run changes, and the host that a run reads and changes it through.
 #![tactic(auto)]
 
+mod definitions;
 mod entry;
 mod known_path;
 mod leaf;
@@ -17,8 +18,9 @@ mod unit_state;
 mod world;
 mod world_fault;
 
+pub use definitions::{definitions_path, loaded_text};
 pub use entry::{Act, Bad, Entry};
-pub use known_path::{definitions_path, fixed_path, stage_path};
+pub use known_path::{fixed_path, stage_path};
 pub use leaf::{Leaf, LeafKind, MODE_MAX};
 pub use manager::Manager;
 pub use manager_state::ManagerState;

@@ -105,6 +105,20 @@ fn are_same_lists(list: &[UnitState], other: &[UnitState]) -> bool
     list == other
 }
 
+/// Equal units in the same states.
+fn copy_list(alloc: Global, list: &[UnitState]) -> Result<Vec<UnitState>, AllocError>
+    ensures { IfOk result (λ copied. copied.items ≡ list.now) }
+{
+    let mut copied = Vec::with_capacity(alloc, list.len())?;
+    for one in list {
+        copied.push(UnitState {
+            unit: one.unit.copy(alloc)?,
+            state: one.state,
+        })?;
+    }
+    Ok(copied)
+}
+
 impl States {
     /// No unit is other than inactive.
     pub fn new(alloc: Global) -> States
@@ -143,5 +157,14 @@ impl States {
         ensures { IsTrue result ↔ (self.now ≡ other.now) }
     {
         are_same_lists(self.list.as_slice(), other.list.as_slice())
+    }
+
+    /// Equal states.
+    pub fn copy(&self, alloc: Global) -> Result<States, AllocError>
+        ensures { IfOk result (λ copied. copied ≡ self.now) }
+    {
+        Ok(States {
+            list: Listed::from_vec(copy_list(alloc, self.list.as_slice())?),
+        })
     }
 }

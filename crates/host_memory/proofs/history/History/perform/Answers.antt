@@ -1,0 +1,9 @@
+use Rattle.host_memory.proofs.Histories.{one_more}
+use Rattle.host_memory.proofs.ManagerUndoing.{performed}
+use Rattle.host_memory.proofs.history.History.perform.Goals as goal
+
+pub returns-clause-moments : goal.returns-clause-moments
+returns-clause-moments c =
+    performed _ _ c.args.act c.args.unit.now _ _ _ c.in_ok-name.ensures c.state_in-was.ensures.state c.state_in-was.ensures.are_states
+    c.in_ok-step_world.ensures.ok (c.in_ok-call.ensures.does c.args.self.now.world.manager)
+    (one_more _ _ _ _ c.push_reserved.ensures.items c.reserve.ensures.items)

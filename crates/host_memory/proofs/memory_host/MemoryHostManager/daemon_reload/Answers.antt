@@ -1,0 +1,35 @@
+use Rattle.std.proofs.Common.{sym}
+use Rattle.host_memory.proofs.Hosts.{stands_in, stood, becomes, refused_cause, cut_cause}
+use Rattle.host_memory.proofs.memory_host.MemoryHostManager.daemon_reload.Goals as goal
+use Rattle.host_trait.specs.Change.{DaemonReload, finished}
+
+pub returns-in_err-admit-clause-moments : goal.returns-in_err-admit-clause-moments
+returns-in_err-admit-clause-moments c = stands_in c.args.self.now.history c.args.self.now.troubles c.admit.new.self DaemonReload
+
+pub returns-in_err-admit-clause-cause : goal.returns-in_err-admit-clause-cause
+returns-in_err-admit-clause-cause c =
+    refused_cause c.args.self.now.history c.args.self.now.troubles c.admit.new.self _
+    (sym c.in_err-admit.ensures.answer) c.in_err-admit.ensures.new c.admit.ensures.later
+
+pub returns-in_err-load-in-None-clause-moments : goal.returns-in_err-load-in-None-clause-moments
+returns-in_err-load-in-None-clause-moments c =
+    stood c.args.self.now.history c.load.new.self c.args.self.now.troubles c.admit.new.self DaemonReload c.in_err-load-in-None.ensures.err
+
+pub returns-in_ok-load-in-None-clause-ok : goal.returns-in_ok-load-in-None-clause-ok
+returns-in_ok-load-in-None-clause-ok c =
+    becomes c.args.self.now.history c.load.new.self c.args.self.now.troubles c.admit.new.self (finished DaemonReload) c.in_ok-load-in-None.ensures.world
+
+pub returns-in_ok-load-in-None-clause-moments : goal.returns-in_ok-load-in-None-clause-moments
+returns-in_ok-load-in-None-clause-moments c = c.in_ok-load-in-None.ensures.moments.passes _ _ _ _ _ _
+
+pub returns-in_err-cut_load-in-Some-clause-moments : goal.returns-in_err-cut_load-in-Some-clause-moments
+returns-in_err-cut_load-in-Some-clause-moments c =
+    stood c.args.self.now.history c.cut_load.new.history c.args.self.now.troubles c.admit.new.self DaemonReload c.in_err-cut_load-in-Some.ensures.err
+
+pub returns-in_ok-cut_load-in-Some-clause-moments : goal.returns-in_ok-cut_load-in-Some-clause-moments
+returns-in_ok-cut_load-in-Some-clause-moments c = c.in_ok-cut_load-in-Some.ensures.moments.passes _ _ _ _ _ _
+
+pub returns-in_ok-cut_load-in-Some-clause-cause : goal.returns-in_ok-cut_load-in-Some-clause-cause
+returns-in_ok-cut_load-in-Some-clause-cause c =
+    cut_cause c.args.self.now.history c.cut_load.new.history c.args.self.now.troubles c.admit.new.self c.fall.new.self c.in-Some.cut c.clock.result _
+    c.in_ok-admit.ensures.new (sym c.in-Some.ensures) c.fall.ensures.new c.fall.ensures.later
