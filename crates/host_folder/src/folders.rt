@@ -39,6 +39,14 @@ impl Folders {
         })
     }
 
+    /// The root, below which everything stands. An empty one is no folder.
+    pub fn root(&self) -> io::Result<&str> {
+        if self.root.is_empty() {
+            return Err(foreign());
+        }
+        Ok(self.root.as_str())
+    }
+
     /// The place of a path's leaf, below the tree's folder. An empty root is no folder.
     pub fn place(&self, alloc: Global, at: &Path) -> io::Result<String>
         ensures { IfOk result (λ place. string_bytes place ≡ string_bytes self.now.tree ++ slash ∷ at.now) }

@@ -1,29 +1,40 @@
 //! The host over a folder.
 ghost use Rattle.std.specs.Prelude.{◌≡◌, ◌++◌, codes, IfOk, string_bytes};
 ghost use Rattle.host_trait.specs.Host.{HasCause};
+ghost use Rattle.std.proofs.Props.{props};
+ghost use Rattle.std.specs.Option.{ForSome};
 ghost use Rattle.host_folder.specs.Folder.{silent_state, silent_is_host};
+ghost use Rattle.host_trait.specs.Plain.{bad_is_plain_once, entry_is_plain_once};
+ghost use Rattle.host_trait.specs.Manager.{HasPlainTexts};
+ghost use Rattle.manager_core.specs.Call.{IsPlainCall};
 
 use crate::folders::{Folders, Missing};
 use crate::listing::list_leaves;
+use crate::manager_file::{call_of, read_manager, step_manager};
 use crate::node_file::read_leaf;
 use crate::place::{Found, fault_of, look};
 use crate::stage::{Stage, move_leaf, write_leaf};
-use host_trait::{HostFault, Leaf, Tree};
+use host_trait::{
+    Act, HostFault, Leaf, Manager, ManagerState, States, Tree, definitions_path, loaded_text,
+};
+use manager_core::Call;
 use std::alloc::{AllocError, Global};
 use std::rt::Files;
 use std::{fs, io};
-use switch_names::{Listed, Path};
+use switch_names::{Listed, Path, UnitName};
 
 /// A host over a folder of the file system. It tells nothing of its world.
 ///
-/// A node that can't be read, a name that is none of a path, a symbolic link or a special file
+/// A node or a manager's state that can't be read, a name that is none of a path, a symbolic link or a special file
 /// below the tree, and whatever the file system refuses, is a fault that is counted.
 #[derive(Drop)]
 pub struct FolderHost<R: Files + AllocGlobal + Clone + Drop> {
     rt: R,
     tree: Folders,
     stage: Stage,
+    manager: Option<ManagerState>,
     faults: u64,
+    ghost plain: { ForSome manager HasPlainTexts } by { Prim.hlevel (props, bad_is_plain_once, entry_is_plain_once) },
 }
 
 /// The leaf at a path.
@@ -66,6 +77,7 @@ impl<R: Files + AllocGlobal + Clone + Drop> FolderHost<R> {
             rt: rt.clone()?,
             tree: Folders::new(rt.alloc(), root)?,
             stage: Stage::Unseen,
+            manager: None,
             faults: 0,
         })
     }
@@ -75,6 +87,48 @@ impl<R: Files + AllocGlobal + Clone + Drop> FolderHost<R> {
         ensures { result ≡ self.now.faults }
     {
         self.faults
+    }
+
+    /// The manager's state, which is read once.
+    fn take_manager(&mut self, alloc: Global) -> io::Result<ManagerState>
+        ensures { IfOk result HasPlainTexts }
+    {
+        match self.manager.take() {
+            Some(state) => Ok(state),
+            None => read_manager(&self.rt, alloc, self.tree.root()?),
+        }
+    }
+
+    /// The states of the units.
+    fn read_units(&mut self, alloc: Global) -> io::Result<States> {
+        let state = self.take_manager(alloc)?;
+        let states = state.states.copy(alloc)?;
+        self.manager = Some(state);
+        Ok(states)
+    }
+
+    /// Makes a call on the manager. Its state is read again after one that has failed.
+    fn make(&mut self, alloc: Global, call: &Call) -> io::Result<()>
+        requires { IsPlainCall call.now }
+    {
+        let mut state = self.take_manager(alloc)?;
+        step_manager(&self.rt, alloc, self.tree.root()?, &mut state, call)?;
+        self.manager = Some(state);
+        Ok(())
+    }
+
+    /// Does something to a unit.
+    fn perform(&mut self, alloc: Global, act: Act, unit: &UnitName) -> io::Result<()> {
+        let call = call_of(alloc, act, unit)?;
+        self.make(alloc, &call)
+    }
+
+    /// Loads the definitions to which the link at their place leads.
+    fn load(&mut self, alloc: Global) -> io::Result<()> {
+        let place = definitions_path(alloc)?;
+        let leaf = leaf_at(&self.rt, alloc, &mut self.tree, &place)?;
+        let text = loaded_text(alloc, leaf.as_ref())?;
+        self.make(alloc, &Call::DaemonReload(text))
     }
 
     /// The answer of a call, counted where it is a fault of the device.
@@ -124,4 +178,37 @@ impl<R: Files + AllocGlobal + Clone + Drop> Tree for FolderHost<R> {
     }
 
     ghost is_host = { λ host. silent_is_host host.faults };
+}
+
+#[tactic(auto, using(crate::proofs::Silence::silence))]
+impl<R: Files + AllocGlobal + Clone + Drop> Manager for FolderHost<R> {
+    fn units(&mut self, alloc: Global) -> Result<States, HostFault> {
+        let answer = self.read_units(alloc);
+        self.counted(answer)
+    }
+
+    fn stop(&mut self, alloc: Global, unit: &UnitName) -> Result<(), HostFault> {
+        let answer = self.perform(alloc, Act::Stop, unit);
+        self.counted(answer)
+    }
+
+    fn start(&mut self, alloc: Global, unit: &UnitName) -> Result<(), HostFault> {
+        let answer = self.perform(alloc, Act::Start, unit);
+        self.counted(answer)
+    }
+
+    fn restart(&mut self, alloc: Global, unit: &UnitName) -> Result<(), HostFault> {
+        let answer = self.perform(alloc, Act::Restart, unit);
+        self.counted(answer)
+    }
+
+    fn reload(&mut self, alloc: Global, unit: &UnitName) -> Result<(), HostFault> {
+        let answer = self.perform(alloc, Act::Reload, unit);
+        self.counted(answer)
+    }
+
+    fn daemon_reload(&mut self, alloc: Global) -> Result<(), HostFault> {
+        let answer = self.load(alloc);
+        self.counted(answer)
+    }
 }

@@ -1,6 +1,7 @@
-//! A tree of leaves in a folder of the file system.
+//! A tree of leaves and a service manager in a folder of the file system.
 //!
-//! Each leaf is a node file below `<root>/tree`. Nothing outside the root is read, written or
+//! Each leaf is a node file below `<root>/tree`, and the manager's state is the file
+//! `<root>/manager`. Nothing outside the root is read, written or
 //! removed, whatever stands below it: no symbolic link below the tree is followed.
 #![tactic(auto)]
 
@@ -8,6 +9,7 @@ mod clearing;
 mod folders;
 mod host;
 mod listing;
+mod manager_file;
 mod node_file;
 mod place;
 mod stage;

@@ -30,7 +30,7 @@ fn fill<F: Read>(file: &mut F, buffer: &mut [u8]) -> io::Result<usize> {
 }
 
 /// The bytes of a regular file, of which there are this many.
-fn read_bytes<R: Files>(rt: &R, alloc: Global, place: &str, len: u64) -> io::Result<Vec<u8>> {
+pub fn read_bytes<R: Files>(rt: &R, alloc: Global, place: &str, len: u64) -> io::Result<Vec<u8>> {
     if len > FILE_MAX {
         return Err(foreign());
     }

@@ -4,5 +4,4 @@ pub mod History
 pub mod Laws
 pub mod MemoryHost
 pub mod MemorySink
-pub mod Plain
 pub mod Troubles

@@ -3,7 +3,7 @@ ghost use Rattle.host_trait.specs.Manager.{HasPlainTexts};
 ghost use Rattle.host_trait.specs.States.{AreStates, state_of};
 ghost use Rattle.host_trait.specs.World.{IsSound};
 ghost use Rattle.std.proofs.Props.{props};
-ghost use Rattle.host_memory.specs.Plain.{bad_is_plain_once, entry_is_plain_once};
+ghost use Rattle.host_trait.specs.Plain.{bad_is_plain_once, entry_is_plain_once};
 ghost use Rattle.std.specs.Prelude.{◌≡◌};
 
 use crate::calls::{call_of, halt_of, load_of, step_world};

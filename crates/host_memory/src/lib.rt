@@ -13,4 +13,6 @@ pub use memory_host::MemoryHost;
 pub use memory_sink::MemorySink;
 
 #[cfg(test)]
+mod manager_tests;
+#[cfg(test)]
 mod tests;

@@ -1,8 +1,7 @@
 ghost use Rattle.std.specs.Prelude.{◌≡◌, ◌≢◌, codes, false, IfOk, Some};
-ghost use Rattle.std.specs.FinMap as map;
 ghost use Rattle.host_memory.specs.MemoryHost.{host_of};
 ghost use Rattle.host_trait.specs.Host.{Told};
-ghost use Rattle.host_trait.specs.World.{IsClear, is_in_line, stage};
+ghost use Rattle.host_trait.specs.World.{IsClear, empty_world, is_in_line, stage};
 
 use super::*;
 use host_trait::{HostFault, Leaf, LeafKind, Sink, Tree, World, fixed_path, stage_path};
@@ -79,7 +78,7 @@ fn end_of(
     alloc: Global,
     host: &mut MemoryHost,
 ) -> Result<(bool, Option<u16>, Option<u16>), AllocError>
-    requires { (host_of host.old).world ≡ Some (record { leaves = map.empty }) }
+    requires { (host_of host.old).world ≡ Some empty_world }
 {
     let to = place(alloc)?;
     let stage = stage_path(alloc)?;

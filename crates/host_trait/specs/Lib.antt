@@ -4,6 +4,7 @@ pub mod Host
 pub mod Leaf
 pub mod LeafMap
 pub mod Manager
+pub mod Plain
 pub mod Sink
 pub mod States
 pub mod World

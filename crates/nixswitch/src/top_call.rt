@@ -14,7 +14,7 @@ use crate::booting::boot;
 use crate::command::{Command, read_words};
 use crate::refusal::Refusal;
 use crate::status::{Status, status_of};
-use host_trait::{Sink, Tree};
+use host_trait::{Manager, Sink, Tree};
 use std::alloc::Global;
 use switch_names::{SystemName, Text};
 
@@ -32,13 +32,13 @@ fn boot_status<T: Tree, S: Sink>(
 }
 
 /// Carries a command out, and says how that ended.
-fn command_status<T: Tree, S: Sink>(
+fn command_status<H: Manager, S: Sink>(
     alloc: Global,
-    host: &mut T,
+    host: &mut H,
     out: &mut S,
     command: &Command,
 ) -> Status
-    ensures { RunsCommand (T.host host.old) (T.host host.new) (S.sink out.old) (S.sink out.new) command.now result }
+    ensures { RunsCommand (H.host host.old) (H.host host.new) (S.sink out.old) (S.sink out.new) command.now result }
 {
     match command {
         Command::Boot(system) => boot_status(alloc, host, out, system),
@@ -46,8 +46,8 @@ fn command_status<T: Tree, S: Sink>(
 }
 
 /// Reads the words and carries their command out.
-fn answer<T: Tree, S: Sink>(alloc: Global, words: &[Text], host: &mut T, out: &mut S) -> Status
-    ensures { Runs (T.host host.old) (T.host host.new) (S.sink out.old) (S.sink out.new) words.now result }
+fn answer<H: Manager, S: Sink>(alloc: Global, words: &[Text], host: &mut H, out: &mut S) -> Status
+    ensures { Runs (H.host host.old) (H.host host.new) (S.sink out.old) (S.sink out.new) words.now result }
 {
     match read_words(alloc, words) {
         Ok(Some(command)) => command_status(alloc, host, out, &command),
@@ -62,36 +62,36 @@ fn answer<T: Tree, S: Sink>(alloc: Global, words: &[Text], host: &mut T, out: &m
 /// that wasn't cut leaves: see `each_moment`, where `IsUnderway` says so of each world that a cut
 /// may leave. At each of them the profile names the system that it named before or the one of the
 /// command.
-pub fn run<T: Tree, S: Sink>(alloc: Global, words: &[Text], host: &mut T, out: &mut S) -> Status
+pub fn run<H: Manager, S: Sink>(alloc: Global, words: &[Text], host: &mut H, out: &mut S) -> Status
     // Words that give no command.
     ensures usage { result ≡ Status.Usage → command_of words.now ≡ None }
     ensures no_command { command_of words.now ≡ None → (result ≡ Status.Usage) ⊎ (result ≡ Status.NoMemory) }
     ensures usage_output { command_of words.now ≡ None → Puts (S.sink out.old) (S.sink out.new) (λ more. more ≡ []) }
 
     // A refusal is the world's, and nothing was put.
-    ensures refused { (why : Refusal) → result ≡ Status.Refused why → (command : Command) → command_of words.now ≡ Some command → Told (T.host host.old) (λ w. refusal w command ≡ Some why) }
+    ensures refused { (why : Refusal) → result ≡ Status.Refused why → (command : Command) → command_of words.now ≡ Some command → Told (H.host host.old) (λ w. refusal w command ≡ Some why) }
     ensures refused_output { (why : Refusal) → result ≡ Status.Refused why → Puts (S.sink out.old) (S.sink out.new) (λ more. more ≡ []) }
 
     // A run that is done has left the final world.
-    ensures done { result ≡ Status.Done → (command : Command) → command_of words.now ≡ Some command → Leads (T.host host.old) (T.host host.new) (λ w v. seen v ≡ final w command) }
-    ensures done_not_refused { result ≡ Status.Done → (command : Command) → command_of words.now ≡ Some command → Told (T.host host.old) (λ w. refusal w command ≡ None) }
-    ensures output { (command : Command) → command_of words.now ≡ Some command → Told (T.host host.old) (λ w. Puts (S.sink out.old) (S.sink out.new) (IsOutputOf result w command)) }
+    ensures done { result ≡ Status.Done → (command : Command) → command_of words.now ≡ Some command → Leads (H.host host.old) (H.host host.new) (λ w v. seen v ≡ final w command) }
+    ensures done_not_refused { result ≡ Status.Done → (command : Command) → command_of words.now ≡ Some command → Told (H.host host.old) (λ w. refusal w command ≡ None) }
+    ensures output { (command : Command) → command_of words.now ≡ Some command → Told (H.host host.old) (λ w. Puts (S.sink out.old) (S.sink out.new) (IsOutputOf result w command)) }
 
     // A fault has its cause.
-    ensures host_fault { result ≡ Status.HostFault → Rose (T.host host.old).faults (T.host host.new).faults }
-    ensures sure { IsTrue (T.host host.old).is_sure → IsTrue (T.host host.new).is_sure }
-    ensures never_sure { IsTrue (T.host host.old).is_sure → result ≡ Status.HostFault → ⊥ }
-    ensures same_last { (T.host host.new).last ≡ (T.host host.old).last }
+    ensures host_fault { result ≡ Status.HostFault → Rose (H.host host.old).faults (H.host host.new).faults }
+    ensures sure { IsTrue (H.host host.old).is_sure → IsTrue (H.host host.new).is_sure }
+    ensures never_sure { IsTrue (H.host host.old).is_sure → result ≡ Status.HostFault → ⊥ }
+    ensures same_last { (H.host host.new).last ≡ (H.host host.old).last }
     ensures sink_fault { result ≡ Status.SinkFault → Rose (S.sink out.old).faults (S.sink out.new).faults }
-    ensures sink_not_refused { result ≡ Status.SinkFault → (command : Command) → command_of words.now ≡ Some command → Told (T.host host.old) (λ w. refusal w command ≡ None) }
-    ensures sink_world { result ≡ Status.SinkFault → (command : Command) → command_of words.now ≡ Some command → IsUnchangedOrAt (T.host host.old) (T.host host.new) (λ w. final w command) }
+    ensures sink_not_refused { result ≡ Status.SinkFault → (command : Command) → command_of words.now ≡ Some command → Told (H.host host.old) (λ w. refusal w command ≡ None) }
+    ensures sink_world { result ≡ Status.SinkFault → (command : Command) → command_of words.now ≡ Some command → IsUnchangedOrAt (H.host host.old) (H.host host.new) (λ w. final w command) }
 
     // Without a fault the answer is the world's.
-    ensures completes { ¬ Rose (T.host host.old).faults (T.host host.new).faults → ¬ Rose (S.sink out.old).faults (S.sink out.new).faults → (command : Command) → command_of words.now ≡ Some command → Told (T.host host.old) (λ w. IsAnswerTo (refusal w command) result) }
+    ensures completes { ¬ Rose (H.host host.old).faults (H.host host.new).faults → ¬ Rose (S.sink out.old).faults (S.sink out.new).faults → (command : Command) → command_of words.now ≡ Some command → Told (H.host host.old) (λ w. IsAnswerTo (refusal w command) result) }
 
     // Whatever cuts it, the same run ends as if it hadn't been cut.
-    ensures each_moment { EachMoment (T.host host.old) (T.host host.new) (IsMomentOf words.now) }
-    ensures moments { Passes (T.host host.old) (T.host host.new) (IsMomentOf words.now) }
+    ensures each_moment { EachMoment (H.host host.old) (H.host host.new) (IsMomentOf words.now) }
+    ensures moments { Passes (H.host host.old) (H.host host.new) (IsMomentOf words.now) }
 {
     answer(alloc, words, host, out)
 }

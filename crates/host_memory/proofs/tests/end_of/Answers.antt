@@ -1,11 +1,11 @@
 use Rattle.std.proofs.Common.{◌≡◌, ℕ, List, codes, false, true, Some, sym, subst, refl, ◌∙◌}
 use Rattle.std.proofs.lemmas.Bool.{both_ways}
 use Rattle.std.specs.Cmp.Lexicographic.{nat_list_eq_equiv}
-use Rattle.std.specs.FinMap.{empty, get-empty}
+use Rattle.std.specs.FinMap.{get-empty}
 use Rattle.host_memory.proofs.tests.end_of.Goals as goal
 use Rattle.host_trait.proofs.Moments.{one_world}
 use Rattle.host_trait.specs.Host.{HostState, Told}
-use Rattle.host_trait.specs.World.{IsClear, WorldState, bytes_cmp, is_in_line, is_path, stage}
+use Rattle.host_trait.specs.World.{IsClear, WorldState, empty_world, bytes_cmp, is_in_line, is_path, stage}
 
 is_other : is_path (codes "etc/put") stage ≡ false
 unfolding stage
@@ -19,7 +19,7 @@ not_below : is_in_line stage (codes "etc/put") ≡ false
 unfolding stage
 not_below = refl
 
-empty_clear : (host : HostState) (p : List ℕ) → host.world ≡ Some (record { leaves = empty }) → Told host (λ w. IsClear w.leaves p)
+empty_clear : (host : HostState) (p : List ℕ) → host.world ≡ Some empty_world → Told host (λ w. IsClear w.leaves p)
 empty_clear host p is = record {
   has = λ w told. subst (λ (x : WorldState). IsClear x.leaves p) (one_world host.world _ w is told) (λ q line. get-empty bytes_cmp q);
 }

@@ -1,0 +1,162 @@
+//! What each act of the manager leaves, whole and cut.
+ghost use Rattle.std.specs.Prelude.{◌≡◌, ◌≢◌, IfOk, IfErr, Some};
+ghost use Rattle.host_memory.specs.MemoryHost.{host_of};
+ghost use Rattle.host_trait.specs.Host.{Told};
+ghost use Rattle.host_trait.specs.States.{state_of};
+
+use crate::MemoryHost;
+use host_trait::{Act, Bad, HostFault, Leaf, Manager, State, World, definitions_path};
+use std::alloc::{AllocError, Global};
+use std::test::Fail;
+use switch_names::{Listed, Text, UnitName};
+
+/// The name of the unit in these tests.
+fn unit_name(alloc: Global) -> Result<UnitName, Fail> {
+    Ok(UnitName::parse(alloc, "a.service")?)
+}
+
+/// A world whose manager has loaded `/old`, and in which `/new` is there to be loaded. A unit may be bad
+/// under the definitions that are loaded.
+fn world_to_load(alloc: Global, is_bad: bool) -> Result<World, Fail> {
+    let mut world = World::new(alloc);
+    world.set_leaf(definitions_path(alloc)?, Leaf::link(alloc, "/new")?)?;
+    world.set_loaded(Text::from_str(alloc, "/old")?);
+    if is_bad {
+        world.add_bad(Bad {
+            loaded: Text::from_str(alloc, "/old")?,
+            unit: unit_name(alloc)?,
+        })?;
+    }
+    Ok(world)
+}
+
+/// The same world, in which a unit is active.
+fn active_world(alloc: Global, is_bad: bool, unit: &UnitName) -> Result<World, Fail>
+    ensures { IfOk result (λ world. state_of world.manager.states unit.now ≡ State.Active) }
+{
+    let mut world = world_to_load(alloc, is_bad)?;
+    let name = unit.copy(alloc)?;
+    world.set_state(name, State::Active)?;
+    Ok(world)
+}
+
+/// Does something to a unit, or loads definitions.
+fn do_act<M: Manager>(
+    alloc: Global,
+    host: &mut M,
+    act: Option<Act>,
+    unit: &UnitName,
+) -> Result<(), HostFault>
+    requires { Told (M.host host.old) (λ w. state_of w.manager.states unit.now ≡ State.Active) }
+{
+    match act {
+        Some(Act::Stop) => host.stop(alloc, unit),
+        Some(Act::Reload) => host.reload(alloc, unit),
+        Some(Act::Restart) => host.restart(alloc, unit),
+        Some(Act::Start) => host.start(alloc, unit),
+        None => host.daemon_reload(alloc),
+    }
+}
+
+/// Cuts the next call of a host, where there is a pick.
+fn arm_at(host: &mut MemoryHost, pick: Option<u64>)
+    ensures { (host_of host.new).world ≡ (host_of host.old).world }
+{
+    if let Some(pick) = pick {
+        host.arm(0, pick);
+    }
+}
+
+/// The units and their states, what is loaded, and the journal.
+fn written(alloc: Global, world: &World) -> Result<String, AllocError> {
+    let mut text = String::new(alloc);
+    for one in world.states().list().as_slice() {
+        let unit = one.unit.as_str();
+        let state = one.state;
+        text.push_str(format!(in alloc; "{unit} {state:?} ")?.as_str())?;
+    }
+    text.push_str(world.loaded().as_str())?;
+    for entry in world.journal().as_slice() {
+        let unit = entry.unit.as_str();
+        let act = entry.act;
+        let loaded = entry.loaded.as_str();
+        text.push_str(format!(in alloc; " {act:?} {unit} {loaded}")?.as_str())?;
+    }
+    Ok(text)
+}
+
+/// What an act on an active unit leaves, cut or whole, and whether it is whole.
+fn end_of(
+    alloc: Global,
+    act: Option<Act>,
+    is_bad: bool,
+    pick: Option<u64>,
+) -> Result<(bool, String), Fail> {
+    let unit = unit_name(alloc)?;
+    let world = active_world(alloc, is_bad, &unit)?;
+    let mut host = MemoryHost::new(alloc, world);
+    arm_at(&mut host, pick);
+    let is_whole = do_act(alloc, &mut host, act, &unit).is_ok();
+    Ok((is_whole, written(alloc, host.world())?))
+}
+
+#[test]
+fn an_act_on_an_active_unit_leaves_its_row_of_the_table(rt: HostRuntime) -> Result<(), Fail> {
+    let before = "a.service Active /old";
+    for (act, is_bad, pick, want) in [
+        (Some(Act::Stop), false, Some(0), before),
+        (Some(Act::Stop), false, Some(1), "/old Stop a.service /old"),
+        (Some(Act::Stop), false, Some(2), before),
+        (Some(Act::Stop), false, None, "/old Stop a.service /old"),
+        (Some(Act::Reload), true, Some(0), before),
+        (Some(Act::Reload), true, Some(1), "a.service Active /old Reload a.service /old"),
+        (Some(Act::Reload), true, Some(2), before),
+        (Some(Act::Reload), true, None, "a.service Active /old Reload a.service /old"),
+        (Some(Act::Restart), false, Some(0), before),
+        (Some(Act::Restart), false, Some(1), "/old"),
+        (Some(Act::Restart), false, Some(2), "a.service Active /old Restart a.service /old"),
+        (Some(Act::Restart), false, None, "a.service Active /old Restart a.service /old"),
+        (Some(Act::Restart), true, Some(0), before),
+        (Some(Act::Restart), true, Some(1), "/old"),
+        (Some(Act::Restart), true, Some(2), "a.service Failed /old Restart a.service /old"),
+        (Some(Act::Restart), true, None, "a.service Failed /old Restart a.service /old"),
+        (Some(Act::Start), true, Some(0), before),
+        (Some(Act::Start), true, Some(1), "a.service Active /old Start a.service /old"),
+        (Some(Act::Start), true, Some(2), before),
+        (Some(Act::Start), true, None, "a.service Active /old Start a.service /old"),
+        (None, false, Some(0), before),
+        (None, false, Some(1), "a.service Active /new"),
+        (None, false, Some(2), before),
+        (None, false, None, "a.service Active /new"),
+    ] {
+        let (is_whole, left) = end_of(rt.alloc(), act, is_bad, pick)?;
+        assert_eq!(rt; left.as_str(), want, "{act:?} at {pick:?}, bad: {is_bad}");
+        assert_eq!(rt; is_whole, pick.is_none(), "{act:?} at {pick:?}");
+    }
+    Ok(())
+}
+
+/// What a start of a unit that isn't active leaves, and the same unit's state as the host tells it.
+fn started(alloc: Global, is_bad: bool) -> Result<(String, Option<State>), Fail> {
+    let unit = unit_name(alloc)?;
+    let mut host = MemoryHost::new(alloc, world_to_load(alloc, is_bad)?);
+    let answer = host.start(alloc, &unit);
+    let state = match host.units(alloc) {
+        Ok(states) if answer.is_ok() => Some(states.of(&unit)),
+        _ => None,
+    };
+    Ok((written(alloc, host.world())?, state))
+}
+
+#[test]
+fn a_start_fails_where_the_unit_is_bad(rt: HostRuntime) -> Result<(), Fail> {
+    for (is_bad, want, state) in [
+        (false, "a.service Active /old Start a.service /old", State::Active),
+        (true, "a.service Failed /old Start a.service /old", State::Failed),
+    ] {
+        let (left, told) = started(rt.alloc(), is_bad)?;
+        assert_eq!(rt; left.as_str(), want, "bad: {is_bad}");
+        assert_eq!(rt; told, Some(state), "bad: {is_bad}");
+    }
+    Ok(())
+}
