@@ -1,0 +1,9 @@
+pub mod Counting
+pub mod Growth
+pub mod Lines
+pub mod Listed
+pub mod Names
+pub mod Order
+pub mod Parts
+pub mod Readable
+pub mod Splitting

@@ -1,1 +1,4 @@
 pub mod Call
+pub mod Placing
+pub mod Reading
+pub mod StateText

@@ -2,9 +2,17 @@
 #![tactic(auto)]
 
 mod call;
+mod line;
+mod placing;
+mod reading;
+mod state_fault;
 mod stepping;
 #[cfg(test)]
 mod tests;
+mod writing;
 
 pub use call::Call;
+pub use reading::read_state;
+pub use state_fault::StateFault;
 pub use stepping::step;
+pub use writing::write_state;

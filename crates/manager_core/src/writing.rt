@@ -1,0 +1,143 @@
+//! Writing the text of a manager's state.
+ghost use Rattle.std.specs.Prelude.{◌≡◌, ◌++◌, ◌∷◌, [], map, IfOk, OnOk};
+ghost use Rattle.std.specs.List.{AllByRecursion};
+ghost use Rattle.std.specs.Str.{IsUtf8};
+ghost use Rattle.switch_names.specs.UnitName.{IsUnitName};
+ghost use Rattle.host_trait.specs.Manager.{HasPlainTexts, IsPlain};
+ghost use Rattle.manager_core.specs.StateText.{IsLine, IsReadable, act_word, lines_text, state_text, state_word};
+ghost use Rattle.manager_core.specs.declared.line.Line.TheVariants as line;
+
+use host_trait::{Act, Bad, Entry, ManagerState, State, UnitState};
+use std::alloc::{AllocError, Global};
+use switch_names::{Bytes, Text, UnitName};
+
+/// The word for a state.
+fn state_word(state: State) -> &'static str
+    ensures { result.now ≡ state_word state }
+{
+    match state {
+        State::Active => "active",
+        State::Inactive => "inactive",
+        State::Failed => "failed",
+    }
+}
+
+/// The word for an act.
+fn act_word(act: Act) -> &'static str
+    ensures { result.now ≡ act_word act }
+{
+    match act {
+        Act::Stop => "stop",
+        Act::Reload => "reload",
+        Act::Restart => "restart",
+        Act::Start => "start",
+    }
+}
+
+/// Writes a word, and behind a blank a unit.
+fn write_unit(out: &mut Vec<u8>, word: &str, unit: &UnitName) -> Result<(), AllocError>
+    ensures text { OnOk result (out.new.items ≡ out.old.items ++ word.now ++ 32 ∷ unit.now) }
+    ensures name { OnOk result (IsUnitName unit.now) }
+{
+    out.extend_from_slice(word.as_bytes())?;
+    out.push(b' ')?;
+    out.extend_from_slice(unit.as_str().as_bytes())
+}
+
+/// Writes where definitions lie behind a blank, and ends the line.
+fn write_text(out: &mut Vec<u8>, text: &Text) -> Result<(), AllocError>
+    ensures text { OnOk result (out.new.items ≡ out.old.items ++ 32 ∷ text.now ++ 10 ∷ []) }
+    ensures utf8 { OnOk result (IsUtf8 text.now) }
+{
+    out.push(b' ')?;
+    out.extend_from_slice(text.as_str().as_bytes())?;
+    out.push(b'\n')?;
+    Ok(())
+}
+
+/// Writes what is loaded.
+fn write_loaded(out: &mut Vec<u8>, text: &Text) -> Result<(), AllocError>
+    requires { IsPlain text.now }
+    ensures text { OnOk result (out.new.items ≡ out.old.items ++ lines_text (line.Loaded text.now ∷ [])) }
+    ensures line { OnOk result (IsLine (line.Loaded text.now)) }
+{
+    out.extend_from_slice(b"loaded")?;
+    write_text(out, text)
+}
+
+/// Writes a unit's state.
+fn write_unit_state(out: &mut Vec<u8>, one: &UnitState) -> Result<(), AllocError>
+    ensures { OnOk result (out.new.items ≡ out.old.items ++ lines_text (line.State one.now ∷ [])) }
+{
+    write_unit(out, state_word(one.state), &one.unit)?;
+    out.push(b'\n')?;
+    Ok(())
+}
+
+/// Writes a unit that fails.
+fn write_bad(out: &mut Vec<u8>, one: &Bad) -> Result<(), AllocError>
+    requires { IsPlain one.now.loaded }
+    ensures text { OnOk result (out.new.items ≡ out.old.items ++ lines_text (line.Bad one.now ∷ [])) }
+    ensures line { OnOk result (IsLine (line.Bad one.now)) }
+{
+    write_unit(out, "bad", &one.unit)?;
+    write_text(out, &one.loaded)
+}
+
+/// Writes an act.
+fn write_entry(out: &mut Vec<u8>, one: &Entry) -> Result<(), AllocError>
+    requires { IsPlain one.now.loaded }
+    ensures text { OnOk result (out.new.items ≡ out.old.items ++ lines_text (line.Entry one.now ∷ [])) }
+    ensures line { OnOk result (IsLine (line.Entry one.now)) }
+{
+    write_unit(out, act_word(one.act), &one.unit)?;
+    write_text(out, &one.loaded)
+}
+
+/// Writes the states of units.
+fn write_states(out: &mut Vec<u8>, units: &[UnitState]) -> Result<(), AllocError>
+    ensures { OnOk result (out.new.items ≡ out.old.items ++ lines_text (map line.State units.now)) }
+{
+    for one in units {
+        write_unit_state(out, one)?;
+    }
+    Ok(())
+}
+
+/// Writes the units that fail.
+fn write_all_bad(out: &mut Vec<u8>, bad: &[Bad]) -> Result<(), AllocError>
+    requires { AllByRecursion (λ one. IsPlain one.loaded) bad.now }
+    ensures text { OnOk result (out.new.items ≡ out.old.items ++ lines_text (map line.Bad bad.now)) }
+    ensures lines { OnOk result (AllByRecursion IsLine (map line.Bad bad.now)) }
+{
+    for one in bad {
+        write_bad(out, one)?;
+    }
+    Ok(())
+}
+
+/// Writes the journal.
+fn write_journal(out: &mut Vec<u8>, journal: &[Entry]) -> Result<(), AllocError>
+    requires { AllByRecursion (λ one. IsPlain one.loaded) journal.now }
+    ensures text { OnOk result (out.new.items ≡ out.old.items ++ lines_text (map line.Entry journal.now)) }
+    ensures lines { OnOk result (AllByRecursion IsLine (map line.Entry journal.now)) }
+{
+    for one in journal {
+        write_entry(out, one)?;
+    }
+    Ok(())
+}
+
+/// The text of a manager's state, which `read_state` reads again as that state.
+pub fn write_state(alloc: Global, state: &ManagerState) -> Result<Bytes, AllocError>
+    requires { HasPlainTexts state.now }
+    ensures text { IfOk result (λ bytes. bytes ≡ state_text state.now) }
+    ensures readable { OnOk result (IsReadable state.now) }
+{
+    let mut out = Vec::new(alloc);
+    write_loaded(&mut out, &state.loaded)?;
+    write_states(&mut out, state.states.list().as_slice())?;
+    write_all_bad(&mut out, state.bad.as_slice())?;
+    write_journal(&mut out, state.journal.as_slice())?;
+    Ok(Bytes::from_vec(out))
+}
