@@ -1,0 +1,14 @@
+//! What a switch does with a unit that is Active, and the sockets that a service is paired with.
+#![tactic(auto)]
+
+mod decision;
+mod facts;
+mod flags;
+mod kinds;
+mod pairing;
+#[cfg(test)]
+mod tests;
+
+pub use decision::{Decision, decide};
+pub use flags::may_start;
+pub use pairing::sockets;

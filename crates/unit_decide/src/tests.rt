@@ -1,0 +1,431 @@
+//! Decisions and sockets by the texts that users write.
+use crate::{Decision, decide, may_start, sockets};
+use std::alloc::{AllocError, Global};
+use std::test::Fail;
+use switch_names::{Listed, UnitName};
+use unit_text::{TextFault, UnitText, parse};
+
+/// The text of a unit, where a system defines it.
+fn parsed(alloc: Global, text: Option<&str>) -> Result<Option<UnitText>, TextFault> {
+    match text {
+        Some(text) => Ok(Some(parse(alloc, text.as_bytes())?)),
+        None => Ok(None),
+    }
+}
+
+/// The decision on an Active unit that two systems define by these texts.
+fn decision(
+    rt: &HostRuntime,
+    texts: (Option<&str>, Option<&str>),
+    unit: &str,
+    live: bool,
+) -> Result<Decision, Fail> {
+    let alloc = rt.alloc();
+    let old = parsed(alloc, texts.0)?;
+    let new = parsed(alloc, texts.1)?;
+    let unit = UnitName::parse(alloc, unit)?;
+    Ok(decide(old.as_ref(), new.as_ref(), &unit, live))
+}
+
+const WEB: &str = "[Unit]\nDescription=Web\n[Service]\nExecStart=/bin/web --port 80\n";
+
+const NEW_WEB: &str = "[Unit]\nDescription=Web\n[Service]\nExecStart=/bin/web --port 8080\n";
+
+const HOME: &str = "[Mount]\nWhat=/dev/sda2\nWhere=/home\nOptions=rw\n";
+
+const NEW_HOME: &str = "[Mount]\nWhat=/dev/sdb2\nWhere=/home\nOptions=rw\n";
+
+#[test]
+fn the_first_row_that_fits_decides(rt: HostRuntime) -> Result<(), Fail> {
+    use Decision::{Nothing, Reload, Restart, SocketStart, Start, Stop, StopStart};
+    for (name, old, new, unit, live, want) in [
+        ("it goes", Some(WEB), None, "web.service", false, Stop),
+        (
+            "a socket goes",
+            Some("[Socket]\nListenStream=80\n"),
+            None,
+            "web.socket",
+            true,
+            Stop,
+        ),
+        (
+            "it goes and may stay",
+            Some("[Unit]\nX-StopOnRemoval=no\n"),
+            None,
+            "a.service",
+            false,
+            Nothing,
+        ),
+        (
+            "no system has it",
+            None,
+            None,
+            "run-u1.service",
+            false,
+            Nothing,
+        ),
+        (
+            "a target to stop",
+            Some(""),
+            Some("[Unit]\nX-StopOnReconfiguration=true\n"),
+            "nix.target",
+            false,
+            StopStart,
+        ),
+        (
+            "a target to stop for good",
+            Some(""),
+            Some("[Unit]\nX-StopOnReconfiguration=yes\nRefuseManualStart=yes\n"),
+            "nix.target",
+            false,
+            Stop,
+        ),
+        (
+            "a target",
+            Some("[Unit]\nDescription=Multi-User\n"),
+            Some("[Unit]\nDescription=Multi-User\n"),
+            "multi-user.target",
+            false,
+            Start,
+        ),
+        (
+            "a new target",
+            None,
+            Some("[Unit]\nWants=web.service\n"),
+            "web.target",
+            false,
+            Start,
+        ),
+        (
+            "a changed target",
+            Some("[Unit]\nAfter=a.target\n"),
+            Some("[Unit]\nAfter=b.target\n"),
+            "c.target",
+            false,
+            Start,
+        ),
+        (
+            "a manual target",
+            Some("[Unit]\nAfter=a.target\n"),
+            Some("[Unit]\nAfter=b.target\nX-OnlyManualStart=true\n"),
+            "c.target",
+            false,
+            Nothing,
+        ),
+        (
+            "a new service",
+            None,
+            Some(WEB),
+            "web.service",
+            true,
+            Nothing,
+        ),
+        (
+            "the same service",
+            Some(WEB),
+            Some(WEB),
+            "web.service",
+            true,
+            Nothing,
+        ),
+        (
+            "another description",
+            Some(WEB),
+            Some("[Unit]\nDescription=Web 2\n[Service]\nExecStart=/bin/web --port 80\n"),
+            "web.service",
+            false,
+            Nothing,
+        ),
+        (
+            "a path",
+            Some("[Path]\nPathExists=/a\n"),
+            Some("[Path]\nPathExists=/b\n"),
+            "a.path",
+            false,
+            Nothing,
+        ),
+        (
+            "a slice",
+            Some("[Slice]\nMemoryMax=1G\n"),
+            Some("[Slice]\nMemoryMax=2G\n"),
+            "a.slice",
+            false,
+            Nothing,
+        ),
+        (
+            "a socket",
+            Some("[Socket]\nListenStream=80\n"),
+            Some("[Socket]\nListenStream=81\n"),
+            "web.socket",
+            true,
+            Nothing,
+        ),
+        (
+            "a swap",
+            Some("[Swap]\nWhat=/dev/sda3\n"),
+            Some("[Swap]\nWhat=/dev/sdb3\n"),
+            "dev-sda3.swap",
+            false,
+            Nothing,
+        ),
+        (
+            "a scope",
+            Some("[Scope]\nRuntimeMaxSec=1\n"),
+            Some("[Scope]\nRuntimeMaxSec=2\n"),
+            "a.scope",
+            false,
+            Nothing,
+        ),
+        (
+            "a device",
+            Some("[Unit]\nAfter=a.service\n"),
+            Some("[Unit]\nAfter=b.service\n"),
+            "dev-sda.device",
+            false,
+            Nothing,
+        ),
+        (
+            "a trigger of a path",
+            Some("[Unit]\nX-Reload-Triggers=/nix/store/a\n"),
+            Some("[Unit]\nX-Reload-Triggers=/nix/store/b\n"),
+            "a.path",
+            false,
+            Nothing,
+        ),
+        (
+            "a trigger of a service",
+            Some("[Unit]\nX-Reload-Triggers=/nix/store/a\n"),
+            Some("[Unit]\nX-Reload-Triggers=/nix/store/b\n"),
+            "a.service",
+            true,
+            Reload,
+        ),
+        (
+            "a trigger of a timer",
+            Some("[Unit]\nX-Reload-Triggers=/nix/store/a\n"),
+            Some("[Unit]\nX-Reload-Triggers=/nix/store/b\n"),
+            "a.timer",
+            false,
+            Reload,
+        ),
+        (
+            "a mount's options",
+            Some(HOME),
+            Some("[Mount]\nWhat=/dev/sda2\nWhere=/home\nOptions=ro\n"),
+            "home.mount",
+            false,
+            Reload,
+        ),
+        (
+            "the root",
+            Some("[Mount]\nWhat=/dev/a\n"),
+            Some("[Mount]\nWhat=/dev/b\n"),
+            "-.mount",
+            false,
+            Reload,
+        ),
+        (
+            "the store",
+            Some("[Mount]\nWhat=/dev/a\n"),
+            Some("[Mount]\nWhat=/dev/b\n"),
+            "nix.mount",
+            false,
+            Reload,
+        ),
+        (
+            "a mount",
+            Some(HOME),
+            Some(NEW_HOME),
+            "home.mount",
+            false,
+            Restart,
+        ),
+        (
+            "it wants a reload",
+            Some(WEB),
+            Some("[Service]\nExecStart=/bin/b\nX-ReloadIfChanged=true\nX-RestartIfChanged=false\n"),
+            "web.service",
+            true,
+            Reload,
+        ),
+        (
+            "it wants no restart",
+            Some(WEB),
+            Some("[Service]\nExecStart=/bin/b\nX-RestartIfChanged=false\n"),
+            "web.service",
+            true,
+            Nothing,
+        ),
+        (
+            "nobody may stop it",
+            Some(WEB),
+            Some("[Unit]\nRefuseManualStop=true\n[Service]\nExecStart=/bin/b\n"),
+            "web.service",
+            false,
+            Nothing,
+        ),
+        (
+            "only its user starts it",
+            Some(WEB),
+            Some("[Unit]\nX-OnlyManualStart=true\n[Service]\nExecStart=/bin/b\n"),
+            "web.service",
+            false,
+            Nothing,
+        ),
+        (
+            "a timer",
+            Some("[Timer]\nOnCalendar=daily\n"),
+            Some("[Timer]\nOnCalendar=weekly\n"),
+            "backup.timer",
+            true,
+            Restart,
+        ),
+        (
+            "an automount",
+            Some("[Automount]\nWhere=/a\n"),
+            Some("[Automount]\nWhere=/b\n"),
+            "a.automount",
+            false,
+            Restart,
+        ),
+        (
+            "it isn't stopped first",
+            Some(WEB),
+            Some("[Service]\nExecStart=/bin/b\nX-StopIfChanged=0\n"),
+            "web.service",
+            true,
+            Restart,
+        ),
+        (
+            "a flag of the old text",
+            Some("[Service]\nExecStart=/bin/a\nX-StopIfChanged=no\n"),
+            Some(NEW_WEB),
+            "web.service",
+            false,
+            StopStart,
+        ),
+        (
+            "its socket is live",
+            Some(WEB),
+            Some(NEW_WEB),
+            "web.service",
+            true,
+            SocketStart,
+        ),
+        (
+            "no socket is live",
+            Some(WEB),
+            Some(NEW_WEB),
+            "web.service",
+            false,
+            StopStart,
+        ),
+    ] {
+        let got = decision(&rt, (old, new), unit, live)?;
+        assert_eq!(rt; got, want, "{name}");
+    }
+    Ok(())
+}
+
+/// The names with a blank after each.
+fn shown(alloc: Global, names: &Listed<UnitName>) -> Result<String, AllocError> {
+    let mut out = String::new(alloc);
+    for name in names.as_slice() {
+        out.push_str(name.as_str())?;
+        out.push(' ')?;
+    }
+    Ok(out)
+}
+
+#[test]
+fn a_service_is_paired_with_the_sockets_that_it_names(rt: HostRuntime) -> Result<(), Fail> {
+    let alloc = rt.alloc();
+    for (name, text, unit, want) in [
+        (
+            "no key",
+            "[Service]\nExecStart=/bin/a\n",
+            "a.service",
+            "a.socket ",
+        ),
+        (
+            "an instance",
+            "[Service]\nExecStart=/bin/a\n",
+            "a@b.service",
+            "a@b.socket ",
+        ),
+        (
+            "a cleared key",
+            "[Service]\nSockets=b.socket\nSockets=\n",
+            "a.service",
+            "a.socket ",
+        ),
+        (
+            "two words and a tab",
+            "[Service]\nSockets=b.socket\tc.socket\n",
+            "a.service",
+            "b.socket c.socket ",
+        ),
+        (
+            "words on two lines",
+            "[Service]\nSockets=c.socket  b.socket\nSockets=c.socket\n",
+            "a.service",
+            "c.socket b.socket c.socket ",
+        ),
+        (
+            "other kinds and no names",
+            "[Service]\nSockets=b.service b.socket % socket .socket\n",
+            "a.service",
+            "b.socket ",
+        ),
+        (
+            "nothing but other words",
+            "[Service]\nSockets=none\n",
+            "a.service",
+            "",
+        ),
+        (
+            "no socket starts it",
+            "[Service]\nSockets=b.socket\nX-NotSocketActivated=true\n",
+            "a.service",
+            "",
+        ),
+        (
+            "another section",
+            "[Unit]\nSockets=b.socket\n",
+            "a.service",
+            "a.socket ",
+        ),
+        (
+            "another kind",
+            "[Service]\nSockets=b.socket\n",
+            "a.target",
+            "",
+        ),
+    ] {
+        let text = parse(alloc, text.as_bytes())?;
+        let unit = UnitName::parse(alloc, unit)?;
+        let got = sockets(alloc, &text, &unit)?;
+        assert_eq!(rt; shown(alloc, &got)?.as_str(), want, "{name}");
+    }
+    Ok(())
+}
+
+#[test]
+fn a_unit_may_start_where_neither_flag_forbids_it(rt: HostRuntime) -> Result<(), Fail> {
+    let alloc = rt.alloc();
+    for (text, want) in [
+        ("", true),
+        ("[Unit]\nRefuseManualStart=true\n", false),
+        ("[Unit]\nX-OnlyManualStart=on\n", false),
+        (
+            "[Unit]\nRefuseManualStart=no\nX-OnlyManualStart=false\n",
+            true,
+        ),
+        ("[Unit]\nRefuseManualStop=true\n", true),
+        ("[Service]\nRefuseManualStart=true\n", true),
+    ] {
+        let text = parse(alloc, text.as_bytes())?;
+        assert_eq!(rt; may_start(&text), want);
+    }
+    Ok(())
+}
