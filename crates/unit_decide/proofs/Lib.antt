@@ -1,1 +1,2 @@
 pub mod SocketLemmas
+pub mod TableLemmas

@@ -1,5 +1,5 @@
 -- What the table of decisions reads of a unit that two systems define, or don't: NixOS manual, "Unit handling".
-use Rattle.std.specs.Prelude.{ℕ, ◌||◌, Bool, List, [], Option, None, Some, is_some, unwrap_or, codes, nat_eq}
+use Rattle.std.specs.Prelude.{◌||◌, Bool, List, [], Option, None, Some, is_some, unwrap_or, codes, nat_eq}
 use Rattle.std.specs.Cmp.Lexicographic.{pointwise}
 use Rattle.switch_names.specs.declared.unit_kind.UnitKind.{UnitKind}
 use Rattle.switch_names.specs.declared.unit_kind.UnitKind.TheVariants.{Service}

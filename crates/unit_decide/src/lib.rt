@@ -5,6 +5,7 @@ mod decision;
 mod facts;
 mod flags;
 mod kinds;
+pub mod laws;
 mod pairing;
 #[cfg(test)]
 mod tests;

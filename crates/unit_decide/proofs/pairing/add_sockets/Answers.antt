@@ -1,9 +1,8 @@
-use Rattle.std.proofs.Common.{◌++◌, ap, sym, ◌∙◌, filter, rules, tests}
-use Rattle.std.proofs.lemmas.Iterator.{YieldsList}
+use Rattle.std.proofs.Common.{◌++◌, ap, ◌∙◌, filter, rules, tests}
 use Rattle.std.proofs.lemmas.Iterator.Consumers.{YieldsList-at, YieldsList-end}
 use Rattle.std.proofs.lemmas.Iterator.Splits.{YieldsList-from_slice_split}
 use Rattle.unit_text.specs.Lines.{is_blank}
-use Rattle.unit_decide.specs.Sockets.{is_socket_name, words}
+use Rattle.unit_decide.specs.Sockets.{is_socket_name}
 use Rattle.unit_decide.proofs.pairing.add_sockets.Goals as goal
 
 pub returns : goal.returns

@@ -1,4 +1,3 @@
-use Rattle.std.proofs.Common.{sym, ap, Some, None, if◌then◌else◌}
 use Rattle.unit_decide.proofs.SocketLemmas.{no_socket}
 use Rattle.unit_decide.proofs.pairing.read_socket.Goals as goal
 
