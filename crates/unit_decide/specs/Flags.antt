@@ -12,15 +12,15 @@ stop_on_removal text = flag_of text (key_of (codes "Unit") (codes "X-StopOnRemov
 abbrev pub stop_on_reconfiguration : List Assignment → Bool
 stop_on_reconfiguration text = flag_of text (key_of (codes "Unit") (codes "X-StopOnReconfiguration")) false
 
--- nobody may start the unit by name
+-- only other units may start the unit
 abbrev pub refuse_manual_start : List Assignment → Bool
 refuse_manual_start text = flag_of text (key_of (codes "Unit") (codes "RefuseManualStart")) false
 
--- nobody may stop the unit by name
+-- only other units may stop the unit
 abbrev pub refuse_manual_stop : List Assignment → Bool
 refuse_manual_stop text = flag_of text (key_of (codes "Unit") (codes "RefuseManualStop")) false
 
--- only its user starts and stops the unit
+-- the unit is started and stopped by hand alone
 abbrev pub only_manual_start : List Assignment → Bool
 only_manual_start text = flag_of text (key_of (codes "Unit") (codes "X-OnlyManualStart")) false
 
@@ -32,7 +32,7 @@ reload_if_changed text = flag_of text (key_of (codes "Service") (codes "X-Reload
 abbrev pub restart_if_changed : List Assignment → Bool
 restart_if_changed text = flag_of text (key_of (codes "Service") (codes "X-RestartIfChanged")) true
 
--- the changed service is stopped under its old definition and started under its new one
+-- the changed service is stopped under its old definition and started under its new one, not restarted
 abbrev pub stop_if_changed : List Assignment → Bool
 stop_if_changed text = flag_of text (key_of (codes "Service") (codes "X-StopIfChanged")) true
 

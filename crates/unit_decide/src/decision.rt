@@ -16,23 +16,22 @@ pub enum Decision {
     Nothing,
     /// It is stopped.
     Stop,
-    /// It is started, which an Active unit takes as it is.
+    /// It is started: what is Active stays Active.
     Start,
-    /// It is stopped before the new definitions are loaded and started after that.
+    /// It is stopped, and started once the new definitions are loaded.
     StopStart,
-    /// It is stopped with its sockets, and these are started after that.
+    /// It is stopped with its live sockets, and these are started once the new definitions are loaded.
     SocketStart,
-    /// It is restarted.
+    /// It is restarted once the new definitions are loaded.
     Restart,
-    /// It is reloaded.
+    /// It is reloaded once the new definitions are loaded.
     Reload,
 }
 
 /// What becomes of an Active unit that the two systems define by these texts, or don't define.
 ///
-/// `live` tells whether a socket that the unit is paired with is Active or waits for its start.
-/// The flags are those of the new text, but `X-StopOnRemoval` is that of the old one. The sources
-/// are the NixOS manual, "Unit handling", and docs/DECISIONS.md where the rule is this project's.
+/// `live` tells whether one of the sockets that the unit is paired with is Active or waits for its
+/// start. Sources: NixOS manual, "Unit handling", and systemd.unit(5) for the flags without `X-`.
 pub fn decide(
     old: Option<&UnitText>,
     new: Option<&UnitText>,

@@ -10,22 +10,32 @@ use unit_compare::{Comparison, compare};
 use unit_text::UnitText;
 
 /// What the table of decisions reads of a unit in the old system and the new one.
-///
-/// `outcome` is that of the comparison where both define the unit, and `Same` elsewhere.
 #[derive(Debug, Drop)]
 pub struct Facts {
     pub kind: UnitKind,
+    /// Whether the old system defines the unit.
     pub in_old: bool,
+    /// Whether the new system defines it.
     pub in_new: bool,
+    /// How its text changed: `Same` where one of the systems doesn't define it.
     pub outcome: Comparison,
+    /// `X-StopOnRemoval` of the old text; every other flag is of the new one.
     pub stop_on_removal: bool,
+    /// `X-StopOnReconfiguration`.
     pub stop_on_reconfiguration: bool,
+    /// Neither `RefuseManualStart` nor `X-OnlyManualStart`.
     pub may_start: bool,
+    /// Whether it is a mount that the running system stands on.
     pub is_root_mount: bool,
+    /// `X-ReloadIfChanged`.
     pub reload_if_changed: bool,
+    /// `X-RestartIfChanged`.
     pub restart_if_changed: bool,
+    /// `RefuseManualStop`.
     pub refuse_manual_stop: bool,
+    /// `X-OnlyManualStart`.
     pub only_manual_start: bool,
+    /// `X-StopIfChanged`.
     pub stop_if_changed: bool,
 }
 

@@ -10,13 +10,12 @@ use std::alloc::{AllocError, Global};
 use switch_names::{Listed, NameFault, Text, UnitName};
 use unit_text::UnitText;
 
-/// The sockets that a service of the new system is paired with: the unit names of kind socket among
-/// the words of `Sockets`, in their order, repeats among them; where that key has no value, the
-/// socket of the service's own name.
+/// The sockets that a service is paired with: the unit names of kind socket among the words of
+/// `Sockets`, in their order and with repeats; where that key has no value, the socket of the
+/// service's own name.
 ///
-/// A service with `X-NotSocketActivated` has none, and so has a unit of another kind. Whether the
-/// new system defines a socket isn't looked at. The sources are systemd.service(5), `Sockets=`, and
-/// the NixOS module of systemd services for the flag.
+/// A service with `X-NotSocketActivated` has none, nor has a unit of another kind. Whether the new
+/// system defines a socket isn't looked at. Source: systemd.service(5), "Sockets=".
 pub fn sockets(
     alloc: Global,
     new: &UnitText,
