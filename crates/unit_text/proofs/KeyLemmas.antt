@@ -1,11 +1,12 @@
 -- The order of keys, and which keys are the same.
-use Rattle.std.proofs.Common.{◌≡◌, ℕ, ◌+◌, ◌<◌, ◌≤◌, Bool, true, false, ◌||◌, List, [], ◌∷◌, ◌++◌, length, get_or, take, drop, refl, sym, ap, ◌∙◌, zero, suc, arith}
+use Rattle.std.proofs.Common.{◌≡◌, ℕ, ◌+◌, ◌<◌, ◌≤◌, Bool, true, false, ◌||◌, List, [], ◌∷◌, ◌++◌, length, get_or, take, drop, refl, sym, ap, ◌∙◌, subst, zero, suc, arith}
 use Rattle.std.specs.Cmp.{IsTotalOrder}
 use Rattle.std.specs.Cmp.Lexicographic.{bytes_decides}
 use Rattle.std.specs.List.{AllByRecursion}
 use Rattle.std.specs.List.Sorted.{IsStrictlySortedBy, IsNonDecreasingBy}
 use Rattle.std.specs.Ordering.{is_lt, ordering_index, ordering_reverse}
-use Rattle.std.specs.declared.cmp.Ordering.TheVariants.{Less}
+use Rattle.std.specs.declared.cmp.Ordering.{Ordering}
+use Rattle.std.specs.declared.cmp.Ordering.TheVariants.{Less, Equal, Greater}
 use Rattle.std.proofs.lemmas.Bool.{and_parts, and_from, true≢false}
 use Rattle.std.proofs.lemmas.Cmp.{on_total, then_total, nat_list_cmp_total, tied_itself}
 use Rattle.std.proofs.lemmas.List.Sorted.{searchable_from_sorted}
@@ -89,6 +90,50 @@ module _ where
   all_at : (k key : UnitKey) (front back : List UnitKey) → AreAbove (front ++ key ∷ back) k → key_cmp k key ≡ Less
   all_at k key [] back h = h.0
   all_at k key (x ∷ front) back h = all_at k key front back h.1
+
+  pub above_first : (key first : UnitKey) (keys : List UnitKey) → key_cmp key first ≡ Less → IsStrictlySortedBy key_cmp (first ∷ keys) → AreAbove (first ∷ keys) key
+  unfolding IsStrictlySortedBy
+  above_first key first keys less s = (less, all_below key first keys less s.0)
+
+  has_first : (key : UnitKey) (keys : List UnitKey) → has_key (key ∷ keys) key ≡ true
+  has_first key keys = ap (λ t. t || has_key keys key) (same_self key)
+
+  lacks_lower : (key first : UnitKey) (keys : List UnitKey) → key_cmp key first ≡ Less → AreAbove keys first → has_key (first ∷ keys) key ≡ false
+  lacks_lower key first keys less h = other_lacks (first ∷ keys) key (above_other (first ∷ keys) key (less, all_below key first keys less h))
+
+  same_first : (x y : UnitKey) (xs ys : List UnitKey) → AreAbove xs x → AreAbove ys y
+      → ((key : UnitKey) → has_key (x ∷ xs) key ≡ has_key (y ∷ ys) key) → x ≡ y
+  same_first x y xs ys over_x over_y h = by (key_cmp x y) refl
+    where
+      by : (o : Ordering) → key_cmp x y ≡ o → x ≡ y
+      by Less e = absurd (true≢false (sym (has_first x xs) ∙ h x ∙ lacks_lower x y ys e over_y))
+      by Equal e = exact_keys x y e
+      by Greater e =
+          let less : key_cmp y x ≡ Less = key_total.antisymm y x ∙ ap ordering_reverse e in
+          absurd (true≢false (sym (has_first y ys) ∙ sym (h y) ∙ lacks_lower y x xs less over_x))
+
+  same_rest : (x : UnitKey) (xs ys : List UnitKey) → AreAbove xs x → AreAbove ys x
+      → ((key : UnitKey) → has_key (x ∷ xs) key ≡ has_key (x ∷ ys) key) → (key : UnitKey) → has_key xs key ≡ has_key ys key
+  same_rest x xs ys over_x over_y h key = by (is_same_key key x) refl
+    where
+      lacks : (zs : List UnitKey) → AreAbove zs x → is_same_key key x ≡ true → has_key zs key ≡ false
+      lacks zs over e = ap (has_key zs) (same_key key x e) ∙ other_lacks zs x (above_other zs x over)
+      by : (t : Bool) → is_same_key key x ≡ t → has_key xs key ≡ has_key ys key
+      by true e = lacks xs over_x e ∙ sym (lacks ys over_y e)
+      by false e = sym (ap (λ t. t || has_key xs key) e) ∙ h key ∙ ap (λ t. t || has_key ys key) e
+
+-- two lists of the same keys in order are one
+pub same_keys : (xs ys : List UnitKey) → IsStrictlySortedBy key_cmp xs → IsStrictlySortedBy key_cmp ys
+    → ((key : UnitKey) → has_key xs key ≡ has_key ys key) → xs ≡ ys
+unfolding IsStrictlySortedBy
+same_keys [] [] s t h = refl
+same_keys [] (y ∷ ys) s t h = absurd (true≢false (sym (has_first y ys) ∙ sym (h y)))
+same_keys (x ∷ xs) [] s t h = absurd (true≢false (sym (has_first x xs) ∙ h x))
+same_keys (x ∷ xs) (y ∷ ys) s t h =
+    let first = same_first x y xs ys s.0 t.0 h in
+    let over : AreAbove ys x = subst (AreAbove ys) (sym first) t.0 in
+    let rest = same_keys xs ys s.1 t.1 (same_rest x xs ys s.0 over (λ key. h key ∙ ap (λ (z : UnitKey). has_key (z ∷ ys) key) (sym first))) in
+    λ i. first i ∷ rest i
 
 -- one more key between those below and those above it
 pub sorted_insert : (front : List UnitKey) (key : UnitKey) (back : List UnitKey) → IsStrictlySortedBy key_cmp (front ++ back)

@@ -1,6 +1,7 @@
 //! Unit texts.
-ghost use Rattle.std.specs.Prelude.{◌≡◌, ◌≢◌, ◌⊎◌, ◌++◌, ◌∷◌, [], ℕ, None, OnOk, OnErr, IfOk, IfErr};
+ghost use Rattle.std.specs.Prelude.{◌≡◌, ◌≢◌, ◌⊎◌, ◌++◌, ◌∷◌, [], ℕ, List, map, None, OnOk, OnErr, IfOk, IfErr};
 ghost use Rattle.unit_text.specs.declared.text_fault.TextFault.{TextFault};
+ghost use Rattle.unit_text.specs.declared.unit_key.UnitKey.{UnitKey};
 ghost use Rattle.unit_text.specs.TextFault.{IsFault, IsFirstFault, IsRefusedBy, text_fault};
 ghost use Rattle.unit_text.specs.UnitKey.{key_of};
 ghost use Rattle.unit_text.specs.UnitText.{AreKeysOf, HasFrontOf, assignments, flag_of, values_of};
@@ -146,6 +147,13 @@ impl UnitText {
         ensures { AreKeysOf self.now result.now }
     {
         &self.index.keys
+    }
+
+    /// The values of each key, in the order of `keys`.
+    pub fn values_by_key(&self) -> &[Listed<Text>]
+        ensures { (keys : List UnitKey) → AreKeysOf self.now keys → result.now ≡ map (values_of self.now) keys }
+    {
+        self.index.values.as_slice()
     }
 
     /// An equal text.

@@ -1,0 +1,332 @@
+-- Two texts side by side: the keys that are left decide the rest.
+use Rattle.std.proofs.Common.{◌≡◌, ℕ, ◌+◌, ◌<◌, Bool, true, false, not, cond, ◌&&◌, ◌||◌, List, [], ◌∷◌, ◌++◌, length, get_or, drop, map, refl, sym, ap, ◌∙◌, subst, ⊎_elim, None, Some, Option}
+use Rattle.std.specs.List.{AllByRecursion, slice_get}
+use Rattle.std.specs.List.Sorted.{IsStrictlySortedBy}
+use Rattle.std.specs.declared.cmp.Ordering.TheVariants.{Less, Equal, Greater}
+use Rattle.std.specs.Ordering.{ordering_reverse}
+use Rattle.std.proofs.lemmas.Bool.{not-false, eqb-true, and_parts, true≢false}
+use Rattle.std.proofs.Math.ListN.{drop_of_length-le}
+use Rattle.std.proofs.lemmas.List.{nil_from_length, drop_more, get_or-map}
+use Rattle.std.proofs.lemmas.List.Folds.{list_any-append}
+use Rattle.std.proofs.lemmas.Option.{slice_get_cases, slice_get_within, slice_get_read, get_or_from_slice_get}
+use Rattle.switch_names.specs.declared.unit_kind.UnitKind.{UnitKind}
+use Rattle.unit_text.specs.declared.assignment.Assignment.{Assignment}
+use Rattle.unit_text.specs.declared.unit_key.UnitKey.{UnitKey}
+use Rattle.unit_text.specs.UnitKey.{key_cmp, is_same_key, has_key}
+use Rattle.unit_text.specs.UnitText.{AreKeysOf, has_value, values_of}
+use Rattle.unit_text.proofs.KeyLemmas.{AreAbove, above_other, other_lacks, greater_other, exact_keys, above_first, key_total}
+use Rattle.unit_compare.specs.declared.comparison.Comparison.{Comparison}
+use Rattle.unit_compare.specs.declared.comparison.Comparison.TheVariants.{Same, ReloadOnly, Changed}
+use Rattle.unit_compare.specs.Compare.{is_ignored, are_same_values, differs, is_reload_key, comparison}
+use Rattle.unit_compare.specs.Walk.{key_comparison, worse, next_order}
+use Rattle.unit_compare.proofs.Outcomes.{by_tests, one, made_first, made_append, worse_assoc, worse_comm, worse_itself}
+use Rattle.unit_compare.proofs.Differing.{made_of, is_changed, assigned, any_same, comparison_made, differing_assigned, or_false_parts, unset_same}
+
+each : {X : Type 0} (P : X → Type 0) (xs : List X) → ((x : X) → P x) → AllByRecursion P xs
+each P [] h = tt
+each P (x ∷ xs) h = (h x, each P xs h)
+
+-- the keys that are left of two texts: one of them stands in the other text exactly where it is left there
+pub record AreLeft (old new : List Assignment) (of_old of_new : List UnitKey) : Type 0 where
+  pub old_sorted : IsStrictlySortedBy key_cmp of_old
+  pub new_sorted : IsStrictlySortedBy key_cmp of_new
+  pub in_new : AllByRecursion (λ key. has_key of_new key ≡ has_value new key) of_old
+  pub in_old : AllByRecursion (λ key. has_key of_old key ≡ has_value old key) of_new
+
+pub all_left : (old new : List Assignment) (of_old of_new : List UnitKey) → AreKeysOf old of_old → AreKeysOf new of_new → AreLeft old new of_old of_new
+all_left old new of_old of_new a b = record {
+  old_sorted = a.sorted;
+  new_sorted = b.sorted;
+  in_new = each _ of_old b.exact;
+  in_old = each _ of_new a.exact;
+}
+
+-- a lower key doesn't matter to those above it
+stand_on : (has : UnitKey → Bool) (key : UnitKey) (below above : List UnitKey) → AreAbove above key
+    → AllByRecursion (λ other. has_key (key ∷ below) other ≡ has other) above → AllByRecursion (λ other. has_key below other ≡ has other) above
+stand_on has key below [] over h = tt
+stand_on has key below (x ∷ above) over h =
+    (sym (ap (λ b. b || has_key below x) (greater_other x key over.0)) ∙ h.0, stand_on has key below above over.1 h.1)
+
+pub absent : (text : List Assignment) (key : UnitKey) (left : List UnitKey) → AreAbove left key → has_key left key ≡ has_value text key → values_of text key ≡ []
+absent text key left over e = nil_from_length _ (eqb-true _ 0 (not-false _ (sym e ∙ other_lacks left key (above_other left key over))))
+
+module _ (old new : List Assignment) where
+  pub pass_old : (key : UnitKey) (of_old of_new : List UnitKey) → AreAbove of_new key → AreLeft old new (key ∷ of_old) of_new → AreLeft old new of_old of_new
+  unfolding IsStrictlySortedBy
+  pass_old key of_old of_new over left = record {
+    old_sorted = left.old_sorted.1;
+    new_sorted = left.new_sorted;
+    in_new = left.in_new.1;
+    in_old = stand_on (has_value old) key of_old of_new over left.in_old;
+  }
+
+  pub pass_new : (key : UnitKey) (of_old of_new : List UnitKey) → AreAbove of_old key → AreLeft old new of_old (key ∷ of_new) → AreLeft old new of_old of_new
+  unfolding IsStrictlySortedBy
+  pass_new key of_old of_new over left = record {
+    old_sorted = left.old_sorted;
+    new_sorted = left.new_sorted.1;
+    in_new = stand_on (has_value new) key of_new of_old over left.in_new;
+    in_old = left.in_old.1;
+  }
+
+  pub pass_both : (key : UnitKey) (of_old of_new : List UnitKey) → AreLeft old new (key ∷ of_old) (key ∷ of_new) → AreLeft old new of_old of_new
+  unfolding IsStrictlySortedBy
+  pass_both key of_old of_new left = record {
+    old_sorted = left.old_sorted.1;
+    new_sorted = left.new_sorted.1;
+    in_new = stand_on (has_value new) key of_new of_old left.old_sorted.0 left.in_new.1;
+    in_old = stand_on (has_value old) key of_old of_new left.new_sorted.0 left.in_old.1;
+  }
+
+-- ---- keys by their places
+
+-- a key stands at a place of a list, or the list has ended there
+pub data IsAt (keys : List UnitKey) (at : ℕ) : Type 0 where
+  Here : (key : UnitKey) → slice_get keys at ≡ Some key → drop at keys ≡ key ∷ drop (at + 1) keys → IsAt keys at
+  Past : slice_get keys at ≡ None → drop at keys ≡ [] → IsAt keys at
+
+drop_here : (keys : List UnitKey) (at : ℕ) (key : UnitKey) → slice_get keys at ≡ Some key → drop at keys ≡ key ∷ drop (at + 1) keys
+drop_here keys at key e =
+    drop_more keys at key (slice_get_within keys at key e) ∙ ap (λ k. k ∷ drop (at + 1) keys) (get_or_from_slice_get keys at key key e)
+
+pub is_at : (keys : List UnitKey) (at : ℕ) → IsAt keys at
+is_at keys at =
+    ⊎_elim
+    (λ here. Here here.0 here.2 (drop_here keys at here.0 here.2))
+    (λ past. Past past.1 (drop_of_length-le keys past.0))
+    (slice_get_cases keys at).1
+
+-- one key of the walk, by the values that were read
+one_read : (kind : UnitKind) (old new : List Assignment) (key : UnitKey) (of_old of_new : List (List ℕ))
+    → of_old ≡ values_of old key → of_new ≡ values_of new key → key_comparison kind key of_old of_new ≡ one kind (differs old new) key
+one_read kind old new key of_old of_new a b =
+    (λ i. key_comparison kind key (a i) (b i)) ∙ by (is_ignored key) (are_same_values (values_of old key) (values_of new key)) (is_reload_key kind key)
+  where
+    by : (i s r : Bool) → cond (i || s) Same (cond r ReloadOnly Changed) ≡ by_tests ((not i && not s) && not r) (not i && not s)
+    by true s r = refl
+    by false true r = refl
+    by false false true = refl
+    by false false false = refl
+
+-- what joins three outcomes in another order
+first_of : (o p x y : Comparison) → worse (worse o p) (worse x y) ≡ worse o (worse (worse p x) y)
+first_of o p x y = worse_assoc o p (worse x y) ∙ ap (worse o) (sym (worse_assoc p x y))
+
+second_of : (o p x y : Comparison) → worse (worse o p) (worse x y) ≡ worse o (worse x (worse p y))
+second_of o p x y =
+    first_of o p x y
+    ∙ ap (worse o) (ap (λ z. worse z y) (worse_comm p x) ∙ worse_assoc x p y)
+
+both_of : (o p x y : Comparison) → worse (worse o p) (worse x y) ≡ worse o (worse (worse p x) (worse p y))
+both_of o p x y =
+    ap (λ z. worse (worse o z) (worse x y)) (sym (worse_itself p))
+    ∙ ap (λ z. worse z (worse x y)) (sym (worse_assoc o p p))
+    ∙ second_of (worse o p) p x y
+    ∙ first_of o p x (worse p y)
+
+-- ---- one turn
+
+-- what is left of the walk, and what it is to come to
+pub record IsWalk (kind : UnitKind) (old new : List Assignment) (outcome end : Comparison) (of_old of_new : List UnitKey) : Type 0 where
+  pub left : AreLeft old new of_old of_new
+  pub rest : worse outcome (worse (made_of kind old new of_old) (made_of kind old new of_new)) ≡ end
+
+module _ (kind : UnitKind) (old new : List Assignment) (outcome end : Comparison) (key : UnitKey) (of_old of_new : List UnitKey) where
+  abbrev Turned : List (List ℕ) → List (List ℕ) → Type 0
+  Turned of_this of_that = IsWalk kind old new (worse outcome (key_comparison kind key of_this of_that)) end of_old of_new
+
+  abbrev one_of : Comparison
+  one_of = one kind (differs old new) key
+
+  abbrev joined : Comparison
+  joined = worse (made_of kind old new of_old) (made_of kind old new of_new)
+
+  first_is : (keys : List UnitKey) → made_of kind old new (key ∷ keys) ≡ worse one_of (made_of kind old new keys)
+  first_is keys = made_first kind (differs old new) key keys
+
+  turned_by : (of_this of_that : List (List ℕ)) → of_this ≡ values_of old key → of_that ≡ values_of new key
+      → worse (worse outcome (key_comparison kind key of_this of_that)) joined ≡ worse (worse outcome one_of) joined
+  turned_by of_this of_that a b = ap (λ o. worse (worse outcome o) joined) (one_read kind old new key of_this of_that a b)
+
+  old_turn : (values : List (List ℕ)) → IsWalk kind old new outcome end (key ∷ of_old) of_new → AreAbove of_new key → values ≡ values_of old key → Turned values []
+  old_turn values walk over v = record {
+    left = pass_old old new key of_old of_new over walk.left;
+    rest =
+        turned_by values [] v (sym (absent new key of_new over walk.left.in_new.0))
+        ∙ first_of outcome one_of (made_of kind old new of_old) (made_of kind old new of_new)
+        ∙ ap (λ o. worse outcome (worse o (made_of kind old new of_new))) (sym (first_is of_old))
+        ∙ walk.rest;
+  }
+
+  new_turn : (values : List (List ℕ)) → IsWalk kind old new outcome end of_old (key ∷ of_new) → AreAbove of_old key → values ≡ values_of new key → Turned [] values
+  new_turn values walk over v = record {
+    left = pass_new old new key of_old of_new over walk.left;
+    rest =
+        turned_by [] values (sym (absent old key of_old over walk.left.in_old.0)) v
+        ∙ second_of outcome one_of (made_of kind old new of_old) (made_of kind old new of_new)
+        ∙ ap (λ o. worse outcome (worse (made_of kind old new of_old) o)) (sym (first_is of_new))
+        ∙ walk.rest;
+  }
+
+  both_turn : (of_this of_that : List (List ℕ)) → IsWalk kind old new outcome end (key ∷ of_old) (key ∷ of_new)
+      → of_this ≡ values_of old key → of_that ≡ values_of new key → Turned of_this of_that
+  both_turn of_this of_that walk v w = record {
+    left = pass_both old new key of_old of_new walk.left;
+    rest =
+        turned_by of_this of_that v w
+        ∙ both_of outcome one_of (made_of kind old new of_old) (made_of kind old new of_new)
+        ∙ (λ i. worse outcome (worse (sym (first_is of_old) i) (sym (first_is of_new) i)))
+        ∙ walk.rest;
+  }
+
+-- ---- one turn by places
+
+less_here : (keys : List UnitKey) (at : ℕ) (that : Option UnitKey) → next_order (slice_get keys at) that ≡ Some Less → at < length keys
+less_here keys at that e = by (is_at keys at) that e
+  where
+    by : IsAt keys at → (that : Option UnitKey) → next_order (slice_get keys at) that ≡ Some Less → at < length keys
+    by (Here key h d) that e = slice_get_within keys at key h
+    by (Past h d) None e = let n = sym (ap (λ o. next_order o None) h) ∙ e in cc
+    by (Past h d) (Some other) e = let n = sym (ap (λ o. next_order o (Some other)) h) ∙ e in cc
+
+greater_here : (keys : List UnitKey) (at : ℕ) (this : Option UnitKey) → next_order this (slice_get keys at) ≡ Some Greater → at < length keys
+greater_here keys at this e = by (is_at keys at) this e
+  where
+    by : IsAt keys at → (this : Option UnitKey) → next_order this (slice_get keys at) ≡ Some Greater → at < length keys
+    by (Here key h d) this e = slice_get_within keys at key h
+    by (Past h d) None e = let n = sym (ap (λ o. next_order None o) h) ∙ e in cc
+    by (Past h d) (Some other) e = let n = sym (ap (λ o. next_order (Some other) o) h) ∙ e in cc
+
+less_above : (keys : List UnitKey) (at : ℕ) (key : UnitKey) → next_order (Some key) (slice_get keys at) ≡ Some Less → IsStrictlySortedBy key_cmp (drop at keys) → AreAbove (drop at keys) key
+less_above keys at key e s = by (is_at keys at)
+  where
+    by : IsAt keys at → AreAbove (drop at keys) key
+    by (Here other h d) =
+        let some = sym (ap (λ o. next_order (Some key) o) h) ∙ e in
+        let less : key_cmp key other ≡ Less = cc in
+        subst (λ ks. AreAbove ks key) (sym d) (above_first key other (drop (at + 1) keys) less (subst (IsStrictlySortedBy key_cmp) d s))
+    by (Past h d) = subst (λ ks. AreAbove ks key) (sym d) tt
+
+greater_above : (keys : List UnitKey) (at : ℕ) (key : UnitKey) → next_order (slice_get keys at) (Some key) ≡ Some Greater → IsStrictlySortedBy key_cmp (drop at keys) → AreAbove (drop at keys) key
+greater_above keys at key e s = by (is_at keys at)
+  where
+    by : IsAt keys at → AreAbove (drop at keys) key
+    by (Here other h d) =
+        let some = sym (ap (λ o. next_order o (Some key)) h) ∙ e in
+        let greater : key_cmp other key ≡ Greater = cc in
+        let less : key_cmp key other ≡ Less = key_total.antisymm key other ∙ ap ordering_reverse greater in
+        subst (λ ks. AreAbove ks key) (sym d) (above_first key other (drop (at + 1) keys) less (subst (IsStrictlySortedBy key_cmp) d s))
+    by (Past h d) = subst (λ ks. AreAbove ks key) (sym d) tt
+
+read_values : (text : List Assignment) (keys : List UnitKey) (all : List (List (List ℕ))) (at : ℕ) (key : UnitKey) (values : List (List ℕ))
+    → all ≡ map (values_of text) keys → at < length keys → key ≡ get_or keys at key → values ≡ get_or all at values → values ≡ values_of text key
+read_values text keys all at key values e lt k v =
+    v ∙ ap (λ (vs : List (List (List ℕ))). get_or vs at values) e ∙ get_or-map (values_of text) keys at key values lt ∙ ap (values_of text) (sym k)
+
+module _ (kind : UnitKind) (old new : List Assignment) (outcome end : Comparison) (of_old of_new : List UnitKey) (old_values new_values : List (List (List ℕ))) (i j : ℕ)
+    (walk : IsWalk kind old new outcome end (drop i of_old) (drop j of_new)) (v : old_values ≡ map (values_of old) of_old) (w : new_values ≡ map (values_of new) of_new) where
+  pub less_turn : next_order (slice_get of_old i) (slice_get of_new j) ≡ Some Less → (key : UnitKey) → key ≡ get_or of_old i key
+      → (values : List (List ℕ)) → values ≡ get_or old_values i values
+      → (i < length of_old) × IsWalk kind old new (worse outcome (key_comparison kind key values [])) end (drop (i + 1) of_old) (drop j of_new)
+  less_turn e key k values h =
+      let lt = less_here of_old i (slice_get of_new j) e in
+      let at = slice_get_read of_old (length of_old) i key refl lt k in (
+        lt,
+        old_turn kind old new outcome end key (drop (i + 1) of_old) (drop j of_new) values
+            (subst (λ ks. IsWalk kind old new outcome end ks (drop j of_new)) (drop_here of_old i key at) walk)
+            (less_above of_new j key (sym (ap (λ o. next_order o (slice_get of_new j)) at) ∙ e) walk.left.new_sorted)
+            (read_values old of_old old_values i key values v lt k h),
+      )
+
+  pub greater_turn : next_order (slice_get of_old i) (slice_get of_new j) ≡ Some Greater → (key : UnitKey) → key ≡ get_or of_new j key
+      → (values : List (List ℕ)) → values ≡ get_or new_values j values
+      → (j < length of_new) × IsWalk kind old new (worse outcome (key_comparison kind key [] values)) end (drop i of_old) (drop (j + 1) of_new)
+  greater_turn e key k values h =
+      let lt = greater_here of_new j (slice_get of_old i) e in
+      let at = slice_get_read of_new (length of_new) j key refl lt k in (
+        lt,
+        new_turn kind old new outcome end key (drop i of_old) (drop (j + 1) of_new) values
+            (subst (λ ks. IsWalk kind old new outcome end (drop i of_old) ks) (drop_here of_new j key at) walk)
+            (greater_above of_old i key (sym (ap (λ o. next_order (slice_get of_old i) o) at) ∙ e) walk.left.old_sorted)
+            (read_values new of_new new_values j key values w lt k h),
+      )
+
+  pub equal_turn : next_order (slice_get of_old i) (slice_get of_new j) ≡ Some Equal → (key : UnitKey) → key ≡ get_or of_old i key
+      → (of_this of_that : List (List ℕ)) → of_this ≡ get_or old_values i of_this → of_that ≡ get_or new_values j of_that
+      → (i < length of_old) × (j < length of_new) × IsWalk kind old new (worse outcome (key_comparison kind key of_this of_that)) end (drop (i + 1) of_old) (drop (j + 1) of_new)
+  equal_turn e key k of_this of_that h g = by (is_at of_old i) (is_at of_new j)
+    where
+      by : IsAt of_old i → IsAt of_new j
+          → (i < length of_old) × (j < length of_new) × IsWalk kind old new (worse outcome (key_comparison kind key of_this of_that)) end (drop (i + 1) of_old) (drop (j + 1) of_new)
+      by (Here a at d) (Here b bt f) =
+          let lt = slice_get_within of_old i a at in
+          let mt = slice_get_within of_new j b bt in
+          let some = sym (λ i. next_order (at i) (bt i)) ∙ e in
+          let equal : key_cmp a b ≡ Equal = cc in
+          let first : key ≡ a = k ∙ get_or_from_slice_get of_old i a key at in
+          let second : b ≡ key = sym (exact_keys a b equal) ∙ sym first in (
+            lt,
+            mt,
+            both_turn kind old new outcome end key (drop (i + 1) of_old) (drop (j + 1) of_new) of_this of_that
+                (subst (λ ks. IsWalk kind old new outcome end ks (key ∷ drop (j + 1) of_new)) (d ∙ ap (λ x. x ∷ drop (i + 1) of_old) (sym first))
+                (subst (λ ks. IsWalk kind old new outcome end (drop i of_old) ks) (f ∙ ap (λ x. x ∷ drop (j + 1) of_new) second) walk))
+                (read_values old of_old old_values i key of_this v lt k h)
+                (read_values new of_new new_values j b of_that w mt (sym (get_or_from_slice_get of_new j b b bt)) g ∙ ap (values_of new) second),
+          )
+      by (Here a at d) (Past bt f) = let n = sym (λ i. next_order (at i) (bt i)) ∙ e in cc
+      by (Past at d) (Here b bt f) = let n = sym (λ i. next_order (at i) (bt i)) ∙ e in cc
+      by (Past at d) (Past bt f) = let n = sym (λ i. next_order (at i) (bt i)) ∙ e in cc
+
+  -- where no key is left, the outcome is that of all keys
+  pub at_end : next_order (slice_get of_old i) (slice_get of_new j) ≡ None → outcome ≡ end
+  at_end e = by (is_at of_old i) (is_at of_new j)
+    where
+      by : IsAt of_old i → IsAt of_new j → outcome ≡ end
+      by (Past at d) (Past bt f) =
+          sym (worse_comm outcome Same) ∙ (λ k. worse outcome (worse (made_of kind old new (sym d k)) (made_of kind old new (sym f k)))) ∙ walk.rest
+      by (Here a at d) (Here b bt f) = let n = sym (λ i. next_order (at i) (bt i)) ∙ e in cc
+      by (Here a at d) (Past bt f) = let n = sym (λ i. next_order (at i) (bt i)) ∙ e in cc
+      by (Past at d) (Here b bt f) = let n = sym (λ i. next_order (at i) (bt i)) ∙ e in cc
+
+-- the keys of both texts are all that matter
+pub at_start : (kind : UnitKind) (old new : List Assignment) (of_old of_new : List UnitKey) → AreKeysOf old of_old → AreKeysOf new of_new
+    → IsWalk kind old new Same (worse (made_of kind old new of_old) (made_of kind old new of_new)) of_old of_new
+at_start kind old new of_old of_new a b = record { left = all_left old new of_old of_new a b; rest = refl }
+
+-- a key that differs has a value in one of the texts
+valued : (old new : List Assignment) (of_old of_new : List UnitKey) → AreKeysOf old of_old → AreKeysOf new of_new
+    → (key : UnitKey) → differs old new key ≡ true → has_key (of_old ++ of_new) key ≡ true
+valued old new of_old of_new a b key d = by (has_key (of_old ++ of_new) key) refl
+  where
+    unset : (text : List Assignment) (keys : List UnitKey) → AreKeysOf text keys → has_key keys key ≡ false → values_of text key ≡ []
+    unset text keys are h = nil_from_length _ (eqb-true _ 0 (not-false _ (sym (are.exact key) ∙ h)))
+
+    by : (t : Bool) → has_key (of_old ++ of_new) key ≡ t → has_key (of_old ++ of_new) key ≡ true
+    by true h = h
+    by false h =
+        let parts = or_false_parts _ _ (sym (list_any-append (is_same_key key) of_old of_new) ∙ h) in
+        absurd (true≢false (sym d ∙ unset_same old new key (unset old of_old a parts.0) (unset new of_new b parts.1)))
+
+pub walked : (kind : UnitKind) (old new : List Assignment) (of_old of_new : List UnitKey) → AreKeysOf old of_old → AreKeysOf new of_new
+    → worse (made_of kind old new of_old) (made_of kind old new of_new) ≡ comparison kind old new
+walked kind old new of_old of_new a b =
+    let alike : (key : UnitKey) → differs old new key ≡ true → has_key (of_old ++ of_new) key ≡ has_key (assigned old new) key =
+    λ key d. valued old new of_old of_new a b key d ∙ sym (differing_assigned old new key d) in
+    sym (made_append kind (differs old new) of_old of_new)
+    ∙ (λ i. by_tests
+    (any_same (is_changed kind old new) (of_old ++ of_new) (assigned old new) (λ key e. alike key (and_parts _ _ e).0) i)
+    (any_same (differs old new) (of_old ++ of_new) (assigned old new) alike i))
+    ∙ sym (comparison_made kind old new)
+
+-- the same by equal outcomes and places
+pub moved : (kind : UnitKind) (old new : List Assignment) (end : Comparison) (of_old of_new : List UnitKey) (o p : Comparison) (i k j l : ℕ) → p ≡ o → k ≡ i → l ≡ j
+    → IsWalk kind old new o end (drop i of_old) (drop j of_new) → IsWalk kind old new p end (drop k of_old) (drop l of_new)
+moved kind old new end of_old of_new o p i k j l a b c walk =
+    subst (λ (n : ℕ). IsWalk kind old new p end (drop k of_old) (drop n of_new)) (sym c)
+    (subst (λ (n : ℕ). IsWalk kind old new p end (drop n of_old) (drop j of_new)) (sym b)
+    (subst (λ (q : Comparison). IsWalk kind old new q end (drop i of_old) (drop j of_new)) (sym a) walk))
+
+-- the keys of a text and their values, as slices
+pub lent : (text : List Assignment) (keys slice : List UnitKey) → slice ≡ keys → AreKeysOf text keys → AreKeysOf text slice
+lent text keys slice e are = subst (AreKeysOf text) (sym e) are

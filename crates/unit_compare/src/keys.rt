@@ -1,0 +1,72 @@
+//! What the keys of a unit mean for a comparison.
+ghost use Rattle.std.specs.Prelude.{◌≡◌};
+ghost use Rattle.unit_compare.specs.Compare.{is_ignored, is_ignored_name, is_mount, is_reload_key};
+ghost use Rattle.unit_compare.specs.Walk.{key_comparison};
+ghost use Rattle.unit_text.specs.UnitKey.{is_same_key, key_of};
+
+use crate::comparison::Comparison;
+use switch_names::{Text, UnitKind};
+use unit_text::UnitKey;
+
+/// Whether a key of the section `Unit` says nothing of a running unit.
+#[tactic(auto, unfolding(crate::specs::Compare::is_ignored_name))]
+fn is_ignored_name(key: &str) -> bool
+    ensures { result ≡ is_ignored_name key.now }
+{
+    matches!(
+        key,
+        "Description"
+            | "Documentation"
+            | "OnFailure"
+            | "OnSuccess"
+            | "OnFailureJobMode"
+            | "IgnoreOnIsolate"
+            | "StopWhenUnneeded"
+            | "RefuseManualStart"
+            | "RefuseManualStop"
+            | "AllowIsolate"
+            | "CollectMode"
+            | "SourcePath"
+    )
+}
+
+/// Whether a key says nothing of a running unit.
+fn is_ignored(key: &UnitKey) -> bool
+    ensures { result ≡ is_ignored key.now }
+{
+    let section = key.section.as_str();
+    section == "Install" || (section == "Unit" && is_ignored_name(key.key.as_str()))
+}
+
+fn is_mount(kind: UnitKind) -> bool
+    ensures { result ≡ is_mount kind }
+{
+    matches!(kind, UnitKind::Mount)
+}
+
+fn is_named(key: &UnitKey, section: &str, name: &str) -> bool
+    ensures { result ≡ is_same_key key.now (key_of section.now name.now) }
+{
+    key.section.as_str() == section && key.key.as_str() == name
+}
+
+/// Whether a reload takes up a change of a key.
+fn is_reload_key(kind: UnitKind, key: &UnitKey) -> bool
+    ensures { result ≡ is_reload_key kind key.now }
+{
+    is_named(key, "Unit", "X-Reload-Triggers")
+        || (is_mount(kind) && is_named(key, "Mount", "Options"))
+}
+
+/// The comparison by one key, which has these values in the two texts.
+pub fn compare_values(kind: UnitKind, key: &UnitKey, old: &[Text], new: &[Text]) -> Comparison
+    ensures { result ≡ key_comparison kind key.now old.now new.now }
+{
+    if is_ignored(key) || old == new {
+        Comparison::Same
+    } else if is_reload_key(kind, key) {
+        Comparison::ReloadOnly
+    } else {
+        Comparison::Changed
+    }
+}

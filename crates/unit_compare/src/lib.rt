@@ -1,0 +1,11 @@
+//! What differs between two texts of a unit.
+#![tactic(auto)]
+
+mod comparison;
+mod keys;
+#[cfg(test)]
+mod tests;
+mod walk;
+
+pub use comparison::Comparison;
+pub use walk::compare;
