@@ -17,10 +17,10 @@ abbrev pub is_root_mount : Name → Bool
 is_root_mount unit = pointwise nat_eq unit (codes "-.mount") || pointwise nat_eq unit (codes "nix.mount")
 
 -- how the two texts differ; a unit that one of the systems doesn't define has no change
-abbrev pub outcome_of : UnitKind → Option (List Assignment) → Option (List Assignment) → Comparison
-outcome_of kind None new = Same
-outcome_of kind (Some old) None = Same
-outcome_of kind (Some old) (Some new) = comparison kind old new
+abbrev pub outcome_between : UnitKind → Option (List Assignment) → Option (List Assignment) → Comparison
+outcome_between kind None new = Same
+outcome_between kind (Some old) None = Same
+outcome_between kind (Some old) (Some new) = comparison kind old new
 
 -- the kind of a unit, which each unit name has
 abbrev pub unit_kind : Name → UnitKind
@@ -35,7 +35,7 @@ facts_of old new unit =
       kind = unit_kind unit;
       in_old = is_some old;
       in_new = is_some new;
-      outcome = outcome_of (unit_kind unit) old new;
+      outcome = outcome_between (unit_kind unit) old new;
       stop_on_removal = stop_on_removal before;
       stop_on_reconfiguration = stop_on_reconfiguration after;
       may_start = may_start after;

@@ -1,7 +1,7 @@
 //! What the table of decisions reads of a unit.
 ghost use Rattle.std.specs.Prelude.{◌≡◌, ◌||◌, ◌==◌, nat_eq, codes, unwrap_or, []};
 ghost use Rattle.std.specs.Option.{option_copied};
-ghost use Rattle.unit_decide.specs.Facts.{facts_of, is_root_mount, outcome_of};
+ghost use Rattle.unit_decide.specs.Facts.{facts_of, is_root_mount, outcome_between};
 ghost use Rattle.unit_decide.specs.Flags.{may_start};
 
 use crate::flags::{flag, may_start};
@@ -47,7 +47,7 @@ fn is_root_mount(unit: &str) -> bool
 }
 
 fn outcome(kind: UnitKind, old: Option<&UnitText>, new: Option<&UnitText>) -> Comparison
-    ensures { result ≡ outcome_of kind (option_copied old.entry) (option_copied new.entry) }
+    ensures { result ≡ outcome_between kind (option_copied old.entry) (option_copied new.entry) }
 {
     match (old, new) {
         (Some(old), Some(new)) => compare(kind, old, new),
