@@ -1,227 +1,172 @@
 //! What counts as a change of a unit: NixOS manual, "Unit handling".
 use crate::{Comparison, compare};
+use std::alloc::Global;
 use std::test::Fail;
 use switch_names::UnitKind;
-use unit_text::parse;
+use unit_text::{TextFault, parse};
 
-const WEB: &str = "[Unit]
-Description=Web server
-After=network.target
-[Service]
-ExecStart=/nix/store/a-web/bin/web
-Environment=A=1
-Environment=B=2
-[Install]
-WantedBy=multi-user.target
-";
-
-const HOME: &str = "[Unit]
-Description=/home
-[Mount]
-What=/dev/sda1
-Where=/home
-Options=noatime
-";
+/// The comparison of two files.
+fn compared(alloc: Global, kind: UnitKind, old: &str, new: &str) -> Result<Comparison, TextFault> {
+    let old = parse(alloc, old.as_bytes())?;
+    let new = parse(alloc, new.as_bytes())?;
+    Ok(compare(kind, &old, &new))
+}
 
 #[test]
-fn the_keys_that_differ_decide(rt: HostRuntime) -> Result<(), Fail> {
-    let alloc = rt.alloc();
-    for (name, kind, old, new, want) in [
-        (
-            "an equal text",
-            UnitKind::Service,
-            WEB,
-            WEB,
-            Comparison::Same,
-        ),
-        (
-            "another description",
-            UnitKind::Service,
-            WEB,
-            "[Unit]
-Description=A server for the web
-After=network.target
-[Service]
-ExecStart=/nix/store/a-web/bin/web
-Environment=A=1
-Environment=B=2
-[Install]
-WantedBy=multi-user.target
-",
-            Comparison::Same,
-        ),
-        (
-            "nothing to install",
-            UnitKind::Service,
-            WEB,
-            "[Unit]
+fn a_service_stays_the_same(rt: HostRuntime) -> Result<(), Fail> {
+    let web = "[Unit]
 Description=Web server
 After=network.target
 [Service]
-ExecStart=/nix/store/a-web/bin/web
 Environment=A=1
 Environment=B=2
-",
-            Comparison::Same,
-        ),
+ExecStart=/bin/web
+[Install]
+WantedBy=multi-user.target
+";
+    for (name, new) in [
+        ("an equal text", web),
         (
-            "another order of keys and of sections, with a comment",
-            UnitKind::Service,
-            WEB,
-            "# made by hand
+            "other descriptions, and none to install",
+            "[Unit]
+Description=A server for the web
+Documentation=https://example.org
+After=network.target
 [Service]
 Environment=A=1
+Environment=B=2
+ExecStart=/bin/web
+",
+        ),
+        (
+            "another order of keys and sections",
+            "[Service]
+# the server
+Environment=A=1
+ExecStart=/bin/web
 [Unit]
 After = network.target
 [Service]
 Environment=B=2
-ExecStart=/nix/store/a-web/bin/web
 ",
-            Comparison::Same,
         ),
         (
-            "another order of the values of a key",
-            UnitKind::Service,
-            WEB,
+            "cleared keys",
             "[Unit]
 After=network.target
 [Service]
-ExecStart=/nix/store/a-web/bin/web
-Environment=B=2
+User=
+Environment=C=3
+Environment=
 Environment=A=1
+Environment=B=2
+ExecReload=/bin/reload
+ExecReload=
+ExecStart=/bin/web
 ",
-            Comparison::Changed,
         ),
+    ] {
+        let got = compared(rt.alloc(), UnitKind::Service, web, new)?;
+        assert_eq!(rt; got, Comparison::Same, "{name}");
+        let back = compared(rt.alloc(), UnitKind::Service, new, web)?;
+        assert_eq!(rt; back, Comparison::Same, "{name}, the other way round");
+    }
+    Ok(())
+}
+
+#[test]
+fn a_service_changes_by_one_key(rt: HostRuntime) -> Result<(), Fail> {
+    let web = "[Service]\nExecStart=/bin/web\nEnvironment=A\nEnvironment=B\n";
+    for (name, new) in [
         (
             "another command",
-            UnitKind::Service,
-            WEB,
-            "[Unit]
-After=network.target
-[Service]
-ExecStart=/nix/store/b-web/bin/web
-Environment=A=1
-Environment=B=2
-",
-            Comparison::Changed,
+            "[Service]\nExecStart=/bin/b\nEnvironment=A\nEnvironment=B\n",
+        ),
+        (
+            "another order of values",
+            "[Service]\nExecStart=/bin/web\nEnvironment=B\nEnvironment=A\n",
         ),
         (
             "a value twice",
-            UnitKind::Service,
-            "[Service]\nExecStartPre=/bin/a\n",
-            "[Service]\nExecStartPre=/bin/a\nExecStartPre=/bin/a\n",
-            Comparison::Changed,
+            "[Service]\nExecStart=/bin/web\nEnvironment=A\nEnvironment=B\nEnvironment=B\n",
         ),
         (
-            "a cleared key and an absent one",
-            UnitKind::Service,
-            "[Service]\nExecStart=/bin/a\nExecReload=/bin/b\nExecReload=\n",
-            "[Service]\nExecStart=/bin/a\n",
-            Comparison::Same,
+            "one key more",
+            "[Service]\nExecStart=/bin/web\nEnvironment=A\nEnvironment=B\nUser=web\n",
         ),
+        ("one key less", "[Service]\nEnvironment=A\nEnvironment=B\n"),
         (
-            "an empty value and an absent key",
-            UnitKind::Service,
-            "[Service]\nExecStart=/bin/a\n",
-            "[Service]\nExecReload=\nExecStart=/bin/a\n",
-            Comparison::Same,
+            "a cleared key",
+            "[Service]\nExecStart=/bin/web\nEnvironment=A\nEnvironment=B\nEnvironment=\n",
         ),
+        ("an empty text", ""),
+    ] {
+        let got = compared(rt.alloc(), UnitKind::Service, web, new)?;
+        assert_eq!(rt; got, Comparison::Changed, "{name}");
+        let back = compared(rt.alloc(), UnitKind::Service, new, web)?;
+        assert_eq!(rt; back, Comparison::Changed, "{name}, the other way round");
+    }
+    Ok(())
+}
+
+#[test]
+fn some_keys_are_taken_up_by_a_reload(rt: HostRuntime) -> Result<(), Fail> {
+    let service = "[Unit]\nX-Reload-Triggers=/a\n[Service]\nExecStart=/bin/a\n";
+    let mount = "[Mount]\nWhat=/dev/a\nOptions=noatime\n";
+    for (name, kind, old, new, want) in [
         (
-            "a key in the new text alone",
+            "other triggers",
             UnitKind::Service,
-            "[Service]\nExecStart=/bin/a\n",
-            "[Service]\nExecStart=/bin/a\nUser=web\n",
-            Comparison::Changed,
-        ),
-        (
-            "a key in the old text alone",
-            UnitKind::Service,
-            "[Service]\nExecStart=/bin/a\nUser=web\n",
-            "[Service]\nExecStart=/bin/a\n",
-            Comparison::Changed,
-        ),
-        (
-            "an empty text",
-            UnitKind::Service,
-            WEB,
-            "",
-            Comparison::Changed,
-        ),
-        (
-            "other reload triggers",
-            UnitKind::Service,
-            "[Unit]\nX-Reload-Triggers=/nix/store/a-conf\n[Service]\nExecStart=/bin/a\n",
-            "[Unit]\nX-Reload-Triggers=/nix/store/b-conf\n[Service]\nExecStart=/bin/a\n",
+            service,
+            "[Unit]\nX-Reload-Triggers=/b\n[Service]\nExecStart=/bin/a\n",
             Comparison::ReloadOnly,
         ),
         (
-            "reload triggers and a description",
+            "no triggers, and a description",
             UnitKind::Service,
+            service,
             "[Unit]\nDescription=A\n[Service]\nExecStart=/bin/a\n",
-            "[Unit]\nX-Reload-Triggers=/nix/store/b-conf\n[Service]\nExecStart=/bin/a\n",
             Comparison::ReloadOnly,
         ),
         (
-            "reload triggers and another command",
+            "other triggers and another command",
             UnitKind::Service,
-            "[Unit]\nX-Reload-Triggers=/nix/store/a-conf\n[Service]\nExecStart=/bin/a\n",
-            "[Unit]\nX-Reload-Triggers=/nix/store/b-conf\n[Service]\nExecStart=/bin/b\n",
+            service,
+            "[Unit]\nX-Reload-Triggers=/b\n[Service]\nExecStart=/bin/b\n",
             Comparison::Changed,
         ),
         (
-            "other restart triggers",
+            "triggers of another section",
             UnitKind::Service,
-            "[Unit]\nX-Restart-Triggers=/nix/store/a-conf\n",
-            "[Unit]\nX-Restart-Triggers=/nix/store/b-conf\n",
-            Comparison::Changed,
-        ),
-        (
-            "reload triggers of the wrong section",
-            UnitKind::Service,
-            "[Service]\nX-Reload-Triggers=/nix/store/a-conf\n",
-            "[Service]\nX-Reload-Triggers=/nix/store/b-conf\n",
+            "[Service]\nX-Reload-Triggers=/a\n",
+            "[Service]\nX-Reload-Triggers=/b\n",
             Comparison::Changed,
         ),
         (
             "other options of a mount",
             UnitKind::Mount,
-            HOME,
-            "[Mount]\nWhat=/dev/sda1\nWhere=/home\nOptions=noatime,ro\n",
+            mount,
+            "[Mount]\nWhat=/dev/a\nOptions=ro\n",
             Comparison::ReloadOnly,
         ),
         (
-            "no options of a mount",
+            "other options of a mount on another device",
             UnitKind::Mount,
-            HOME,
-            "[Mount]\nWhat=/dev/sda1\nWhere=/home\n",
-            Comparison::ReloadOnly,
-        ),
-        (
-            "other options of a mount and another device",
-            UnitKind::Mount,
-            HOME,
-            "[Mount]\nWhat=/dev/sdb1\nWhere=/home\nOptions=noatime,ro\n",
+            mount,
+            "[Mount]\nWhat=/dev/b\nOptions=ro\n",
             Comparison::Changed,
         ),
         (
-            "options of a mount in a swap",
-            UnitKind::Swap,
-            "[Mount]\nOptions=a\n",
-            "[Mount]\nOptions=b\n",
-            Comparison::Changed,
-        ),
-        (
-            "other options of a swap",
-            UnitKind::Swap,
-            "[Swap]\nWhat=/dev/sda2\nOptions=discard\n",
-            "[Swap]\nWhat=/dev/sda2\nOptions=pri=1\n",
+            "the section of a mount in an automount",
+            UnitKind::Automount,
+            mount,
+            "[Mount]\nWhat=/dev/a\nOptions=ro\n",
             Comparison::Changed,
         ),
     ] {
-        let old = parse(alloc, old.as_bytes())?;
-        let new = parse(alloc, new.as_bytes())?;
-        assert_eq!(rt; compare(kind, &old, &new), want, "{name}");
-        let back = compare(kind, &new, &old);
+        let got = compared(rt.alloc(), kind, old, new)?;
+        assert_eq!(rt; got, want, "{name}");
+        let back = compared(rt.alloc(), kind, new, old)?;
         assert_eq!(rt; back, want, "{name}, the other way round");
     }
     Ok(())
@@ -245,15 +190,9 @@ fn twelve_keys_of_a_unit_say_nothing_of_a_running_one(rt: HostRuntime) -> Result
         "SourcePath",
     ] {
         for (section, want) in [("Unit", Comparison::Same), ("Service", Comparison::Changed)] {
-            let old = parse(
-                alloc,
-                format!(in alloc; "[{section}]\n{key}=a\n")?.as_bytes(),
-            )?;
-            let new = parse(
-                alloc,
-                format!(in alloc; "[{section}]\n{key}=b\n")?.as_bytes(),
-            )?;
-            let got = compare(UnitKind::Service, &old, &new);
+            let old = format!(in alloc; "[{section}]\n{key}=a\n")?;
+            let new = format!(in alloc; "[{section}]\n{key}=b\n")?;
+            let got = compared(alloc, UnitKind::Service, old.as_str(), new.as_str())?;
             assert_eq!(rt; got, want, "{key} of {section}");
         }
     }
