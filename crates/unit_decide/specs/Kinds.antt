@@ -5,7 +5,7 @@ use Rattle.switch_names.specs.declared.unit_kind.UnitKind.TheVariants.{Service, 
 use Rattle.unit_compare.specs.declared.comparison.Comparison.{Comparison}
 use Rattle.unit_compare.specs.declared.comparison.Comparison.TheVariants.{Same, ReloadOnly}
 
--- both kinds are the same
+-- the kind is this one
 abbrev pub is_kind : UnitKind → UnitKind → Bool
 is_kind Service Service = true
 is_kind Socket Socket = true
