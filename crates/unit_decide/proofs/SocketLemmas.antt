@@ -108,6 +108,9 @@ paired_is_socket text unit socket found =
       | false ↦ λ found. absurd (none_found socket found)
     ] found
 
+pub paired_kind : (text : List Assignment) (unit socket : Name) → has (sockets_of text unit) socket ≡ true → unit_kind socket ≡ Socket
+paired_kind text unit socket found = ap (λ kind. unwrap_or kind Service) (kind_of-socket socket (paired_is_socket text unit socket found))
+
 -- a service that names no socket is paired with the one of its own name
 pub paired_with_own : (text : List Assignment) (unit : Name) → IsUnitName unit → is_socket_activated text unit ≡ true → has_value text sockets_key ≡ false → sockets_of text unit ≡ own_socket unit ∷ []
 paired_with_own text unit is activated none =

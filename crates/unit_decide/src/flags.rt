@@ -19,6 +19,8 @@ pub fn flag(text: Option<&UnitText>, section: &str, key: &str, default: bool) ->
 
 /// Whether a switch may start the unit of a text: neither `RefuseManualStart` nor
 /// `X-OnlyManualStart` is set.
+///
+/// Sources: systemd.unit(5), "RefuseManualStart=", and NixOS manual, "Unit handling".
 pub fn may_start(new: &UnitText) -> bool
     ensures { result ≡ may_start new.now }
 {
