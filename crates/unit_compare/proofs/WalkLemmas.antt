@@ -22,24 +22,12 @@ use Rattle.unit_compare.specs.Walk.{key_comparison, worse, next_order}
 use Rattle.unit_compare.proofs.Outcomes.{by_tests, one, made_first, made_append, worse_assoc, worse_comm, worse_itself}
 use Rattle.unit_compare.proofs.Differing.{made_of, is_changed, assigned, any_same, comparison_made, differing_assigned, or_false_parts, unset_same}
 
-each : {X : Type 0} (P : X → Type 0) (xs : List X) → ((x : X) → P x) → AllByRecursion P xs
-each P [] h = tt
-each P (x ∷ xs) h = (h x, each P xs h)
-
 -- the keys that are left of two texts: one of them stands in the other text exactly where it is left there
 pub record AreLeft (old new : List Assignment) (of_old of_new : List UnitKey) : Type 0 where
   pub old_sorted : IsStrictlySortedBy key_cmp of_old
   pub new_sorted : IsStrictlySortedBy key_cmp of_new
   pub in_new : AllByRecursion (λ key. has_key of_new key ≡ has_value new key) of_old
   pub in_old : AllByRecursion (λ key. has_key of_old key ≡ has_value old key) of_new
-
-pub all_left : (old new : List Assignment) (of_old of_new : List UnitKey) → AreKeysOf old of_old → AreKeysOf new of_new → AreLeft old new of_old of_new
-all_left old new of_old of_new a b = record {
-  old_sorted = a.sorted;
-  new_sorted = b.sorted;
-  in_new = each _ of_old b.exact;
-  in_old = each _ of_new a.exact;
-}
 
 -- a lower key doesn't matter to those above it
 stand_on : (has : UnitKey → Bool) (key : UnitKey) (below above : List UnitKey) → AreAbove above key
@@ -288,11 +276,6 @@ module _ (kind : UnitKind) (old new : List Assignment) (outcome end : Comparison
       by (Here a at d) (Here b bt f) = let n = sym (λ i. next_order (at i) (bt i)) ∙ e in cc
       by (Here a at d) (Past bt f) = let n = sym (λ i. next_order (at i) (bt i)) ∙ e in cc
       by (Past at d) (Here b bt f) = let n = sym (λ i. next_order (at i) (bt i)) ∙ e in cc
-
--- the keys of both texts are all that matter
-pub at_start : (kind : UnitKind) (old new : List Assignment) (of_old of_new : List UnitKey) → AreKeysOf old of_old → AreKeysOf new of_new
-    → IsWalk kind old new Same (worse (made_of kind old new of_old) (made_of kind old new of_new)) of_old of_new
-at_start kind old new of_old of_new a b = record { left = all_left old new of_old of_new a b; rest = refl }
 
 -- a key that differs has a value in one of the texts
 valued : (old new : List Assignment) (of_old of_new : List UnitKey) → AreKeysOf old of_old → AreKeysOf new of_new

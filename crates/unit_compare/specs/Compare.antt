@@ -17,6 +17,7 @@ ignored_names =
     codes "Description" ∷ codes "Documentation" ∷ codes "OnFailure" ∷ codes "OnSuccess" ∷ codes "OnFailureJobMode" ∷ codes "IgnoreOnIsolate"
     ∷ codes "StopWhenUnneeded" ∷ codes "RefuseManualStart" ∷ codes "RefuseManualStop" ∷ codes "AllowIsolate" ∷ codes "CollectMode" ∷ codes "SourcePath" ∷ []
 
+-- one of these names, whatever the section
 unfoldable pub is_ignored_name : List ℕ → Bool
 is_ignored_name key = list_any (pointwise nat_eq key) ignored_names
 
@@ -33,6 +34,7 @@ are_same_values = pointwise (pointwise nat_eq)
 abbrev pub differs : List Assignment → List Assignment → UnitKey → Bool
 differs old new key = not (is_ignored key) && not (are_same_values (values_of old key) (values_of new key))
 
+-- the kind of the units that mount a file system
 abbrev pub is_mount : UnitKind → Bool
 is_mount Service = false
 is_mount Socket = false

@@ -118,6 +118,7 @@ module _ where
     where
       lacks : (zs : List UnitKey) → AreAbove zs x → is_same_key key x ≡ true → has_key zs key ≡ false
       lacks zs over e = ap (has_key zs) (same_key key x e) ∙ other_lacks zs x (above_other zs x over)
+
       by : (t : Bool) → is_same_key key x ≡ t → has_key xs key ≡ has_key ys key
       by true e = lacks xs over_x e ∙ sym (lacks ys over_y e)
       by false e = sym (ap (λ t. t || has_key xs key) e) ∙ h key ∙ ap (λ t. t || has_key ys key) e
