@@ -8,6 +8,8 @@ mod kinds;
 pub mod laws;
 mod pairing;
 #[cfg(test)]
+mod pairing_tests;
+#[cfg(test)]
 mod tests;
 
 pub use decision::{Decision, decide};
