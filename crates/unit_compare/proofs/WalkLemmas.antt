@@ -36,10 +36,12 @@ stand_on has key below [] over h = tt
 stand_on has key below (x ∷ above) over h =
     (sym (ap (λ b. b || has_key below x) (greater_other x key over.0)) ∙ h.0, stand_on has key below above over.1 h.1)
 
+-- a key below all that are left has no value
 pub absent : (text : List Assignment) (key : UnitKey) (left : List UnitKey) → AreAbove left key → has_key left key ≡ has_value text key → values_of text key ≡ []
 absent text key left over e = nil_from_length _ (eqb-true _ 0 (not-false _ (sym e ∙ other_lacks left key (above_other left key over))))
 
 module _ (old new : List Assignment) where
+  -- the walk goes past a key of one text, or of both
   pub pass_old : (key : UnitKey) (of_old of_new : List UnitKey) → AreAbove of_new key → AreLeft old new (key ∷ of_old) of_new → AreLeft old new of_old of_new
   unfolding IsStrictlySortedBy
   pass_old key of_old of_new over left = record {
@@ -137,6 +139,7 @@ module _ (kind : UnitKind) (old new : List Assignment) (outcome end : Comparison
       → worse (worse outcome (key_comparison kind key of_this of_that)) joined ≡ worse (worse outcome one_of) joined
   turned_by of_this of_that a b = ap (λ o. worse (worse outcome o) joined) (one_read kind old new key of_this of_that a b)
 
+  -- the lower key has no value in the other text
   old_turn : (values : List (List ℕ)) → IsWalk kind old new outcome end (key ∷ of_old) of_new → AreAbove of_new key → values ≡ values_of old key → Turned values []
   old_turn values walk over v = record {
     left = pass_old old new key of_old of_new over walk.left;
@@ -170,6 +173,7 @@ module _ (kind : UnitKind) (old new : List Assignment) (outcome end : Comparison
 
 -- ---- one turn by places
 
+-- the text with the lower key hasn't ended
 less_here : (keys : List UnitKey) (at : ℕ) (that : Option UnitKey) → next_order (slice_get keys at) that ≡ Some Less → at < length keys
 less_here keys at that e = by (is_at keys at) that e
   where
@@ -186,6 +190,7 @@ greater_here keys at this e = by (is_at keys at) this e
     by (Past h d) None e = let n = sym (ap (λ o. next_order None o) h) ∙ e in cc
     by (Past h d) (Some other) e = let n = sym (ap (λ o. next_order (Some other) o) h) ∙ e in cc
 
+-- the lower key is below all that are left of the other text
 less_above : (keys : List UnitKey) (at : ℕ) (key : UnitKey) → next_order (Some key) (slice_get keys at) ≡ Some Less → IsStrictlySortedBy key_cmp (drop at keys) → AreAbove (drop at keys) key
 less_above keys at key e s = by (is_at keys at)
   where
@@ -207,6 +212,7 @@ greater_above keys at key e s = by (is_at keys at)
         subst (λ ks. AreAbove ks key) (sym d) (above_first key other (drop (at + 1) keys) less (subst (IsStrictlySortedBy key_cmp) d s))
     by (Past h d) = subst (λ ks. AreAbove ks key) (sym d) tt
 
+-- the values at a key's place are the key's
 read_values : (text : List Assignment) (keys : List UnitKey) (all : List (List (List ℕ))) (at : ℕ) (key : UnitKey) (values : List (List ℕ))
     → all ≡ map (values_of text) keys → at < length keys → key ≡ get_or keys at key → values ≡ get_or all at values → values ≡ values_of text key
 read_values text keys all at key values e lt k v =
@@ -291,6 +297,7 @@ valued old new of_old of_new a b key d = by (has_key (of_old ++ of_new) key) ref
         let parts = or_false_parts _ _ (sym (list_any-append (is_same_key key) of_old of_new) ∙ h) in
         absurd (true≢false (sym d ∙ unset_same old new key (unset old of_old a parts.0) (unset new of_new b parts.1)))
 
+-- the keys that have a value in either text decide as those that are assigned do
 pub walked : (kind : UnitKind) (old new : List Assignment) (of_old of_new : List UnitKey) → AreKeysOf old of_old → AreKeysOf new of_new
     → worse (made_of kind old new of_old) (made_of kind old new of_new) ≡ comparison kind old new
 walked kind old new of_old of_new a b =

@@ -22,7 +22,7 @@ fn next_order(old: &[UnitKey], old_at: usize, new: &[UnitKey], new_at: usize) ->
     }
 }
 
-/// What differs between two texts of a unit of this kind.
+/// How a unit of this kind changed from an old text to a new one.
 ///
 /// Source: NixOS manual, "Unit handling".
 pub fn compare(kind: UnitKind, old: &UnitText, new: &UnitText) -> Comparison
