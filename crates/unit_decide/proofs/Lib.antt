@@ -1,0 +1,2 @@
+pub mod SocketLemmas
+pub mod TableLemmas

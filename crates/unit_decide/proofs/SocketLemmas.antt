@@ -1,0 +1,118 @@
+-- Words that are names of sockets.
+use Rattle.std.proofs.Common.{◌≡◌, ◌<◌, ◌&&◌, ◌==◌, ℕ, Bool, true, false, List, [], ◌∷◌, length, filter, position, nat_lt, Option, None, Some, is_none, option_map, unwrap_or, if◌then◌else◌, refl, sym, ap, ◌∙◌, arith}
+use Rattle.std.specs.Str.{IsUtf8}
+use Rattle.std.specs.Option.{option_map_or}
+use Rattle.std.specs.BTreeMap.{is_at}
+use Rattle.std.specs.Cmp.Lexicographic.{slice_cmp}
+use Rattle.std.specs.Ordering.{nat_cmp}
+use Rattle.std.proofs.lemmas.Map.Text.{is_eq-slice_cmp}
+use Rattle.std.proofs.lemmas.Map.Views.{any-filter_same}
+use Rattle.std.proofs.lemmas.Slice.Eq.{bytes_eq-Decides}
+use Rattle.std.proofs.lemmas.Bool.{false_from_ne_true}
+use Rattle.std.proofs.lemmas.Bool.Decides.{nat_tests}
+use Rattle.std.proofs.lemmas.Str.{IsUtf8-from_ascii}
+use Rattle.std.proofs.lemmas.Str.Ascii.{IsAscii-from_all}
+use Rattle.switch_names.specs.declared.name_fault.NameFault.TheVariants.{Byte, Kind}
+use Rattle.switch_names.specs.declared.unit_kind.UnitKind.{UnitKind}
+use Rattle.switch_names.specs.declared.unit_kind.UnitKind.TheVariants.{Service, Socket}
+use Rattle.switch_names.specs.UnitKind.{kind_of}
+use Rattle.switch_names.specs.UnitName.{IsUnitName, is_no_unit_byte, stem_of, unit_fault}
+use Rattle.switch_names.proofs.Endings.{kind_of-stem}
+use Rattle.switch_names.proofs.Faultless.{HasNone-from_sought}
+use Rattle.switch_names.proofs.UnitNames.{HasParts-from_kind, IsShortName-from_name, IsUnitName-with_ending}
+use Rattle.unit_decide.specs.Facts.{unit_kind}
+use Rattle.unit_decide.specs.Kinds.{is_kind}
+use Rattle.unit_decide.specs.Names.{Name, has}
+use Rattle.unit_decide.specs.Sockets.{is_socket_activated, is_socket_name, own_socket, socket_words, sockets_key, sockets_of}
+use Rattle.unit_text.specs.declared.assignment.Assignment.{Assignment}
+use Rattle.unit_text.specs.UnitText.{has_value}
+
+none_from_test : {T : Type 0} (o : Option T) → is_none o ≡ true → o ≡ None
+none_from_test None is = refl
+none_from_test (Some x) is = absurd cc
+
+and_left : (a b : Bool) → (a && b) ≡ true → a ≡ true
+and_left true b both = refl
+and_left false b both = absurd cc
+
+pub and_right : (a b : Bool) → (a && b) ≡ true → b ≡ true
+and_right true b both = both
+and_right false b both = absurd cc
+
+-- the name of a socket is the name of a unit
+pub IsUnitName-from_socket : (word : List ℕ) → is_socket_name word ≡ true → IsUnitName word
+IsUnitName-from_socket word is = none_from_test (unit_fault word) (and_left (is_none (unit_fault word)) _ is)
+
+ascii_byte : (byte : ℕ) → is_no_unit_byte byte ≡ false → byte < 128
+ascii_byte byte is = grind (arith, nat_tests)
+
+-- the name of a socket is UTF-8
+socket_utf8 : (word : List ℕ) → is_socket_name word ≡ true → IsUtf8 word
+socket_utf8 word is =
+    let bytes = (IsShortName-from_name word (IsUnitName-from_socket word is)).bytes in
+    IsUtf8-from_ascii word (IsAscii-from_all word (λ k d l. ascii_byte _ (bytes k d l)))
+
+-- bytes that aren't UTF-8 name no socket
+pub no_socket : (word : List ℕ) → ¬ IsUtf8 word → is_socket_name word ≡ false
+no_socket word bad = false_from_ne_true (is_socket_name word) (λ is. bad (socket_utf8 word is))
+
+socket_from_test : (kind : UnitKind) → is_kind kind Socket ≡ true → kind ≡ Socket
+socket_from_test Socket is = refl
+socket_from_test _ is = absurd cc
+
+socket_kind : (kind : Option UnitKind) → option_map_or (λ k. is_kind k Socket) kind false ≡ true → kind ≡ Some Socket
+socket_kind None is = absurd cc
+socket_kind (Some kind) is = ap Some (socket_from_test kind is)
+
+-- the name of a socket has that kind
+pub kind_of-socket : (word : List ℕ) → is_socket_name word ≡ true → kind_of word ≡ Some Socket
+kind_of-socket word is = socket_kind (kind_of word) (and_right (is_none (unit_fault word)) _ is)
+
+-- a service's own name with `.socket` is one byte shorter, and so it is the name of a socket
+pub own_is_socket : (unit : Name) → IsUnitName unit → kind_of unit ≡ Some Service → is_socket_name (own_socket unit) ≡ true
+own_is_socket unit is of =
+    let name : IsUnitName (own_socket unit) = IsUnitName-with_ending unit Service Socket is of (omega arith) in
+    let kind : kind_of (own_socket unit) ≡ Some Socket = kind_of-stem (stem_of unit) Socket (HasParts-from_kind unit Service of).stem in
+    rw (name, kind)
+
+service_from_test : (kind : UnitKind) → is_kind kind Service ≡ true → kind ≡ Service
+service_from_test Service is = refl
+service_from_test _ is = absurd cc
+
+kind_from_some : (kind : Option UnitKind) → is_none kind ≡ false → is_kind (unwrap_or kind Service) Service ≡ true → kind ≡ Some Service
+kind_from_some None some is = absurd cc
+kind_from_some (Some kind) some is = ap Some (service_from_test kind is)
+
+-- the name of a unit of kind service has that kind
+service_kind : (unit : Name) → IsUnitName unit → is_kind (unit_kind unit) Service ≡ true → kind_of unit ≡ Some Service
+service_kind unit is service =
+    let none = HasNone-from_sought (length unit == 0) (nat_lt 255 (length unit)) (option_map Byte (position is_no_unit_byte unit)) (is_none (kind_of unit)) Kind is in
+    kind_from_some (kind_of unit) none.not_last service
+
+same_name : (unit other : Name) → is_at (slice_cmp nat_cmp unit) other ≡ true → unit ≡ other
+same_name unit other is = (bytes_eq-Decides unit other).0 (sym (is_eq-slice_cmp unit other) ∙ is)
+
+-- what is found in a filtered list passes
+passes : (p : Name → Bool) (names : List Name) (unit : Name) → has (filter p names) unit ≡ true → p unit ≡ true
+passes p names unit found =
+    and_left (p unit) _ (sym (any-filter_same (is_at (slice_cmp nat_cmp unit)) p (p unit) (λ other same. ap p (sym (same_name unit other same))) names) ∙ found)
+
+none_found : (unit : Name) → has [] unit ≡ true → ⊥
+none_found unit found = cc
+
+-- what a service is paired with are names of sockets
+pub paired_is_socket : (text : List Assignment) (unit socket : Name) → has (sockets_of text unit) socket ≡ true → is_socket_name socket ≡ true
+paired_is_socket text unit socket found =
+    elim (is_socket_activated text unit) as (λ b. has (if b then filter is_socket_name (socket_words text unit) else []) socket ≡ true → is_socket_name socket ≡ true) [
+      | true ↦ λ found. passes is_socket_name (socket_words text unit) socket found
+      | false ↦ λ found. absurd (none_found socket found)
+    ] found
+
+pub paired_kind : (text : List Assignment) (unit socket : Name) → has (sockets_of text unit) socket ≡ true → unit_kind socket ≡ Socket
+paired_kind text unit socket found = ap (λ kind. unwrap_or kind Service) (kind_of-socket socket (paired_is_socket text unit socket found))
+
+-- a service that names no socket is paired with the one of its own name
+pub paired_with_own : (text : List Assignment) (unit : Name) → IsUnitName unit → is_socket_activated text unit ≡ true → has_value text sockets_key ≡ false → sockets_of text unit ≡ own_socket unit ∷ []
+paired_with_own text unit is activated none =
+    let service = and_left (is_kind (unit_kind unit) Service) _ activated in
+    rw (activated, none, own_is_socket unit is (service_kind unit is service))

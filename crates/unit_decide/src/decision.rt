@@ -1,0 +1,81 @@
+//! Decisions on Active units.
+ghost use Rattle.std.specs.Prelude.{◌≡◌};
+ghost use Rattle.std.specs.Option.{option_copied};
+ghost use Rattle.unit_decide.specs.Decision.{decide};
+ghost use Rattle.unit_decide.specs.Facts.{facts_of};
+
+use crate::facts::Facts;
+use crate::kinds::{is_left_alone, is_mount, is_reload_only, is_same, is_service, is_target};
+use switch_names::UnitName;
+use unit_text::UnitText;
+
+/// What a switch does with an Active unit, as in the NixOS manual, "Unit handling".
+#[derive(Clone, Copy, Debug, PartialEq, Eq)]
+pub enum Decision {
+    /// The unit is left as it is.
+    Nothing,
+    /// It is stopped.
+    Stop,
+    /// It is started: what is Active stays Active.
+    Start,
+    /// It is stopped, and started once the new definitions are loaded.
+    StopStart,
+    /// It is stopped with its live sockets, and these are started once the new definitions are loaded.
+    SocketStart,
+    /// It is restarted once the new definitions are loaded.
+    Restart,
+    /// It is reloaded once the new definitions are loaded.
+    Reload,
+}
+
+/// What becomes of an Active unit that the two systems define by these texts, or don't define.
+///
+/// `live` tells whether one of the sockets that the unit is paired with is Active or waits for its
+/// start. Sources: NixOS manual, "Unit handling", and systemd.unit(5) for the flags without `X-`.
+pub fn decide(
+    old: Option<&UnitText>,
+    new: Option<&UnitText>,
+    unit: &UnitName,
+    live: bool,
+) -> Decision
+    ensures { result ≡ decide (facts_of (option_copied old.entry) (option_copied new.entry) unit.now) live }
+{
+    row(&Facts::of(old, new, unit), live)
+}
+
+/// The first row of the table that fits.
+#[tactic(auto, unfolding(crate::specs::Decision::decide))]
+fn row(facts: &Facts, live: bool) -> Decision
+    ensures { result ≡ decide facts.now live }
+{
+    let is_target = is_target(facts.kind);
+    if !facts.in_new && facts.in_old && facts.stop_on_removal {
+        Decision::Stop
+    } else if !facts.in_new {
+        Decision::Nothing
+    } else if is_target && facts.stop_on_reconfiguration && facts.may_start {
+        Decision::StopStart
+    } else if is_target && facts.stop_on_reconfiguration {
+        Decision::Stop
+    } else if is_target && facts.may_start {
+        Decision::Start
+    } else if is_target || !facts.in_old || is_same(&facts.outcome) {
+        Decision::Nothing
+    } else if is_left_alone(facts.kind) {
+        Decision::Nothing
+    } else if is_reload_only(&facts.outcome) || facts.is_root_mount {
+        Decision::Reload
+    } else if is_mount(facts.kind) {
+        Decision::Restart
+    } else if facts.reload_if_changed {
+        Decision::Reload
+    } else if !facts.restart_if_changed || facts.refuse_manual_stop || facts.only_manual_start {
+        Decision::Nothing
+    } else if !is_service(facts.kind) || !facts.stop_if_changed {
+        Decision::Restart
+    } else if live {
+        Decision::SocketStart
+    } else {
+        Decision::StopStart
+    }
+}

@@ -1,0 +1,17 @@
+//! What a switch does with a unit that is Active, and the sockets that a service is paired with.
+#![tactic(auto)]
+
+mod decision;
+mod facts;
+mod flags;
+mod kinds;
+pub mod laws;
+mod pairing;
+#[cfg(test)]
+mod pairing_tests;
+#[cfg(test)]
+mod tests;
+
+pub use decision::{Decision, decide};
+pub use flags::may_start;
+pub use pairing::sockets;
