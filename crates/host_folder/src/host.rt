@@ -91,7 +91,8 @@ impl<R: Files + AllocGlobal + Clone + Drop> FolderHost<R> {
 
     /// The manager's state, which is read once.
     fn take_manager(&mut self, alloc: Global) -> io::Result<ManagerState>
-        ensures { IfOk result HasPlainTexts }
+        ensures plain { IfOk result HasPlainTexts }
+        ensures faults { self.new.faults ≡ self.old.faults }
     {
         match self.manager.take() {
             Some(state) => Ok(state),
@@ -100,7 +101,9 @@ impl<R: Files + AllocGlobal + Clone + Drop> FolderHost<R> {
     }
 
     /// The states of the units.
-    fn read_units(&mut self, alloc: Global) -> io::Result<States> {
+    fn read_units(&mut self, alloc: Global) -> io::Result<States>
+        ensures { self.new.faults ≡ self.old.faults }
+    {
         let state = self.take_manager(alloc)?;
         let states = state.states.copy(alloc)?;
         self.manager = Some(state);
@@ -110,6 +113,7 @@ impl<R: Files + AllocGlobal + Clone + Drop> FolderHost<R> {
     /// Makes a call on the manager. Its state is read again after one that has failed.
     fn make(&mut self, alloc: Global, call: &Call) -> io::Result<()>
         requires { IsPlainCall call.now }
+        ensures { self.new.faults ≡ self.old.faults }
     {
         let mut state = self.take_manager(alloc)?;
         step_manager(&self.rt, alloc, self.tree.root()?, &mut state, call)?;
@@ -118,13 +122,17 @@ impl<R: Files + AllocGlobal + Clone + Drop> FolderHost<R> {
     }
 
     /// Does something to a unit.
-    fn perform(&mut self, alloc: Global, act: Act, unit: &UnitName) -> io::Result<()> {
+    fn perform(&mut self, alloc: Global, act: Act, unit: &UnitName) -> io::Result<()>
+        ensures { self.new.faults ≡ self.old.faults }
+    {
         let call = call_of(alloc, act, unit)?;
         self.make(alloc, &call)
     }
 
     /// Loads the definitions to which the link at their place leads.
-    fn load(&mut self, alloc: Global) -> io::Result<()> {
+    fn load(&mut self, alloc: Global) -> io::Result<()>
+        ensures { self.new.faults ≡ self.old.faults }
+    {
         let place = definitions_path(alloc)?;
         let leaf = leaf_at(&self.rt, alloc, &mut self.tree, &place)?;
         let text = loaded_text(alloc, leaf.as_ref())?;
