@@ -1,3 +1,4 @@
+pub mod Beginnings
 pub mod Counting
 pub mod Growth
 pub mod Lines

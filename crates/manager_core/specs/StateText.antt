@@ -87,9 +87,16 @@ pub record IsFirstFault (bytes : List ℕ) (number : ℕ) : Type 0 where
 abbrev pub line_max : ℕ
 line_max = 4294967295
 
+-- there is one such line, and its number is given
+pub record IsLineFault (bytes : List ℕ) (given : ℕ) : Type 0 where
+  pub number : ℕ
+  pub first : IsFirstFault bytes number
+  pub only : (other : ℕ) → IsFirstFault bytes other → other ≡ number
+  pub given_as : given ≡ min number line_max
+
 -- what keeps bytes from being a state's text; want of memory may come with any
 abbrev pub IsFaultOf : List ℕ → StateFault → Type 0
-IsFaultOf bytes (fault.Line given) = (number : ℕ) × IsFirstFault bytes number × (given ≡ min number line_max)
+IsFaultOf bytes (fault.Line given) = IsLineFault bytes given
 IsFaultOf bytes fault.Memory = Unit {0}
 
 -- the state is read, unless memory ran out

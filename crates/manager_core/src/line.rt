@@ -165,7 +165,7 @@ fn read_unit_and_text(alloc: Global, bytes: &[u8]) -> Result<Option<(UnitName, T
 }
 
 /// Reads what a line says of a unit's state.
-fn read_state(alloc: Global, state: State, bytes: &[u8]) -> Result<Option<Line>, AllocError>
+fn read_unit_state(alloc: Global, state: State, bytes: &[u8]) -> Result<Option<Line>, AllocError>
     ensures { IfOk result (λ line. line ≡ state_said state bytes.now) }
 {
     match read_unit(alloc, bytes)? {
@@ -210,8 +210,8 @@ fn read_said(alloc: Global, word: Word, bytes: &[u8]) -> Result<Option<Line>, Al
 {
     match word {
         Word::Loaded => read_loaded(alloc, bytes),
-        Word::Active => read_state(alloc, State::Active, bytes),
-        Word::Failed => read_state(alloc, State::Failed, bytes),
+        Word::Active => read_unit_state(alloc, State::Active, bytes),
+        Word::Failed => read_unit_state(alloc, State::Failed, bytes),
         Word::Bad => read_bad(alloc, bytes),
         Word::Stop => read_entry(alloc, Act::Stop, bytes),
         Word::Reload => read_entry(alloc, Act::Reload, bytes),

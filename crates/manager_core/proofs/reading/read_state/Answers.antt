@@ -1,7 +1,8 @@
 use Rattle.std.proofs.Common.{◌≡◌, ◌++◌, ◌∷◌, [], ℕ, List, length, min, ◌+◌, ◌==◌, false, true, refl, sym, ap, ◌∙◌, subst, append_assoc, arith}
 use Rattle.std.proofs.lemmas.List.{append-nil}
 use Rattle.manager_core.specs.Placing.{stands, with_line}
-use Rattle.manager_core.specs.StateText.{IsReadable, IsTextOf, line_max, state_lines, state_text}
+use Rattle.manager_core.specs.StateText.{IsFirstFault, IsLineFault, IsReadable, IsTextOf, line_max, state_lines, state_text}
+use Rattle.manager_core.proofs.Beginnings.{one_fault}
 use Rattle.manager_core.proofs.Counting.{fault_at_end, fault_at_first, fault_at_line, fault_at_none, no_text}
 use Rattle.std.proofs.lemmas.Bool.{both_ways}
 use Rattle.manager_core.proofs.Growth.{no_items}
@@ -10,11 +11,15 @@ use Rattle.manager_core.proofs.Readable.{blocked, first_blocked, first_taken, on
 use Rattle.manager_core.proofs.Splitting.{no_rest}
 use Rattle.manager_core.proofs.reading.read_state.Goals as goal
 
+-- the first fault is the one that is given
+fault : (bytes : List ℕ) (number given : ℕ) → IsFirstFault bytes number → given ≡ min number line_max → IsLineFault bytes given
+fault bytes number given first is = record { number = number; first = first; only = λ other f. one_fault bytes other number f first; given_as = is }
+
 pub returns-in_default-clause-again : goal.returns-in_default-clause-again
 returns-in_default-clause-again c = λ state is. absurd (no_text c.args.bytes.now (parted_none 10 c.args.bytes.now (sym c.in_default.ensures)) state is)
 
 pub returns-in_default-clause-fault : goal.returns-in_default-clause-fault
-returns-in_default-clause-fault c = (1, fault_at_none c.args.bytes.now (parted_none 10 c.args.bytes.now (sym c.in_default.ensures)), refl)
+returns-in_default-clause-fault c = fault _ 1 1 (fault_at_none c.args.bytes.now (parted_none 10 c.args.bytes.now (sym c.in_default.ensures))) refl
 
 pub returns-in_default-2-clause-again : goal.returns-in_default-2-clause-again
 returns-in_default-2-clause-again c = λ state is.
@@ -24,7 +29,7 @@ returns-in_default-2-clause-again c = λ state is.
 pub returns-in_default-2-clause-fault : goal.returns-in_default-2-clause-fault
 returns-in_default-2-clause-fault c =
     let cut = parted_parts 10 c.args.bytes.now (c.in-Some.first.now, c.in-Some.rest.now) (sym c.in-Some.ensures) in
-    (1, fault_at_first c.args.bytes.now c.in-Some.first.now c.in-Some.rest.now cut.0 cut.1 (sym c.in_ok-state.ensures ∙ c.in_default-2.is), refl)
+    fault c.args.bytes.now 1 1 (fault_at_first c.args.bytes.now c.in-Some.first.now c.in-Some.rest.now cut.0 cut.1 (sym c.in_ok-state.ensures ∙ c.in_default-2.is)) refl
 
 pub loop-line-init : goal.loop-line-init
 loop-line-init c =
@@ -53,11 +58,10 @@ returns-then-not-branch-clause-fault c =
     let old = c.loop-line.state in
     let cut = parted_parts 10 c.loop-line.rest.now (c.in-Some-parted.line.now, c.in-Some-parted.after.now) (sym c.in-Some-parted.ensures) in
     let not : stands old c.in-Some-parted.line.now ≡ false = sym c.in_ok-take_line.ensures.stands ∙ c.if-not-branch.true in
-    let whole = c.loop-line.invariant.whole ∙ ap (λ t. state_text old ++ t) cut.0 in (
-      length (state_lines old) + 1,
-      fault_at_line old c.args.bytes.now c.in-Some-parted.line.now c.in-Some-parted.after.now (length (state_lines old) + 1) c.loop-line.invariant.readable whole cut.1 not refl,
-      one_more c.loop-line.count (length (state_lines old)) c.saturating_add.result c.loop-line.invariant.counted c.saturating_add.ensures,
-    )
+    let whole = c.loop-line.invariant.whole ∙ ap (λ t. state_text old ++ t) cut.0 in
+    fault c.args.bytes.now (length (state_lines old) + 1) c.saturating_add.result
+    (fault_at_line old c.args.bytes.now c.in-Some-parted.line.now c.in-Some-parted.after.now (length (state_lines old) + 1) c.loop-line.invariant.readable whole cut.1 not refl)
+    (one_more c.loop-line.count (length (state_lines old)) c.saturating_add.result c.loop-line.invariant.counted c.saturating_add.ensures)
 
 pub loop-line-preserved : goal.loop-line-preserved
 loop-line-preserved c =
@@ -107,9 +111,8 @@ returns-else-is_empty-clause-again c = λ state is.
 pub returns-else-is_empty-clause-fault : goal.returns-else-is_empty-clause-fault
 returns-else-is_empty-clause-fault c =
     let old = c.loop-line.state in
-    let rest = c.loop-line.rest.now in (
-      length (state_lines old) + 1,
-      fault_at_end old c.args.bytes.now rest (length (state_lines old) + 1) c.loop-line.invariant.readable c.loop-line.invariant.whole
-          (parted_none 10 rest (sym c.in_default-parted.ensures)) (not_empty rest c.if-is_empty.ensures) refl,
-      one_more c.loop-line.count (length (state_lines old)) c.saturating_add-else-is_empty.result c.loop-line.invariant.counted c.saturating_add-else-is_empty.ensures,
-    )
+    let rest = c.loop-line.rest.now in
+    fault c.args.bytes.now (length (state_lines old) + 1) c.saturating_add-else-is_empty.result
+    (fault_at_end old c.args.bytes.now rest (length (state_lines old) + 1) c.loop-line.invariant.readable c.loop-line.invariant.whole
+    (parted_none 10 rest (sym c.in_default-parted.ensures)) (not_empty rest c.if-is_empty.ensures) refl)
+    (one_more c.loop-line.count (length (state_lines old)) c.saturating_add-else-is_empty.result c.loop-line.invariant.counted c.saturating_add-else-is_empty.ensures)
