@@ -1,0 +1,13 @@
+mod DropInLemmas
+mod FaultLemmas
+mod FoundLemmas
+mod NameLemmas
+mod OrderLemmas
+mod PartLemmas
+mod PlaceLemmas
+mod ReadingLemmas
+mod SearchLemmas
+mod TextLemmas
+mod UnitLemmas
+mod WantLemmas
+mod WorldLemmas
