@@ -1,8 +1,9 @@
+pub mod AgreeLemmas
 mod DropInLemmas
 mod FaultLemmas
 mod FoundLemmas
-mod NameLemmas
-mod OrderLemmas
+pub mod NameLemmas
+pub mod OrderLemmas
 mod PartLemmas
 mod PlaceLemmas
 mod ReadingLemmas

@@ -1,5 +1,5 @@
 -- What a unit wants, as it is kept beside the units.
-use Rattle.std.proofs.Common.{◌≡◌, ℕ, ◌<◌, Bool, true, false, cond, List, [], ◌∷◌, length, get_or, map, Option, None, Some, option_map, option_and_then, refl, sym, ap, subst, ◌∙◌, arith}
+use Rattle.std.proofs.Common.{filter, ◌≡◌, ℕ, ◌<◌, ◌++◌, Bool, true, false, cond, List, [], ◌∷◌, length, get_or, map, Option, None, Some, option_map, option_and_then, refl, sym, ap, subst, ◌∙◌, arith}
 use Rattle.std.specs.List.{slice_get}
 use Rattle.std.specs.Option.{option_map_or, option_or}
 use Rattle.std.proofs.lemmas.Option.{slice_get-get_or, slice_get-map}
@@ -7,11 +7,13 @@ use Rattle.switch_names.specs.UnitName.{IsUnitName, template_of}
 use Rattle.unit_defs.specs.declared.part.Part.{Part}
 use Rattle.unit_defs.specs.declared.unit.Unit.{Unit}
 use Rattle.unit_defs.specs.declared.unit.Wants.{Wants}
-use Rattle.unit_defs.specs.Defs.{found_in, own_in, unit_in, wanted_in, wants_for}
+use Rattle.unit_defs.specs.Defs.{found_in, names_in, own_in, unit_in, wanted_in, wants_for}
 use Rattle.unit_defs.specs.Place.{is_name}
-use Rattle.unit_defs.specs.Units.{wanted}
+use Rattle.unit_defs.specs.Units.{can_be_wanted, has, wanted, words_in}
+use Rattle.std.specs.List.Sorted.{IsStrictlySortedBy}
+use Rattle.host_trait.specs.World.{bytes_cmp}
 use Rattle.unit_defs.proofs.NameLemmas.{found_unit, name_exact}
-use Rattle.unit_defs.proofs.OrderLemmas.{none_in_order}
+use Rattle.unit_defs.proofs.OrderLemmas.{in_order_sorted, none_in_order, wanted_each}
 
 unit_named : (units : List Unit) (name : List ℕ) (unit : Unit) → unit_in units name ≡ Some unit → name ≡ unit.name
 unit_named [] name unit is = absurd (cc)
@@ -76,3 +78,13 @@ wanted_by_text units wants kept name at d named none within is =
 pub wanted_none : (units : List Unit) (name : List ℕ) (list : List (List ℕ)) → list ≡ [] → IsUnitName name → unit_in units name ≡ None →
     option_and_then (unit_in units) (template_of name) ≡ None → list ≡ wanted_in units name
 wanted_none units name list empty named none no_template = empty ∙ none_in_order ∙ wanted_of_template units name None named none no_template
+
+-- what is wanted is sorted
+pub list_sorted : (units : List Unit) (name : List ℕ) (list : List (List ℕ)) → list ≡ wanted_in units name → IsStrictlySortedBy bytes_cmp list
+list_sorted units name list is =
+    subst (IsStrictlySortedBy bytes_cmp) (sym is) (in_order_sorted (filter (can_be_wanted (own_in units)) (names_in units name ++ words_in (found_in units name))))
+
+-- and each of it is defined and no template
+pub list_each : (units : List Unit) (name : List ℕ) (list : List (List ℕ)) → list ≡ wanted_in units name → (a : List ℕ) → has list a ≡ true → can_be_wanted (own_in units) a ≡ true
+list_each units name list is a there =
+    wanted_each (own_in units) (names_in units name) (found_in units name) a (sym (ap (λ (names : List (List ℕ)). has names a) is) ∙ there)

@@ -11,7 +11,7 @@ use Rattle.unit_defs.specs.declared.unit.Unit.{Unit}
 use Rattle.unit_defs.specs.declared.unit.Wants.{Wants}
 use Rattle.unit_defs.specs.Place.{is_name}
 use Rattle.unit_defs.specs.Files.{wants_of}
-use Rattle.unit_defs.specs.Units.{find_text, has, own_part, wanted}
+use Rattle.unit_defs.specs.Units.{find_text, has, own_part, own_text, text_of, wanted, wanted_of}
 
 -- the unit of this name
 abbrev pub unit_in : List Unit → List ℕ → Option Unit
@@ -53,7 +53,7 @@ pub record AreNamesOf (units : List Unit) (names : List (List ℕ)) : Type 0 whe
 abbrev pub AreSorted : List Unit → Type 0
 AreSorted units = IsStrictlySortedBy bytes_cmp (map (λ unit. unit.name) units)
 
--- these are the units of a system
+-- these are what the files and folders of a system's units say
 pub record AreUnitsOf (leaves : Leaves) (system : List ℕ) (units : List Unit) : Type 0 where
   pub part : (name : List ℕ) → IsUnitName name → part_in units name ≡ own_part leaves system name
   pub wants : (name : List ℕ) → IsUnitName name → names_in units name ≡ wants_of leaves system name
@@ -69,3 +69,9 @@ pub record IsDefs (names : List (List ℕ)) (units : List Unit) (wants : List Wa
 abbrev pub first_faulty : List Unit → Option (List ℕ × ℕ)
 first_faulty [] = None
 first_faulty (unit ∷ units) = option_or (option_map (λ line. (unit.name, line)) (option_and_then (λ part. part.fault) unit.part)) (first_faulty units)
+
+-- what is kept of a system is what its leaves say
+pub record AreDefsOf (leaves : Leaves) (system : List ℕ) (units : List Unit) : Type 0 where
+  pub own : (name : List ℕ) → IsUnitName name → own_in units name ≡ own_text leaves system name
+  pub found : (name : List ℕ) → IsUnitName name → found_in units name ≡ text_of leaves system name
+  pub wanted : (name : List ℕ) → IsUnitName name → wanted_in units name ≡ wanted_of leaves system name

@@ -1,12 +1,14 @@
 //! The units of a system.
-ghost use Rattle.std.specs.Prelude.{◌≡◌, [], List, ℕ, IfOk, OnOk, IsErrOf};
+ghost use Rattle.std.specs.Prelude.{◌≡◌, true, [], List, ℕ, IfOk, OnOk, IsErrOf};
+ghost use Rattle.std.specs.List.Sorted.{IsStrictlySortedBy};
 ghost use Rattle.std.specs.Option.{option_copied};
 ghost use Rattle.host_trait.specs.declared.tree.HostFault.TheVariants.{Device};
 ghost use Rattle.host_trait.specs.Change.{IsSame};
 ghost use Rattle.host_trait.specs.Host.{Told, Passes, HasCause, HasCauseOf};
+ghost use Rattle.host_trait.specs.World.{bytes_cmp};
 ghost use Rattle.unit_defs.specs.declared.defs_fault.DefsFault.TheVariants.{Text, Host};
-ghost use Rattle.unit_defs.specs.Defs.{AreNamesOf, AreSorted, AreUnitsOf, found_in, own_in, wanted_in};
-ghost use Rattle.unit_defs.specs.Units.{HasNoFault, IsFirstFault};
+ghost use Rattle.unit_defs.specs.Defs.{AreDefsOf, AreNamesOf, AreSorted, found_in, own_in, wanted_in};
+ghost use Rattle.unit_defs.specs.Units.{HasNoFault, IsFirstFault, can_be_wanted, has};
 
 use crate::defs_fault::DefsFault;
 use crate::fault::first_fault;
@@ -79,7 +81,7 @@ impl Defs {
         host: &mut T,
         system: &SystemName,
     ) -> Result<Defs, DefsFault>
-        ensures units { IfOk result (λ defs. Told (T.host host.old) (λ w. AreUnitsOf w.leaves system.now defs)) }
+        ensures defs { IfOk result (λ defs. Told (T.host host.old) (λ w. AreDefsOf w.leaves system.now defs)) }
         ensures sound { OnOk result (Told (T.host host.old) (λ w. HasNoFault w.leaves system.now)) }
         ensures text { (unit : List ℕ) (line : ℕ) → IsErrOf result (Text unit line) → Told (T.host host.old) (λ w. IsFirstFault w.leaves system.now unit line) }
         ensures moments { Passes (T.host host.old) (T.host host.new) IsSame }
@@ -98,12 +100,12 @@ impl Defs {
         host: &mut T,
         system: &SystemName,
     ) -> Result<Defs, HostFault>
-        ensures units { IfOk result (λ defs. Told (T.host host.old) (λ w. AreUnitsOf w.leaves system.now defs)) }
+        ensures defs { IfOk result (λ defs. Told (T.host host.old) (λ w. AreDefsOf w.leaves system.now defs)) }
         ensures moments { Passes (T.host host.old) (T.host host.new) IsSame }
         ensures cause { HasCause (T.host host.old) (T.host host.new) result }
     {
-        let units = read_units(alloc, host, system)?;
-        Ok(Defs::from_units(alloc, units)?)
+        let old_units = read_units(alloc, host, system)?;
+        Ok(Defs::from_units(alloc, old_units)?)
     }
 
     /// The text of a unit: its own, or else its template's.
@@ -124,7 +126,11 @@ impl Defs {
     /// the names in its folders `.wants` and `.requires` and the words of `Wants` and `Requires` in
     /// the section `Unit` of its text.
     pub fn wanted(&self, unit: &UnitName) -> &Listed<UnitName>
-        ensures { result.now ≡ wanted_in self.now unit.now }
+        ensures wanted { result.now ≡ wanted_in self.now unit.now }
+
+        // So they are sorted, and each of them is defined and no template.
+        ensures sorted { IsStrictlySortedBy bytes_cmp result.now }
+        ensures each { (name : List ℕ) → has result.now name ≡ true → can_be_wanted (own_in self.now) name ≡ true }
     {
         let _name = unit.as_str();
         if let Some(at) = find_unit(self.units.as_slice(), unit) {

@@ -74,16 +74,16 @@ fn drop_in(alloc: Global, folder: &str, name: &str) -> Result<Option<Place>, All
     let Some(unit) = before_end(folder, ".d") else {
         return Ok(None);
     };
-    let Some(name) = before_end(name, ".conf") else {
+    let Some(stem) = before_end(name, ".conf") else {
         return Ok(None);
     };
-    if !is_drop_in_name(name) {
+    if !is_drop_in_name(stem) {
         return Ok(None);
     }
     let Some(unit) = named(alloc, unit)? else {
         return Ok(None);
     };
-    Ok(Some(Place::DropIn(unit, Text::from_str(alloc, name)?)))
+    Ok(Some(Place::DropIn(unit, Text::from_str(alloc, stem)?)))
 }
 
 /// A unit that is wanted by the unit whose folder this is.

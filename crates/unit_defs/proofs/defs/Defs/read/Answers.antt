@@ -1,8 +1,9 @@
 use Rattle.std.proofs.Common.{◌≡◌, ℕ, List, IfSome, ap, subst, sym, ◌∙◌}
 use Rattle.switch_names.specs.UnitName.{IsUnitName}
 use Rattle.host_trait.proofs.Moments.{told_as}
-use Rattle.unit_defs.specs.Defs.{first_faulty}
+use Rattle.unit_defs.specs.Defs.{AreDefsOf, first_faulty}
 use Rattle.unit_defs.specs.Units.{HasNoFault, IsFirstFault}
+use Rattle.unit_defs.proofs.AgreeLemmas.{are_defs}
 use Rattle.unit_defs.proofs.FaultLemmas.{first_is, no_fault, none_left}
 use Rattle.unit_defs.proofs.defs.Defs.read.Goals as goal
 
@@ -22,3 +23,8 @@ returns-clause-sound g c =
     let none = none_left c.in_ok-unit.field-0 c.in_default.not-Some ∙ c.in_ok-unit.ensures.first ∙ ap first_faulty c.as_slice.ensures.value in
     told_as c.in_ok-units.ensures.units (λ w. HasNoFault w.leaves c.args.system.now)
     (λ w is are. no_fault w.leaves c.args.system.now c.in_ok-units.units.items are none)
+
+pub returns-clause-defs : goal.returns-clause-defs
+returns-clause-defs g c =
+    told_as c.in_ok-units.ensures.units (λ w. AreDefsOf w.leaves c.args.system.now c.in_ok-from_units.field-0)
+    (λ w is are. subst (AreDefsOf w.leaves c.args.system.now) (sym c.in_ok-from_units.ensures) (are_defs w.leaves c.args.system.now c.in_ok-units.units.items are))
