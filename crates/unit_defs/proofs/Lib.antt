@@ -4,6 +4,7 @@ mod FaultLemmas
 mod FoundLemmas
 pub mod NameLemmas
 pub mod OrderLemmas
+mod PathLemmas
 mod PartLemmas
 mod PlaceLemmas
 mod ReadingLemmas

@@ -17,22 +17,27 @@ use Rattle.unit_defs.specs.Files.{drop_in_at, drop_ins_of, file_of, own_files, w
 use Rattle.unit_defs.specs.Part.{merged, part_of}
 use Rattle.unit_defs.specs.Place.{is_name, place_after}
 
+-- what was found of a unit
 abbrev pub files_in : Found → List ℕ → Option UnitFiles
 files_in found unit = get bytes_cmp found.units unit
 
+-- its file, where a leaf stands there
 abbrev pub file_in : Found → List ℕ → Option (Option Part)
 file_in found unit = option_and_then (λ files. files.file) (files_in found unit)
 
+-- its drop-in of this name
 abbrev pub drop_in_in : Found → List ℕ → List ℕ → Option Part
 drop_in_in found unit name = option_and_then (λ files. get bytes_cmp files.drop_ins name) (files_in found unit)
 
--- the drop-ins in the order of their names
+-- drop-ins in the order of their names
 abbrev pub in_name_order : List (List ℕ × Part) → List Part
 in_name_order drop_ins = finite.values (from_entries {R = bytes_cmp} drop_ins)
 
+-- its drop-ins in the order of their names
 abbrev pub drop_ins_in : Found → List ℕ → List Part
 drop_ins_in found unit = in_name_order (option_map_or (λ files. files.drop_ins.entries) (files_in found unit) [])
 
+-- the units that stand in its folders of units that it wants
 abbrev pub wants_in : Found → List ℕ → List (List ℕ)
 wants_in found unit = option_map_or (λ files. files.wants) (files_in found unit) []
 

@@ -5,6 +5,7 @@ mod defs;
 mod defs_fault;
 mod fault;
 mod found;
+mod laws;
 mod part;
 mod place;
 mod reading;
@@ -14,3 +15,4 @@ mod wanting;
 
 pub use defs::Defs;
 pub use defs_fault::DefsFault;
+pub use laws::places_are_named;
