@@ -43,6 +43,7 @@ impl Model for UnitText {
 /// The fault is the one with the least line number.
 pub fn parse(alloc: Global, bytes: &[u8]) -> Result<UnitText, TextFault>
     ensures ok { IfOk result (λ text. text ≡ assignments bytes.now) }
+    ensures exact { OnOk result (text_fault bytes.now ≡ None) }
     ensures fault { IsRefusedBy result (text_fault bytes.now) }
 
     // The same by the faults of the file: there is none, or it is the first of them.

@@ -1,0 +1,15 @@
+pub mod AgreeLemmas
+mod DropInLemmas
+mod FaultLemmas
+mod FoundLemmas
+pub mod NameLemmas
+pub mod OrderLemmas
+mod PathLemmas
+mod PartLemmas
+mod PlaceLemmas
+mod ReadingLemmas
+mod SearchLemmas
+mod TextLemmas
+mod UnitLemmas
+mod WantLemmas
+mod WorldLemmas

@@ -1,0 +1,193 @@
+-- Names in byte order.
+use Rattle.std.proofs.Common.{◌≡◌, ℕ, ◌+◌, ◌<◌, ◌||◌, ◌&&◌, Bool, true, false, cond, Bor, List, [], ◌∷◌, ◌++◌, length, get_or, take, map, Option, None, Some, is_none, is_some, option_map, option_and_then, refl, sym, ap, subst, ◌∙◌, inl, inr}
+use Rattle.std.specs.Cmp.{eq_by_cmp_equiv}
+use Rattle.std.specs.List.{AllByRecursion, filter}
+use Rattle.std.specs.List.Sorted.{IsStrictlySortedBy}
+use Rattle.std.specs.Ordering.{is_eq}
+use Rattle.std.specs.declared.cmp.Ordering.TheVariants.{Less}
+use Rattle.std.proofs.lemmas.Bool.{both_ways}
+use Rattle.std.proofs.lemmas.Cmp.{tied_itself}
+use Rattle.std.proofs.lemmas.List.{map-append, take_more}
+use Rattle.std.proofs.lemmas.List.Elements.{filter-append}
+use Rattle.std.proofs.lemmas.List.Folds.{list_any-append}
+use Rattle.host_trait.specs.World.{bytes_cmp}
+use Rattle.host_trait.proofs.Places.{bytes_total, same_or_other}
+use Rattle.unit_text.specs.declared.assignment.Assignment.{Assignment}
+use Rattle.unit_defs.specs.declared.part.Part.{Part}
+use Rattle.unit_defs.specs.declared.unit.Unit.{Unit}
+use Rattle.unit_defs.specs.declared.unit.Wants.{Wants}
+use Rattle.unit_defs.specs.Defs.{AreNamesOf, AreSorted, IsDefs, own_in, unit_in, wants_for}
+use Rattle.unit_defs.specs.Place.{is_name}
+use Rattle.unit_defs.specs.Units.{find_text, has}
+use Rattle.switch_names.specs.UnitName.{IsUnitName, template_of}
+use Rattle.std.specs.Option.{option_or}
+
+pub name_itself : (a : List ℕ) → is_name a a ≡ true
+name_itself a = ap is_eq (tied_itself bytes_total a)
+
+pub name_turned : (a b : List ℕ) → is_name a b ≡ is_name b a
+name_turned a b = (eq_by_cmp_equiv bytes_total).symm a b
+
+pub name_exact : (a b : List ℕ) → is_name a b ≡ true → a ≡ b
+name_exact a b is = elim (same_or_other a b) [
+  | inl same ↦ same
+  | inr other ↦ absurd (both_ways _ other is)
+]
+
+pub name_from : (a b : List ℕ) → a ≡ b → is_name a b ≡ true
+name_from a b same = subst (λ c. is_name a c ≡ true) same (name_itself a)
+
+-- a name below another is another
+pub less_is_other : (a b : List ℕ) → bytes_cmp a b ≡ Less → is_name a b ≡ false
+less_is_other a b less = ap is_eq less
+
+pub above_lack : (a : List ℕ) (names : List (List ℕ)) → AllByRecursion (λ b. bytes_cmp a b ≡ Less) names → has names a ≡ false
+above_lack a [] above = refl
+above_lack a (b ∷ names) above = ap (λ t. t || has names a) (less_is_other a b above.0) ∙ above_lack a names above.1
+
+pub has-append : (xs ys : List (List ℕ)) (name : List ℕ) → has (xs ++ ys) name ≡ (has xs name || has ys name)
+has-append xs ys name = list_any-append (is_name name) xs ys
+
+pub has-filter-append : (p : List ℕ → Bool) (xs ys : List (List ℕ)) (name : List ℕ) → has (filter p (xs ++ ys)) name ≡ (has (filter p xs) name || has (filter p ys) name)
+has-filter-append p xs ys name = ap (λ zs. has zs name) (filter-append p xs ys) ∙ has-append (filter p xs) (filter p ys) name
+
+or_false : (b : Bool) → (b || false) ≡ b
+or_false true = refl
+or_false false = refl
+
+and_true : (b : Bool) → (b && true) ≡ b
+and_true true = refl
+and_true false = refl
+
+and_false : (b : Bool) → (b && false) ≡ false
+and_false true = refl
+and_false false = refl
+
+or_assoc : (a b c : Bool) → ((a || b) || c) ≡ (a || (b || c))
+or_assoc true b c = refl
+or_assoc false b c = refl
+
+-- ---- sets of names that can be wanted
+
+-- a name that passes a test is added
+pub has_added : (old new : List (List ℕ)) (name unit : List ℕ) (passes : Bool) → passes ≡ true → has new unit ≡ cond (is_name name unit) true (has old unit) →
+    has new unit ≡ (has old unit || (is_name unit name && passes))
+has_added old new name unit passes is added = added ∙ ap (λ b. cond b true (has old unit)) (name_turned name unit) ∙ either (is_name unit name) (has old unit) passes is
+  where
+    either : (b h passes : Bool) → passes ≡ true → cond b true h ≡ (h || (b && passes))
+    either true true passes is = refl
+    either true false passes is = sym is
+    either false true passes is = refl
+    either false false passes is = refl
+
+has_filtered_one : (p : List ℕ → Bool) (name unit : List ℕ) → has (filter p (name ∷ [])) unit ≡ (is_name unit name && p name)
+has_filtered_one p name unit = by (p name) (is_name unit name)
+  where
+    by : (b c : Bool) → has (cond b (name ∷ []) []) unit ≡ (is_name unit name && b)
+    by true c = or_false (is_name unit name) ∙ sym (and_true (is_name unit name))
+    by false c = sym (and_false (is_name unit name))
+
+-- one text more is added where it passes a test
+pub has_one_more : (p : List ℕ → Bool) (texts : List (Bor (List ℕ))) (i : ℕ) (d : Bor (List ℕ)) (unit : List ℕ) (before now after : Bool) → i < length texts →
+    now ≡ (before || has (filter p (map (λ (t : Bor (List ℕ)). t.now) (take i texts))) unit) → after ≡ (now || (is_name unit (get_or texts i d).now && p (get_or texts i d).now)) →
+    after ≡ (before || has (filter p (map (λ (t : Bor (List ℕ)). t.now) (take (i + 1) texts))) unit)
+has_one_more p texts i d unit before now after within so_far added =
+    let text : Bor (List ℕ) = get_or texts i d in
+    let more : take (i + 1) texts ≡ take i texts ++ text ∷ [] = take_more texts i d within in
+    added
+    ∙ ap (λ b. b || (is_name unit text.now && p text.now)) so_far
+    ∙ or_assoc before (has (filter p (map (λ (t : Bor (List ℕ)). t.now) (take i texts))) unit) (is_name unit text.now && p text.now)
+    ∙ ap (λ b. before || (has (filter p (map (λ (t : Bor (List ℕ)). t.now) (take i texts))) unit || b)) (sym (has_filtered_one p text.now unit))
+    ∙ ap (λ b. before || b) (sym (has-filter-append p (map (λ (t : Bor (List ℕ)). t.now) (take i texts)) (text.now ∷ []) unit))
+    ∙ ap (λ ts. before || has (filter p ts) unit) (sym (ap (map (λ (t : Bor (List ℕ)). t.now)) more ∙ map-append (λ (t : Bor (List ℕ)). t.now) (take i texts) (text ∷ [])))
+
+-- ---- the text of a unit
+
+pub found_unit : (own : List ℕ → Option (List Assignment)) (name : List ℕ) → IsUnitName name → find_text own name ≡ option_or (own name) (option_and_then own (template_of name))
+found_unit own name is = ap (λ f. cond (is_none f) (option_or (own name) (option_and_then own (template_of name))) None) is
+
+pub found_own : (own : List ℕ → Option (List Assignment)) (name : List ℕ) (text : List Assignment) → IsUnitName name → Some text ≡ own name → Some text ≡ find_text own name
+found_own own name text is own_is = sym (found_unit own name is ∙ ap (λ o. option_or o (option_and_then own (template_of name))) (sym own_is))
+
+pub found_by_template : (own : List ℕ → Option (List Assignment)) (name : List ℕ) (text : Option (List Assignment)) → IsUnitName name → None ≡ own name → text ≡ option_and_then own (template_of name) → text ≡ find_text own name
+found_by_template own name text is none by = by ∙ sym (found_unit own name is ∙ ap (λ o. option_or o (option_and_then own (template_of name))) (sym none))
+
+-- ---- the names of units
+
+abbrev names_of : List Unit → List (List ℕ)
+names_of units = map (λ unit. unit.name) units
+
+abbrev with_part : List Unit → List Unit
+with_part units = filter (λ unit. is_some unit.part) units
+
+above_choice : (b : Bool) (a : List ℕ) (unit : Unit) (units : List Unit) → bytes_cmp a unit.name ≡ Less → AllByRecursion (λ c. bytes_cmp a c ≡ Less) (names_of units) →
+    AllByRecursion (λ c. bytes_cmp a c ≡ Less) (names_of (cond b (unit ∷ units) units))
+above_choice true a unit units less above = (less, above)
+above_choice false a unit units less above = above
+
+above_with_part : (a : List ℕ) (units : List Unit) → AllByRecursion (λ b. bytes_cmp a b ≡ Less) (names_of units) → AllByRecursion (λ b. bytes_cmp a b ≡ Less) (names_of (with_part units))
+above_with_part a [] above = tt
+above_with_part a (unit ∷ units) above = above_choice (is_some unit.part) a unit (with_part units) above.0 (above_with_part a units above.1)
+
+sorted_choice : (b : Bool) (unit : Unit) (units : List Unit) → AllByRecursion (λ c. bytes_cmp unit.name c ≡ Less) (names_of units) → IsStrictlySortedBy bytes_cmp (names_of units) →
+    IsStrictlySortedBy bytes_cmp (names_of (cond b (unit ∷ units) units))
+unfolding IsStrictlySortedBy
+sorted_choice true unit units above sorted = (above, sorted)
+sorted_choice false unit units above sorted = sorted
+
+sorted_with_part : (units : List Unit) → AreSorted units → IsStrictlySortedBy bytes_cmp (names_of (with_part units))
+unfolding IsStrictlySortedBy
+sorted_with_part [] sorted = tt
+sorted_with_part (unit ∷ units) sorted = sorted_choice (is_some unit.part) unit (with_part units) (above_with_part unit.name units sorted.0) (sorted_with_part units sorted.1)
+
+has_choice : (b own : Bool) (a : List ℕ) (unit : Unit) (units : List Unit) → is_name a unit.name ≡ own →
+    has (names_of (cond b (unit ∷ units) units)) a ≡ cond b (own || has (names_of units) a) (has (names_of units) a)
+has_choice true own a unit units is = ap (λ t. t || has (names_of units) a) is
+has_choice false own a unit units is = refl
+
+part_of_choice : (own : Bool) (unit : Unit) (rest : Option Unit) →
+    is_some (option_map (λ one. one.text) (option_and_then (λ one. one.part) (cond own (Some unit) rest)))
+    ≡ cond own (is_some unit.part) (is_some (option_map (λ one. one.text) (option_and_then (λ one. one.part) rest)))
+part_of_choice true unit rest = by unit.part
+  where
+    by : (o : Option Part) → is_some (option_map (λ (one : Part). one.text) o) ≡ is_some o
+    by None = refl
+    by (Some part) = refl
+part_of_choice false unit rest = refl
+
+joined : (b own h : Bool) → (own ≡ true → h ≡ false) → cond b (own || h) h ≡ cond own b h
+joined true true h lacks = refl
+joined true false h lacks = refl
+joined false true h lacks = lacks refl
+joined false false h lacks = refl
+
+above_same : (a b : List ℕ) (names : List (List ℕ)) → is_name a b ≡ true → AllByRecursion (λ c. bytes_cmp b c ≡ Less) names → has names a ≡ false
+above_same a b names is above = subst (λ x. has names x ≡ false) (sym (name_exact a b is)) (above_lack b names above)
+
+exact_with_part : (units : List Unit) (a : List ℕ) → AreSorted units → has (names_of (with_part units)) a ≡ is_some (own_in units a)
+unfolding IsStrictlySortedBy
+exact_with_part [] a sorted = refl
+exact_with_part (unit ∷ units) a sorted =
+    has_choice (is_some unit.part) (is_name a unit.name) a unit (with_part units) refl
+    ∙ joined (is_some unit.part) (is_name a unit.name) (has (names_of (with_part units)) a) (λ is. above_same a unit.name (names_of (with_part units)) is (above_with_part unit.name units sorted.0))
+    ∙ ap (cond (is_name a unit.name) (is_some unit.part)) (exact_with_part units a sorted.1)
+    ∙ sym (part_of_choice (is_name a unit.name) unit (unit_in units a))
+
+pub are_names : (units : List Unit) (names : List (List ℕ)) → AreSorted units → names ≡ map (λ (unit : Unit). unit.name) (filter (λ unit. is_some unit.part) units) → AreNamesOf units names
+are_names units names sorted is = record {
+  sorted = subst (IsStrictlySortedBy bytes_cmp) (sym is) (sorted_with_part units sorted);
+  exact = λ name. ap (λ ns. has ns name) is ∙ exact_with_part units name sorted;
+}
+
+sorted_none : AreSorted []
+unfolding IsStrictlySortedBy
+sorted_none = tt
+
+-- nothing is defined where there are no units
+pub no_defs : (names : List (List ℕ)) (units : List Unit) (wants : List Wants) (nothing : List (List ℕ)) → names ≡ [] → units ≡ [] → wants ≡ [] → nothing ≡ [] → IsDefs names units wants nothing
+no_defs names units wants nothing no_names no_units no_wants none = record {
+  in_order = subst AreSorted (sym no_units) sorted_none;
+  their_names = subst (λ us. AreNamesOf us names) (sym no_units) (are_names [] names sorted_none no_names);
+  their_wants = no_wants ∙ sym (ap (λ us. map (wants_for us) us) no_units);
+  is_empty = none;
+}

@@ -1,0 +1,69 @@
+-- Which paths are the files of units.
+use Rattle.std.proofs.Common.{◌≡◌, ℕ, ◌&&◌, Bool, true, false, cond, List, ◌++◌, length, drop, nat_eq, codes, Option, None, Some, is_none, option_and_then, refl, ap, ◌∙◌}
+use Rattle.std.specs.List.{after_first, before_first, list_any, starts_with}
+use Rattle.std.specs.Option.{option_or}
+use Rattle.std.proofs.lemmas.Bool.{both_ways}
+use Rattle.std.proofs.lemmas.Bool.Decides.{Decides-eqb}
+use Rattle.std.proofs.lemmas.List.{drop_at}
+use Rattle.std.proofs.lemmas.Slice.Eq.{starts_is}
+use Rattle.switch_names.specs.UnitName.{IsUnitName}
+use Rattle.unit_defs.specs.declared.place.Place.{Place}
+use Rattle.unit_defs.specs.declared.place.Place.TheVariants.{File, DropIn, Want}
+use Rattle.unit_defs.specs.Found.{is_file}
+use Rattle.unit_defs.specs.Place.{after_front, before_end, drop_in, drop_in_of, is_drop_in_name, is_slash, is_unit, place_after, place_below, place_in, want, want_of}
+use Rattle.unit_defs.proofs.NameLemmas.{name_exact, name_itself}
+
+drop_in_no_file : (unit : List ℕ) (folder name : Option (List ℕ)) → is_file unit (drop_in_of folder name) ≡ false
+drop_in_no_file unit None name = refl
+drop_in_no_file unit (Some folder) None = refl
+drop_in_no_file unit (Some folder) (Some name) = by (is_drop_in_name name && is_unit folder)
+  where
+    by : (b : Bool) → is_file unit (cond b (Some (DropIn folder name)) None) ≡ false
+    by true = refl
+    by false = refl
+
+want_no_file : (unit : List ℕ) (folder : Option (List ℕ)) (name : List ℕ) → is_file unit (want_of folder name) ≡ false
+want_no_file unit None name = refl
+want_no_file unit (Some folder) name = by (is_unit folder && is_unit name)
+  where
+    by : (b : Bool) → is_file unit (cond b (Some (Want folder name)) None) ≡ false
+    by true = refl
+    by false = refl
+
+either_no_file : (unit : List ℕ) (a b : Option Place) → is_file unit a ≡ false → is_file unit b ≡ false → is_file unit (option_or a b) ≡ false
+either_no_file unit None b first second = second
+either_no_file unit (Some a) b first second = first
+
+below_no_file : (unit folder name : List ℕ) → is_file unit (place_below folder name) ≡ false
+below_no_file unit folder name =
+    either_no_file unit (drop_in folder name) _ (drop_in_no_file unit (before_end (codes ".d") folder) (before_end (codes ".conf") name))
+    (either_no_file unit (want (codes ".wants") folder name) (want (codes ".requires") folder name)
+    (want_no_file unit (before_end (codes ".wants") folder) name) (want_no_file unit (before_end (codes ".requires") folder) name))
+
+in_folder : (unit rest : List ℕ) → is_file unit (place_in rest) ≡ true → rest ≡ unit
+in_folder unit rest is = by (is_unit rest) (list_any is_slash rest) is
+  where
+    by : (named slashed : Bool) → is_file unit (cond named (Some (File rest)) (cond slashed (place_below (before_first is_slash rest) (after_first is_slash rest)) None)) ≡ true → rest ≡ unit
+    by true slashed is = name_exact rest unit is
+    by false true is = absurd (both_ways _ (below_no_file unit (before_first is_slash rest) (after_first is_slash rest)) is)
+    by false false is = absurd (cc)
+
+-- the path of what is a unit's file
+pub file_path : (front path unit : List ℕ) → is_file unit (place_after front path) ≡ true → path ≡ front ++ unit
+file_path front path unit is = by (starts_with nat_eq path front) refl is
+  where
+    by : (b : Bool) → starts_with nat_eq path front ≡ b → is_file unit (option_and_then place_in (cond b (Some (drop (length front) path)) None)) ≡ true → path ≡ front ++ unit
+    by true starts is = (starts_is Decides-eqb path front (starts_with nat_eq path front) refl).0 starts ∙ ap (λ rest. front ++ rest) (in_folder unit (drop (length front) path) is)
+    by false starts is = absurd (cc)
+
+after_itself : (front rest : List ℕ) → after_front front (front ++ rest) ≡ Some rest
+after_itself front rest =
+    ap (λ b. cond b (Some (drop (length front) (front ++ rest))) None) ((starts_is Decides-eqb (front ++ rest) front (starts_with nat_eq (front ++ rest) front) refl).1 rest refl)
+    ∙ ap (λ r. Some r) (drop_at front rest (length front) refl)
+
+-- at the path of a unit's file there is one
+pub file_there : (front unit : List ℕ) → IsUnitName unit → is_file unit (place_after front (front ++ unit)) ≡ true
+file_there front unit named =
+    ap (λ o. is_file unit (option_and_then place_in o)) (after_itself front unit)
+    ∙ ap (λ f. is_file unit (cond (is_none f) (Some (File unit)) (cond (list_any is_slash unit) (place_below (before_first is_slash unit) (after_first is_slash unit)) None))) named
+    ∙ name_itself unit

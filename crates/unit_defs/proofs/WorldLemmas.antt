@@ -1,0 +1,125 @@
+-- What is read at all listed paths is all that the folder of units says.
+use Rattle.std.proofs.Common.{◌≡◌, ℕ, ◌-◌, ◌||◌, ◌&&◌, not, Bool, true, false, cond, List, [], ◌∷◌, ◌++◌, drop, length, nat_eq, codes, Option, None, Some, is_some, option_map, option_and_then, refl, sym, ap, subst, ◌∙◌, append_assoc}
+use Rattle.std.specs.BTreeMap.{is_at}
+use Rattle.std.specs.FinMap.{contains_key-keys, find, from_entries, get, keys}
+use Rattle.std.specs.List.{flat_map, list_any, starts_with}
+use Rattle.std.specs.Map.{lookup}
+use Rattle.std.specs.Option.{option_map_or, option_or}
+use Rattle.std.specs.Ordering.{eq_by_cmp}
+use Rattle.std.proofs.lemmas.Bool.{both_ways}
+use Rattle.std.proofs.lemmas.Bool.Decides.{Decides-eqb}
+use Rattle.std.proofs.lemmas.Map.Views.{any-filter_same}
+use Rattle.std.proofs.lemmas.Slice.Eq.{bytes_eq-Decides, starts_is}
+use Rattle.switch_names.specs.Path.{is_below, slash}
+use Rattle.switch_names.specs.SystemName.{NamesSystem, store_folder, store_name, store_name_fault, system_path}
+use Rattle.switch_names.specs.UnitName.{IsUnitName}
+use Rattle.switch_names.proofs.Below.{below_front}
+use Rattle.switch_names.proofs.Faultless.{of_kind}
+use Rattle.host_trait.specs.declared.leaf.LeafKind.{LeafKind}
+use Rattle.host_trait.specs.World.{Leaves, bytes_cmp, content_of, is_listed, is_path, stage}
+use Rattle.unit_defs.specs.declared.found.Found.{Found}
+use Rattle.unit_defs.specs.declared.found.UnitFiles.{UnitFiles}
+use Rattle.unit_defs.specs.Files.{drop_in_at, file_of, paths_of}
+use Rattle.unit_defs.specs.Found.{AreFilesAt, AreFilesOf, files_in, is_file}
+use Rattle.unit_defs.specs.Part.{part_of}
+use Rattle.unit_defs.specs.Place.{path_of, place_after, unit_folder}
+use Rattle.unit_defs.proofs.DropInLemmas.{same_in_name_order}
+use Rattle.unit_defs.proofs.NameLemmas.{name_exact, name_from}
+use Rattle.unit_defs.proofs.PlaceLemmas.{file_path, file_there}
+
+starts_so : (system : List ℕ) → NamesSystem system system → starts_with nat_eq system store_folder ≡ true
+starts_so system names = subst (λ s. starts_with nat_eq s store_folder ≡ true) names.same
+    (of_kind (starts_with nat_eq (system_path system) store_folder) (store_name_fault (length system - length (store_name (system_path system))) (store_name (system_path system))) names.no_fault).0
+
+stage_elsewhere : starts_with nat_eq stage store_folder ≡ false
+unfolding stage
+stage_elsewhere = refl
+
+-- nothing in the folder of units is the stage
+not_stage : (system rest : List ℕ) → NamesSystem system system → path_of system rest ≡ stage → ⊥
+unfolding unit_folder
+not_stage system rest names same =
+    let end : List ℕ = codes "/etc/systemd/system" in
+    let back : List ℕ = drop (length store_folder) system in
+    let front : system ≡ store_folder ++ back = (starts_is Decides-eqb system store_folder (starts_with nat_eq system store_folder) refl).0 (starts_so system names) in
+    let whole : path_of system rest ≡ store_folder ++ ((back ++ end) ++ slash ∷ rest) =
+    ap (λ s. (s ++ end) ++ slash ∷ rest) front
+    ∙ ap (λ s. s ++ slash ∷ rest) (append_assoc store_folder back end)
+    ∙ append_assoc store_folder (back ++ end) (slash ∷ rest) in
+    let starts : starts_with nat_eq (path_of system rest) store_folder ≡ true =
+    (starts_is Decides-eqb (path_of system rest) store_folder (starts_with nat_eq (path_of system rest) store_folder) refl).1 ((back ++ end) ++ slash ∷ rest) whole in
+    both_ways _ stage_elsewhere (subst (λ p. starts_with nat_eq p store_folder ≡ true) same starts)
+
+false_from : (b : Bool) → (b ≡ true → ⊥) → b ≡ false
+false_from true lacks = absurd (lacks refl)
+false_from false lacks = refl
+
+same_test : (a b : Bool) → (a ≡ true → b ≡ true) → (b ≡ true → a ≡ true) → a ≡ b
+same_test true b to from = sym (to refl)
+same_test false true to from = from refl
+same_test false false to from = refl
+
+all_three : (a b c : Bool) → b ≡ true → c ≡ false → ((a || b) && not c) ≡ true
+all_three true b c second third = ap not third
+all_three false b c second third = ap (λ x. x && not c) second ∙ ap not third
+
+-- what stands in the folder of units is listed
+is_among : (system rest : List ℕ) → NamesSystem system system → is_listed (unit_folder system) (path_of system rest) ≡ true
+is_among system rest names =
+    all_three (is_path (path_of system rest) (unit_folder system)) (is_below (path_of system rest) (unit_folder system)) (is_path (path_of system rest) stage)
+    (below_front (unit_folder system) rest)
+    (false_from _ (λ same. not_stage system rest names ((bytes_eq-Decides (path_of system rest) stage).0 same)))
+
+any_alike : (p q : List ℕ → Bool) → ((x : List ℕ) → p x ≡ q x) → (xs : List (List ℕ)) → list_any p xs ≡ list_any q xs
+any_alike p q same [] = refl
+any_alike p q same (x ∷ xs) = ap (λ b. b || list_any p xs) (same x) ∙ ap (λ b. q x || b) (any_alike p q same xs)
+
+module _ (leaves : Leaves) (system unit : List ℕ) (names : NamesSystem system system) (named : IsUnitName unit) where
+  joined : path_of system [] ++ unit ≡ path_of system unit
+  joined = append_assoc (unit_folder system) (slash ∷ []) unit
+
+  tested : (path : List ℕ) → is_file unit (place_after (path_of system []) path) ≡ eq_by_cmp bytes_cmp (path_of system unit) path
+  tested path = same_test _ _
+      (λ is. name_from (path_of system unit) path (sym (file_path (path_of system []) path unit is ∙ joined)))
+      (λ is. subst (λ p. is_file unit (place_after (path_of system []) p) ≡ true) (joined ∙ name_exact (path_of system unit) path is) (file_there (path_of system []) unit named))
+
+  listed_so : (path : List ℕ) → is_file unit (place_after (path_of system []) path) ≡ true → is_listed (unit_folder system) path ≡ true
+  listed_so path is = subst (λ p. is_listed (unit_folder system) p ≡ true) (sym (file_path (path_of system []) path unit is ∙ joined)) (is_among system unit names)
+
+  -- the unit's file is among the listed paths exactly where a leaf stands there
+  among : list_any (λ path. is_file unit (place_after (path_of system []) path)) (paths_of leaves system) ≡ is_some (get leaves (path_of system unit))
+  among =
+      any-filter_same (λ path. is_file unit (place_after (path_of system []) path)) (is_listed (unit_folder system)) true listed_so (keys leaves)
+      ∙ any_alike (λ path. is_file unit (place_after (path_of system []) path)) (eq_by_cmp bytes_cmp (path_of system unit)) tested (keys leaves)
+      ∙ sym (contains_key-keys leaves (path_of system unit))
+
+  file_by : (o : Option LeafKind) (content : Option (List ℕ)) → cond (is_some o) (Some (option_map part_of content)) None ≡ option_map (option_map part_of) (option_map (λ leaf. content) o)
+  file_by None content = refl
+  file_by (Some leaf) content = refl
+
+  pub file_is : cond (list_any (λ path. is_file unit (place_after (path_of system []) path)) (paths_of leaves system)) (Some (option_map part_of (content_of leaves (path_of system [] ++ unit)))) None
+      ≡ option_map (option_map part_of) (file_of leaves system unit)
+  file_is =
+      ap (λ b. cond b (Some (option_map part_of (content_of leaves (path_of system [] ++ unit)))) None) among
+      ∙ ap (λ p. cond (is_some (get leaves (path_of system unit))) (Some (option_map part_of (content_of leaves p))) None) joined
+      ∙ file_by (get leaves (path_of system unit)) (content_of leaves (path_of system unit))
+
+inner_at : (o : Option UnitFiles) (name : List ℕ) →
+    lookup (is_at (bytes_cmp name)) (option_map_or (λ (files : UnitFiles). files.drop_ins.entries) o []) ≡ option_and_then (λ (files : UnitFiles). Rattle.std.specs.BTreeMap.get bytes_cmp files.drop_ins name) o
+inner_at None name = refl
+inner_at (Some files) name = refl
+
+-- what is read at all listed paths is all
+pub files_all : (leaves : Leaves) (system front : List ℕ) (paths : List (List ℕ)) (found : Found) → NamesSystem system system → front ≡ path_of system [] → paths ≡ paths_of leaves system →
+    AreFilesAt leaves front paths found → AreFilesOf leaves system found
+files_all leaves system front paths found names is_front are_paths read =
+    let all : AreFilesAt leaves (path_of system []) (paths_of leaves system) found =
+    subst (λ ps. AreFilesAt leaves (path_of system []) ps found) are_paths (subst (λ f. AreFilesAt leaves f paths found) is_front read) in
+    record {
+      file = λ unit named. all.file unit ∙ file_is leaves system unit names named;
+      drop_ins = λ unit named.
+          same_in_name_order part_of (option_map_or (λ (files : UnitFiles). files.drop_ins.entries) (files_in found unit) [])
+          (flat_map (λ path. drop_in_at unit (place_after (path_of system []) path) (content_of leaves path)) (paths_of leaves system))
+          (λ name. inner_at (files_in found unit) name ∙ all.drop_in unit name);
+      wants = λ unit named. all.wants unit;
+    }

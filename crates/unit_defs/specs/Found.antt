@@ -1,0 +1,90 @@
+-- What was found of the units of a system by name.
+use Rattle.std.specs.Prelude.{◌≡◌, ℕ, ◌&&◌, Bool, false, List, [], ◌++◌, Option, None, Some, map, option_map, option_and_then, if◌then◌else◌}
+use Rattle.std.specs.BTreeMap.{get}
+use Rattle.std.specs.FinMap.{find, from_entries}
+use Rattle.std.specs.FinMap as finite
+use Rattle.std.specs.List.{flat_map, list_any}
+use Rattle.std.specs.Option.{option_map_or, option_or}
+use Rattle.switch_names.specs.UnitName.{IsUnitName}
+use Rattle.host_trait.specs.World.{Leaves, bytes_cmp, content_of}
+use Rattle.unit_defs.specs.declared.found.Found.{Found}
+use Rattle.unit_defs.specs.declared.found.UnitFiles.{UnitFiles}
+use Rattle.unit_defs.specs.declared.part.Part.{Part}
+use Rattle.unit_defs.specs.declared.place.Place.{Place}
+use Rattle.unit_defs.specs.declared.place.Place.TheVariants.{File, DropIn}
+use Rattle.unit_defs.specs.declared.unit.Unit.{Unit}
+use Rattle.unit_defs.specs.Files.{drop_in_at, drop_ins_of, file_of, own_files, want_at, wants_of}
+use Rattle.unit_defs.specs.Part.{merged, part_of}
+use Rattle.unit_defs.specs.Place.{is_name, place_after}
+
+-- what was found of a unit
+abbrev pub files_in : Found → List ℕ → Option UnitFiles
+files_in found unit = get bytes_cmp found.units unit
+
+-- its file, where a leaf stands there
+abbrev pub file_in : Found → List ℕ → Option (Option Part)
+file_in found unit = option_and_then (λ files. files.file) (files_in found unit)
+
+-- its drop-in of this name
+abbrev pub drop_in_in : Found → List ℕ → List ℕ → Option Part
+drop_in_in found unit name = option_and_then (λ files. get bytes_cmp files.drop_ins name) (files_in found unit)
+
+-- drop-ins in the order of their names
+abbrev pub in_name_order : List (List ℕ × Part) → List Part
+in_name_order drop_ins = finite.values (from_entries {R = bytes_cmp} drop_ins)
+
+-- its drop-ins in the order of their names
+abbrev pub drop_ins_in : Found → List ℕ → List Part
+drop_ins_in found unit = in_name_order (option_map_or (λ files. files.drop_ins.entries) (files_in found unit) [])
+
+-- the units that stand in its folders of units that it wants
+abbrev pub wants_in : Found → List ℕ → List (List ℕ)
+wants_in found unit = option_map_or (λ files. files.wants) (files_in found unit) []
+
+-- a unit's file after a place was read
+abbrev pub file_with : Option Place → Option Part → List ℕ → Option (Option Part) → Option (Option Part)
+file_with (Some (File other)) part unit was = if is_name other unit then Some part else was
+file_with place part unit was = was
+
+-- a unit's drop-in after a place was read
+abbrev pub drop_in_with : Option Place → Option Part → List ℕ → List ℕ → Option Part → Option Part
+drop_in_with (Some (DropIn other other_name)) (Some part) unit name was =
+    option_or was (if is_name other unit && is_name other_name name then Some part else None)
+drop_in_with place part unit name was = was
+
+-- a place was read, at which this part stands
+pub record Takes (place : Option Place) (part : Option Part) (old new : Found) : Type 0 where
+  pub file : (unit : List ℕ) → file_in new unit ≡ file_with place part unit (file_in old unit)
+  pub drop_in : (unit name : List ℕ) → drop_in_in new unit name ≡ drop_in_with place part unit name (drop_in_in old unit name)
+  pub wants : (unit : List ℕ) → wants_in new unit ≡ wants_in old unit ++ want_at unit place
+
+-- what stands at a path was read
+abbrev pub TakesPath : Leaves → List ℕ → List ℕ → Found → Found → Type 0
+TakesPath leaves front path old new = Takes (place_after front path) (option_map part_of (content_of leaves path)) old new
+
+-- a leaf is the file of this unit
+abbrev pub is_file : List ℕ → Option Place → Bool
+is_file unit (Some (File other)) = is_name other unit
+is_file unit place = false
+
+-- what these paths say was found
+pub record AreFilesAt (leaves : Leaves) (front : List ℕ) (paths : List (List ℕ)) (found : Found) : Type 0 where
+  pub file : (unit : List ℕ) → file_in found unit
+      ≡ (if list_any (λ path. is_file unit (place_after front path)) paths then Some (option_map part_of (content_of leaves (front ++ unit))) else None)
+  pub drop_in : (unit name : List ℕ) → drop_in_in found unit name
+      ≡ option_map part_of (find bytes_cmp name (flat_map (λ path. drop_in_at unit (place_after front path) (content_of leaves path)) paths))
+  pub wants : (unit : List ℕ) → wants_in found unit ≡ flat_map (λ path. want_at unit (place_after front path)) paths
+
+-- all that the folder of units says was found
+pub record AreFilesOf (leaves : Leaves) (system : List ℕ) (found : Found) : Type 0 where
+  pub file : (unit : List ℕ) → IsUnitName unit → file_in found unit ≡ option_map (option_map part_of) (file_of leaves system unit)
+  pub drop_ins : (unit : List ℕ) → IsUnitName unit → drop_ins_in found unit ≡ map part_of (drop_ins_of leaves system unit)
+  pub wants : (unit : List ℕ) → IsUnitName unit → wants_in found unit ≡ wants_of leaves system unit
+
+-- what the files of a unit say that were found
+abbrev pub own_part_in : Found → List ℕ → Option Part
+own_part_in found unit = option_map merged (own_files (file_in found) (drop_ins_in found) unit)
+
+-- what was found of a unit
+abbrev pub unit_of : Found → List ℕ → Unit
+unit_of found unit = record { name = unit; part = own_part_in found unit; wants = wants_in found unit }

@@ -1,0 +1,6 @@
+pub mod Defs
+pub mod Files
+pub mod Found
+pub mod Part
+pub mod Place
+pub mod Units

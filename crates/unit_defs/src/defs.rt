@@ -1,0 +1,144 @@
+//! The units of a system.
+ghost use Rattle.std.specs.Prelude.{◌≡◌, true, [], List, ℕ, IfOk, OnOk, IsErrOf};
+ghost use Rattle.std.specs.List.Sorted.{IsStrictlySortedBy};
+ghost use Rattle.std.specs.Option.{option_copied};
+ghost use Rattle.host_trait.specs.declared.tree.HostFault.TheVariants.{Device};
+ghost use Rattle.host_trait.specs.Change.{IsSame};
+ghost use Rattle.host_trait.specs.Host.{Told, Passes, HasCause, HasCauseOf};
+ghost use Rattle.host_trait.specs.World.{bytes_cmp};
+ghost use Rattle.unit_defs.specs.declared.defs_fault.DefsFault.TheVariants.{Text, Host};
+ghost use Rattle.unit_defs.specs.Defs.{AreDefsOf, AreNamesOf, AreSorted, found_in, own_in, wanted_in};
+ghost use Rattle.unit_defs.specs.Units.{HasNoFault, IsFirstFault, can_be_wanted, has};
+
+use crate::defs_fault::DefsFault;
+use crate::fault::first_fault;
+use crate::reading::read_units;
+use crate::search::{find_template, find_unit};
+use crate::unit::{Unit, Wants};
+use crate::wanting::{find_text, names_of, wants_of};
+use host_trait::{HostFault, Tree};
+use std::alloc::{AllocError, Global};
+use std::marker::Model;
+use switch_names::{Listed, SystemName, UnitName};
+use unit_text::UnitText;
+
+/// The units of a system, and what each wants.
+///
+/// Contracts see what the folder of units says of each unit: what its files say, and the units that
+/// stand in its folders `.wants` and `.requires`.
+#[derive(Debug, Drop)]
+pub struct Defs {
+    names: Listed<UnitName>,
+    units: Vec<Unit>,
+    wants: Vec<Wants>,
+    nothing: Listed<UnitName>,
+}
+
+impl Model for Defs {
+    ghost use Rattle.std.specs.Prelude.{List};
+    ghost use Rattle.unit_defs.specs.declared.unit.Unit.{Unit};
+    ghost use Rattle.unit_defs.specs.Defs.{IsDefs};
+
+    ghost Value = { List Unit };
+
+    ghost view = { λ defs. defs.units.items };
+
+    ghost invariant = { λ defs. IsDefs defs.names defs.units.items defs.wants.items defs.nothing };
+}
+
+impl Defs {
+    /// The units of no system.
+    pub fn none(alloc: Global) -> Defs
+        ensures { result ≡ [] }
+    {
+        Defs {
+            names: Listed::new(alloc),
+            units: Vec::new(alloc),
+            wants: Vec::new(alloc),
+            nothing: Listed::new(alloc),
+        }
+    }
+
+    fn from_units(alloc: Global, units: Vec<Unit>) -> Result<Defs, AllocError>
+        requires { AreSorted units.items }
+        ensures { IfOk result (λ defs. defs ≡ units.items) }
+    {
+        let names = names_of(alloc, units.as_slice())?;
+        let wants = wants_of(alloc, units.as_slice())?;
+        Ok(Defs {
+            names,
+            units,
+            wants,
+            nothing: Listed::new(alloc),
+        })
+    }
+
+    /// Reads the units of a system.
+    ///
+    /// It lists the folder of units once, and reads each unit file and drop-in once.
+    pub fn read<T: Tree>(
+        alloc: Global,
+        host: &mut T,
+        system: &SystemName,
+    ) -> Result<Defs, DefsFault>
+        ensures defs { IfOk result (λ defs. Told (T.host host.old) (λ w. AreDefsOf w.leaves system.now defs)) }
+        ensures sound { OnOk result (Told (T.host host.old) (λ w. HasNoFault w.leaves system.now)) }
+        ensures text { (unit : List ℕ) (line : ℕ) → IsErrOf result (Text unit line) → Told (T.host host.old) (λ w. IsFirstFault w.leaves system.now unit line) }
+        ensures moments { Passes (T.host host.old) (T.host host.new) IsSame }
+        ensures cause { HasCauseOf (T.host host.old) (T.host host.new) (IsErrOf result (Host Device)) }
+    {
+        let units = read_units(alloc, host, system)?;
+        if let Some((unit, line)) = first_fault(alloc, units.as_slice())? {
+            return Err(DefsFault::Text { unit, line });
+        }
+        Ok(Defs::from_units(alloc, units)?)
+    }
+
+    /// Reads the units of a system that is in use. A file that can't be read counts as an empty one.
+    pub fn read_old<T: Tree>(
+        alloc: Global,
+        host: &mut T,
+        system: &SystemName,
+    ) -> Result<Defs, HostFault>
+        ensures defs { IfOk result (λ defs. Told (T.host host.old) (λ w. AreDefsOf w.leaves system.now defs)) }
+        ensures moments { Passes (T.host host.old) (T.host host.new) IsSame }
+        ensures cause { HasCause (T.host host.old) (T.host host.new) result }
+    {
+        let old_units = read_units(alloc, host, system)?;
+        Ok(Defs::from_units(alloc, old_units)?)
+    }
+
+    /// The text of a unit: its own, or else its template's.
+    pub fn find(&self, unit: &UnitName) -> Option<&UnitText>
+        ensures { option_copied result ≡ found_in self.now unit.now }
+    {
+        find_text(self.units.as_slice(), unit)
+    }
+
+    /// The names of the units that have a text of their own, in byte order.
+    pub fn names(&self) -> &Listed<UnitName>
+        ensures { AreNamesOf self.now result.now }
+    {
+        &self.names
+    }
+
+    /// The units that a unit wants, in byte order: those that are defined and no templates, among
+    /// the names in its folders `.wants` and `.requires` and the words of `Wants` and `Requires` in
+    /// the section `Unit` of its text.
+    pub fn wanted(&self, unit: &UnitName) -> &Listed<UnitName>
+        ensures wanted { result.now ≡ wanted_in self.now unit.now }
+
+        // So they are sorted, and each of them is defined and no template.
+        ensures sorted { IsStrictlySortedBy bytes_cmp result.now }
+        ensures each { (name : List ℕ) → has result.now name ≡ true → can_be_wanted (own_in self.now) name ≡ true }
+    {
+        let _name = unit.as_str();
+        if let Some(at) = find_unit(self.units.as_slice(), unit) {
+            return &self.wants[at].whole;
+        }
+        match find_template(self.units.as_slice(), unit) {
+            Some(at) => &self.wants[at].by_text,
+            None => &self.nothing,
+        }
+    }
+}

@@ -1,0 +1,18 @@
+//! The units of a whole system: their files with drop-ins, their templates, and what each wants.
+#![tactic(auto)]
+
+mod defs;
+mod defs_fault;
+mod fault;
+mod found;
+mod laws;
+mod part;
+mod place;
+mod reading;
+mod search;
+mod unit;
+mod wanting;
+
+pub use defs::Defs;
+pub use defs_fault::DefsFault;
+pub use laws::places_are_named;

@@ -1,0 +1,65 @@
+//! What unit files say.
+ghost use Rattle.std.specs.Prelude.{◌≡◌, ◌++◌, IfOk, OnOk};
+ghost use Rattle.std.specs.Option.{option_or};
+ghost use Rattle.unit_defs.specs.Part.{line_of, part_of};
+
+use std::alloc::{AllocError, Global};
+use unit_text::{TextFault, UnitText, parse};
+
+/// What one file says, or several one after the other.
+#[derive(Debug, Drop)]
+pub struct Part {
+    /// The assignments, without those of files that can't be read.
+    pub text: UnitText,
+    /// The line of the first fault.
+    pub fault: Option<u32>,
+}
+
+/// The line that a fault names.
+fn line_of(fault: &TextFault) -> u32
+    ensures { result ≡ line_of fault.now }
+{
+    match fault {
+        TextFault::Section(line)
+        | TextFault::Key(line)
+        | TextFault::NoSection(line)
+        | TextFault::Utf8(line) => *line,
+        TextFault::Memory => 0,
+    }
+}
+
+impl Part {
+    /// Reads a file.
+    pub fn read(alloc: Global, bytes: &[u8]) -> Result<Part, AllocError>
+        ensures { IfOk result (λ part. part ≡ part_of bytes.now) }
+    {
+        match parse(alloc, bytes) {
+            Ok(text) => Ok(Part { text, fault: None }),
+            Err(TextFault::Memory) => Err(AllocError),
+            Err(fault) => Ok(Part {
+                text: UnitText::empty(alloc),
+                fault: Some(line_of(&fault)),
+            }),
+        }
+    }
+
+    /// An equal part.
+    pub fn copy(&self, alloc: Global) -> Result<Part, AllocError>
+        ensures { IfOk result (λ copied. copied ≡ self.now) }
+    {
+        Ok(Part {
+            text: self.text.copy(alloc)?,
+            fault: self.fault,
+        })
+    }
+
+    /// Applies a later part.
+    pub fn add(&mut self, alloc: Global, later: &Part) -> Result<(), AllocError>
+        ensures text { OnOk result (self.new.text ≡ self.old.text ++ later.now.text) }
+        ensures fault { OnOk result (self.new.fault ≡ option_or self.old.fault later.now.fault) }
+    {
+        self.text.add(alloc, &later.text)?;
+        self.fault = self.fault.or(later.fault);
+        Ok(())
+    }
+}

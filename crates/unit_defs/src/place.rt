@@ -1,0 +1,139 @@
+//! What the paths in the folder of a system's units are.
+ghost use Rattle.std.specs.Prelude.{◌≡◌, false, true, Some, IfOk, MatchOption};
+ghost use Rattle.std.specs.List.{list_any, before_first, after_first};
+ghost use Rattle.std.specs.Option.{option_copied};
+ghost use Rattle.unit_defs.specs.Place.{after_front, before_end, drop_in, is_drop_in_name, is_slash, named, place_below, place_after, place_in, want};
+
+use std::alloc::{AllocError, Global};
+use switch_names::{NameFault, Path, Text, UnitName};
+
+/// What a leaf in the folder of units is.
+#[derive(Debug, Drop)]
+pub enum Place {
+    /// The file of a unit.
+    File(UnitName),
+    /// A drop-in of a unit, and its name before `.conf`.
+    DropIn(UnitName, Text),
+    /// A unit, and another one that it wants.
+    Want(UnitName, UnitName),
+}
+
+/// A unit name, where a text is one.
+pub fn named(alloc: Global, text: &str) -> Result<Option<UnitName>, AllocError>
+    ensures { IfOk result (λ unit. unit ≡ named text.now) }
+{
+    match UnitName::parse(alloc, text) {
+        Ok(unit) => Ok(Some(unit)),
+        Err(NameFault::Memory) => Err(AllocError),
+        Err(_) => Ok(None),
+    }
+}
+
+/// What a text has before an ending.
+fn before_end<'a>(text: &'a str, end: &str) -> Option<&'a str>
+    ensures { option_copied result ≡ before_end end.now text.now }
+{
+    text.strip_suffix(end)
+}
+
+/// What a text has after a front.
+fn after_front<'a>(text: &'a str, front: &str) -> Option<&'a str>
+    ensures { option_copied result ≡ after_front front.now text.now }
+{
+    text.strip_prefix(front)
+}
+
+/// What a text has before and after its first slash.
+fn split_at_slash(text: &str) -> Option<(&str, &str)>
+    ensures { MatchOption result
+        (list_any is_slash text.now ≡ false)
+        (λ parts. (list_any is_slash text.now ≡ true)
+        × (parts.0.now ≡ before_first is_slash text.now)
+        × (parts.1.now ≡ after_first is_slash text.now)) }
+{
+    text.split_once('/')
+}
+
+fn has_slash(name: &[u8]) -> bool
+    ensures { result ≡ list_any is_slash name.now }
+{
+    name.iter().any(|byte| *byte == b'/')
+}
+
+/// Whether a text can be the name of a drop-in.
+fn is_drop_in_name(name: &str) -> bool
+    ensures { result ≡ is_drop_in_name name.now }
+{
+    !name.is_empty() && !has_slash(name.as_bytes())
+}
+
+/// A drop-in of the unit whose folder this is.
+fn drop_in(alloc: Global, folder: &str, name: &str) -> Result<Option<Place>, AllocError>
+    ensures { IfOk result (λ place. place ≡ drop_in folder.now name.now) }
+{
+    let Some(unit) = before_end(folder, ".d") else {
+        return Ok(None);
+    };
+    let Some(stem) = before_end(name, ".conf") else {
+        return Ok(None);
+    };
+    if !is_drop_in_name(stem) {
+        return Ok(None);
+    }
+    let Some(unit) = named(alloc, unit)? else {
+        return Ok(None);
+    };
+    Ok(Some(Place::DropIn(unit, Text::from_str(alloc, stem)?)))
+}
+
+/// A unit that is wanted by the unit whose folder this is.
+fn want(alloc: Global, folder: &str, end: &str, name: &str) -> Result<Option<Place>, AllocError>
+    ensures { IfOk result (λ place. place ≡ want end.now folder.now name.now) }
+{
+    let Some(unit) = before_end(folder, end) else {
+        return Ok(None);
+    };
+    let Some(unit) = named(alloc, unit)? else {
+        return Ok(None);
+    };
+    let Some(name) = named(alloc, name)? else {
+        return Ok(None);
+    };
+    Ok(Some(Place::Want(unit, name)))
+}
+
+/// What a leaf of this name in a folder of this name is.
+fn place_below(alloc: Global, folder: &str, name: &str) -> Result<Option<Place>, AllocError>
+    ensures { IfOk result (λ place. place ≡ place_below folder.now name.now) }
+{
+    if let Some(place) = drop_in(alloc, folder, name)? {
+        return Ok(Some(place));
+    }
+    if let Some(place) = want(alloc, folder, ".wants", name)? {
+        return Ok(Some(place));
+    }
+    want(alloc, folder, ".requires", name)
+}
+
+/// What a leaf in the folder of units is.
+fn place_in(alloc: Global, rest: &str) -> Result<Option<Place>, AllocError>
+    ensures { IfOk result (λ place. place ≡ place_in rest.now) }
+{
+    if let Some(unit) = named(alloc, rest)? {
+        return Ok(Some(Place::File(unit)));
+    }
+    match split_at_slash(rest) {
+        None => Ok(None),
+        Some((folder, name)) => place_below(alloc, folder, name),
+    }
+}
+
+/// What the leaf at a path is, where the folder of units and a slash are its front.
+pub fn place_after(alloc: Global, front: &str, path: &Path) -> Result<Option<Place>, AllocError>
+    ensures { IfOk result (λ place. place ≡ place_after front.now path.now) }
+{
+    match after_front(path.as_str(), front) {
+        None => Ok(None),
+        Some(rest) => place_in(alloc, rest),
+    }
+}

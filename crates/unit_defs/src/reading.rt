@@ -1,0 +1,128 @@
+//! Reads the folder of a system's units.
+ghost use Rattle.std.specs.Prelude.{◌≡◌, [], ◌∷◌, ◌++◌, IfOk, OnOk, option_map};
+ghost use Rattle.host_trait.specs.Change.{IsSame};
+ghost use Rattle.host_trait.specs.Host.{Told, Passes, HasCause};
+ghost use Rattle.host_trait.specs.World.{content_of};
+ghost use Rattle.unit_defs.specs.Defs.{AreSorted, AreUnitsOf};
+ghost use Rattle.unit_defs.specs.Found.{AreFilesAt, AreFilesOf, TakesPath};
+ghost use Rattle.unit_defs.specs.Part.{part_of};
+ghost use Rattle.unit_defs.specs.Place.{unit_folder};
+ghost use Rattle.switch_names.specs.Path.{slash};
+
+use crate::found::Found;
+use crate::part::Part;
+use crate::place::{Place, place_after};
+use crate::unit::{Unit, units_of};
+use host_trait::{HostFault, Tree, content};
+use std::alloc::{AllocError, Global};
+use switch_names::{NameFault, Path, SystemName, Text};
+
+/// What the file at a path says.
+fn read_part<T: Tree>(alloc: Global, host: &mut T, path: &Path) -> Result<Option<Part>, HostFault>
+    ensures part { IfOk result (λ part. Told (T.host host.old) (λ w. part ≡ option_map part_of (content_of w.leaves path.now))) }
+    ensures moments { Passes (T.host host.old) (T.host host.new) IsSame }
+    ensures cause { HasCause (T.host host.old) (T.host host.new) result }
+{
+    let Some(bytes) = content(alloc, host, path)? else {
+        return Ok(None);
+    };
+    Ok(Some(Part::read(alloc, bytes.as_slice())?))
+}
+
+/// Reads what stands at a path, where the folder of units and a slash are its front.
+fn read_path<T: Tree>(
+    alloc: Global,
+    host: &mut T,
+    front: &str,
+    path: &Path,
+    found: &mut Found,
+) -> Result<(), HostFault>
+    ensures found { OnOk result (Told (T.host host.old) (λ w. TakesPath w.leaves front.now path.now found.old found.new)) }
+    ensures moments { Passes (T.host host.old) (T.host host.new) IsSame }
+    ensures cause { HasCause (T.host host.old) (T.host host.new) result }
+{
+    match place_after(alloc, front, path)? {
+        None => Ok(()),
+        Some(Place::File(unit)) => {
+            let part = read_part(alloc, host, path)?;
+            Ok(found.add_file(alloc, unit, part)?)
+        }
+        Some(Place::DropIn(unit, name)) => {
+            let part = read_part(alloc, host, path)?;
+            Ok(found.add_drop_in(alloc, unit, name, part)?)
+        }
+        Some(Place::Want(unit, name)) => Ok(found.add_want(alloc, unit, name)?),
+    }
+}
+
+/// Reads what stands at these paths.
+fn read_paths<T: Tree>(
+    alloc: Global,
+    host: &mut T,
+    front: &str,
+    paths: &[Path],
+) -> Result<Found, HostFault>
+    ensures found { IfOk result (λ found. Told (T.host host.old) (λ w. AreFilesAt w.leaves front.now paths.now found)) }
+    ensures moments { Passes (T.host host.old) (T.host host.new) IsSame }
+    ensures cause { HasCause (T.host host.old) (T.host host.new) result }
+{
+    let mut found = Found::new(alloc);
+    for path in paths {
+        read_path(alloc, host, front, path, &mut found)?;
+    }
+    Ok(found)
+}
+
+/// The folder of a system's units.
+#[tactic(auto, unfolding(crate::specs::Place::unit_folder))]
+fn unit_folder(alloc: Global, system: &SystemName) -> Result<Path, AllocError>
+    ensures { IfOk result (λ path. path ≡ unit_folder system.now) }
+{
+    system
+        .path()
+        .join(alloc, "etc/systemd/system")
+        .map_err(|_fault: NameFault| AllocError)
+}
+
+/// A text with a slash after it.
+fn with_slash(alloc: Global, text: &str) -> Result<Text, AllocError>
+    ensures { IfOk result (λ made. made ≡ text.now ++ slash ∷ []) }
+{
+    let mut made = String::from_str(alloc, text)?;
+    made.push('/')?;
+    Ok(Text::from_string(made))
+}
+
+/// Reads what stands in the folder of a system's units.
+fn read_folder<T: Tree>(
+    alloc: Global,
+    host: &mut T,
+    system: &SystemName,
+) -> Result<Found, HostFault>
+    ensures found { IfOk result (λ found. Told (T.host host.old) (λ w. AreFilesOf w.leaves system.now found)) }
+    ensures moments { Passes (T.host host.old) (T.host host.new) IsSame }
+    ensures cause { HasCause (T.host host.old) (T.host host.new) result }
+{
+    let _name = system.as_str();
+    let folder = unit_folder(alloc, system)?;
+    let front = with_slash(alloc, folder.as_str())?;
+    let paths = host.list(alloc, &folder)?;
+    let found = read_paths(alloc, host, front.as_str(), paths.as_slice())?;
+    Ok(found)
+}
+
+/// The units of a system, in byte order.
+pub fn read_units<T: Tree>(
+    alloc: Global,
+    host: &mut T,
+    system: &SystemName,
+) -> Result<Vec<Unit>, HostFault>
+    ensures sorted { IfOk result (λ units. AreSorted units.items) }
+    ensures units { IfOk result (λ units. Told (T.host host.old) (λ w. AreUnitsOf w.leaves system.now units.items)) }
+    ensures moments { Passes (T.host host.old) (T.host host.new) IsSame }
+    ensures cause { HasCause (T.host host.old) (T.host host.new) result }
+{
+    let found = read_folder(alloc, host, system)?;
+    let units = units_of(alloc, &found)?;
+    Ok(units)
+}

@@ -1,0 +1,123 @@
+//! The units of a system, each with what its files say.
+ghost use Rattle.std.specs.Prelude.{◌≡◌, [], IfOk, OnOk, map, option_map, option_and_then};
+ghost use Rattle.std.specs.BTreeMap.{keys};
+ghost use Rattle.std.specs.List.Sorted.{IsStrictlySortedBy};
+ghost use Rattle.std.specs.Option.{option_copied, option_map_or};
+ghost use Rattle.host_trait.specs.World.{bytes_cmp};
+ghost use Rattle.unit_defs.specs.Files.{base_of};
+ghost use Rattle.unit_defs.specs.Found.{drop_ins_in, file_in, own_part_in, unit_of};
+ghost use Rattle.unit_defs.specs.Part.{added};
+
+use crate::found::Found;
+use crate::part::Part;
+use std::alloc::{AllocError, Global};
+use switch_names::{Listed, UnitName};
+use unit_text::UnitText;
+
+/// What the folder of units says of a unit.
+#[derive(Debug, Drop)]
+pub struct Unit {
+    pub name: UnitName,
+    /// What its files say, where it has a text of its own.
+    pub part: Option<Part>,
+    /// The units that stand in its folders of units that it wants.
+    pub wants: Listed<UnitName>,
+}
+
+/// The units that a unit wants.
+#[derive(Debug, Drop)]
+pub struct Wants {
+    /// All of them.
+    pub whole: Listed<UnitName>,
+    /// Those that its own text wants.
+    pub by_text: Listed<UnitName>,
+}
+
+impl Unit {
+    /// The text that the unit has of its own.
+    pub fn text(&self) -> Option<&UnitText>
+        ensures { option_copied result ≡ option_map (λ part. part.text) self.now.part }
+    {
+        match &self.part {
+            Some(part) => Some(&part.text),
+            None => None,
+        }
+    }
+}
+
+/// The file on which the text of a unit is based.
+fn base<'a>(found: &'a Found, unit: &UnitName, template: Option<&UnitName>) -> Option<&'a Part>
+    ensures { option_copied result ≡ base_of (file_in found.now unit.now) (drop_ins_in found.now unit.now)
+        (option_and_then (λ name. option_and_then (λ file. file) (file_in found.now name)) (option_copied template.entry)) }
+{
+    if found.has_leaf(unit) {
+        return found.file(unit);
+    }
+    if !found.has_drop_ins(unit) {
+        return None;
+    }
+    found.file(template?)
+}
+
+/// Applies the drop-ins of a template.
+fn add_inherited(
+    alloc: Global,
+    found: &Found,
+    template: Option<&UnitName>,
+    part: &mut Part,
+) -> Result<(), AllocError>
+    ensures { OnOk result (part.new ≡ added part.old (option_map_or (drop_ins_in found.now) (option_copied template.entry) [])) }
+{
+    match template {
+        Some(template) => found.add_drop_ins(alloc, template, part),
+        None => Ok(()),
+    }
+}
+
+/// What the files of a unit say, where it has a text of its own.
+fn own_part(alloc: Global, found: &Found, unit: &UnitName) -> Result<Option<Part>, AllocError>
+    ensures { IfOk result (λ part. part ≡ own_part_in found.now unit.now) }
+{
+    let template = unit.template(alloc)?;
+    let Some(base) = base(found, unit, template.as_ref()) else {
+        return Ok(None);
+    };
+    let mut part = base.copy(alloc)?;
+    add_inherited(alloc, found, template.as_ref(), &mut part)?;
+    found.add_drop_ins(alloc, unit, &mut part)?;
+    Ok(Some(part))
+}
+
+/// Copies of names.
+fn copies(alloc: Global, names: &[UnitName]) -> Result<Listed<UnitName>, AllocError>
+    ensures { IfOk result (λ copied. copied ≡ names.now) }
+{
+    let mut copied = Listed::new(alloc);
+    for name in names {
+        copied.push(name.copy(alloc)?)?;
+    }
+    Ok(copied)
+}
+
+/// What was found of a unit.
+fn unit_of(alloc: Global, found: &Found, name: &UnitName) -> Result<Unit, AllocError>
+    ensures { IfOk result (λ unit. unit ≡ unit_of found.now name.now) }
+{
+    Ok(Unit {
+        name: name.copy(alloc)?,
+        part: own_part(alloc, found, name)?,
+        wants: copies(alloc, found.wants(name))?,
+    })
+}
+
+/// The units that were found, in byte order.
+pub fn units_of(alloc: Global, found: &Found) -> Result<Vec<Unit>, AllocError>
+    ensures units { IfOk result (λ units. units.items ≡ map (unit_of found.now) (keys found.now.units)) }
+    ensures ordered { IsStrictlySortedBy bytes_cmp (keys found.now.units) }
+{
+    let mut units = Vec::new(alloc);
+    for name in found.units.keys() {
+        units.push(unit_of(alloc, found, name)?)?;
+    }
+    Ok(units)
+}

@@ -1,0 +1,244 @@
+//! The units that each unit of a system wants.
+ghost use Rattle.std.specs.Prelude.{◌≡◌, ◌&&◌, ◌||◌, ◌==◌, [], List, ℕ, IfOk, OnOk, filter, map, option_and_then};
+ghost use Rattle.std.specs.List.{flat_map, slice_split};
+ghost use Rattle.std.specs.List.Sorted.{IsStrictlySortedBy};
+ghost use Rattle.std.specs.Option.{option_copied};
+ghost use Rattle.switch_names.specs.UnitName.{template_of};
+ghost use Rattle.host_trait.specs.World.{bytes_cmp};
+ghost use Rattle.unit_defs.specs.Defs.{AreNamesOf, AreSorted, found_in, own_in, wants_for};
+ghost use Rattle.unit_defs.specs.Place.{is_name};
+ghost use Rattle.unit_defs.specs.Units.{can_be_wanted, has, wanted, words_in, words_of};
+
+use crate::place::named;
+use crate::search::{find_template, find_unit};
+use crate::unit::{Unit, Wants};
+use std::alloc::{AllocError, Global};
+use std::collections::BTreeSet;
+use switch_names::{Listed, Text, UnitName};
+use unit_text::UnitText;
+
+/// The text that a unit has of its own.
+pub fn own_text<'a>(units: &'a [Unit], name: &UnitName) -> Option<&'a UnitText>
+    requires { AreSorted units.now }
+    ensures { option_copied result ≡ own_in units.now name.now }
+{
+    units[find_unit(units, name)?].text()
+}
+
+/// The text that the template of a unit has of its own.
+fn template_text<'a>(units: &'a [Unit], name: &UnitName) -> Option<&'a UnitText>
+    requires { AreSorted units.now }
+    ensures { option_copied result ≡ option_and_then (own_in units.now) (template_of name.now) }
+{
+    units[find_template(units, name)?].text()
+}
+
+/// The text of a unit: its own, or else its template's.
+pub fn find_text<'a>(units: &'a [Unit], name: &UnitName) -> Option<&'a UnitText>
+    requires { AreSorted units.now }
+    ensures { option_copied result ≡ found_in units.now name.now }
+{
+    let _name = name.as_str();
+    match own_text(units, name) {
+        Some(text) => Some(text),
+        None => template_text(units, name),
+    }
+}
+
+/// Whether a unit is defined and no template.
+fn can_be_wanted(units: &[Unit], name: &UnitName) -> bool
+    requires { AreSorted units.now }
+    ensures { result ≡ can_be_wanted (own_in units.now) name.now }
+{
+    find_text(units, name).is_some() && !name.is_template()
+}
+
+/// Adds a unit that is wanted, where it can be.
+fn add_name(units: &[Unit], set: &mut BTreeSet<UnitName>, name: UnitName) -> Result<(), AllocError>
+    requires { AreSorted units.now }
+    ensures { OnOk result ((unit : List ℕ) → has set.new.keys unit ≡ (has set.old.keys unit || (is_name unit name && can_be_wanted (own_in units.now) name))) }
+{
+    if can_be_wanted(units, &name) {
+        set.insert(name)?;
+    }
+    Ok(())
+}
+
+/// Adds the units of these names, where they can be wanted.
+fn add_names(
+    alloc: Global,
+    units: &[Unit],
+    set: &mut BTreeSet<UnitName>,
+    names: &[UnitName],
+) -> Result<(), AllocError>
+    requires { AreSorted units.now }
+    ensures { OnOk result ((unit : List ℕ) → has set.new.keys unit ≡ (has set.old.keys unit || has (filter (can_be_wanted (own_in units.now)) names.now) unit)) }
+{
+    for name in names {
+        add_name(units, set, name.copy(alloc)?)?;
+    }
+    Ok(())
+}
+
+/// Adds the unit that a word names, where it can be wanted.
+fn add_word(
+    alloc: Global,
+    units: &[Unit],
+    set: &mut BTreeSet<UnitName>,
+    word: &str,
+) -> Result<(), AllocError>
+    requires { AreSorted units.now }
+    ensures { OnOk result ((unit : List ℕ) → has set.new.keys unit ≡ (has set.old.keys unit || (is_name unit word.now && can_be_wanted (own_in units.now) word.now))) }
+{
+    match named(alloc, word)? {
+        Some(name) => add_name(units, set, name),
+        None => Ok(()),
+    }
+}
+
+/// The texts between the tabs of a text.
+fn tab_parts(alloc: Global, text: &str) -> Result<Vec<&str>, AllocError>
+    ensures { IfOk result (λ parts. map (λ part. part.now) parts.items ≡ slice_split (λ byte. byte == 9) text.now) }
+{
+    text.split('\t').collect(alloc)
+}
+
+/// The texts between the spaces of a text.
+fn space_parts(alloc: Global, text: &str) -> Result<Vec<&str>, AllocError>
+    ensures { IfOk result (λ parts. map (λ part. part.now) parts.items ≡ slice_split (λ byte. byte == 32) text.now) }
+{
+    text.split(' ').collect(alloc)
+}
+
+/// Adds the units that the parts of a text between its tabs name, where they can be wanted.
+fn add_tab_parts(
+    alloc: Global,
+    units: &[Unit],
+    set: &mut BTreeSet<UnitName>,
+    text: &str,
+) -> Result<(), AllocError>
+    requires { AreSorted units.now }
+    ensures { OnOk result ((unit : List ℕ) → has set.new.keys unit ≡ (has set.old.keys unit || has (filter (can_be_wanted (own_in units.now)) (slice_split (λ byte. byte == 9) text.now)) unit)) }
+{
+    let parts = tab_parts(alloc, text)?;
+    for part in parts.as_slice() {
+        add_word(alloc, units, set, part)?;
+    }
+    Ok(())
+}
+
+/// Adds the units that the words of a text name, where they can be wanted.
+fn add_words(
+    alloc: Global,
+    units: &[Unit],
+    set: &mut BTreeSet<UnitName>,
+    text: &str,
+) -> Result<(), AllocError>
+    requires { AreSorted units.now }
+    ensures { OnOk result ((unit : List ℕ) → has set.new.keys unit ≡ (has set.old.keys unit || has (filter (can_be_wanted (own_in units.now)) (words_of text.now)) unit)) }
+{
+    let parts = space_parts(alloc, text)?;
+    for part in parts.as_slice() {
+        add_tab_parts(alloc, units, set, part)?;
+    }
+    Ok(())
+}
+
+/// Adds the units that the words of some values name, where they can be wanted.
+fn add_values(
+    alloc: Global,
+    units: &[Unit],
+    set: &mut BTreeSet<UnitName>,
+    values: &[Text],
+) -> Result<(), AllocError>
+    requires { AreSorted units.now }
+    ensures { OnOk result ((unit : List ℕ) → has set.new.keys unit ≡ (has set.old.keys unit || has (filter (can_be_wanted (own_in units.now)) (flat_map words_of values.now)) unit)) }
+{
+    for value in values {
+        add_words(alloc, units, set, value.as_str())?;
+    }
+    Ok(())
+}
+
+/// Adds the units that a text wants, where they can be wanted.
+fn add_text(
+    alloc: Global,
+    units: &[Unit],
+    set: &mut BTreeSet<UnitName>,
+    text: Option<&UnitText>,
+) -> Result<(), AllocError>
+    requires { AreSorted units.now }
+    ensures { OnOk result ((unit : List ℕ) → has set.new.keys unit ≡ (has set.old.keys unit || has (filter (can_be_wanted (own_in units.now)) (words_in (option_copied text.entry))) unit)) }
+{
+    let Some(text) = text else {
+        return Ok(());
+    };
+    add_values(alloc, units, set, text.values("Unit", "Wants"))?;
+    add_values(alloc, units, set, text.values("Unit", "Requires"))
+}
+
+/// The names of a set in byte order.
+fn listed(alloc: Global, set: BTreeSet<UnitName>) -> Result<Listed<UnitName>, AllocError>
+    ensures names { IfOk result (λ names. names ≡ set.keys) }
+    ensures sorted { IsStrictlySortedBy bytes_cmp set.keys }
+{
+    let mut names = Listed::new(alloc);
+    for name in set {
+        names.push(name)?;
+    }
+    Ok(names)
+}
+
+/// What a unit wants, by its text and the names in its folders of units that it wants.
+fn wanted(
+    alloc: Global,
+    units: &[Unit],
+    names: &[UnitName],
+    text: Option<&UnitText>,
+) -> Result<Listed<UnitName>, AllocError>
+    requires { AreSorted units.now }
+    ensures { IfOk result (λ list. list ≡ wanted (own_in units.now) names.now (option_copied text.entry)) }
+{
+    let mut set = BTreeSet::new(alloc);
+    add_names(alloc, units, &mut set, names)?;
+    add_text(alloc, units, &mut set, text)?;
+    listed(alloc, set)
+}
+
+/// What a unit wants in all, and what by its own text alone.
+fn wants_for(alloc: Global, units: &[Unit], unit: &Unit) -> Result<Wants, AllocError>
+    requires { AreSorted units.now }
+    ensures { IfOk result (λ wants. wants ≡ wants_for units.now unit.now) }
+{
+    let text = find_text(units, &unit.name);
+    Ok(Wants {
+        whole: wanted(alloc, units, unit.wants.as_slice(), text)?,
+        by_text: wanted(alloc, units, &[], unit.text())?,
+    })
+}
+
+/// What each unit wants.
+pub fn wants_of(alloc: Global, units: &[Unit]) -> Result<Vec<Wants>, AllocError>
+    requires { AreSorted units.now }
+    ensures { IfOk result (λ wants. wants.items ≡ map (wants_for units.now) units.now) }
+{
+    let mut wants = Vec::with_capacity(alloc, units.len())?;
+    for unit in units {
+        wants.push(wants_for(alloc, units, unit)?)?;
+    }
+    Ok(wants)
+}
+
+/// The names of the units that have a text of their own.
+pub fn names_of(alloc: Global, units: &[Unit]) -> Result<Listed<UnitName>, AllocError>
+    requires { AreSorted units.now }
+    ensures { IfOk result (λ names. AreNamesOf units.now names) }
+{
+    let mut names = Listed::new(alloc);
+    for unit in units {
+        if unit.part.is_some() {
+            names.push(unit.name.copy(alloc)?)?;
+        }
+    }
+    Ok(names)
+}
