@@ -1,9 +1,78 @@
 use super::*;
+use host_trait::{HostFault, Manager, State};
+use std::alloc::Global;
+use std::fs;
+use std::rt::Files;
 use std::test::*;
+use switch_names::UnitName;
 
 #[test]
 fn a_host_is_opened_over_a_root(rt: HostRuntime) -> Result<(), Fail> {
     let host = FolderHost::open(&rt, "root")?;
     assert_eq!(rt; host.faults(), 0);
+    Ok(())
+}
+
+/// A node file of a link to the definitions, below a root.
+fn write_root<R: Files + AllocGlobal>(rt: &R, root: &str) -> Result<(), Fail> {
+    let folder = format!(in rt.alloc(); "{root}/tree/etc")?;
+    fs::create_dir_all(rt, folder.as_str())?;
+    let place = format!(in rt.alloc(); "{root}/tree/etc/static")?;
+    fs::write(rt, place.as_str(), "L /nix/store/a/etc\n")?;
+    Ok(())
+}
+
+/// Loads definitions, and starts a unit.
+fn load_and_start<M: Manager>(
+    alloc: Global,
+    host: &mut M,
+    unit: &UnitName,
+) -> Result<(), HostFault> {
+    host.daemon_reload(alloc)?;
+    host.start(alloc, unit)
+}
+
+/// The state that a host tells of a unit.
+fn state_told<M: Manager>(alloc: Global, host: &mut M, unit: &UnitName) -> Option<State> {
+    match host.units(alloc) {
+        Ok(states) => Some(states.of(unit)),
+        Err(_) => None,
+    }
+}
+
+#[test]
+fn what_one_host_has_done_another_reads(rt: HostRuntime) -> Result<(), Fail> {
+    let alloc = rt.alloc();
+    let unit = UnitName::parse(alloc, "a.service")?;
+    write_root(&rt, "acted-root")?;
+    let mut first = FolderHost::open(&rt, "acted-root")?;
+    assert_eq!(rt; state_told(alloc, &mut first, &unit), Some(State::Inactive));
+    assert!(rt; load_and_start(alloc, &mut first, &unit).is_ok());
+    let mut second = FolderHost::open(&rt, "acted-root")?;
+    assert_eq!(rt; state_told(alloc, &mut second, &unit), Some(State::Active));
+    assert_eq!(rt;
+        fs::read_to_string(&rt, "acted-root/manager")?.as_str(),
+        "loaded /nix/store/a/etc\nactive a.service\nstart a.service /nix/store/a/etc\n"
+    );
+    assert_eq!(rt; first.faults(), 0);
+    assert_eq!(rt; second.faults(), 0);
+    Ok(())
+}
+
+#[test]
+fn a_state_that_cannot_be_read_is_counted(rt: HostRuntime) -> Result<(), Fail> {
+    let alloc = rt.alloc();
+    let unit = UnitName::parse(alloc, "a.service")?;
+    write_root(&rt, "faulty-root")?;
+    fs::write(&rt, "faulty-root/manager", "loaded\n")?;
+    let mut host = FolderHost::open(&rt, "faulty-root")?;
+    assert_eq!(rt; state_told(alloc, &mut host, &unit), None);
+    assert_eq!(rt; host.faults(), 1);
+    assert!(rt; load_and_start(alloc, &mut host, &unit).is_err());
+    assert_eq!(rt; host.faults(), 2);
+    assert_eq!(rt;
+        fs::read_to_string(&rt, "faulty-root/manager")?.as_str(),
+        "loaded\n"
+    );
     Ok(())
 }

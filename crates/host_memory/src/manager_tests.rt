@@ -109,21 +109,61 @@ fn an_act_on_an_active_unit_leaves_its_row_of_the_table(rt: HostRuntime) -> Resu
         (Some(Act::Stop), false, Some(2), before),
         (Some(Act::Stop), false, None, "/old Stop a.service /old"),
         (Some(Act::Reload), true, Some(0), before),
-        (Some(Act::Reload), true, Some(1), "a.service Active /old Reload a.service /old"),
+        (
+            Some(Act::Reload),
+            true,
+            Some(1),
+            "a.service Active /old Reload a.service /old",
+        ),
         (Some(Act::Reload), true, Some(2), before),
-        (Some(Act::Reload), true, None, "a.service Active /old Reload a.service /old"),
+        (
+            Some(Act::Reload),
+            true,
+            None,
+            "a.service Active /old Reload a.service /old",
+        ),
         (Some(Act::Restart), false, Some(0), before),
         (Some(Act::Restart), false, Some(1), "/old"),
-        (Some(Act::Restart), false, Some(2), "a.service Active /old Restart a.service /old"),
-        (Some(Act::Restart), false, None, "a.service Active /old Restart a.service /old"),
+        (
+            Some(Act::Restart),
+            false,
+            Some(2),
+            "a.service Active /old Restart a.service /old",
+        ),
+        (
+            Some(Act::Restart),
+            false,
+            None,
+            "a.service Active /old Restart a.service /old",
+        ),
         (Some(Act::Restart), true, Some(0), before),
         (Some(Act::Restart), true, Some(1), "/old"),
-        (Some(Act::Restart), true, Some(2), "a.service Failed /old Restart a.service /old"),
-        (Some(Act::Restart), true, None, "a.service Failed /old Restart a.service /old"),
+        (
+            Some(Act::Restart),
+            true,
+            Some(2),
+            "a.service Failed /old Restart a.service /old",
+        ),
+        (
+            Some(Act::Restart),
+            true,
+            None,
+            "a.service Failed /old Restart a.service /old",
+        ),
         (Some(Act::Start), true, Some(0), before),
-        (Some(Act::Start), true, Some(1), "a.service Active /old Start a.service /old"),
+        (
+            Some(Act::Start),
+            true,
+            Some(1),
+            "a.service Active /old Start a.service /old",
+        ),
         (Some(Act::Start), true, Some(2), before),
-        (Some(Act::Start), true, None, "a.service Active /old Start a.service /old"),
+        (
+            Some(Act::Start),
+            true,
+            None,
+            "a.service Active /old Start a.service /old",
+        ),
         (None, false, Some(0), before),
         (None, false, Some(1), "a.service Active /new"),
         (None, false, Some(2), before),
@@ -151,8 +191,16 @@ fn started(alloc: Global, is_bad: bool) -> Result<(String, Option<State>), Fail>
 #[test]
 fn a_start_fails_where_the_unit_is_bad(rt: HostRuntime) -> Result<(), Fail> {
     for (is_bad, want, state) in [
-        (false, "a.service Active /old Start a.service /old", State::Active),
-        (true, "a.service Failed /old Start a.service /old", State::Failed),
+        (
+            false,
+            "a.service Active /old Start a.service /old",
+            State::Active,
+        ),
+        (
+            true,
+            "a.service Failed /old Start a.service /old",
+            State::Failed,
+        ),
     ] {
         let (left, told) = started(rt.alloc(), is_bad)?;
         assert_eq!(rt; left.as_str(), want, "bad: {is_bad}");
