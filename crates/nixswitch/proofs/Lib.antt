@@ -1,5 +1,6 @@
 pub mod OutputLemmas
 pub mod PlanLemmas
+pub mod PutTestLemmas
 pub mod ResultLemmas
 pub mod RunLemmas
 pub mod StatusLemmas

@@ -9,6 +9,8 @@ mod generation_tests;
 mod laws;
 mod out_sink;
 mod planning;
+#[cfg(test)]
+mod put_tests;
 mod refusal;
 mod status;
 #[cfg(test)]

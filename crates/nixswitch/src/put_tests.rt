@@ -1,0 +1,59 @@
+//! What the calls over a host answer once a cut has fallen on it.
+ghost use Rattle.std.specs.Prelude.{◌≡◌, ℕ, List, codes, None, IfOk};
+ghost use Rattle.std.specs.FinMap.{get};
+ghost use Rattle.host_memory.specs.MemoryHost.{host_of};
+ghost use Rattle.host_trait.specs.Host.{Told};
+
+use host_memory::MemoryHost;
+use host_trait::{HostFault, Leaf, Manager, World, content, fixed_path};
+use std::alloc::{AllocError, Global};
+use std::test::Fail;
+use switch_names::Path;
+use tree_put::{drop_leaf, put, put_if_other};
+
+/// Where a leaf is put in these tests.
+fn place(alloc: Global) -> Result<Path, AllocError>
+    ensures { IfOk result (λ place. place ≡ codes "etc/a") }
+{
+    fixed_path(alloc, "etc/a")
+}
+
+/// A host without leaves, on which a cut has fallen.
+fn fallen_host(alloc: Global) -> MemoryHost
+    ensures { Told (host_of result) (λ w. (q : List ℕ) → get w.leaves q ≡ None) }
+{
+    let mut host = MemoryHost::new(alloc, World::new(alloc));
+    host.arm(0, 0);
+    let _cut = host.daemon_reload(alloc);
+    host
+}
+
+/// What a put answers on such a host.
+fn after_put(alloc: Global, leaf: &Leaf) -> Result<Result<(), HostFault>, AllocError> {
+    let at = place(alloc)?;
+    let mut host = fallen_host(alloc);
+    Ok(put(alloc, &mut host, &at, leaf))
+}
+
+/// What a put of another leaf answers there.
+fn after_put_if_other(alloc: Global, leaf: &Leaf) -> Result<Result<bool, HostFault>, AllocError> {
+    let at = place(alloc)?;
+    let mut host = fallen_host(alloc);
+    Ok(put_if_other(alloc, &mut host, &at, leaf))
+}
+
+#[test]
+fn every_call_fails_once_a_cut_has_fallen(rt: HostRuntime) -> Result<(), Fail> {
+    let alloc = rt.alloc();
+    let at = place(alloc)?;
+    let leaf = Leaf::link(alloc, "b")?;
+    let device = Some(HostFault::Device);
+    assert_eq!(rt; after_put(alloc, &leaf)?.err(), device);
+    assert_eq!(rt; after_put_if_other(alloc, &leaf)?.err(), device);
+    let mut host = fallen_host(alloc);
+    assert_eq!(rt; drop_leaf(alloc, &mut host, &at).err(), device);
+    let read = content(alloc, &mut host, &at);
+    assert!(rt; matches!(read, Err(HostFault::Device)));
+    assert_eq!(rt; host.faults(), 3);
+    Ok(())
+}
