@@ -1,0 +1,4 @@
+pub mod CoreLemmas
+pub mod NameLemmas
+pub mod PartLemmas
+pub mod PrefixLemmas

@@ -1,0 +1,5 @@
+pub mod Law
+pub mod Lists
+pub mod Owed
+pub mod Pull
+pub mod Systems
