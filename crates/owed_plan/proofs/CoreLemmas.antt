@@ -24,7 +24,7 @@ no_service kind target service = cc
 no_socket : (kind : UnitKind) → kind ≡ Target → kind ≡ Socket → ⊥
 no_socket kind target socket = cc
 
-active_from_test : (state : State) → is_active state ≡ true → state ≡ Active
+pub active_from_test : (state : State) → is_active state ≡ true → state ≡ Active
 active_from_test Active is = refl
 active_from_test Inactive is = absurd cc
 active_from_test Failed is = absurd cc
@@ -118,7 +118,7 @@ module _ (systems : Systems) (states : Name → State) (lists : Lists) (later : 
   pull_to unit (FromWant _ by reached wanted) = FromWant unit by (pull_to by reached) wanted
 
   -- a target that is started was in the pull
-  start_pulled : (unit : Name) → IsDefined systems unit → (systems.facts unit).kind ≡ Target → Starts systems states lists unit → Pulled systems states lists unit
+  pub start_pulled : (unit : Name) → IsDefined systems unit → (systems.facts unit).kind ≡ Target → Starts systems states lists unit → Pulled systems states lists unit
   start_pulled unit defined target (Starts.ByStart decides) =
       FromRoot unit (Running defined target decides.active (target_started (systems.facts unit) (has_live systems states lists unit) decides.row))
   start_pulled unit defined target (Starts.ByStopStart decides) =
@@ -132,7 +132,7 @@ module _ (systems : Systems) (states : Name → State) (lists : Lists) (later : 
   root_pulled unit (Running defined target active may) = FromRoot unit (Running defined target (partly.before unit active) may)
   root_pulled unit (Pending defined target listed) = start_pulled unit defined target (partly.starts_from unit listed defined)
 
-  pull_from : (unit : Name) → Pulled systems later kept unit → Pulled systems states lists unit
+  pub pull_from : (unit : Name) → Pulled systems later kept unit → Pulled systems states lists unit
   pull_from unit (FromRoot _ root) = root_pulled unit root
   pull_from unit (FromWant _ by reached wanted) = FromWant unit by (pull_from by reached) wanted
 

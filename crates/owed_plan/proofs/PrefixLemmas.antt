@@ -82,7 +82,7 @@ module _ (systems : Systems) (states later : Name → State) (lists kept : Lists
             (sockets_first systems owed.stops count service socket is_service is_socket ((is_owed.stops.exact socket).1 stops) found))
       ]
 
-  is_partly : IsPartly systems states lists later kept
+  pub is_partly : IsPartly systems states lists later kept
   is_partly = record {
     before = before;
     after = after;

@@ -1,8 +1,8 @@
 -- What stops and recorded lists leave of what is owed: NixOS manual, "Unit handling".
-use Rattle.std.specs.Prelude.{◌≡◌, ◌⊎◌, ◌↔◌, ℕ, IsTrue, List, take, if◌then◌else◌}
+use Rattle.std.specs.Prelude.{◌≡◌, ◌⊎◌, ◌↔◌, ℕ, IsTrue, List, filter, take, if◌then◌else◌}
 use Rattle.host_trait.specs.declared.unit_state.State.{State}
 use Rattle.host_trait.specs.declared.unit_state.State.TheVariants.{Active, Inactive}
-use Rattle.owed_plan.specs.Lists.{Lists}
+use Rattle.owed_plan.specs.Lists.{Lists, is_active}
 use Rattle.owed_plan.specs.Owed.{IsOwed, Owed, Reloads, Restarts, Starts, Stops, stop_order}
 use Rattle.owed_plan.specs.Pull.{Pulled}
 use Rattle.owed_plan.specs.Systems.{Systems, IsDefined}
@@ -37,9 +37,21 @@ abbrev pub AreStopped : Systems → Owed → ℕ → (Name → State) → (Name 
 AreStopped systems owed count states later =
     (unit : Name) → later unit ≡ stopped (take count (stop_order systems owed.stops)) states unit
 
--- after some of the stops, and with the lists recorded, the same is owed
-abbrev pub Law : Type 0
-Law =
+-- this holds after some of the stops, and with the lists recorded
+abbrev pub AfterStops : (Systems → (Name → State) → Lists → Owed → (Name → State) → Lists → Type 0) → Type 0
+AfterStops Holds =
     (systems : Systems) (states later : Name → State) (lists kept : Lists) (owed : Owed) (count : ℕ) →
     IsSound systems → IsOwed systems states lists owed → AreStopped systems owed count states later → IsRecorded owed lists kept →
-    SameOwed systems states later lists kept
+    Holds systems states lists owed later kept
+
+-- after some of the stops, and with the lists recorded, the same is owed
+abbrev pub Law : Type 0
+Law = AfterStops (λ systems states lists owed later kept. SameOwed systems states later lists kept)
+
+-- what is owed, with the stops of units that are still active
+abbrev pub rest_of : (Name → State) → Owed → Owed
+rest_of states owed = record owed { stops = filter (λ unit. is_active (states unit)) owed.stops }
+
+-- after some of the stops, and with the lists recorded, the lists of what is owed are the same but for the stops
+abbrev pub ListLaw : Type 0
+ListLaw = AfterStops (λ systems states lists owed later kept. IsOwed systems later kept (rest_of later owed))
