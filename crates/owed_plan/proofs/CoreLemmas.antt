@@ -1,5 +1,6 @@
 -- After some of the stops the same is owed.
 use Rattle.std.proofs.Common.{◌≡◌, ◌⊎◌, ◌&&◌, Bool, true, IsTrue, inl, inr, refl, sym, ◌∙◌, ap}
+use Rattle.std.proofs.lemmas.Bool.{and_from, and_parts, or_cases, or_left, or_right}
 use Rattle.host_trait.specs.declared.unit_state.State.{State}
 use Rattle.host_trait.specs.declared.unit_state.State.TheVariants.{Active, Inactive, Failed}
 use Rattle.owed_plan.specs.Law.{IsSound, SameOwed}
@@ -7,7 +8,7 @@ use Rattle.owed_plan.specs.Lists.{Lists, is_active, is_live, pending}
 use Rattle.owed_plan.specs.Owed.{Activates, Decides, Reloads, Restarts, Starts, Stops, has_live}
 use Rattle.owed_plan.specs.Pull.{IsRoot, Running, Pending, FromRoot, FromWant, Pulled}
 use Rattle.owed_plan.specs.Systems.{Systems, Counts, IsDefined}
-use Rattle.owed_plan.proofs.NameLemmas.{and_both, any_from_has, any_more, both_of, either_of, or_left, or_right}
+use Rattle.owed_plan.proofs.NameLemmas.{any_from_has, any_more}
 use Rattle.owed_plan.proofs.PartLemmas.{IsPartly}
 use Rattle.switch_names.specs.declared.unit_kind.UnitKind.{UnitKind}
 use Rattle.switch_names.specs.declared.unit_kind.UnitKind.TheVariants.{Service, Socket, Target}
@@ -39,7 +40,7 @@ module _ (systems : Systems) (states : Name → State) (lists : Lists) where
 
   live_either : (socket : Name) → is_live states lists socket ≡ true → (states socket ≡ Active) ⊎ (has (pending lists) socket ≡ true)
   live_either socket live =
-      elim (either_of (is_active (states socket)) (has (pending lists) socket) live) [
+      elim (or_cases (is_active (states socket)) (has (pending lists) socket) live) [
         | inl active ↦ inl (active_from_test (states socket) active)
         | inr listed ↦ inr listed
       ]
@@ -47,7 +48,7 @@ module _ (systems : Systems) (states : Name → State) (lists : Lists) where
   has_live_from : (service socket : Name) → Counts systems service socket → is_live states lists socket ≡ true → has_live systems states lists service ≡ true
   has_live_from service socket counts live =
       any_from_has (λ other. (systems.facts other).in_new && is_live states lists other) (systems.sockets service) socket counts.0
-      (and_both (systems.facts socket).in_new (is_live states lists socket) counts.1 live)
+      (and_from (systems.facts socket).in_new (is_live states lists socket) counts.1 live)
 
   stops_active : (unit : Name) → Stops systems states lists unit → states unit ≡ Active
   stops_active unit (Stops.ByStop decides) = decides.active
@@ -151,8 +152,8 @@ module _ (systems : Systems) (states : Name → State) (lists : Lists) (later : 
   has_live_kept unit live =
       any_more (λ socket. (systems.facts socket).in_new && is_live states lists socket) (λ socket. (systems.facts socket).in_new && is_live later kept socket) (systems.sockets unit)
       (λ socket among both.
-      let parts = both_of (systems.facts socket).in_new (is_live states lists socket) both in
-      and_both (systems.facts socket).in_new (is_live later kept socket) parts.0 (live_kept socket parts.0 (sound.sockets unit socket among) parts.1))
+      let parts = and_parts (systems.facts socket).in_new (is_live states lists socket) both in
+      and_from (systems.facts socket).in_new (is_live later kept socket) parts.0 (live_kept socket parts.0 (sound.sockets unit socket among) parts.1))
       live
 
   -- a decision that sockets don't change is the same before and after

@@ -1,9 +1,11 @@
 -- The law in lists, and that what is owed is one collection of lists.
-use Rattle.std.proofs.Common.{◌≡◌, ◌↔◌, Bool, true, false, List, filter, refl, sym, ap, ◌∙◌}
+use Rattle.std.proofs.Common.{◌≡◌, ◌↔◌, Bool, true, List, filter, sym, ap, ◌∙◌}
+use Rattle.std.specs.Cmp.{both_ways}
 use Rattle.std.specs.Cmp.Lexicographic.{slice_cmp}
 use Rattle.std.specs.Ordering.{nat_cmp}
 use Rattle.std.proofs.lemmas.Map.Lookups.{btree_set_from_contains, exact_bytes}
 use Rattle.std.proofs.lemmas.List.Kept.{IsStrictlySortedBy-filter}
+use Rattle.std.proofs.lemmas.Bool.{and_from, and_parts}
 use Rattle.host_trait.specs.declared.unit_state.State.{State}
 use Rattle.host_trait.proofs.Places.{bytes_total}
 use Rattle.owed_plan.specs.Law.{ListLaw, SameOwed, rest_of}
@@ -11,20 +13,15 @@ use Rattle.owed_plan.specs.Lists.{Lists, is_active}
 use Rattle.owed_plan.specs.Owed.{IsListOf, IsOwed, Owed, Stops}
 use Rattle.owed_plan.specs.Systems.{Systems}
 use Rattle.owed_plan.proofs.CoreLemmas.{active_from_test}
-use Rattle.owed_plan.proofs.NameLemmas.{and_both, both_of, has-filter}
+use Rattle.owed_plan.proofs.NameLemmas.{has-filter}
 use Rattle.owed_plan.proofs.PrefixLemmas.{law}
 use Rattle.unit_decide.specs.Names.{Name, has}
-
-same_test : (a b : Bool) → (a ≡ true → b ≡ true) → (b ≡ true → a ≡ true) → a ≡ b
-same_test true b to from = sym (to refl)
-same_test false true to from = from refl
-same_test false false to from = refl
 
 -- a set of names has one list
 one_list : (names others : List Name) (P : Name → Type 0) → IsListOf names P → IsListOf others P → names ≡ others
 one_list names others P one other =
     btree_set_from_contains bytes_total (record { keys = names }) (record { keys = others }) one.sorted other.sorted
-    (λ unit. same_test (has names unit) (has others unit) (λ found. (other.exact unit).1 ((one.exact unit).0 found)) (λ found. (one.exact unit).1 ((other.exact unit).0 found)))
+    (λ unit. both_ways (has names unit) (has others unit) (λ found. (other.exact unit).1 ((one.exact unit).0 found)) (λ found. (one.exact unit).1 ((other.exact unit).0 found)))
     exact_bytes
 
 pub one_owed : (systems : Systems) (states : Name → State) (lists : Lists) (one other : Owed) → IsOwed systems states lists one → IsOwed systems states lists other → one ≡ other
@@ -49,11 +46,11 @@ part_list test names P Q from to list = record {
   sorted = IsStrictlySortedBy-filter (slice_cmp nat_cmp) test names list.sorted;
   exact = λ unit. (
     λ found.
-        let both = both_of (test unit) (has names unit) (sym (has-filter test names unit) ∙ found) in
+        let both = and_parts (test unit) (has names unit) (sym (has-filter test names unit) ∙ found) in
         to unit ((list.exact unit).0 both.1) both.0,
     λ holds.
         let parts = from unit holds in
-        has-filter test names unit ∙ and_both (test unit) (has names unit) parts.1 ((list.exact unit).1 parts.0),
+        has-filter test names unit ∙ and_from (test unit) (has names unit) parts.1 ((list.exact unit).1 parts.0),
   );
 }
 

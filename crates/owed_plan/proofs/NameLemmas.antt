@@ -1,33 +1,15 @@
 -- Names in lists, and tests that hold of one of them.
-use Rattle.std.proofs.Common.{◌≡◌, ◌⊎◌, ◌&&◌, ◌||◌, ◌++◌, ◌∷◌, ℕ, zero, suc, Bool, true, false, List, [], filter, take, inl, inr, refl, sym, ap, ◌∙◌}
+use Rattle.std.proofs.Common.{◌≡◌, ◌⊎◌, ◌&&◌, ◌++◌, ◌∷◌, ℕ, zero, suc, Bool, true, List, [], filter, take, inl, inr, refl, sym, ap, ◌∙◌}
 use Rattle.std.specs.BTreeMap.{is_at}
 use Rattle.std.specs.Cmp.Lexicographic.{slice_cmp}
 use Rattle.std.specs.List.{list_any}
 use Rattle.std.specs.Ordering.{nat_cmp}
+use Rattle.std.proofs.lemmas.Bool.{or_cases, or_left, or_right}
+use Rattle.std.proofs.lemmas.List.Folds.{list_any-append}
 use Rattle.std.proofs.lemmas.Map.Text.{is_eq-slice_cmp}
 use Rattle.std.proofs.lemmas.Map.Views.{any-filter_same}
 use Rattle.std.proofs.lemmas.Slice.Eq.{bytes_eq-Decides}
 use Rattle.unit_decide.specs.Names.{Name, has}
-
-pub or_left : (a b : Bool) → a ≡ true → (a || b) ≡ true
-or_left true b is = refl
-or_left false b is = absurd cc
-
-pub or_right : (a b : Bool) → b ≡ true → (a || b) ≡ true
-or_right true b is = refl
-or_right false b is = is
-
-pub either_of : (a b : Bool) → (a || b) ≡ true → (a ≡ true) ⊎ (b ≡ true)
-either_of true b is = inl refl
-either_of false b is = inr is
-
-pub both_of : (a b : Bool) → (a && b) ≡ true → (a ≡ true) × (b ≡ true)
-both_of true b is = (refl, is)
-both_of false b is = absurd cc
-
-pub and_both : (a b : Bool) → a ≡ true → b ≡ true → (a && b) ≡ true
-and_both true b left right = right
-and_both false b left right = absurd cc
 
 -- a name is found at itself alone
 abbrev is_name : Name → Name → Bool
@@ -43,7 +25,7 @@ own_name unit = is_eq-slice_cmp unit unit ∙ (bytes_eq-Decides unit unit).1 ref
 pub any_from_has : (test : Name → Bool) (names : List Name) (unit : Name) → has names unit ≡ true → test unit ≡ true → list_any test names ≡ true
 any_from_has test [] unit found holds = absurd cc
 any_from_has test (name ∷ names) unit found holds =
-    elim (either_of (is_name unit name) (has names unit) found) [
+    elim (or_cases (is_name unit name) (has names unit) found) [
       | inl is ↦ or_left (test name) (list_any test names) (ap test (sym (same_name unit name is)) ∙ holds)
       | inr more ↦ or_right (test name) (list_any test names) (any_from_has test names unit more holds)
     ]
@@ -52,7 +34,7 @@ any_from_has test (name ∷ names) unit found holds =
 pub any_more : (test weaker : Name → Bool) (names : List Name) → ((unit : Name) → has names unit ≡ true → test unit ≡ true → weaker unit ≡ true) → list_any test names ≡ true → list_any weaker names ≡ true
 any_more test weaker [] each found = absurd cc
 any_more test weaker (name ∷ names) each found =
-    elim (either_of (test name) (list_any test names) found) [
+    elim (or_cases (test name) (list_any test names) found) [
       | inl holds ↦ or_left (weaker name) (list_any weaker names) (each name (or_left (is_name name name) (has names name) (own_name name)) holds)
       | inr more ↦ or_right (weaker name) (list_any weaker names) (any_more test weaker names (λ unit among. each unit (or_right (is_name unit name) (has names unit) among)) more)
     ]
@@ -62,21 +44,13 @@ pub has-take : (count : ℕ) (names : List Name) (unit : Name) → has (take cou
 has-take zero names unit found = absurd cc
 has-take (suc count) [] unit found = absurd cc
 has-take (suc count) (name ∷ names) unit found =
-    elim (either_of (is_name unit name) (has (take count names) unit) found) [
+    elim (or_cases (is_name unit name) (has (take count names) unit) found) [
       | inl is ↦ or_left (is_name unit name) (has names unit) is
       | inr more ↦ or_right (is_name unit name) (has names unit) (has-take count names unit more)
     ]
 
 pub has-append : (names more : List Name) (unit : Name) → has (names ++ more) unit ≡ true → (has names unit ≡ true) ⊎ (has more unit ≡ true)
-has-append [] more unit found = inr found
-has-append (name ∷ names) more unit found =
-    elim (either_of (is_name unit name) (has (names ++ more) unit) found) [
-      | inl is ↦ inl (or_left (is_name unit name) (has names unit) is)
-      | inr rest ↦ elim (has-append names more unit rest) [
-        | inl among ↦ inl (or_right (is_name unit name) (has names unit) among)
-        | inr after ↦ inr after
-      ]
-    ]
+has-append names more unit found = or_cases (has names unit) (has more unit) (sym (list_any-append (is_at (slice_cmp nat_cmp unit)) names more) ∙ found)
 
 pub has-filter : (test : Name → Bool) (names : List Name) (unit : Name) → has (filter test names) unit ≡ (test unit && has names unit)
 has-filter test names unit =
@@ -87,9 +61,9 @@ pub take_two : (first more : List Name) (count : ℕ) (unit other : Name) → (h
 take_two first more zero unit other without found among = absurd cc
 take_two [] more (suc count) unit other without found among = absurd cc
 take_two (name ∷ first) more (suc count) unit other without found among =
-    elim (either_of (is_name unit name) (has (take count (first ++ more)) unit) found) [
+    elim (or_cases (is_name unit name) (has (take count (first ++ more)) unit) found) [
       | inl is ↦ absurd (without (or_left (is_name unit name) (has first unit) is))
-      | inr later ↦ elim (either_of (is_name other name) (has first other) among) [
+      | inr later ↦ elim (or_cases (is_name other name) (has first other) among) [
         | inl is ↦ or_left (is_name other name) (has (take count (first ++ more)) other) is
         | inr rest ↦
             or_right (is_name other name) (has (take count (first ++ more)) other)

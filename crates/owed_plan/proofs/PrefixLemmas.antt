@@ -1,5 +1,6 @@
 -- A beginning of the stops in their order, with the lists recorded, is such a part.
 use Rattle.std.proofs.Common.{◌≡◌, ◌⊎◌, ℕ, Bool, true, false, not, List, filter, take, if◌then◌else◌, inl, inr, refl, sym, ap, subst, ◌∙◌}
+use Rattle.std.proofs.lemmas.Bool.{and_from, and_parts}
 use Rattle.host_trait.specs.declared.unit_state.State.{State}
 use Rattle.host_trait.specs.declared.unit_state.State.TheVariants.{Active, Inactive}
 use Rattle.owed_plan.specs.Law.{AreStopped, IsRecorded, Law}
@@ -7,7 +8,7 @@ use Rattle.owed_plan.specs.Lists.{Lists}
 use Rattle.owed_plan.specs.Owed.{IsOwed, Owed, Reloads, Restarts, Stops, stop_order}
 use Rattle.owed_plan.specs.Systems.{Systems}
 use Rattle.owed_plan.proofs.CoreLemmas.{same_owed}
-use Rattle.owed_plan.proofs.NameLemmas.{and_both, both_of, has-append, has-filter, has-take, take_two}
+use Rattle.owed_plan.proofs.NameLemmas.{has-append, has-filter, has-take, take_two}
 use Rattle.owed_plan.proofs.PartLemmas.{IsPartly}
 use Rattle.switch_names.specs.declared.unit_kind.UnitKind.{UnitKind}
 use Rattle.switch_names.specs.declared.unit_kind.UnitKind.TheVariants.{Service, Socket}
@@ -31,8 +32,8 @@ service_no_socket kind service socket = cc (sym socket ∙ ap (λ k. is_kind k S
 has-stop_order : (systems : Systems) (stops : List Name) (unit : Name) → has (stop_order systems stops) unit ≡ true → has stops unit ≡ true
 has-stop_order systems stops unit found =
     elim (has-append (filter (λ u. is_kind (systems.facts u).kind Socket) stops) (filter (λ u. not (is_kind (systems.facts u).kind Socket)) stops) unit found) [
-      | inl first ↦ (both_of (is_kind (systems.facts unit).kind Socket) (has stops unit) (sym (has-filter (λ u. is_kind (systems.facts u).kind Socket) stops unit) ∙ first)).1
-      | inr more ↦ (both_of (not (is_kind (systems.facts unit).kind Socket)) (has stops unit) (sym (has-filter (λ u. not (is_kind (systems.facts u).kind Socket)) stops unit) ∙ more)).1
+      | inl first ↦ (and_parts (is_kind (systems.facts unit).kind Socket) (has stops unit) (sym (has-filter (λ u. is_kind (systems.facts u).kind Socket) stops unit) ∙ first)).1
+      | inr more ↦ (and_parts (not (is_kind (systems.facts unit).kind Socket)) (has stops unit) (sym (has-filter (λ u. not (is_kind (systems.facts u).kind Socket)) stops unit) ∙ more)).1
     ]
 
 -- where a service is among the first stops, all sockets of the stops are
@@ -41,10 +42,10 @@ sockets_first systems stops count service socket is_service is_socket listed tak
     take_two (filter (λ u. is_kind (systems.facts u).kind Socket) stops) (filter (λ u. not (is_kind (systems.facts u).kind Socket)) stops) count service socket
     (λ first.
     service_no_socket (systems.facts service).kind is_service
-    (both_of (is_kind (systems.facts service).kind Socket) (has stops service) (sym (has-filter (λ u. is_kind (systems.facts u).kind Socket) stops service) ∙ first)).0)
+    (and_parts (is_kind (systems.facts service).kind Socket) (has stops service) (sym (has-filter (λ u. is_kind (systems.facts u).kind Socket) stops service) ∙ first)).0)
     taken
     (has-filter (λ u. is_kind (systems.facts u).kind Socket) stops socket
-    ∙ and_both (is_kind (systems.facts socket).kind Socket) (has stops socket) (ap (λ k. is_kind k Socket) is_socket) listed)
+    ∙ and_from (is_kind (systems.facts socket).kind Socket) (has stops socket) (ap (λ k. is_kind k Socket) is_socket) listed)
 
 -- a recorded list has the old names or the owed ones
 listed_from : (P : Name → Type 0) (old owed new : List Name) → ((unit : Name) → has owed unit ≡ true → P unit) → (new ≡ old) ⊎ (new ≡ owed) → (unit : Name) → has new unit ≡ true → (has old unit ≡ true) ⊎ P unit
