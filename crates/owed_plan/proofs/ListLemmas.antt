@@ -1,0 +1,71 @@
+-- The law in lists, and that what is owed is one collection of lists.
+use Rattle.std.proofs.Common.{◌≡◌, ◌↔◌, Bool, true, List, filter, sym, ap, ◌∙◌}
+use Rattle.std.specs.Cmp.{both_ways}
+use Rattle.std.specs.Cmp.Lexicographic.{slice_cmp}
+use Rattle.std.specs.Ordering.{nat_cmp}
+use Rattle.std.proofs.lemmas.Map.Lookups.{btree_set_from_contains, exact_bytes}
+use Rattle.std.proofs.lemmas.List.Kept.{IsStrictlySortedBy-filter}
+use Rattle.std.proofs.lemmas.Bool.{and_from, and_parts}
+use Rattle.host_trait.specs.declared.unit_state.State.{State}
+use Rattle.host_trait.proofs.Places.{bytes_total}
+use Rattle.owed_plan.specs.Law.{ListLaw, SameOwed, rest_of}
+use Rattle.owed_plan.specs.Lists.{Lists, is_active}
+use Rattle.owed_plan.specs.Owed.{IsListOf, IsOwed, Owed, Stops}
+use Rattle.owed_plan.specs.Systems.{Systems}
+use Rattle.owed_plan.proofs.CoreLemmas.{active_from_test}
+use Rattle.owed_plan.proofs.NameLemmas.{has-filter}
+use Rattle.owed_plan.proofs.PrefixLemmas.{law}
+use Rattle.unit_decide.specs.Names.{Name, has}
+
+-- a set of names has one list
+one_list : (names others : List Name) (P : Name → Type 0) → IsListOf names P → IsListOf others P → names ≡ others
+one_list names others P one other =
+    btree_set_from_contains bytes_total (record { keys = names }) (record { keys = others }) one.sorted other.sorted
+    (λ unit. both_ways (has names unit) (has others unit) (λ found. (other.exact unit).1 ((one.exact unit).0 found)) (λ found. (one.exact unit).1 ((other.exact unit).0 found)))
+    exact_bytes
+
+pub one_owed : (systems : Systems) (states : Name → State) (lists : Lists) (one other : Owed) → IsOwed systems states lists one → IsOwed systems states lists other → one ≡ other
+one_owed systems states lists one other is also =
+    λ i. record {
+      stops = one_list one.stops other.stops _ is.stops also.stops i;
+      reloads = one_list one.reloads other.reloads _ is.reloads also.reloads i;
+      restarts = one_list one.restarts other.restarts _ is.restarts also.restarts i;
+      starts = one_list one.starts other.starts _ is.starts also.starts i;
+    }
+
+-- a list of what has P is one of what has Q where both are the same
+same_list : (names : List Name) (P Q : Name → Type 0) → ((unit : Name) → Q unit ↔ P unit) → IsListOf names P → IsListOf names Q
+same_list names P Q same list = record {
+  sorted = list.sorted;
+  exact = λ unit. (λ found. (same unit).1 ((list.exact unit).0 found), λ holds. (list.exact unit).1 ((same unit).0 holds));
+}
+
+-- the names of a list that pass a test
+part_list : (test : Name → Bool) (names : List Name) (P Q : Name → Type 0) → ((unit : Name) → Q unit → P unit × (test unit ≡ true)) → ((unit : Name) → P unit → test unit ≡ true → Q unit) → IsListOf names P → IsListOf (filter test names) Q
+part_list test names P Q from to list = record {
+  sorted = IsStrictlySortedBy-filter (slice_cmp nat_cmp) test names list.sorted;
+  exact = λ unit. (
+    λ found.
+        let both = and_parts (test unit) (has names unit) (sym (has-filter test names unit) ∙ found) in
+        to unit ((list.exact unit).0 both.1) both.0,
+    λ holds.
+        let parts = from unit holds in
+        has-filter test names unit ∙ and_from (test unit) (has names unit) parts.1 ((list.exact unit).1 parts.0),
+  );
+}
+
+rest_owed : (systems : Systems) (states later : Name → State) (lists kept : Lists) (owed : Owed) → IsOwed systems states lists owed → SameOwed systems states later lists kept → IsOwed systems later kept (rest_of later owed)
+rest_owed systems states later lists kept owed is same = record {
+  stops =
+      part_list (λ unit. is_active (later unit)) owed.stops (Stops systems states lists) (Stops systems later kept)
+      (λ unit stops. let both = (same.stops unit).0 stops in (both.0, ap is_active both.1))
+      (λ unit stops active. (same.stops unit).1 (stops, active_from_test (later unit) active))
+      is.stops;
+  reloads = same_list owed.reloads _ _ same.reloads is.reloads;
+  restarts = same_list owed.restarts _ _ same.restarts is.restarts;
+  starts = same_list owed.starts _ _ same.starts is.starts;
+}
+
+pub list_law : ListLaw
+list_law systems states later lists kept owed count sound is_owed are_stopped is_recorded =
+    rest_owed systems states later lists kept owed is_owed (law systems states later lists kept owed count sound is_owed are_stopped is_recorded)

@@ -1,0 +1,72 @@
+-- Names in lists, and tests that hold of one of them.
+use Rattle.std.proofs.Common.{◌≡◌, ◌⊎◌, ◌&&◌, ◌++◌, ◌∷◌, ℕ, zero, suc, Bool, true, List, [], filter, take, inl, inr, refl, sym, ap, ◌∙◌}
+use Rattle.std.specs.BTreeMap.{is_at}
+use Rattle.std.specs.Cmp.Lexicographic.{slice_cmp}
+use Rattle.std.specs.List.{list_any}
+use Rattle.std.specs.Ordering.{nat_cmp}
+use Rattle.std.proofs.lemmas.Bool.{or_cases, or_left, or_right}
+use Rattle.std.proofs.lemmas.List.Folds.{list_any-append}
+use Rattle.std.proofs.lemmas.Map.Text.{is_eq-slice_cmp}
+use Rattle.std.proofs.lemmas.Map.Views.{any-filter_same}
+use Rattle.std.proofs.lemmas.Slice.Eq.{bytes_eq-Decides}
+use Rattle.unit_decide.specs.Names.{Name, has}
+
+-- a name is found at itself alone
+abbrev is_name : Name → Name → Bool
+is_name unit other = is_at (slice_cmp nat_cmp unit) other
+
+same_name : (unit other : Name) → is_name unit other ≡ true → unit ≡ other
+same_name unit other is = (bytes_eq-Decides unit other).0 (sym (is_eq-slice_cmp unit other) ∙ is)
+
+own_name : (unit : Name) → is_name unit unit ≡ true
+own_name unit = is_eq-slice_cmp unit unit ∙ (bytes_eq-Decides unit unit).1 refl
+
+-- a test that holds of a name in the list holds of one in it
+pub any_from_has : (test : Name → Bool) (names : List Name) (unit : Name) → has names unit ≡ true → test unit ≡ true → list_any test names ≡ true
+any_from_has test [] unit found holds = absurd cc
+any_from_has test (name ∷ names) unit found holds =
+    elim (or_cases (is_name unit name) (has names unit) found) [
+      | inl is ↦ or_left (test name) (list_any test names) (ap test (sym (same_name unit name is)) ∙ holds)
+      | inr more ↦ or_right (test name) (list_any test names) (any_from_has test names unit more holds)
+    ]
+
+-- a weaker test holds of one of the names too
+pub any_more : (test weaker : Name → Bool) (names : List Name) → ((unit : Name) → has names unit ≡ true → test unit ≡ true → weaker unit ≡ true) → list_any test names ≡ true → list_any weaker names ≡ true
+any_more test weaker [] each found = absurd cc
+any_more test weaker (name ∷ names) each found =
+    elim (or_cases (test name) (list_any test names) found) [
+      | inl holds ↦ or_left (weaker name) (list_any weaker names) (each name (or_left (is_name name name) (has names name) (own_name name)) holds)
+      | inr more ↦ or_right (weaker name) (list_any weaker names) (any_more test weaker names (λ unit among. each unit (or_right (is_name unit name) (has names unit) among)) more)
+    ]
+
+-- a beginning of a list has only names of it
+pub has-take : (count : ℕ) (names : List Name) (unit : Name) → has (take count names) unit ≡ true → has names unit ≡ true
+has-take zero names unit found = absurd cc
+has-take (suc count) [] unit found = absurd cc
+has-take (suc count) (name ∷ names) unit found =
+    elim (or_cases (is_name unit name) (has (take count names) unit) found) [
+      | inl is ↦ or_left (is_name unit name) (has names unit) is
+      | inr more ↦ or_right (is_name unit name) (has names unit) (has-take count names unit more)
+    ]
+
+pub has-append : (names more : List Name) (unit : Name) → has (names ++ more) unit ≡ true → (has names unit ≡ true) ⊎ (has more unit ≡ true)
+has-append names more unit found = or_cases (has names unit) (has more unit) (sym (list_any-append (is_at (slice_cmp nat_cmp unit)) names more) ∙ found)
+
+pub has-filter : (test : Name → Bool) (names : List Name) (unit : Name) → has (filter test names) unit ≡ (test unit && has names unit)
+has-filter test names unit =
+    any-filter_same (is_at (slice_cmp nat_cmp unit)) test (test unit) (λ other same. ap test (sym (same_name unit other same))) names
+
+-- a beginning of two lists with a name that isn't in the first has all of the first
+pub take_two : (first more : List Name) (count : ℕ) (unit other : Name) → (has first unit ≡ true → ⊥) → has (take count (first ++ more)) unit ≡ true → has first other ≡ true → has (take count (first ++ more)) other ≡ true
+take_two first more zero unit other without found among = absurd cc
+take_two [] more (suc count) unit other without found among = absurd cc
+take_two (name ∷ first) more (suc count) unit other without found among =
+    elim (or_cases (is_name unit name) (has (take count (first ++ more)) unit) found) [
+      | inl is ↦ absurd (without (or_left (is_name unit name) (has first unit) is))
+      | inr later ↦ elim (or_cases (is_name other name) (has first other) among) [
+        | inl is ↦ or_left (is_name other name) (has (take count (first ++ more)) other) is
+        | inr rest ↦
+            or_right (is_name other name) (has (take count (first ++ more)) other)
+            (take_two first more count unit other (λ in_first. without (or_right (is_name unit name) (has first unit) in_first)) later rest)
+      ]
+    ]

@@ -1,0 +1,6 @@
+pub mod Law
+pub mod Lists
+pub mod Owed
+pub mod Pull
+pub mod Steady
+pub mod Systems

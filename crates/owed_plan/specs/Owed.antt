@@ -1,0 +1,82 @@
+-- What a switch owes the units: NixOS manual, "Unit handling".
+use Rattle.std.specs.Prelude.{◌≡◌, ◌↔◌, ◌&&◌, ◌++◌, Bool, IsTrue, List, filter, not}
+use Rattle.std.specs.Cmp.Lexicographic.{slice_cmp}
+use Rattle.std.specs.List.{list_any}
+use Rattle.std.specs.List.Sorted.{IsStrictlySortedBy}
+use Rattle.std.specs.Ordering.{nat_cmp}
+use Rattle.host_trait.specs.declared.unit_state.State.{State}
+use Rattle.host_trait.specs.declared.unit_state.State.TheVariants.{Active}
+use Rattle.owed_plan.specs.Lists.{Lists, is_live, pending}
+use Rattle.owed_plan.specs.Pull.{Pulled}
+use Rattle.owed_plan.specs.Systems.{Systems, Counts, IsDefined, IsSocketed}
+use Rattle.switch_names.specs.declared.unit_kind.UnitKind.TheVariants.{Socket}
+use Rattle.unit_decide.specs.declared.decision.Decision.{Decision}
+use Rattle.unit_decide.specs.declared.decision.Decision.TheVariants.{Reload, Restart, SocketStart, Start, Stop, StopStart}
+use Rattle.unit_decide.specs.Decision.{decide}
+use Rattle.unit_decide.specs.Kinds.{is_kind}
+use Rattle.unit_decide.specs.Names.{Name, has}
+
+-- a socket of the unit that the new system defines is live
+abbrev pub has_live : Systems → (Name → State) → Lists → Name → Bool
+has_live systems states lists unit =
+    list_any (λ socket. (systems.facts socket).in_new && is_live states lists socket) (systems.sockets unit)
+
+-- the unit is active, and this is the decision on it
+pub record Decides (systems : Systems) (states : Name → State) (lists : Lists) (unit : Name) (decision : Decision) : Type 0 where
+  pub active : states unit ≡ Active
+  pub row : decide (systems.facts unit) (has_live systems states lists unit) ≡ decision
+
+-- a live socket of a service that is left to its sockets
+abbrev pub Activates : Systems → (Name → State) → Lists → Name → Name → Type 0
+Activates systems states lists service socket =
+    Decides systems states lists service SocketStart × Counts systems service socket × IsTrue (is_live states lists socket)
+
+-- what is stopped: by its own decision, or an active socket for its service
+pub data Stops (systems : Systems) (states : Name → State) (lists : Lists) (unit : Name) : Type 0 where
+  ByStop : Decides systems states lists unit Stop → Stops systems states lists unit
+  ByStopStart : Decides systems states lists unit StopStart → Stops systems states lists unit
+  BySocketStart : Decides systems states lists unit SocketStart → Stops systems states lists unit
+  ByService : (service : Name) → Activates systems states lists service unit → states unit ≡ Active → Stops systems states lists unit
+
+-- what is reloaded: by its own decision, or what is listed and defined
+pub data Reloads (systems : Systems) (states : Name → State) (lists : Lists) (unit : Name) : Type 0 where
+  ByReload : Decides systems states lists unit Reload → Reloads systems states lists unit
+  ByReloadList : IsTrue (has lists.reloads unit) → IsDefined systems unit → Reloads systems states lists unit
+
+-- what is restarted: by its own decision, or what is listed and defined
+pub data Restarts (systems : Systems) (states : Name → State) (lists : Lists) (unit : Name) : Type 0 where
+  ByRestart : Decides systems states lists unit Restart → Restarts systems states lists unit
+  ByRestartList : IsTrue (has lists.restarts unit) → IsDefined systems unit → Restarts systems states lists unit
+
+-- what is started: by its own decision, a live socket for its service, what is listed and defined, or what is pulled and neither stays up nor comes up otherwise
+pub data Starts (systems : Systems) (states : Name → State) (lists : Lists) (unit : Name) : Type 0 where
+  ByStart : Decides systems states lists unit Start → Starts systems states lists unit
+  ByStopStart : Decides systems states lists unit StopStart → Starts systems states lists unit
+  ByService : (service : Name) → Activates systems states lists service unit → Starts systems states lists unit
+  ByStartList : IsTrue (has (pending lists) unit) → IsDefined systems unit → Starts systems states lists unit
+  ByPull : Pulled systems states lists unit → (states unit ≡ Active → Stops systems states lists unit) → ¬ Reloads systems states lists unit →
+      ¬ Restarts systems states lists unit → ¬ IsSocketed systems unit → Starts systems states lists unit
+
+-- a sorted list without repeats that has exactly the names of which P holds
+pub record IsListOf (names : List Name) (P : Name → Type 0) : Type 0 where
+  pub sorted : IsStrictlySortedBy (slice_cmp nat_cmp) names
+  pub exact : (unit : Name) → IsTrue (has names unit) ↔ P unit
+
+-- lists of what is stopped, reloaded, restarted and started
+pub record Owed : Type 0 where
+  pub stops : List Name
+  pub reloads : List Name
+  pub restarts : List Name
+  pub starts : List Name
+
+-- the lists have exactly what is owed
+pub record IsOwed (systems : Systems) (states : Name → State) (lists : Lists) (owed : Owed) : Type 0 where
+  pub stops : IsListOf owed.stops (Stops systems states lists)
+  pub reloads : IsListOf owed.reloads (Reloads systems states lists)
+  pub restarts : IsListOf owed.restarts (Restarts systems states lists)
+  pub starts : IsListOf owed.starts (Starts systems states lists)
+
+-- the stops in their order: sockets first, and then the others
+abbrev pub stop_order : Systems → List Name → List Name
+stop_order systems stops =
+    filter (λ unit. is_kind (systems.facts unit).kind Socket) stops ++ filter (λ unit. not (is_kind (systems.facts unit).kind Socket)) stops
