@@ -100,77 +100,82 @@ fn end_of(
     Ok((is_whole, written(alloc, host.world())?))
 }
 
+/// What stands before an act.
+const BEFORE: &str = "a.service Active /old";
+
+/// An act, or none where definitions are loaded; whether the unit is bad; the pick of a cut; and what is left.
+const ROWS: &[(Option<Act>, bool, Option<u64>, &str)] = &[
+    (Some(Act::Stop), false, Some(0), BEFORE),
+    (Some(Act::Stop), false, Some(1), "/old Stop a.service /old"),
+    (Some(Act::Stop), false, Some(2), BEFORE),
+    (Some(Act::Stop), false, None, "/old Stop a.service /old"),
+    (Some(Act::Reload), true, Some(0), BEFORE),
+    (
+        Some(Act::Reload),
+        true,
+        Some(1),
+        "a.service Active /old Reload a.service /old",
+    ),
+    (Some(Act::Reload), true, Some(2), BEFORE),
+    (
+        Some(Act::Reload),
+        true,
+        None,
+        "a.service Active /old Reload a.service /old",
+    ),
+    (Some(Act::Restart), false, Some(0), BEFORE),
+    (Some(Act::Restart), false, Some(1), "/old"),
+    (
+        Some(Act::Restart),
+        false,
+        Some(2),
+        "a.service Active /old Restart a.service /old",
+    ),
+    (
+        Some(Act::Restart),
+        false,
+        None,
+        "a.service Active /old Restart a.service /old",
+    ),
+    (Some(Act::Restart), true, Some(0), BEFORE),
+    (Some(Act::Restart), true, Some(1), "/old"),
+    (
+        Some(Act::Restart),
+        true,
+        Some(2),
+        "a.service Failed /old Restart a.service /old",
+    ),
+    (
+        Some(Act::Restart),
+        true,
+        None,
+        "a.service Failed /old Restart a.service /old",
+    ),
+    (Some(Act::Start), true, Some(0), BEFORE),
+    (
+        Some(Act::Start),
+        true,
+        Some(1),
+        "a.service Active /old Start a.service /old",
+    ),
+    (Some(Act::Start), true, Some(2), BEFORE),
+    (
+        Some(Act::Start),
+        true,
+        None,
+        "a.service Active /old Start a.service /old",
+    ),
+    (None, false, Some(0), BEFORE),
+    (None, false, Some(1), "a.service Active /new"),
+    (None, false, Some(2), BEFORE),
+    (None, false, None, "a.service Active /new"),
+];
+
 #[test]
 fn an_act_on_an_active_unit_leaves_its_row_of_the_table(rt: HostRuntime) -> Result<(), Fail> {
-    let before = "a.service Active /old";
-    for (act, is_bad, pick, want) in [
-        (Some(Act::Stop), false, Some(0), before),
-        (Some(Act::Stop), false, Some(1), "/old Stop a.service /old"),
-        (Some(Act::Stop), false, Some(2), before),
-        (Some(Act::Stop), false, None, "/old Stop a.service /old"),
-        (Some(Act::Reload), true, Some(0), before),
-        (
-            Some(Act::Reload),
-            true,
-            Some(1),
-            "a.service Active /old Reload a.service /old",
-        ),
-        (Some(Act::Reload), true, Some(2), before),
-        (
-            Some(Act::Reload),
-            true,
-            None,
-            "a.service Active /old Reload a.service /old",
-        ),
-        (Some(Act::Restart), false, Some(0), before),
-        (Some(Act::Restart), false, Some(1), "/old"),
-        (
-            Some(Act::Restart),
-            false,
-            Some(2),
-            "a.service Active /old Restart a.service /old",
-        ),
-        (
-            Some(Act::Restart),
-            false,
-            None,
-            "a.service Active /old Restart a.service /old",
-        ),
-        (Some(Act::Restart), true, Some(0), before),
-        (Some(Act::Restart), true, Some(1), "/old"),
-        (
-            Some(Act::Restart),
-            true,
-            Some(2),
-            "a.service Failed /old Restart a.service /old",
-        ),
-        (
-            Some(Act::Restart),
-            true,
-            None,
-            "a.service Failed /old Restart a.service /old",
-        ),
-        (Some(Act::Start), true, Some(0), before),
-        (
-            Some(Act::Start),
-            true,
-            Some(1),
-            "a.service Active /old Start a.service /old",
-        ),
-        (Some(Act::Start), true, Some(2), before),
-        (
-            Some(Act::Start),
-            true,
-            None,
-            "a.service Active /old Start a.service /old",
-        ),
-        (None, false, Some(0), before),
-        (None, false, Some(1), "a.service Active /new"),
-        (None, false, Some(2), before),
-        (None, false, None, "a.service Active /new"),
-    ] {
-        let (is_whole, left) = end_of(rt.alloc(), act, is_bad, pick)?;
-        assert_eq!(rt; left.as_str(), want, "{act:?} at {pick:?}, bad: {is_bad}");
+    for (act, is_bad, pick, want) in ROWS {
+        let (is_whole, left) = end_of(rt.alloc(), *act, *is_bad, *pick)?;
+        assert_eq!(rt; left.as_str(), *want, "{act:?} at {pick:?}, bad: {is_bad}");
         assert_eq!(rt; is_whole, pick.is_none(), "{act:?} at {pick:?}");
     }
     Ok(())

@@ -5,8 +5,6 @@ mod booting;
 mod carrying;
 mod command;
 #[cfg(test)]
-mod defs_tests;
-#[cfg(test)]
 mod generation_tests;
 mod laws;
 mod out_sink;
