@@ -27,15 +27,15 @@ place_of Starts = starts_place
 place_of Restarts = restarts_place
 place_of Reloads = reloads_place
 
--- a name is another one
+-- whether a name is another one
 abbrev pub is_name : List ℕ → List ℕ → Bool
 is_name other name = is_at (bytes_cmp other) name
 
--- a list has this name
+-- whether a list has this name
 abbrev pub has : List (List ℕ) → List ℕ → Bool
 has names name = list_any (is_name name) names
 
--- a text is the name of a unit
+-- whether a text is the name of a unit
 abbrev pub is_unit : List ℕ → Bool
 is_unit text = is_none (unit_fault text)
 

@@ -5,7 +5,9 @@
 mod clearing;
 mod lists;
 mod loading;
+mod recording;
 
 pub use clearing::clear;
 pub use lists::{Lists, Which};
 pub use loading::load;
+pub use recording::record;
