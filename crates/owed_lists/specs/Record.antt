@@ -29,11 +29,11 @@ IsOldOrList at names w m = (seen m ≡ seen w) ⊎ (seen m ≡ seen (with_list a
 abbrev pub with_starts : Lists → WorldState → WorldState
 with_starts lists w = with_list (place_of Starts) lists.starts w
 
--- then those to restart
+-- the world with the units to restart recorded too
 abbrev pub with_restarts : Lists → WorldState → WorldState
 with_restarts lists w = with_list (place_of Restarts) lists.restarts (with_starts lists w)
 
--- then those to reload, and so all three
+-- the world with all three lists recorded
 abbrev pub with_lists : Lists → WorldState → WorldState
 with_lists lists w = with_list (place_of Reloads) lists.reloads (with_restarts lists w)
 

@@ -6,6 +6,8 @@ mod clearing;
 mod lists;
 mod loading;
 mod recording;
+#[cfg(test)]
+mod tests;
 
 pub use clearing::clear;
 pub use lists::{Lists, Which};
