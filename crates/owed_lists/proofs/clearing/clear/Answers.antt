@@ -1,0 +1,21 @@
+use Rattle.std.proofs.Common.{◌≡◌, refl, ap, subst, ◌∙◌, inl}
+use Rattle.host_trait.specs.World.{without_leaf}
+use Rattle.host_trait.proofs.Moments.{started, passes_as, leads_as}
+use Rattle.tree_put.specs.Put.{IsOldOrGone}
+use Rattle.owed_lists.specs.Lists.{place_of}
+use Rattle.owed_lists.proofs.clearing.clear.Goals as goal
+
+pub returns-in_err-at-clause-moments : goal.returns-in_err-at-clause-moments
+returns-in_err-at-clause-moments g c = started (IsOldOrGone (place_of c.args.which)) (λ w is. inl refl)
+
+pub returns-clause-ok : goal.returns-clause-ok
+returns-clause-ok g c =
+    leads_as c.in_ok-drop_leaf.ensures.ok (λ w v. v ≡ without_leaf (place_of c.args.which) w) (λ w v is new. new ∙ ap (λ p. without_leaf p w) c.in_ok-at.ensures)
+
+pub returns-clause-moments : goal.returns-clause-moments
+returns-clause-moments g c =
+    passes_as c.drop_leaf.ensures.moments (IsOldOrGone (place_of c.args.which)) (λ w m is moment. subst (λ p. IsOldOrGone p w m) c.in_ok-at.ensures moment)
+
+pub returns-in_err-drop_leaf-clause-moments : goal.returns-in_err-drop_leaf-clause-moments
+returns-in_err-drop_leaf-clause-moments g c =
+    passes_as c.drop_leaf.ensures.moments (IsOldOrGone (place_of c.args.which)) (λ w m is moment. subst (λ p. IsOldOrGone p w m) c.in_ok-at.ensures moment)

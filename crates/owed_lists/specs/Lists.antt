@@ -1,0 +1,56 @@
+-- The lists of units that a switch which was cut has left: NixOS manual, "Unit handling".
+use Rattle.std.specs.Prelude.{◌≡◌, ◌==◌, ℕ, Bool, List, [], codes, filter, Option, None, Some, is_none}
+use Rattle.std.specs.BTreeMap.{is_at}
+use Rattle.std.specs.List.{list_any, slice_split}
+use Rattle.std.specs.List.Sorted.{IsStrictlySortedBy}
+use Rattle.switch_names.specs.UnitName.{unit_fault}
+use Rattle.host_trait.specs.World.{Leaves, bytes_cmp, content_of}
+use Rattle.owed_lists.specs.declared.lists.Lists.{Lists}
+use Rattle.owed_lists.specs.declared.lists.Which.{Which}
+use Rattle.owed_lists.specs.declared.lists.Which.TheVariants.{Starts, Restarts, Reloads}
+
+-- where the units to start stand
+unfoldable pub starts_place : List ℕ
+starts_place = codes "run/nixos/start-list"
+
+-- where the units to restart stand
+unfoldable pub restarts_place : List ℕ
+restarts_place = codes "run/nixos/restart-list"
+
+-- where the units to reload stand
+unfoldable pub reloads_place : List ℕ
+reloads_place = codes "run/nixos/reload-list"
+
+-- the place of a list
+abbrev pub place_of : Which → List ℕ
+place_of Starts = starts_place
+place_of Restarts = restarts_place
+place_of Reloads = reloads_place
+
+-- whether a name is another one
+abbrev pub is_name : List ℕ → List ℕ → Bool
+is_name other name = is_at (bytes_cmp other) name
+
+-- whether a list has this name
+abbrev pub has : List (List ℕ) → List ℕ → Bool
+has names name = list_any (is_name name) names
+
+-- whether a text is the name of a unit
+abbrev pub is_unit : List ℕ → Bool
+is_unit text = is_none (unit_fault text)
+
+-- the unit names among the lines of a content: a content that isn't there has none
+abbrev pub names_in : Option (List ℕ) → List (List ℕ)
+names_in None = []
+names_in (Some content) = filter is_unit (slice_split (λ byte. byte == 10) content)
+
+-- the unit names among the lines of a content, in byte order and each once
+pub record IsListOf (content : Option (List ℕ)) (list : List (List ℕ)) : Type 0 where
+  pub sorted : IsStrictlySortedBy bytes_cmp list
+  pub exact : (unit : List ℕ) → has list unit ≡ has (names_in content) unit
+
+-- the three lists that stand in a world
+pub record AreListsOf (leaves : Leaves) (lists : Lists) : Type 0 where
+  pub starts : IsListOf (content_of leaves (place_of Starts)) lists.starts
+  pub restarts : IsListOf (content_of leaves (place_of Restarts)) lists.restarts
+  pub reloads : IsListOf (content_of leaves (place_of Reloads)) lists.reloads

@@ -1,0 +1,15 @@
+//! The lists of units that a switch which was cut has left: what is to be started, restarted and
+//! reloaded.
+#![tactic(auto)]
+
+mod clearing;
+mod lists;
+mod loading;
+mod recording;
+#[cfg(test)]
+mod tests;
+
+pub use clearing::clear;
+pub use lists::{Lists, Which};
+pub use loading::load;
+pub use recording::record;

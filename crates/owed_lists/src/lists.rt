@@ -1,0 +1,63 @@
+//! The three lists and their places.
+ghost use Rattle.std.specs.Prelude.{◌≡◌, IfOk};
+ghost use Rattle.owed_lists.specs.Lists.{place_of, reloads_place, restarts_place, starts_place};
+
+use host_trait::fixed_path;
+use std::alloc::{AllocError, Global};
+use switch_names::{Listed, Path, UnitName};
+
+/// The units that are still to be started, restarted and reloaded.
+///
+/// Source: NixOS manual, "Unit handling".
+#[derive(Debug, Drop)]
+pub struct Lists {
+    /// The units to start.
+    pub starts: Listed<UnitName>,
+    /// The units to restart.
+    pub restarts: Listed<UnitName>,
+    /// The units to reload.
+    pub reloads: Listed<UnitName>,
+}
+
+/// One of the three lists.
+#[derive(Clone, Copy, Debug, PartialEq, Eq)]
+pub enum Which {
+    /// The units to start.
+    Starts,
+    /// The units to restart.
+    Restarts,
+    /// The units to reload.
+    Reloads,
+}
+
+#[tactic(auto, unfolding(crate::specs::Lists::starts_place))]
+fn starts_path(alloc: Global) -> Result<Path, AllocError>
+    ensures { IfOk result (λ path. path ≡ starts_place) }
+{
+    fixed_path(alloc, "run/nixos/start-list")
+}
+
+#[tactic(auto, unfolding(crate::specs::Lists::restarts_place))]
+fn restarts_path(alloc: Global) -> Result<Path, AllocError>
+    ensures { IfOk result (λ path. path ≡ restarts_place) }
+{
+    fixed_path(alloc, "run/nixos/restart-list")
+}
+
+#[tactic(auto, unfolding(crate::specs::Lists::reloads_place))]
+fn reloads_path(alloc: Global) -> Result<Path, AllocError>
+    ensures { IfOk result (λ path. path ≡ reloads_place) }
+{
+    fixed_path(alloc, "run/nixos/reload-list")
+}
+
+/// The place of a list.
+pub fn list_path(alloc: Global, which: Which) -> Result<Path, AllocError>
+    ensures { IfOk result (λ path. path ≡ place_of which) }
+{
+    match which {
+        Which::Starts => starts_path(alloc),
+        Which::Restarts => restarts_path(alloc),
+        Which::Reloads => reloads_path(alloc),
+    }
+}

@@ -1,0 +1,139 @@
+//! Reads the three lists.
+ghost use Rattle.std.specs.Prelude.{◌≡◌, ◌==◌, ◌++◌, ◌∷◌, ◌||◌, [], List, ℕ, Some, None, IfOk, OnOk, filter, if◌then◌else◌};
+ghost use Rattle.std.specs.List.{slice_split};
+ghost use Rattle.std.specs.List.Sorted.{IsStrictlySortedBy};
+ghost use Rattle.std.specs.Option.{option_copied};
+ghost use Rattle.host_trait.specs.Change.{IsSame};
+ghost use Rattle.host_trait.specs.Host.{Told, Passes, HasCause};
+ghost use Rattle.host_trait.specs.World.{bytes_cmp, content_of};
+ghost use Rattle.owed_lists.specs.Lists.{AreListsOf, IsListOf, has, is_name, is_unit, names_in, place_of};
+
+use crate::lists::{Lists, Which, list_path};
+use host_trait::{HostFault, Tree, content};
+use std::alloc::{AllocError, Global};
+use std::collections::BTreeSet;
+use switch_names::{Bytes, Listed, NameFault, UnitName};
+
+/// The unit that a line names.
+fn read_name(alloc: Global, line: &[u8]) -> Result<Option<UnitName>, AllocError>
+    ensures { IfOk result (λ name. name ≡ (if is_unit line.now then Some line.now else None)) }
+{
+    let Ok(text) = std::str::from_utf8(line) else {
+        return Ok(None);
+    };
+    match UnitName::parse(alloc, text) {
+        Ok(name) => Ok(Some(name)),
+        Err(NameFault::Memory) => Err(AllocError),
+        Err(_) => Ok(None),
+    }
+}
+
+/// Adds the unit that a line names, if it does.
+fn add_line(alloc: Global, names: &mut Listed<UnitName>, line: &[u8]) -> Result<(), AllocError>
+    ensures { OnOk result (names.new ≡ names.old ++ filter is_unit (line.now ∷ [])) }
+{
+    match read_name(alloc, line)? {
+        Some(name) => names.push(name),
+        None => Ok(()),
+    }
+}
+
+/// The unit names among the lines of some bytes, in their order and with repeats.
+fn read_names(alloc: Global, bytes: &[u8]) -> Result<Listed<UnitName>, AllocError>
+    ensures { IfOk result (λ names. names ≡ filter is_unit (slice_split (λ byte. byte == 10) bytes.now)) }
+{
+    let mut names = Listed::new(alloc);
+    for line in bytes.split(|byte| *byte == b'\n') {
+        add_line(alloc, &mut names, line)?;
+    }
+    Ok(names)
+}
+
+/// Adds a name to a set.
+fn add_name(set: &mut BTreeSet<UnitName>, name: UnitName) -> Result<(), AllocError>
+    ensures { OnOk result ((unit : List ℕ) → has set.new.keys unit ≡ (has set.old.keys unit || is_name unit name)) }
+{
+    set.insert(name)?;
+    Ok(())
+}
+
+/// Adds names to a set.
+fn add_names(
+    alloc: Global,
+    set: &mut BTreeSet<UnitName>,
+    names: &[UnitName],
+) -> Result<(), AllocError>
+    ensures { OnOk result ((unit : List ℕ) → has set.new.keys unit ≡ (has set.old.keys unit || has names.now unit)) }
+{
+    for name in names {
+        add_name(set, name.copy(alloc)?)?;
+    }
+    Ok(())
+}
+
+/// The names of a set in byte order.
+fn listed(alloc: Global, set: BTreeSet<UnitName>) -> Result<Listed<UnitName>, AllocError>
+    ensures names { IfOk result (λ names. names ≡ set.keys) }
+    ensures sorted { IsStrictlySortedBy bytes_cmp set.keys }
+{
+    let mut names = Listed::new(alloc);
+    for name in set {
+        names.push(name)?;
+    }
+    Ok(names)
+}
+
+/// The unit names among the lines of a content.
+fn set_of(alloc: Global, content: Option<Bytes>) -> Result<BTreeSet<UnitName>, AllocError>
+    ensures { IfOk result (λ set. (unit : List ℕ) → has set.keys unit ≡ has (names_in content) unit) }
+{
+    let mut set = BTreeSet::new(alloc);
+    let Some(bytes) = content else {
+        return Ok(set);
+    };
+    let names = read_names(alloc, bytes.as_slice())?;
+    add_names(alloc, &mut set, names.as_slice())?;
+    Ok(set)
+}
+
+/// The list that a content says.
+pub fn list_of(alloc: Global, content: Option<Bytes>) -> Result<Listed<UnitName>, AllocError>
+    ensures { IfOk result (IsListOf content) }
+{
+    let set = set_of(alloc, content)?;
+    let list = listed(alloc, set)?;
+    Ok(list)
+}
+
+/// Reads one of the lists.
+fn read_list<T: Tree>(
+    alloc: Global,
+    host: &mut T,
+    which: Which,
+) -> Result<Listed<UnitName>, HostFault>
+    ensures list { IfOk result (λ list. Told (T.host host.old) (λ w. IsListOf (content_of w.leaves (place_of which)) list)) }
+    ensures moments { Passes (T.host host.old) (T.host host.new) IsSame }
+    ensures cause { HasCause (T.host host.old) (T.host host.new) result }
+{
+    let at = list_path(alloc, which)?;
+    let bytes = content(alloc, host, &at)?;
+    Ok(list_of(alloc, bytes)?)
+}
+
+/// Reads the three lists.
+///
+/// A list without a leaf is empty, and a line that is no unit name is passed over.
+pub fn load<T: Tree>(alloc: Global, host: &mut T) -> Result<Lists, HostFault>
+    ensures lists { IfOk result (λ lists. Told (T.host host.old) (λ w. AreListsOf w.leaves lists)) }
+    ensures moments { Passes (T.host host.old) (T.host host.new) IsSame }
+    ensures cause { HasCause (T.host host.old) (T.host host.new) result }
+{
+    let starts = read_list(alloc, host, Which::Starts)?;
+    let restarts = read_list(alloc, host, Which::Restarts)?;
+    let reloads = read_list(alloc, host, Which::Reloads)?;
+    Ok(Lists {
+        starts,
+        restarts,
+        reloads,
+    })
+}
