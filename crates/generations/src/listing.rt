@@ -33,7 +33,7 @@ fn system_of(alloc: Global, text: &str) -> Result<Option<SystemName>, AllocError
 }
 
 /// The system that a leaf names by its link, where it names one.
-fn target_of(alloc: Global, leaf: &Leaf) -> Result<Option<SystemName>, AllocError>
+pub fn target_of(alloc: Global, leaf: &Leaf) -> Result<Option<SystemName>, AllocError>
     ensures { IfOk result (λ target. target ≡ target_of leaf.now) }
 {
     match leaf.kind() {

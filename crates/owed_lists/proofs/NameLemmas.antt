@@ -9,7 +9,8 @@ use Rattle.std.proofs.lemmas.Str.Ascii.{IsAscii-from_all}
 use Rattle.switch_names.specs.UnitName.{is_no_unit_byte, unit_fault}
 use Rattle.switch_names.proofs.UnitNames.{IsShortName-from_name}
 use Rattle.host_trait.proofs.Places.{bytes_total}
-use Rattle.owed_lists.specs.Lists.{has, is_name, is_unit}
+use Rattle.owed_lists.specs.Lists.{is_unit}
+use Rattle.switch_names.specs.Names.{has, is_name}
 
 none_from_test : {T : Type 0} (o : Option T) → is_none o ≡ true → o ≡ None
 none_from_test None is = refl

@@ -1,8 +1,8 @@
 -- The lists of units that a switch which was cut has left: NixOS manual, "Unit handling".
 use Rattle.std.specs.Prelude.{◌≡◌, ◌==◌, ℕ, Bool, List, [], codes, filter, Option, None, Some, is_none}
-use Rattle.std.specs.BTreeMap.{is_at}
-use Rattle.std.specs.List.{list_any, slice_split}
+use Rattle.std.specs.List.{slice_split}
 use Rattle.std.specs.List.Sorted.{IsStrictlySortedBy}
+use Rattle.switch_names.specs.Names.{has}
 use Rattle.switch_names.specs.UnitName.{unit_fault}
 use Rattle.host_trait.specs.World.{Leaves, bytes_cmp, content_of}
 use Rattle.owed_lists.specs.declared.lists.Lists.{Lists}
@@ -26,14 +26,6 @@ abbrev pub place_of : Which → List ℕ
 place_of Starts = starts_place
 place_of Restarts = restarts_place
 place_of Reloads = reloads_place
-
--- whether a name is another one
-abbrev pub is_name : List ℕ → List ℕ → Bool
-is_name other name = is_at (bytes_cmp other) name
-
--- whether a list has this name
-abbrev pub has : List (List ℕ) → List ℕ → Bool
-has names name = list_any (is_name name) names
 
 -- whether a text is the name of a unit
 abbrev pub is_unit : List ℕ → Bool

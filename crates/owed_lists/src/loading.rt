@@ -2,11 +2,11 @@
 ghost use Rattle.std.specs.Prelude.{◌≡◌, ◌==◌, ◌++◌, ◌∷◌, ◌||◌, [], List, ℕ, Some, None, IfOk, OnOk, filter, if◌then◌else◌};
 ghost use Rattle.std.specs.List.{slice_split};
 ghost use Rattle.std.specs.List.Sorted.{IsStrictlySortedBy};
-ghost use Rattle.std.specs.Option.{option_copied};
 ghost use Rattle.host_trait.specs.Change.{IsSame};
 ghost use Rattle.host_trait.specs.Host.{Told, Passes, HasCause};
 ghost use Rattle.host_trait.specs.World.{bytes_cmp, content_of};
-ghost use Rattle.owed_lists.specs.Lists.{AreListsOf, IsListOf, has, is_name, is_unit, names_in, place_of};
+ghost use Rattle.owed_lists.specs.Lists.{AreListsOf, IsListOf, is_unit, names_in, place_of};
+ghost use Rattle.switch_names.specs.Names.{has, is_name};
 
 use crate::lists::{Lists, Which, list_path};
 use host_trait::{HostFault, Tree, content};

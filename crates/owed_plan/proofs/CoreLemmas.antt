@@ -4,9 +4,11 @@ use Rattle.std.proofs.lemmas.Bool.{and_from, and_parts, or_cases, or_left, or_ri
 use Rattle.host_trait.specs.declared.unit_state.State.{State}
 use Rattle.host_trait.specs.declared.unit_state.State.TheVariants.{Active, Inactive, Failed}
 use Rattle.owed_plan.specs.Law.{IsSound, SameOwed}
-use Rattle.owed_plan.specs.Lists.{Lists, is_active, is_live, pending}
+use Rattle.owed_plan.specs.Lists.{is_active, is_live, pending}
+use Rattle.owed_lists.specs.declared.lists.Lists.{Lists}
 use Rattle.owed_plan.specs.Owed.{Activates, Decides, Reloads, Restarts, Starts, Stops, has_live}
-use Rattle.owed_plan.specs.Pull.{IsRoot, Running, Pending, FromRoot, FromWant, Pulled}
+use Rattle.owed_plan.specs.Pull.{IsRoot, Running, Pending, Pulled}
+use Rattle.unit_defs.specs.Pull.{FromRoot, FromWant}
 use Rattle.owed_plan.specs.Systems.{Systems, Counts, IsDefined}
 use Rattle.owed_plan.proofs.NameLemmas.{any_from_has, any_more}
 use Rattle.owed_plan.proofs.PartLemmas.{IsPartly}
@@ -16,7 +18,7 @@ use Rattle.unit_decide.specs.declared.decision.Decision.{Decision}
 use Rattle.unit_decide.specs.declared.decision.Decision.TheVariants.{Nothing, Reload, Restart, SocketStart, Start, Stop, StopStart}
 use Rattle.unit_decide.specs.declared.facts.Facts.{Facts}
 use Rattle.unit_decide.specs.Decision.{decide}
-use Rattle.unit_decide.specs.Names.{Name, has}
+use Rattle.switch_names.specs.Names.{Name, has}
 use Rattle.unit_decide.proofs.TableLemmas.{reload_same, restart_same, socket_nothing, socket_start_either, socket_start_more, socket_start_service, start_defined, start_same, stop_same, stop_start_defined, stop_start_either, stop_start_less, target_not_stopped, target_started, target_stop_started}
 
 no_service : (kind : UnitKind) → kind ≡ Target → kind ≡ Service → ⊥

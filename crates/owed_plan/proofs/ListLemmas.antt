@@ -9,13 +9,16 @@ use Rattle.std.proofs.lemmas.Bool.{and_from, and_parts}
 use Rattle.host_trait.specs.declared.unit_state.State.{State}
 use Rattle.host_trait.proofs.Places.{bytes_total}
 use Rattle.owed_plan.specs.Law.{ListLaw, SameOwed, rest_of}
-use Rattle.owed_plan.specs.Lists.{Lists, is_active}
-use Rattle.owed_plan.specs.Owed.{IsListOf, IsOwed, Owed, Stops}
+use Rattle.owed_plan.specs.Lists.{is_active}
+use Rattle.owed_lists.specs.declared.lists.Lists.{Lists}
+use Rattle.owed_plan.specs.Owed.{IsOwed, IsPlan, Stops}
+use Rattle.owed_plan.specs.declared.owed.Owed.{Owed}
+use Rattle.switch_names.specs.Names.{IsListOf}
 use Rattle.owed_plan.specs.Systems.{Systems}
 use Rattle.owed_plan.proofs.CoreLemmas.{active_from_test}
 use Rattle.owed_plan.proofs.NameLemmas.{has-filter}
 use Rattle.owed_plan.proofs.PrefixLemmas.{law}
-use Rattle.unit_decide.specs.Names.{Name, has}
+use Rattle.switch_names.specs.Names.{Name, has}
 
 -- a set of names has one list
 one_list : (names others : List Name) (P : Name → Type 0) → IsListOf names P → IsListOf others P → names ≡ others
@@ -24,13 +27,14 @@ one_list names others P one other =
     (λ unit. both_ways (has names unit) (has others unit) (λ found. (other.exact unit).1 ((one.exact unit).0 found)) (λ found. (one.exact unit).1 ((other.exact unit).0 found)))
     exact_bytes
 
-pub one_owed : (systems : Systems) (states : Name → State) (lists : Lists) (one other : Owed) → IsOwed systems states lists one → IsOwed systems states lists other → one ≡ other
+pub one_owed : (systems : Systems) (states : Name → State) (lists : Lists) (one other : Owed) → IsPlan systems states lists one → IsPlan systems states lists other → one ≡ other
 one_owed systems states lists one other is also =
     λ i. record {
-      stops = one_list one.stops other.stops _ is.stops also.stops i;
-      reloads = one_list one.reloads other.reloads _ is.reloads also.reloads i;
-      restarts = one_list one.restarts other.restarts _ is.restarts also.restarts i;
-      starts = one_list one.starts other.starts _ is.starts also.starts i;
+      stops = one_list one.stops other.stops _ is.is_owed.stops also.is_owed.stops i;
+      reloads = one_list one.reloads other.reloads _ is.is_owed.reloads also.is_owed.reloads i;
+      restarts = one_list one.restarts other.restarts _ is.is_owed.restarts also.is_owed.restarts i;
+      starts = one_list one.starts other.starts _ is.is_owed.starts also.is_owed.starts i;
+      left = one_list one.left other.left _ is.left also.left i;
     }
 
 -- a list of what has P is one of what has Q where both are the same

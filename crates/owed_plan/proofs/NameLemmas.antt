@@ -9,7 +9,7 @@ use Rattle.std.proofs.lemmas.List.Folds.{list_any-append}
 use Rattle.std.proofs.lemmas.Map.Text.{is_eq-slice_cmp}
 use Rattle.std.proofs.lemmas.Map.Views.{any-filter_same}
 use Rattle.std.proofs.lemmas.Slice.Eq.{bytes_eq-Decides}
-use Rattle.unit_decide.specs.Names.{Name, has}
+use Rattle.switch_names.specs.Names.{Name, has}
 
 -- a name is found at itself alone
 abbrev is_name : Name → Name → Bool

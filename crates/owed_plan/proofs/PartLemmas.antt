@@ -2,11 +2,12 @@
 use Rattle.std.proofs.Common.{◌≡◌, ◌⊎◌, IsTrue}
 use Rattle.host_trait.specs.declared.unit_state.State.{State}
 use Rattle.host_trait.specs.declared.unit_state.State.TheVariants.{Active}
-use Rattle.owed_plan.specs.Lists.{Lists, pending}
+use Rattle.owed_plan.specs.Lists.{pending}
+use Rattle.owed_lists.specs.declared.lists.Lists.{Lists}
 use Rattle.owed_plan.specs.Owed.{Reloads, Restarts, Starts, Stops}
 use Rattle.owed_plan.specs.Systems.{Systems, IsDefined}
 use Rattle.switch_names.specs.declared.unit_kind.UnitKind.TheVariants.{Service, Socket}
-use Rattle.unit_decide.specs.Names.{Name, has}
+use Rattle.switch_names.specs.Names.{Name, has}
 
 -- some of the stops are made, no service before its sockets, and the lists are recorded
 pub record IsPartly (systems : Systems) (states : Name → State) (lists : Lists) (later : Name → State) (kept : Lists) : Type 0 where

@@ -4,8 +4,9 @@ use Rattle.std.proofs.lemmas.Bool.{and_from, and_parts}
 use Rattle.host_trait.specs.declared.unit_state.State.{State}
 use Rattle.host_trait.specs.declared.unit_state.State.TheVariants.{Active, Inactive}
 use Rattle.owed_plan.specs.Law.{AreStopped, IsRecorded, Law}
-use Rattle.owed_plan.specs.Lists.{Lists}
-use Rattle.owed_plan.specs.Owed.{IsOwed, Owed, Reloads, Restarts, Stops, stop_order}
+use Rattle.owed_lists.specs.declared.lists.Lists.{Lists}
+use Rattle.owed_plan.specs.declared.owed.Owed.{Owed}
+use Rattle.owed_plan.specs.Owed.{IsOwed, Reloads, Restarts, Stops, stop_order}
 use Rattle.owed_plan.specs.Systems.{Systems}
 use Rattle.owed_plan.proofs.CoreLemmas.{same_owed}
 use Rattle.owed_plan.proofs.NameLemmas.{has-append, has-filter, has-take, take_two}
@@ -13,7 +14,7 @@ use Rattle.owed_plan.proofs.PartLemmas.{IsPartly}
 use Rattle.switch_names.specs.declared.unit_kind.UnitKind.{UnitKind}
 use Rattle.switch_names.specs.declared.unit_kind.UnitKind.TheVariants.{Service, Socket}
 use Rattle.unit_decide.specs.Kinds.{is_kind}
-use Rattle.unit_decide.specs.Names.{Name, has}
+use Rattle.switch_names.specs.Names.{Name, has}
 
 -- what is active afterwards wasn't stopped
 was_active : (found : Bool) (before after : State) → after ≡ (if found then Inactive else before) → after ≡ Active → (found ≡ true → ⊥) × (before ≡ Active)

@@ -2,7 +2,8 @@
 use Rattle.std.proofs.Common.{◌≡◌, Bool, IsTrue, inl, inr, arith}
 use Rattle.host_trait.specs.declared.unit_state.State.{State}
 use Rattle.owed_plan.specs.Law.{IsSound}
-use Rattle.owed_plan.specs.Lists.{Lists, pending}
+use Rattle.owed_plan.specs.Lists.{pending}
+use Rattle.owed_lists.specs.declared.lists.Lists.{Lists}
 use Rattle.owed_plan.specs.Owed.{Reloads, Restarts, has_live}
 use Rattle.owed_plan.specs.Steady.{IsSteady, IsStoppedForGood, SteadyLaw}
 use Rattle.owed_plan.specs.Systems.{Systems}
@@ -13,7 +14,7 @@ use Rattle.switch_names.specs.declared.unit_kind.UnitKind.TheVariants.{Target}
 use Rattle.unit_decide.specs.declared.decision.Decision.TheVariants.{Reload, Restart}
 use Rattle.unit_decide.specs.declared.facts.Facts.{Facts}
 use Rattle.unit_decide.specs.Decision.{decide}
-use Rattle.unit_decide.specs.Names.{Name, has}
+use Rattle.switch_names.specs.Names.{Name, has}
 
 -- no target is reloaded or restarted
 target_not_reloaded : (f : Facts) (live : Bool) → f.kind ≡ Target → decide f live ≡ Reload → ⊥

@@ -2,12 +2,14 @@
 use Rattle.std.specs.Prelude.{◌≡◌, ◌⊎◌, ◌↔◌, ℕ, IsTrue, List, filter, take, if◌then◌else◌}
 use Rattle.host_trait.specs.declared.unit_state.State.{State}
 use Rattle.host_trait.specs.declared.unit_state.State.TheVariants.{Active, Inactive}
-use Rattle.owed_plan.specs.Lists.{Lists, is_active}
-use Rattle.owed_plan.specs.Owed.{IsOwed, Owed, Reloads, Restarts, Starts, Stops, stop_order}
+use Rattle.owed_plan.specs.Lists.{is_active}
+use Rattle.owed_lists.specs.declared.lists.Lists.{Lists}
+use Rattle.owed_plan.specs.declared.owed.Owed.{Owed}
+use Rattle.owed_plan.specs.Owed.{IsOwed, Reloads, Restarts, Starts, Stops, stop_order}
 use Rattle.owed_plan.specs.Pull.{Pulled}
 use Rattle.owed_plan.specs.Systems.{Systems, IsDefined}
 use Rattle.switch_names.specs.declared.unit_kind.UnitKind.TheVariants.{Socket}
-use Rattle.unit_decide.specs.Names.{Name, has}
+use Rattle.switch_names.specs.Names.{Name, has}
 
 -- the states where these units are stopped
 abbrev pub stopped : List Name → (Name → State) → Name → State

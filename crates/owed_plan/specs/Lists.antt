@@ -2,13 +2,8 @@
 use Rattle.std.specs.Prelude.{◌||◌, Bool, true, false, List}
 use Rattle.host_trait.specs.declared.unit_state.State.{State}
 use Rattle.host_trait.specs.declared.unit_state.State.TheVariants.{Active}
-use Rattle.unit_decide.specs.Names.{Name, has}
-
--- the units that are still to be started, restarted and reloaded
-pub record Lists : Type 0 where
-  pub starts : List Name
-  pub restarts : List Name
-  pub reloads : List Name
+use Rattle.owed_lists.specs.declared.lists.Lists.{Lists}
+use Rattle.switch_names.specs.Names.{Name, has}
 
 -- the names that wait for a start
 abbrev pub pending : Lists → List Name

@@ -1,20 +1,20 @@
 -- What a switch owes the units: NixOS manual, "Unit handling".
-use Rattle.std.specs.Prelude.{◌≡◌, ◌↔◌, ◌&&◌, ◌++◌, Bool, IsTrue, List, filter, not}
-use Rattle.std.specs.Cmp.Lexicographic.{slice_cmp}
+use Rattle.std.specs.Prelude.{◌≡◌, ◌&&◌, ◌++◌, Bool, false, IsTrue, List, filter, not}
 use Rattle.std.specs.List.{list_any}
-use Rattle.std.specs.List.Sorted.{IsStrictlySortedBy}
-use Rattle.std.specs.Ordering.{nat_cmp}
 use Rattle.host_trait.specs.declared.unit_state.State.{State}
 use Rattle.host_trait.specs.declared.unit_state.State.TheVariants.{Active}
-use Rattle.owed_plan.specs.Lists.{Lists, is_live, pending}
+use Rattle.owed_plan.specs.Lists.{is_live, pending}
+use Rattle.owed_lists.specs.declared.lists.Lists.{Lists}
 use Rattle.owed_plan.specs.Pull.{Pulled}
 use Rattle.owed_plan.specs.Systems.{Systems, Counts, IsDefined, IsSocketed}
-use Rattle.switch_names.specs.declared.unit_kind.UnitKind.TheVariants.{Socket}
+use Rattle.owed_plan.specs.declared.owed.Owed.{Owed}
+use Rattle.switch_names.specs.declared.unit_kind.UnitKind.{UnitKind}
+use Rattle.switch_names.specs.declared.unit_kind.UnitKind.TheVariants.{Socket, Target}
 use Rattle.unit_decide.specs.declared.decision.Decision.{Decision}
-use Rattle.unit_decide.specs.declared.decision.Decision.TheVariants.{Reload, Restart, SocketStart, Start, Stop, StopStart}
+use Rattle.unit_decide.specs.declared.decision.Decision.TheVariants.{Nothing, Reload, Restart, SocketStart, Start, Stop, StopStart}
 use Rattle.unit_decide.specs.Decision.{decide}
-use Rattle.unit_decide.specs.Kinds.{is_kind}
-use Rattle.unit_decide.specs.Names.{Name, has}
+use Rattle.unit_decide.specs.Kinds.{is_kind, is_same}
+use Rattle.switch_names.specs.Names.{IsListOf, Name, has}
 
 -- a socket of the unit that the new system defines is live
 abbrev pub has_live : Systems → (Name → State) → Lists → Name → Bool
@@ -57,17 +57,13 @@ pub data Starts (systems : Systems) (states : Name → State) (lists : Lists) (u
   ByPull : Pulled systems states lists unit → (states unit ≡ Active → Stops systems states lists unit) → ¬ Reloads systems states lists unit →
       ¬ Restarts systems states lists unit → ¬ IsSocketed systems unit → Starts systems states lists unit
 
--- a sorted list without repeats that has exactly the names of which P holds
-pub record IsListOf (names : List Name) (P : Name → Type 0) : Type 0 where
-  pub sorted : IsStrictlySortedBy (slice_cmp nat_cmp) names
-  pub exact : (unit : Name) → IsTrue (has names unit) ↔ P unit
-
--- lists of what is stopped, reloaded, restarted and started
-pub record Owed : Type 0 where
-  pub stops : List Name
-  pub reloads : List Name
-  pub restarts : List Name
-  pub starts : List Name
+-- a changed unit that both systems define, that stays up, and that gets nothing
+pub record IsLeft (systems : Systems) (states : Name → State) (lists : Lists) (unit : Name) : Type 0 where
+  pub decided : Decides systems states lists unit Nothing
+  pub no_target : is_kind (systems.facts unit).kind Target ≡ false
+  pub in_old : IsTrue (systems.facts unit).in_old
+  pub in_new : IsDefined systems unit
+  pub changed : is_same (systems.facts unit).outcome ≡ false
 
 -- the lists have exactly what is owed
 pub record IsOwed (systems : Systems) (states : Name → State) (lists : Lists) (owed : Owed) : Type 0 where
@@ -76,7 +72,15 @@ pub record IsOwed (systems : Systems) (states : Name → State) (lists : Lists) 
   pub restarts : IsListOf owed.restarts (Restarts systems states lists)
   pub starts : IsListOf owed.starts (Starts systems states lists)
 
--- the stops in their order: sockets first, and then the others
+-- the lists have exactly what is owed, and exactly the units that are left
+pub record IsPlan (systems : Systems) (states : Name → State) (lists : Lists) (owed : Owed) : Type 0 where
+  pub is_owed : IsOwed systems states lists owed
+  pub left : IsListOf owed.left (IsLeft systems states lists)
+
+-- units of these kinds, sockets first and then the others
+abbrev pub sockets_first : (Name → UnitKind) → List Name → List Name
+sockets_first kind units = filter (λ unit. is_kind (kind unit) Socket) units ++ filter (λ unit. not (is_kind (kind unit) Socket)) units
+
+-- the stops in their order
 abbrev pub stop_order : Systems → List Name → List Name
-stop_order systems stops =
-    filter (λ unit. is_kind (systems.facts unit).kind Socket) stops ++ filter (λ unit. not (is_kind (systems.facts unit).kind Socket)) stops
+stop_order systems stops = sockets_first (λ unit. (systems.facts unit).kind) stops

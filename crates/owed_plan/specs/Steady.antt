@@ -2,11 +2,12 @@
 use Rattle.std.specs.Prelude.{◌≡◌, ◌≢◌, IsFalse, IsTrue}
 use Rattle.host_trait.specs.declared.unit_state.State.{State}
 use Rattle.owed_plan.specs.Law.{AfterStops}
-use Rattle.owed_plan.specs.Lists.{Lists, pending}
+use Rattle.owed_plan.specs.Lists.{pending}
+use Rattle.owed_lists.specs.declared.lists.Lists.{Lists}
 use Rattle.owed_plan.specs.Pull.{Pulled}
 use Rattle.owed_plan.specs.Systems.{Systems, IsDefined}
 use Rattle.switch_names.specs.declared.unit_kind.UnitKind.TheVariants.{Target}
-use Rattle.unit_decide.specs.Names.{Name, has}
+use Rattle.switch_names.specs.Names.{Name, has}
 
 -- a target that the new system stops at each switch and that may not start
 abbrev pub IsStoppedForGood : Systems → Name → Type 0

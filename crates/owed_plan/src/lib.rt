@@ -1,4 +1,12 @@
-//! What a switch owes the units, and that stops and recorded lists keep it.
+//! What a switch owes the units, the calls by which it is given, and that stops and recorded lists
+//! keep it.
 #![tactic(auto)]
 
+mod duty;
 pub mod laws;
+mod owed;
+mod planning;
+
+pub use duty::{Duty, calls};
+pub use owed::Owed;
+pub use planning::plan;

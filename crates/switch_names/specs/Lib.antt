@@ -1,4 +1,5 @@
 pub mod NameFault
+pub mod Names
 pub mod Path
 pub mod SystemName
 pub mod UnitKind

@@ -22,7 +22,7 @@ use Rattle.switch_names.proofs.Faultless.{HasNone-from_sought}
 use Rattle.switch_names.proofs.UnitNames.{HasParts-from_kind, IsShortName-from_name, IsUnitName-with_ending}
 use Rattle.unit_decide.specs.Facts.{unit_kind}
 use Rattle.unit_decide.specs.Kinds.{is_kind}
-use Rattle.unit_decide.specs.Names.{Name, has}
+use Rattle.switch_names.specs.Names.{Name, has}
 use Rattle.unit_decide.specs.Sockets.{is_socket_activated, is_socket_name, own_socket, socket_words, sockets_key, sockets_of}
 use Rattle.unit_text.specs.declared.assignment.Assignment.{Assignment}
 use Rattle.unit_text.specs.UnitText.{has_value}

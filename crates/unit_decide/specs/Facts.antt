@@ -9,7 +9,7 @@ use Rattle.unit_compare.specs.declared.comparison.Comparison.TheVariants.{Same}
 use Rattle.unit_compare.specs.Compare.{comparison}
 use Rattle.unit_decide.specs.declared.facts.Facts.{Facts}
 use Rattle.unit_decide.specs.Flags.{may_start, only_manual_start, refuse_manual_stop, reload_if_changed, restart_if_changed, stop_if_changed, stop_on_reconfiguration, stop_on_removal}
-use Rattle.unit_decide.specs.Names.{Name}
+use Rattle.switch_names.specs.Names.{Name}
 use Rattle.unit_text.specs.declared.assignment.Assignment.{Assignment}
 
 -- the mounts that the running system stands on

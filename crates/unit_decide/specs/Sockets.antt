@@ -8,7 +8,7 @@ use Rattle.switch_names.specs.UnitName.{stem_of, unit_fault}
 use Rattle.unit_decide.specs.Facts.{unit_kind}
 use Rattle.unit_decide.specs.Flags.{is_not_socket_activated}
 use Rattle.unit_decide.specs.Kinds.{is_kind}
-use Rattle.unit_decide.specs.Names.{Name}
+use Rattle.switch_names.specs.Names.{Name}
 use Rattle.unit_text.specs.declared.assignment.Assignment.{Assignment}
 use Rattle.unit_text.specs.declared.unit_key.UnitKey.{UnitKey}
 use Rattle.unit_text.specs.Lines.{is_blank}

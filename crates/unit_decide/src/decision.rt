@@ -40,12 +40,13 @@ pub fn decide(
 ) -> Decision
     ensures { result ≡ decide (facts_of (option_copied old.entry) (option_copied new.entry) unit.now) live }
 {
-    row(&Facts::of(old, new, unit), live)
+    decide_by(&Facts::of(old, new, unit), live)
 }
 
-/// The first row of the table that fits.
+/// What becomes of an Active unit by what the two systems say of it: the first row of the table that
+/// fits.
 #[tactic(auto, unfolding(crate::specs::Decision::decide))]
-fn row(facts: &Facts, live: bool) -> Decision
+pub fn decide_by(facts: &Facts, live: bool) -> Decision
     ensures { result ≡ decide facts.now live }
 {
     let is_target = is_target(facts.kind);

@@ -6,6 +6,7 @@ ghost use Rattle.unit_decide.specs.Kinds.{is_kind, is_left_alone, is_reload_only
 use switch_names::UnitKind;
 use unit_compare::Comparison;
 
+/// Whether a unit of a kind is a target.
 pub fn is_target(kind: UnitKind) -> bool
     ensures { result ≡ is_kind kind Target }
 {
@@ -18,12 +19,14 @@ pub fn is_mount(kind: UnitKind) -> bool
     matches!(kind, UnitKind::Mount)
 }
 
+/// Whether a unit of a kind is a service.
 pub fn is_service(kind: UnitKind) -> bool
     ensures { result ≡ is_kind kind Service }
 {
     matches!(kind, UnitKind::Service)
 }
 
+/// Whether a unit of a kind is a socket.
 pub fn is_socket(kind: UnitKind) -> bool
     ensures { result ≡ is_kind kind Socket }
 {
@@ -45,6 +48,7 @@ pub fn is_left_alone(kind: UnitKind) -> bool
     }
 }
 
+/// Whether two texts don't differ.
 pub fn is_same(outcome: &Comparison) -> bool
     ensures { result ≡ is_same outcome.now }
 {

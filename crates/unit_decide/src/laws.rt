@@ -7,7 +7,7 @@ ghost use Rattle.unit_decide.specs.declared.decision.Decision.TheVariants.{Nothi
 ghost use Rattle.unit_decide.specs.declared.facts.Facts.{Facts};
 ghost use Rattle.unit_decide.specs.Decision.{decide};
 ghost use Rattle.unit_decide.specs.Kinds.{is_kind, is_same};
-ghost use Rattle.unit_decide.specs.Names.{Name, has};
+ghost use Rattle.switch_names.specs.Names.{Name, has};
 ghost use Rattle.unit_decide.specs.Sockets.{is_socket_activated, own_socket, sockets_key, sockets_of};
 ghost use Rattle.unit_text.specs.declared.assignment.Assignment.{Assignment};
 ghost use Rattle.unit_text.specs.UnitText.{has_value};

@@ -12,6 +12,8 @@ mod pairing_tests;
 #[cfg(test)]
 mod tests;
 
-pub use decision::{Decision, decide};
+pub use decision::{Decision, decide, decide_by};
+pub use facts::Facts;
 pub use flags::may_start;
+pub use kinds::{is_same, is_service, is_socket, is_target};
 pub use pairing::sockets;

@@ -10,7 +10,7 @@ use Rattle.host_trait.proofs.Places.{bytes_total}
 use Rattle.unit_defs.specs.declared.part.Part.{Part}
 use Rattle.unit_defs.specs.declared.unit.Unit.{Unit}
 use Rattle.unit_defs.specs.Defs.{AreSorted, AreUnitsOf, first_faulty, part_in, unit_in}
-use Rattle.unit_defs.specs.Place.{is_name}
+use Rattle.switch_names.specs.Names.{is_name}
 use Rattle.unit_defs.specs.Units.{HasNoFault, IsFirstFault}
 use Rattle.unit_defs.proofs.NameLemmas.{less_is_other, name_exact, name_itself, name_turned}
 

@@ -10,7 +10,7 @@ use Rattle.unit_defs.specs.declared.found.UnitFiles.{UnitFiles}
 use Rattle.unit_defs.specs.declared.part.Part.{Part}
 use Rattle.unit_defs.specs.declared.place.Place.TheVariants.{File, DropIn, Want}
 use Rattle.unit_defs.specs.Found.{Takes, drop_in_in, file_in, files_in, wants_in}
-use Rattle.unit_defs.specs.Place.{is_name}
+use Rattle.switch_names.specs.Names.{is_name}
 use Rattle.unit_defs.proofs.NameLemmas.{name_exact}
 
 twice : {X Y : Type 0} (obs : Option X → Y) (b : Bool) (x old : Option X) → obs (cond b x (cond b None old)) ≡ cond b (obs x) (obs old)

@@ -17,8 +17,8 @@ use Rattle.unit_defs.specs.declared.part.Part.{Part}
 use Rattle.unit_defs.specs.declared.unit.Unit.{Unit}
 use Rattle.unit_defs.specs.declared.unit.Wants.{Wants}
 use Rattle.unit_defs.specs.Defs.{AreNamesOf, AreSorted, IsDefs, own_in, unit_in, wants_for}
-use Rattle.unit_defs.specs.Place.{is_name}
-use Rattle.unit_defs.specs.Units.{find_text, has}
+use Rattle.switch_names.specs.Names.{has, is_name}
+use Rattle.unit_defs.specs.Units.{find_text}
 use Rattle.switch_names.specs.UnitName.{IsUnitName, template_of}
 use Rattle.std.specs.Option.{option_or}
 

@@ -12,8 +12,8 @@ use Rattle.std.specs.List.Sorted.{IsStrictlySortedBy}
 use Rattle.std.specs.Map.{keys_of, lookup}
 use Rattle.host_trait.specs.World.{bytes_cmp}
 use Rattle.host_trait.proofs.Places.{alike, found, ordered_keys}
-use Rattle.unit_defs.specs.Place.{is_name}
-use Rattle.unit_defs.specs.Units.{can_be_wanted, has, in_order, wanted, words_in}
+use Rattle.switch_names.specs.Names.{has, is_name}
+use Rattle.unit_defs.specs.Units.{can_be_wanted, in_order, wanted, words_in}
 use Rattle.unit_defs.proofs.NameLemmas.{has-filter-append, name_exact}
 use Rattle.unit_text.specs.declared.assignment.Assignment.{Assignment}
 

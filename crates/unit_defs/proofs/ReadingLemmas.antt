@@ -1,11 +1,10 @@
 -- What is read of the folder of units, one path after the other.
 use Rattle.std.proofs.Common.{◌≡◌, ℕ, ◌+◌, ◌<◌, ◌||◌, ◌&&◌, Bool, true, false, cond, List, [], ◌∷◌, ◌++◌, length, take, get_or, Option, None, Some, option_map, option_and_then, refl, sym, ap, subst, ◌∙◌}
 use Rattle.std.specs.BTreeMap.{is_at}
-use Rattle.std.specs.FinMap.{contains_key-keys, find, from_entries, get, keys}
+use Rattle.std.specs.FinMap.{find, get}
 use Rattle.std.specs.List.{flat_map, list_any}
 use Rattle.std.specs.Map.{lookup}
 use Rattle.std.specs.Option.{option_map_or, option_or}
-use Rattle.std.specs.Ordering.{eq_by_cmp}
 use Rattle.std.proofs.lemmas.List.{append-nil, take_more}
 use Rattle.std.proofs.lemmas.List.Concat.{flat_map-append}
 use Rattle.std.proofs.lemmas.List.Folds.{list_any-append}
@@ -18,7 +17,8 @@ use Rattle.unit_defs.specs.declared.place.Place.TheVariants.{File, DropIn, Want}
 use Rattle.unit_defs.specs.Files.{drop_in_at, want_at}
 use Rattle.unit_defs.specs.Found.{AreFilesAt, TakesPath, drop_in_in, drop_in_with, file_in, file_with, is_file, wants_in}
 use Rattle.unit_defs.specs.Part.{part_of}
-use Rattle.unit_defs.specs.Place.{is_name, place_after}
+use Rattle.unit_defs.specs.Place.{place_after}
+use Rattle.switch_names.specs.Names.{is_name}
 use Rattle.unit_defs.proofs.DropInLemmas.{find-append}
 use Rattle.unit_defs.proofs.NameLemmas.{name_turned}
 use Rattle.unit_defs.proofs.PlaceLemmas.{file_path}

@@ -21,8 +21,8 @@ use Rattle.unit_defs.specs.Defs.{AreSorted, AreUnitsOf, names_in, part_in, unit_
 use Rattle.unit_defs.specs.Files.{base_of, drop_ins_of, file_of}
 use Rattle.unit_defs.specs.Found.{AreFilesOf, drop_ins_in, file_in, files_in, in_name_order, own_part_in, unit_of, wants_in}
 use Rattle.unit_defs.specs.Part.{merged, part_of}
-use Rattle.unit_defs.specs.Place.{is_name}
-use Rattle.unit_defs.specs.Units.{has, own_part}
+use Rattle.switch_names.specs.Names.{has, is_name}
+use Rattle.unit_defs.specs.Units.{own_part}
 use Rattle.unit_defs.proofs.DropInLemmas.{none_ordered}
 use Rattle.unit_defs.proofs.NameLemmas.{name_exact}
 

@@ -8,8 +8,8 @@ use Rattle.unit_defs.specs.declared.part.Part.{Part}
 use Rattle.unit_defs.specs.declared.unit.Unit.{Unit}
 use Rattle.unit_defs.specs.declared.unit.Wants.{Wants}
 use Rattle.unit_defs.specs.Defs.{found_in, names_in, own_in, unit_in, wanted_in, wants_for}
-use Rattle.unit_defs.specs.Place.{is_name}
-use Rattle.unit_defs.specs.Units.{can_be_wanted, has, wanted, words_in}
+use Rattle.switch_names.specs.Names.{has, is_name}
+use Rattle.unit_defs.specs.Units.{can_be_wanted, wanted, words_in}
 use Rattle.std.specs.List.Sorted.{IsStrictlySortedBy}
 use Rattle.host_trait.specs.World.{bytes_cmp}
 use Rattle.unit_defs.proofs.NameLemmas.{found_unit, name_exact}

@@ -9,9 +9,9 @@ use Rattle.unit_text.specs.declared.assignment.Assignment.{Assignment}
 use Rattle.unit_defs.specs.declared.part.Part.{Part}
 use Rattle.unit_defs.specs.declared.unit.Unit.{Unit}
 use Rattle.unit_defs.specs.declared.unit.Wants.{Wants}
-use Rattle.unit_defs.specs.Place.{is_name}
+use Rattle.switch_names.specs.Names.{has, is_name}
 use Rattle.unit_defs.specs.Files.{wants_of}
-use Rattle.unit_defs.specs.Units.{find_text, has, own_part, own_text, text_of, wanted, wanted_of}
+use Rattle.unit_defs.specs.Units.{find_text, own_part, own_text, text_of, wanted, wanted_of}
 
 -- the unit of this name
 abbrev pub unit_in : List Unit → List ℕ → Option Unit

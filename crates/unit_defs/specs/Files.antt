@@ -8,7 +8,8 @@ use Rattle.switch_names.specs.UnitName.{template_of}
 use Rattle.host_trait.specs.World.{Leaves, bytes_cmp, content_of, listed}
 use Rattle.unit_defs.specs.declared.place.Place.{Place}
 use Rattle.unit_defs.specs.declared.place.Place.TheVariants.{DropIn, Want}
-use Rattle.unit_defs.specs.Place.{is_name, path_of, place_of, unit_folder}
+use Rattle.unit_defs.specs.Place.{path_of, place_of, unit_folder}
+use Rattle.switch_names.specs.Names.{is_name}
 
 -- the paths of the leaves in the folder of a system's units, in byte order
 abbrev pub paths_of : Leaves → List ℕ → List (List ℕ)

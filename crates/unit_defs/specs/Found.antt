@@ -15,7 +15,8 @@ use Rattle.unit_defs.specs.declared.place.Place.TheVariants.{File, DropIn}
 use Rattle.unit_defs.specs.declared.unit.Unit.{Unit}
 use Rattle.unit_defs.specs.Files.{drop_in_at, drop_ins_of, file_of, own_files, want_at, wants_of}
 use Rattle.unit_defs.specs.Part.{merged, part_of}
-use Rattle.unit_defs.specs.Place.{is_name, place_after}
+use Rattle.unit_defs.specs.Place.{place_after}
+use Rattle.switch_names.specs.Names.{is_name}
 
 -- what was found of a unit
 abbrev pub files_in : Found → List ℕ → Option UnitFiles

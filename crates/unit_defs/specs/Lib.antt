@@ -3,4 +3,5 @@ pub mod Files
 pub mod Found
 pub mod Part
 pub mod Place
+pub mod Pull
 pub mod Units

@@ -1,11 +1,9 @@
 -- What stands in the folder of a system's units: systemd.unit(5), "Description".
 use Rattle.std.specs.Prelude.{◌≡◌, ◌⊎◌, ◌↔◌, ℕ, ◌-◌, ◌&&◌, ◌==◌, not, Bool, true, List, [], ◌∷◌, ◌++◌, length, take, drop, codes, nat_eq, Option, None, Some, option_and_then, is_none, if◌then◌else◌}
-use Rattle.std.specs.BTreeMap.{is_at}
 use Rattle.std.specs.List.{list_any, starts_with, ends_with, before_first, after_first}
 use Rattle.std.specs.Option.{option_or}
 use Rattle.switch_names.specs.Path.{slash}
 use Rattle.switch_names.specs.UnitName.{IsUnitName, unit_fault}
-use Rattle.host_trait.specs.World.{bytes_cmp}
 use Rattle.unit_defs.specs.declared.place.Place.{Place}
 use Rattle.unit_defs.specs.declared.place.Place.TheVariants.{File, DropIn, Want}
 
@@ -16,10 +14,6 @@ unit_folder system = system ++ codes "/etc/systemd/system"
 -- the path of what has this name in the folder of a system's units
 abbrev pub path_of : List ℕ → List ℕ → List ℕ
 path_of system name = unit_folder system ++ slash ∷ name
-
--- whether a name is another one
-abbrev pub is_name : List ℕ → List ℕ → Bool
-is_name other name = is_at (bytes_cmp other) name
 
 abbrev pub is_slash : ℕ → Bool
 is_slash byte = byte == slash

@@ -1,8 +1,8 @@
 -- The units of a system, and those that each wants: systemd.unit(5), "Description" and "[Unit] Section Options".
-use Rattle.std.specs.Prelude.{◌≡◌, ℕ, ◌&&◌, ◌==◌, not, Bool, List, [], ◌++◌, Option, None, Some, map, filter, codes, option_map, option_and_then, is_some, if◌then◌else◌}
+use Rattle.std.specs.Prelude.{◌≡◌, ℕ, ◌&&◌, ◌==◌, not, Bool, List, [], ◌∷◌, ◌++◌, Option, None, Some, map, filter, codes, option_map, option_and_then, is_some, if◌then◌else◌}
 use Rattle.std.specs.FinMap.{from_entries}
 use Rattle.std.specs.FinMap as map
-use Rattle.std.specs.List.{flat_map, list_any, slice_split}
+use Rattle.std.specs.List.{find, flat_map, slice_split}
 use Rattle.std.specs.Option.{option_or}
 use Rattle.std.specs.declared.cmp.Ordering.TheVariants.{Less}
 use Rattle.switch_names.specs.UnitName.{IsUnitName, is_template, template_of}
@@ -11,13 +11,12 @@ use Rattle.unit_text.specs.declared.assignment.Assignment.{Assignment}
 use Rattle.unit_text.specs.UnitKey.{key_of}
 use Rattle.unit_text.specs.UnitText.{values_of}
 use Rattle.unit_defs.specs.declared.part.Part.{Part}
-use Rattle.unit_defs.specs.Files.{drop_ins_of, file_of, own_files, wants_of}
+use Rattle.unit_defs.specs.declared.place.Place.{Place}
+use Rattle.unit_defs.specs.declared.place.Place.TheVariants.{File, DropIn, Want}
+use Rattle.unit_defs.specs.Files.{drop_ins_of, file_of, own_files, paths_of, wants_of}
 use Rattle.unit_defs.specs.Part.{merged, part_of}
-use Rattle.unit_defs.specs.Place.{is_name, is_unit}
-
--- whether a name is among some names
-abbrev pub has : List (List ℕ) → List ℕ → Bool
-has names name = list_any (is_name name) names
+use Rattle.unit_defs.specs.Place.{is_unit, place_of}
+use Rattle.switch_names.specs.Names.{Name}
 
 -- these names in byte order, each once
 abbrev pub in_order : List (List ℕ) → List (List ℕ)
@@ -68,7 +67,26 @@ text_of leaves system unit = find_text (own_text leaves system) unit
 abbrev pub wanted_of : Leaves → List ℕ → List ℕ → List (List ℕ)
 wanted_of leaves system unit = wanted (own_text leaves system) (wants_of leaves system unit) (text_of leaves system unit)
 
+-- the unit to which a file or a drop-in belongs
+abbrev pub unit_at : Option Place → List Name
+unit_at None = []
+unit_at (Some (File unit)) = unit ∷ []
+unit_at (Some (DropIn unit name)) = unit ∷ []
+unit_at (Some (Want unit name)) = []
+
+-- the units that have a file or a drop-in, in byte order
+abbrev pub units_of : Leaves → List ℕ → List Name
+units_of leaves system = in_order (flat_map (λ path. unit_at (place_of system path)) (paths_of leaves system))
+
+-- the line of the first fault in the files of a unit, with its name
+abbrev pub named_fault : Leaves → List ℕ → Name → Option (Name × ℕ)
+named_fault leaves system unit = option_map (λ line. (unit, line)) (own_fault leaves system unit)
+
 -- the first unit with a faulty file, in byte order, and the line of its first fault
+abbrev pub first_fault_of : Leaves → List ℕ → Option (Name × ℕ)
+first_fault_of leaves system = option_and_then (named_fault leaves system) (find (λ unit. is_some (own_fault leaves system unit)) (units_of leaves system))
+
+-- this is the first unit with a faulty file, and the line of its first fault
 pub record IsFirstFault (leaves : Leaves) (system unit : List ℕ) (line : ℕ) : Type 0 where
   pub named : IsUnitName unit
   pub faulty : own_fault leaves system unit ≡ Some line

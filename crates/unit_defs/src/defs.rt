@@ -8,7 +8,8 @@ ghost use Rattle.host_trait.specs.Host.{Told, Passes, HasCause, HasCauseOf};
 ghost use Rattle.host_trait.specs.World.{bytes_cmp};
 ghost use Rattle.unit_defs.specs.declared.defs_fault.DefsFault.TheVariants.{Text, Host};
 ghost use Rattle.unit_defs.specs.Defs.{AreDefsOf, AreNamesOf, AreSorted, found_in, own_in, wanted_in};
-ghost use Rattle.unit_defs.specs.Units.{HasNoFault, IsFirstFault, can_be_wanted, has};
+ghost use Rattle.unit_defs.specs.Units.{HasNoFault, IsFirstFault, can_be_wanted};
+ghost use Rattle.switch_names.specs.Names.{has};
 
 use crate::defs_fault::DefsFault;
 use crate::fault::first_fault;

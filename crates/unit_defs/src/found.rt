@@ -6,7 +6,7 @@ ghost use Rattle.host_trait.specs.World.{bytes_cmp};
 ghost use Rattle.unit_defs.specs.declared.place.Place.TheVariants.{File, DropIn, Want};
 ghost use Rattle.unit_defs.specs.Found.{Takes, drop_in_in, drop_ins_in, file_in, files_in, in_name_order, wants_in};
 ghost use Rattle.unit_defs.specs.Part.{added};
-ghost use Rattle.unit_defs.specs.Place.{is_name};
+ghost use Rattle.switch_names.specs.Names.{is_name};
 ghost use Rattle.unit_defs.specs.declared.part.Part.{Part};
 
 use crate::part::Part;

@@ -6,8 +6,8 @@ ghost use Rattle.std.specs.Option.{option_copied};
 ghost use Rattle.switch_names.specs.UnitName.{template_of};
 ghost use Rattle.host_trait.specs.World.{bytes_cmp};
 ghost use Rattle.unit_defs.specs.Defs.{AreNamesOf, AreSorted, found_in, own_in, wants_for};
-ghost use Rattle.unit_defs.specs.Place.{is_name};
-ghost use Rattle.unit_defs.specs.Units.{can_be_wanted, has, wanted, words_in, words_of};
+ghost use Rattle.switch_names.specs.Names.{has, is_name};
+ghost use Rattle.unit_defs.specs.Units.{can_be_wanted, wanted, words_in, words_of};
 
 use crate::place::named;
 use crate::search::{find_template, find_unit};

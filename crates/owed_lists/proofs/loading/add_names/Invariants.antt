@@ -1,5 +1,5 @@
 use Rattle.std.proofs.Common.{◌≡◌, ◌||◌, List, ℕ, take}
-use Rattle.owed_lists.specs.Lists.{has}
+use Rattle.switch_names.specs.Names.{has}
 use Rattle.owed_lists.proofs.loading.add_names.Given as goal
 
 -- the set has what it had, and the names so far

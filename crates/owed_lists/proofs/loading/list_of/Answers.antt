@@ -1,7 +1,7 @@
 use Rattle.std.proofs.Common.{ap, sym, subst, ◌∙◌, List, ℕ}
 use Rattle.std.specs.List.Sorted.{IsStrictlySortedBy}
 use Rattle.host_trait.specs.World.{bytes_cmp}
-use Rattle.owed_lists.specs.Lists.{has}
+use Rattle.switch_names.specs.Names.{has}
 use Rattle.owed_lists.proofs.loading.list_of.Goals as goal
 
 pub returns : goal.returns

@@ -1,7 +1,8 @@
 use Rattle.std.proofs.Common.{◌≡◌, ◌||◌, List, ℕ, map, take}
 use Rattle.std.specs.List.{filter}
 use Rattle.unit_defs.specs.Defs.{own_in}
-use Rattle.unit_defs.specs.Units.{can_be_wanted, has}
+use Rattle.unit_defs.specs.Units.{can_be_wanted}
+use Rattle.switch_names.specs.Names.{has}
 use Rattle.unit_defs.proofs.wanting.add_tab_parts.Given as goal
 
 -- the set has what it had, and what can be wanted of the parts so far

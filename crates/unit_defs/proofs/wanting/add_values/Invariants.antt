@@ -1,7 +1,8 @@
 use Rattle.std.proofs.Common.{◌≡◌, ◌||◌, List, ℕ, take}
 use Rattle.std.specs.List.{filter, flat_map}
 use Rattle.unit_defs.specs.Defs.{own_in}
-use Rattle.unit_defs.specs.Units.{can_be_wanted, has, words_of}
+use Rattle.unit_defs.specs.Units.{can_be_wanted, words_of}
+use Rattle.switch_names.specs.Names.{has}
 use Rattle.unit_defs.proofs.wanting.add_values.Given as goal
 
 -- the set has what it had, and what can be wanted of the words so far

@@ -2,7 +2,7 @@ use Rattle.std.proofs.Common.{None, Some, cond, subst, sym, ap, ◌∙◌}
 use Rattle.std.specs.Option.{option_or}
 use Rattle.unit_defs.specs.declared.place.Place.TheVariants.{DropIn}
 use Rattle.unit_defs.specs.Found.{Takes}
-use Rattle.unit_defs.specs.Place.{is_name}
+use Rattle.switch_names.specs.Names.{is_name}
 use Rattle.unit_defs.proofs.FoundLemmas.{takes_drop_in}
 use Rattle.unit_defs.proofs.found.Found.add_drop_in.Goals as goal
 

@@ -1,0 +1,55 @@
+-- What a switch says before it changes anything: the lines of switch-to-configuration, NixOS manual, "Unit handling".
+use Rattle.std.specs.Prelude.{◌≡◌, ℕ, ◌++◌, Bool, true, false, List, [], ◌∷◌, Option, None, Some, codes, filter, not}
+use Rattle.std.specs.List.{flat_map}
+use Rattle.host_trait.specs.declared.entry.Act.{Act}
+use Rattle.host_trait.specs.declared.entry.Act.TheVariants.{Stop, Reload, Restart, Start}
+use Rattle.host_trait.specs.States.{state_of}
+use Rattle.host_trait.specs.World.{WorldState}
+use Rattle.owed_lists.specs.declared.lists.Lists.{Lists}
+use Rattle.owed_plan.specs.declared.duty.Duty.{Duty}
+use Rattle.owed_plan.specs.declared.owed.Owed.{Owed}
+use Rattle.owed_plan.specs.Calls.{calls_of}
+use Rattle.switch_engine.specs.Plan.{IsOwedIn}
+use Rattle.switch_engine.specs.System.{current_system}
+use Rattle.switch_names.specs.Names.{Name}
+
+-- a line of two words
+abbrev pub line : List ℕ → List ℕ → List ℕ
+line word rest = word ++ (32 ∷ (rest ++ 10 ∷ []))
+
+-- the system in use, or that there is none
+abbrev pub system_text : Option Name → List ℕ
+system_text None = codes "none"
+system_text (Some system) = system
+
+-- the word for a call on a unit
+abbrev pub act_word : Act → List ℕ
+act_word Stop = codes "stop"
+act_word Reload = codes "reload"
+act_word Restart = codes "restart"
+act_word Start = codes "start"
+
+-- the line of a call
+abbrev pub duty_line : Duty → List ℕ
+duty_line duty = line (act_word duty.act) duty.unit
+
+-- a call that stops a unit
+abbrev pub is_stop : Act → Bool
+is_stop Stop = true
+is_stop act = false
+
+-- The two systems, the stops, the changed units that get nothing, and the other calls.
+abbrev pub report_of : Option Name → Name → List Duty → List Name → List ℕ
+report_of from to duties left =
+    line (codes "from") (system_text from)
+    ++ line (codes "to") to
+    ++ flat_map duty_line (filter (λ duty. is_stop duty.act) duties)
+    ++ flat_map (line (codes "leave")) left
+    ++ flat_map duty_line (filter (λ duty. not (is_stop duty.act)) duties)
+
+-- the report of a switch to a system, from a world
+pub record IsReport (w : WorldState) (system : Name) (text : List ℕ) : Type 0 where
+  pub lists : Lists
+  pub owed : Owed
+  pub is_owed : IsOwedIn w system lists owed
+  pub is_text : text ≡ report_of (current_system w.leaves) system (calls_of owed (state_of w.manager.states)) owed.left

@@ -1,0 +1,27 @@
+-- The calls by which what is owed is given, in their order: NixOS manual, "What happens during a system switch?".
+use Rattle.std.specs.Prelude.{◌&&◌, ◌++◌, List, map, not, if◌then◌else◌}
+use Rattle.host_trait.specs.declared.entry.Act.{Act}
+use Rattle.host_trait.specs.declared.entry.Act.TheVariants.{Stop, Reload, Restart, Start}
+use Rattle.host_trait.specs.declared.unit_state.State.{State}
+use Rattle.owed_plan.specs.declared.duty.Duty.{Duty}
+use Rattle.owed_plan.specs.declared.owed.Owed.{Owed}
+use Rattle.owed_plan.specs.Lists.{is_active}
+use Rattle.owed_plan.specs.Owed.{sockets_first}
+use Rattle.switch_names.specs.Names.{Name, has}
+use Rattle.unit_decide.specs.Facts.{unit_kind}
+
+-- a call on a unit
+abbrev pub duty : Act → Name → Duty
+duty act unit = record { act = act; unit = unit }
+
+-- a unit is reloaded where it stays active, and started elsewhere
+abbrev pub reload_act : (Name → State) → List Name → Name → Act
+reload_act states stops unit = if is_active (states unit) && not (has stops unit) then Reload else Start
+
+-- the stops, sockets first; then reloads, restarts and starts
+abbrev pub calls_of : Owed → (Name → State) → List Duty
+calls_of owed states =
+    map (duty Stop) (sockets_first unit_kind owed.stops)
+    ++ map (λ unit. duty (reload_act states owed.stops unit) unit) owed.reloads
+    ++ map (duty Restart) owed.restarts
+    ++ map (duty Start) owed.starts

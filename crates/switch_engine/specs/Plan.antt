@@ -1,0 +1,24 @@
+-- What a switch to a system does to the units: NixOS manual, "What happens during a system switch?".
+use Rattle.std.specs.Prelude.{◌≡◌, ℕ, List}
+use Rattle.host_trait.specs.States.{state_of}
+use Rattle.host_trait.specs.World.{WorldState}
+use Rattle.owed_lists.specs.declared.lists.Lists.{Lists}
+use Rattle.owed_lists.specs.Lists.{AreListsOf}
+use Rattle.owed_plan.specs.declared.owed.Owed.{Owed}
+use Rattle.owed_plan.specs.Calls.{calls_of}
+use Rattle.owed_plan.specs.Owed.{IsPlan}
+use Rattle.owed_plan.specs.Systems.{systems_at}
+use Rattle.switch_engine.specs.declared.plan.Plan.{Plan}
+use Rattle.switch_engine.specs.System.{current_system}
+
+-- what a switch to a system owes the units of a world, given the lists that stand there
+pub record IsOwedIn (w : WorldState) (system : List ℕ) (lists : Lists) (owed : Owed) : Type 0 where
+  pub listed : AreListsOf w.leaves lists
+  pub planned : IsPlan (systems_at w.leaves (current_system w.leaves) system) (state_of w.manager.states) lists owed
+
+-- the plan of a switch to a system: what is owed, and the calls by which it is given
+pub record IsPlanOf (system : List ℕ) (w : WorldState) (plan : Plan) : Type 0 where
+  pub from : plan.from ≡ current_system w.leaves
+  pub to : plan.to ≡ system
+  pub owed : (lists : Lists) × IsOwedIn w system lists plan.owed
+  pub duties : plan.duties ≡ calls_of plan.owed (state_of w.manager.states)

@@ -1,0 +1,54 @@
+//! What a switch to a system does.
+ghost use Rattle.std.specs.Prelude.{◌≡◌};
+ghost use Rattle.std.specs.Option.{option_copied};
+
+use owed_plan::{Duty, Owed};
+use switch_names::{Listed, SystemName, UnitName};
+use unit_defs::Defs;
+
+/// What a switch to a system does.
+#[derive(Debug, Drop)]
+pub struct Plan {
+    from: Option<SystemName>,
+    to: SystemName,
+    defs: Defs,
+    owed: Owed,
+    duties: Listed<Duty>,
+}
+
+impl Plan {
+    /// The system that is in use, where there is one.
+    pub fn from(&self) -> Option<&SystemName>
+        ensures { option_copied result ≡ self.now.from }
+    {
+        self.from.as_ref()
+    }
+
+    /// The system that comes into use.
+    pub fn to(&self) -> &SystemName
+        ensures { result.now ≡ self.now.to }
+    {
+        &self.to
+    }
+
+    /// The units that it defines.
+    pub fn defs(&self) -> &Defs
+        ensures { result.now ≡ self.now.defs }
+    {
+        &self.defs
+    }
+
+    /// The calls on units, in their order.
+    pub fn duties(&self) -> &Listed<Duty>
+        ensures { result.now ≡ self.now.duties }
+    {
+        &self.duties
+    }
+
+    /// The changed units that get nothing, in byte order.
+    pub fn left(&self) -> &Listed<UnitName>
+        ensures { result.now ≡ self.now.owed.left }
+    {
+        &self.owed.left
+    }
+}
