@@ -38,14 +38,22 @@ abbrev pub is_stop : Act → Bool
 is_stop Stop = true
 is_stop act = false
 
--- The two systems, the stops, the changed units that get nothing, and the other calls.
+-- the lines of the stops
+abbrev pub stop_lines : List Duty → List ℕ
+stop_lines duties = flat_map duty_line (filter (λ duty. is_stop duty.act) duties)
+
+-- the lines of the other calls
+abbrev pub other_lines : List Duty → List ℕ
+other_lines duties = flat_map duty_line (filter (λ duty. not (is_stop duty.act)) duties)
+
+-- the two systems, the stops, the changed units that get nothing, and the other calls
 abbrev pub report_of : Option Name → Name → List Duty → List Name → List ℕ
 report_of from to duties left =
     line (codes "from") (system_text from)
     ++ line (codes "to") to
-    ++ flat_map duty_line (filter (λ duty. is_stop duty.act) duties)
+    ++ stop_lines duties
     ++ flat_map (line (codes "leave")) left
-    ++ flat_map duty_line (filter (λ duty. not (is_stop duty.act)) duties)
+    ++ other_lines duties
 
 -- the report of a switch to a system, from a world
 pub record IsReport (w : WorldState) (system : Name) (text : List ℕ) : Type 0 where

@@ -1,10 +1,104 @@
 //! Writes the report of a switch.
-ghost use Rattle.std.specs.Prelude.{◌≡◌, IfOk};
-ghost use Rattle.dry_report.specs.Report.{report_of};
+ghost use Rattle.std.specs.Prelude.{◌≡◌, ◌++◌, ◌∷◌, [], codes, IfOk, OnOk};
+ghost use Rattle.std.specs.List.{flat_map};
+ghost use Rattle.std.specs.Option.{option_copied};
+ghost use Rattle.dry_report.specs.Report.{act_word, is_stop, line, other_lines, report_of, stop_lines, system_text};
 
+use host_trait::Act;
+use owed_plan::Duty;
 use std::alloc::{AllocError, Global};
 use switch_engine::Plan;
-use switch_names::Bytes;
+use switch_names::{Bytes, SystemName, UnitName};
+
+/// The word for a call on a unit.
+fn act_word(act: Act) -> &'static str
+    ensures { result.now ≡ act_word act }
+{
+    match act {
+        Act::Stop => "stop",
+        Act::Reload => "reload",
+        Act::Restart => "restart",
+        Act::Start => "start",
+    }
+}
+
+/// Whether a call stops a unit.
+fn is_stop(act: Act) -> bool
+    ensures { result ≡ is_stop act }
+{
+    matches!(act, Act::Stop)
+}
+
+/// Writes a line of two words.
+fn write_line(out: &mut Vec<u8>, word: &str, rest: &str) -> Result<(), AllocError>
+    ensures { OnOk result (out.new.items ≡ out.old.items ++ line word.now rest.now) }
+{
+    out.extend_from_slice(word.as_bytes())?;
+    out.push(b' ')?;
+    out.extend_from_slice(rest.as_bytes())?;
+    out.push(b'\n')?;
+    Ok(())
+}
+
+/// Writes the line of a call, where that is a stop.
+fn write_stop(out: &mut Vec<u8>, duty: &Duty) -> Result<(), AllocError>
+    ensures { OnOk result (out.new.items ≡ out.old.items ++ stop_lines (duty.now ∷ [])) }
+{
+    if is_stop(duty.act) {
+        write_line(out, act_word(duty.act), duty.unit.as_str())?;
+    }
+    Ok(())
+}
+
+/// Writes the line of a call, where that is no stop.
+fn write_other(out: &mut Vec<u8>, duty: &Duty) -> Result<(), AllocError>
+    ensures { OnOk result (out.new.items ≡ out.old.items ++ other_lines (duty.now ∷ [])) }
+{
+    if !is_stop(duty.act) {
+        write_line(out, act_word(duty.act), duty.unit.as_str())?;
+    }
+    Ok(())
+}
+
+/// Writes the lines of the stops.
+fn write_stops(out: &mut Vec<u8>, duties: &[Duty]) -> Result<(), AllocError>
+    ensures { OnOk result (out.new.items ≡ out.old.items ++ stop_lines duties.now) }
+{
+    for duty in duties {
+        write_stop(out, duty)?;
+    }
+    Ok(())
+}
+
+/// Writes the lines of the other calls.
+fn write_others(out: &mut Vec<u8>, duties: &[Duty]) -> Result<(), AllocError>
+    ensures { OnOk result (out.new.items ≡ out.old.items ++ other_lines duties.now) }
+{
+    for duty in duties {
+        write_other(out, duty)?;
+    }
+    Ok(())
+}
+
+/// Writes the lines of the changed units that get nothing.
+fn write_left(out: &mut Vec<u8>, left: &[UnitName]) -> Result<(), AllocError>
+    ensures { OnOk result (out.new.items ≡ out.old.items ++ flat_map (line (codes "leave")) left.now) }
+{
+    for unit in left {
+        write_line(out, "leave", unit.as_str())?;
+    }
+    Ok(())
+}
+
+/// The system in use in words, or that there is none.
+fn system_text(system: Option<&SystemName>) -> &str
+    ensures { result.now ≡ system_text (option_copied system.entry) }
+{
+    match system {
+        Some(system) => system.as_str(),
+        None => "none",
+    }
+}
 
 /// The report of a switch: the two systems, the stops, the changed units that get nothing, and the
 /// other calls, a line each.
@@ -13,5 +107,11 @@ use switch_names::Bytes;
 pub fn report(alloc: Global, plan: &Plan) -> Result<Bytes, AllocError>
     ensures { IfOk result (λ text. text ≡ report_of plan.now.from plan.now.to plan.now.duties plan.now.owed.left) }
 {
-    Err(AllocError)
+    let mut out = Vec::new(alloc);
+    write_line(&mut out, "from", system_text(plan.from()))?;
+    write_line(&mut out, "to", plan.to().as_str())?;
+    write_stops(&mut out, plan.duties().as_slice())?;
+    write_left(&mut out, plan.left().as_slice())?;
+    write_others(&mut out, plan.duties().as_slice())?;
+    Ok(Bytes::from_vec(out))
 }

@@ -21,7 +21,7 @@ use Rattle.owed_plan.proofs.PrefixLemmas.{law}
 use Rattle.switch_names.specs.Names.{Name, has}
 
 -- a set of names has one list
-one_list : (names others : List Name) (P : Name → Type 0) → IsListOf names P → IsListOf others P → names ≡ others
+pub one_list : (names others : List Name) (P : Name → Type 0) → IsListOf names P → IsListOf others P → names ≡ others
 one_list names others P one other =
     btree_set_from_contains bytes_total (record { keys = names }) (record { keys = others }) one.sorted other.sorted
     (λ unit. both_ways (has names unit) (has others unit) (λ found. (other.exact unit).1 ((one.exact unit).0 found)) (λ found. (one.exact unit).1 ((other.exact unit).0 found)))
