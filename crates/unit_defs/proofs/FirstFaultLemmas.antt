@@ -21,7 +21,7 @@ use Rattle.unit_defs.specs.Units.{HasNoFault, IsFirstFault, first_fault_of, own_
 use Rattle.unit_defs.proofs.DropInLemmas.{none_exactly, some_more}
 use Rattle.unit_defs.proofs.NameLemmas.{has-append, less_is_other, name_exact, name_itself, name_turned, or_false}
 use Rattle.unit_defs.proofs.OrderLemmas.{has_in_order, in_order_sorted}
-use Rattle.unit_defs.proofs.PathLemmas.{places_named}
+use Rattle.unit_defs.proofs.PathLemmas.{places_named, some_same}
 use Rattle.unit_defs.proofs.WorldLemmas.{among}
 
 -- ---- the first of some sorted names that has a fault
@@ -43,9 +43,6 @@ above_all name other (n ∷ names) above there = elim (or_cases (is_name other n
 
 not_both_less : {X : Type 0} (a b : List ℕ) → bytes_cmp a b ≡ Less → bytes_cmp b a ≡ Less → X
 not_both_less a b less more = absurd (both_ways _ (less_is_other a a (bytes_total.trans a b a less more)) (name_itself a))
-
-some_same : {X : Type 0} (x y : X) → Some x ≡ Some y → x ≡ y
-some_same x y is = cc
 
 module _ (fault : List ℕ → Option ℕ) where
   abbrev first_named : List (List ℕ) → Option (List ℕ × ℕ)
