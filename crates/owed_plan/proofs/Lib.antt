@@ -4,3 +4,4 @@ pub mod NameLemmas
 pub mod PartLemmas
 pub mod PrefixLemmas
 pub mod SteadyLemmas
+pub mod SystemLemmas

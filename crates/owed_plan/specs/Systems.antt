@@ -1,5 +1,5 @@
 -- The old and the new system, as far as a switch reads them: NixOS manual, "Unit handling".
-use Rattle.std.specs.Prelude.{◌≡◌, IsTrue, List, [], Option, option_and_then, if◌then◌else◌}
+use Rattle.std.specs.Prelude.{◌≡◌, IsTrue, List, [], Option, None, Some, option_and_then, if◌then◌else◌}
 use Rattle.std.specs.Option.{option_map_or}
 use Rattle.host_trait.specs.World.{Leaves}
 use Rattle.switch_names.specs.declared.unit_kind.UnitKind.TheVariants.{Service}
@@ -8,7 +8,7 @@ use Rattle.unit_decide.specs.declared.facts.Facts.{Facts}
 use Rattle.unit_decide.specs.Facts.{facts_of}
 use Rattle.unit_decide.specs.Sockets.{sockets_of}
 use Rattle.unit_defs.specs.declared.unit.Unit.{Unit}
-use Rattle.unit_defs.specs.Defs.{found_in, wanted_in}
+use Rattle.unit_defs.specs.Defs.{AreDefsOf, found_in, wanted_in}
 use Rattle.unit_defs.specs.Place.{is_unit}
 use Rattle.unit_defs.specs.Units.{text_of, wanted_of}
 use Rattle.unit_text.specs.declared.assignment.Assignment.{Assignment}
@@ -38,6 +38,11 @@ text_at leaves system unit = option_and_then (λ name. text_of leaves name unit)
 -- the systems of these names, of which there may be no old one
 abbrev pub systems_at : Leaves → Option Name → Name → Systems
 systems_at leaves old new = systems_of (text_at leaves old) (text_of leaves new) (wanted_of leaves new)
+
+-- what is kept of a system that may not be there is what its leaves say, and nothing where it isn't
+abbrev pub AreOldDefs : Leaves → Option Name → List Unit → Type 0
+AreOldDefs leaves None units = units ≡ []
+AreOldDefs leaves (Some system) units = AreDefsOf leaves system units
 
 -- the new system defines the unit
 abbrev pub IsDefined : Systems → Name → Type 0
