@@ -1,4 +1,5 @@
-# `make run` builds the program and boots the example system; `make test` runs all tests.
+# `make run` builds the program, boots the example system and shows what a switch would do; `make test`
+# runs all tests.
 PROGRAM := crates/nixswitch/out/nixswitch
 SCRATCH ?= $(or $(TMPDIR),/tmp)/nixswitch-example
 SOURCES := crates.txt $(shell find crates \( -name '*.rt' -o -name '*.antt' \) -not -path '*/out/*')
@@ -18,6 +19,9 @@ run: $(PROGRAM)
 	@cat $(SCRATCH)/tree/nix/var/nix/profiles/system-1-link
 	@echo "the profile's link, $(SCRATCH)/tree/nix/var/nix/profiles/system:"
 	@cat $(SCRATCH)/tree/nix/var/nix/profiles/system
+	@echo
+	@echo "what a switch would do on crates/nixswitch/data/example:"
+	$(PROGRAM) crates/nixswitch/data/example dry-activate nix/store/web-24.11
 
 test:
 	.ci/run
