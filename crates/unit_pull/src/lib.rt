@@ -2,6 +2,7 @@
 #![tactic(auto)]
 
 mod pulling;
+mod sets;
 mod targets;
 
 pub use pulling::pull;

@@ -1,0 +1,9 @@
+use Rattle.std.proofs.Common.{◌≡◌, ◌||◌, ◌&&◌, not, take}
+use Rattle.switch_names.specs.Names.{Name, has}
+use Rattle.unit_pull.proofs.pulling.reach_all.Given as goal
+
+-- the units so far are reached, and the new ones are left to walk
+abbrev pub invariant-loop-unit : goal.invariant-loop-unit
+invariant-loop-unit l =
+    ((name : Name) → has l.reached.keys name ≡ (has l.fn.reached.keys name || has (take l.unit-index l.units) name))
+    × ((name : Name) → has l.left.items name ≡ (has l.fn.left.items name || (has (take l.unit-index l.units) name && not (has l.fn.reached.keys name))))
