@@ -1,2 +1,3 @@
 pub mod NameSetLemmas
+pub mod RootLemmas
 pub mod SearchLemmas
