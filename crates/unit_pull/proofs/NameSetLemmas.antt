@@ -1,6 +1,5 @@
 -- Names in sets and lists.
 use Rattle.std.proofs.Common.{◌≡◌, ◌||◌, ◌&&◌, not, Bool, true, false, cond, List, [], ◌∷◌, ◌++◌, refl, sym, ap, ◌∙◌}
-use Rattle.std.proofs.lemmas.Bool.{or_right}
 use Rattle.switch_names.specs.Names.{Name, has, is_name}
 use Rattle.unit_defs.proofs.NameLemmas.{has-append, name_exact, name_turned}
 
@@ -8,9 +7,10 @@ or_false : (b : Bool) → (b || false) ≡ b
 or_false true = refl
 or_false false = refl
 
--- a name that is added stands where it stood before, or is that name
-pub has_added : (old new : List Name) (name unit : Name) → has new unit ≡ cond (is_name name unit) true (has old unit) → has new unit ≡ (has old unit || is_name unit name)
-has_added old new name unit added = added ∙ ap (λ b. cond b true (has old unit)) (name_turned name unit) ∙ either (is_name unit name) (has old unit)
+-- a name whose copy is added stands where it stood before, or is that name
+pub has_added : (old new : List Name) (copied name unit : Name) → copied ≡ name → has new unit ≡ cond (is_name copied unit) true (has old unit) → has new unit ≡ (has old unit || is_name unit name)
+has_added old new copied name unit same added =
+    added ∙ ap (λ (n : Name). cond (is_name n unit) true (has old unit)) same ∙ ap (λ b. cond b true (has old unit)) (name_turned name unit) ∙ either (is_name unit name) (has old unit)
   where
     either : (b h : Bool) → cond b true h ≡ (h || b)
     either true true = refl
@@ -25,14 +25,6 @@ has_pushed old name unit = has-append old (name ∷ []) unit ∙ ap (λ b. has o
 -- a name that a list has is another name's equal there
 pub has_same : (names : List Name) (name unit : Name) → is_name unit name ≡ true → has names unit ≡ has names name
 has_same names name unit is = ap (λ n. has names n) (name_exact unit name is)
-
--- a name that stands there already adds nothing
-pub nothing_added : (names : List Name) (name unit : Name) → has names name ≡ true → has names unit ≡ (has names unit || is_name unit name)
-nothing_added names name unit there = by (is_name unit name) refl
-  where
-    by : (b : Bool) → is_name unit name ≡ b → has names unit ≡ (has names unit || b)
-    by true is = sym (or_right (has names unit) true refl ∙ sym (has_same names name unit is ∙ there))
-    by false is = sym (or_false (has names unit))
 
 -- a name that is reached already isn't left to walk once more
 pub nothing_pushed : (reached left : List Name) (name unit : Name) → has reached name ≡ true → has left unit ≡ (has left unit || (is_name unit name && not (has reached unit)))

@@ -1,10 +1,11 @@
 //! What is pulled from some units.
-ghost use Rattle.std.specs.Prelude.{◌≡◌, ◌||◌, ◌&&◌, not, IfOk, IsTrue, OnOk};
+ghost use Rattle.std.specs.Prelude.{◌≡◌, ◌+◌, ◌<◌, ◌^◌, ◌||◌, ◌&&◌, not, IfOk, IsTrue, OnOk, vec_len};
+ghost use Rattle.std.specs.BTreeSet.{btree_set_len};
 ghost use Rattle.switch_names.specs.Names.{IsListOf, Name, has, is_name};
 ghost use Rattle.unit_defs.specs.Defs.{wanted_in};
 ghost use Rattle.unit_defs.specs.Pull.{Reached};
 
-use crate::sets::{add_name, listed};
+use crate::sets::listed;
 use std::alloc::{AllocError, Global};
 use std::collections::BTreeSet;
 use switch_names::{Listed, UnitName};
@@ -19,12 +20,12 @@ fn reach(
 ) -> Result<(), AllocError>
     ensures added { OnOk result ((name : Name) → has reached.new.keys name ≡ (has reached.old.keys name || is_name name unit.now)) }
     ensures pushed { OnOk result ((name : Name) → has left.new.items name ≡ (has left.old.items name || (is_name name unit.now && not (has reached.old.keys name)))) }
+    ensures as_many { OnOk result (vec_len left.new + btree_set_len reached.old ≡ vec_len left.old + btree_set_len reached.new) }
 {
-    if reached.contains(unit) {
-        return Ok(());
+    if reached.insert(unit.copy(alloc)?)? {
+        left.push(unit.copy(alloc)?)?;
     }
-    left.push(unit.copy(alloc)?)?;
-    add_name(alloc, reached, unit)
+    Ok(())
 }
 
 /// Adds units to those that are reached, and the new ones also to those that are left to walk.
@@ -36,10 +37,15 @@ fn reach_all(
 ) -> Result<(), AllocError>
     ensures added { OnOk result ((name : Name) → has reached.new.keys name ≡ (has reached.old.keys name || has units.now name)) }
     ensures pushed { OnOk result ((name : Name) → has left.new.items name ≡ (has left.old.items name || (has units.now name && not (has reached.old.keys name)))) }
+    ensures as_many { OnOk result (vec_len left.new + btree_set_len reached.old ≡ vec_len left.old + btree_set_len reached.new) }
+    ensures fits { OnOk result (btree_set_len reached.new < 2 ^ 63) }
 {
     for unit in units {
         reach(alloc, reached, left, unit)?;
     }
+
+    // A set has less than 2^63 names, and so there is an end to what is left to walk.
+    let _count = reached.len();
     Ok(())
 }
 
@@ -56,13 +62,9 @@ pub fn pull(
     let mut reached = BTreeSet::new(alloc);
     let mut left = Vec::new(alloc);
     reach_all(alloc, &mut reached, &mut left, roots.as_slice())?;
-
-    // Each unit is walked once, so that the turns are fewer than the names in memory.
-    for _ in 0..u64::MAX {
-        let Some(unit) = left.pop() else {
-            return listed(alloc, reached);
-        };
-        reach_all(alloc, &mut reached, &mut left, new.wanted(&unit).as_slice())?;
+    while let Some(unit) = left.pop() {
+        let wanted = new.wanted(&unit);
+        reach_all(alloc, &mut reached, &mut left, wanted.as_slice())?;
     }
-    Err(AllocError)
+    listed(alloc, reached)
 }
