@@ -4,6 +4,8 @@
 mod pulling;
 mod sets;
 mod targets;
+#[cfg(test)]
+mod tests;
 
 pub use pulling::pull;
 pub use targets::roots;
