@@ -2,7 +2,10 @@
 #![tactic(auto)]
 
 mod pulling;
+mod sets;
 mod targets;
+#[cfg(test)]
+mod tests;
 
 pub use pulling::pull;
 pub use targets::roots;

@@ -1,0 +1,3 @@
+pub mod NameSetLemmas
+pub mod RootLemmas
+pub mod SearchLemmas
