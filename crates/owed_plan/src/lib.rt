@@ -2,10 +2,13 @@
 //! keep it.
 #![tactic(auto)]
 
+mod collecting;
 mod duty;
+mod known;
 pub mod laws;
 mod owed;
 mod planning;
+mod ruling;
 
 pub use duty::{Duty, calls};
 pub use owed::Owed;
