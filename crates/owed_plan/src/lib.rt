@@ -2,10 +2,13 @@
 //! keep it.
 #![tactic(auto)]
 
+mod collecting;
 mod duty;
+mod known;
 pub mod laws;
 mod owed;
 mod planning;
+mod ruling;
 #[cfg(test)]
 mod tests;
 

@@ -1,17 +1,151 @@
 //! Plans what a switch owes the units.
-ghost use Rattle.std.specs.Prelude.{IfOk};
+ghost use Rattle.std.specs.Prelude.{◌≡◌, ◌||◌, List, ℕ, IfOk, OnOk, filter};
+ghost use Rattle.std.specs.List.{list_any};
 ghost use Rattle.host_trait.specs.States.{state_of};
-ghost use Rattle.switch_names.specs.Names.{IsListOf};
+ghost use Rattle.owed_plan.specs.Collected.{IsCollected, comes_up, defined};
 ghost use Rattle.owed_plan.specs.Owed.{IsPlan};
 ghost use Rattle.owed_plan.specs.Pull.{Pulled};
+ghost use Rattle.owed_plan.specs.Rulings.{reloads, restarts, sight_of, starts};
 ghost use Rattle.owed_plan.specs.Systems.{systems_in};
+ghost use Rattle.switch_names.specs.Names.{IsListOf, has};
 
+use crate::collecting::{
+    add_defined, add_if, add_names, left, listed, reloads, restarts, starts, stops,
+};
+use crate::known::Known;
 use crate::owed::Owed;
+use crate::ruling::{Ruling, rulings};
 use host_trait::States;
 use owed_lists::Lists;
 use std::alloc::{AllocError, Global};
+use std::collections::BTreeSet;
 use switch_names::{Listed, UnitName};
 use unit_defs::Defs;
+
+/// The units that are stopped, reloaded and restarted.
+#[derive(Clone, Copy, Debug)]
+struct Handled<'a> {
+    stops: &'a BTreeSet<UnitName>,
+    reloads: &'a BTreeSet<UnitName>,
+    restarts: &'a BTreeSet<UnitName>,
+}
+
+/// Whether a pulled unit is to be started: it neither stays up nor comes up otherwise.
+fn comes_up(
+    alloc: Global,
+    known: Known<'_>,
+    handled: Handled<'_>,
+    unit: &UnitName,
+) -> Result<bool, AllocError>
+    ensures { IfOk result (λ is. is ≡ comes_up (sight_of known.entry) handled.entry.stops.now.keys handled.entry.reloads.now.keys handled.entry.restarts.now.keys unit.now) }
+{
+    if known.is_active(unit) && !handled.stops.contains(unit) {
+        return Ok(false);
+    }
+    if handled.reloads.contains(unit) || handled.restarts.contains(unit) {
+        return Ok(false);
+    }
+    Ok(!known.is_socketed(alloc, unit)?)
+}
+
+/// Adds those of the pulled units that neither stay up nor come up otherwise.
+fn add_pulled(
+    alloc: Global,
+    known: Known<'_>,
+    handled: Handled<'_>,
+    set: &mut BTreeSet<UnitName>,
+    pulled: &[UnitName],
+) -> Result<(), AllocError>
+    ensures { OnOk result ((unit : List ℕ) → has set.new.keys unit ≡ (has set.old.keys unit
+        || has (filter (comes_up (sight_of known.entry) handled.entry.stops.now.keys handled.entry.reloads.now.keys handled.entry.restarts.now.keys) pulled.now) unit)) }
+{
+    for unit in pulled {
+        add_if(alloc, set, unit, comes_up(alloc, known, handled, unit)?)?;
+    }
+    Ok(())
+}
+
+/// The units that are reloaded: by their own decision, and those that are listed and defined.
+fn all_reloads(
+    alloc: Global,
+    known: Known<'_>,
+    rulings: &[Ruling],
+    lists: &Lists,
+) -> Result<BTreeSet<UnitName>, AllocError>
+    ensures { IfOk result (λ set. (unit : List ℕ) → has set.keys unit ≡ (list_any (reloads unit) rulings.now || has (defined (sight_of known.entry) lists.now.reloads) unit)) }
+{
+    let mut set = reloads(alloc, rulings)?;
+    add_defined(alloc, known, &mut set, lists.reloads.as_slice())?;
+    Ok(set)
+}
+
+/// The units that are restarted: by their own decision, and those that are listed and defined.
+fn all_restarts(
+    alloc: Global,
+    known: Known<'_>,
+    rulings: &[Ruling],
+    lists: &Lists,
+) -> Result<BTreeSet<UnitName>, AllocError>
+    ensures { IfOk result (λ set. (unit : List ℕ) → has set.keys unit ≡ (list_any (restarts unit) rulings.now || has (defined (sight_of known.entry) lists.now.restarts) unit)) }
+{
+    let mut set = restarts(alloc, rulings)?;
+    add_defined(alloc, known, &mut set, lists.restarts.as_slice())?;
+    Ok(set)
+}
+
+/// The units that are started without the pull: by what is decided, and those that are listed and
+/// defined.
+fn own_starts(
+    alloc: Global,
+    known: Known<'_>,
+    rulings: &[Ruling],
+    lists: &Lists,
+) -> Result<BTreeSet<UnitName>, AllocError>
+    ensures { IfOk result (λ set. (unit : List ℕ) → has set.keys unit ≡ (list_any (starts unit) rulings.now || has (defined (sight_of known.entry) lists.now.starts) unit)) }
+{
+    let mut set = starts(alloc, rulings)?;
+    add_defined(alloc, known, &mut set, lists.starts.as_slice())?;
+    Ok(set)
+}
+
+/// What is owed by what is decided on each Active unit, the lists and the pull.
+fn collect(
+    alloc: Global,
+    known: Known<'_>,
+    rulings: &[Ruling],
+    lists: &Lists,
+    pulled: &[UnitName],
+) -> Result<Owed, AllocError>
+    ensures { IfOk result (IsCollected (sight_of known.entry) rulings.now lists.now pulled.now) }
+{
+    let stops = stops(alloc, known, rulings)?;
+    let reloads = all_reloads(alloc, known, rulings, lists)?;
+    let restarts = all_restarts(alloc, known, rulings, lists)?;
+    let mut starts = own_starts(alloc, known, rulings, lists)?;
+    let handled = Handled {
+        stops: &stops,
+        reloads: &reloads,
+        restarts: &restarts,
+    };
+    add_pulled(alloc, known, handled, &mut starts, pulled)?;
+    let left = left(alloc, rulings)?;
+    Ok(Owed {
+        stops: listed(alloc, stops)?,
+        reloads: listed(alloc, reloads)?,
+        restarts: listed(alloc, restarts)?,
+        starts: listed(alloc, starts)?,
+        left: listed(alloc, left)?,
+    })
+}
+
+/// The names of a list, as a set.
+fn set_of(alloc: Global, names: &Listed<UnitName>) -> Result<BTreeSet<UnitName>, AllocError>
+    ensures { IfOk result (λ set. (unit : List ℕ) → has set.keys unit ≡ has names.now unit) }
+{
+    let mut set = BTreeSet::new(alloc);
+    add_names(alloc, &mut set, names.as_slice())?;
+    Ok(set)
+}
 
 /// What a switch from one system to another owes the units, given their states, the lists that a
 /// switch which was cut has left, and the units that the targets pull.
@@ -28,5 +162,14 @@ pub fn plan(
     requires { IsListOf pulled.now (Pulled (systems_in old.now new.now) (state_of states.now) lists.now) }
     ensures { IfOk result (IsPlan (systems_in old.now new.now) (state_of states.now) lists.now) }
 {
-    Err(AllocError)
+    let waiting = set_of(alloc, &lists.starts)?;
+    let known = Known {
+        old,
+        new,
+        states,
+        waiting: &waiting,
+    };
+    let rulings = rulings(alloc, known)?;
+    let owed = collect(alloc, known, rulings.as_slice(), lists, pulled.as_slice())?;
+    Ok(owed)
 }

@@ -1,0 +1,72 @@
+-- What is decided on a unit, by the live ones among its sockets.
+use Rattle.std.proofs.Common.{◌≡◌, ◌==◌, ◌||◌, ◌&&◌, ℕ, suc, Bool, true, false, cond, not, List, [], ◌∷◌, filter, length, if◌then◌else◌, inl, inr, refl, sym, ap, ◌∙◌, arith}
+use Rattle.std.proofs.lemmas.Bool.Decides.{nat_tests}
+use Rattle.std.specs.List.{list_any}
+use Rattle.owed_plan.specs.Rulings.{Sight, has_live_socket, is_left, is_live_socket, is_socket_started, live_sockets, ruling_of}
+use Rattle.owed_plan.specs.declared.ruling.Ruling.{Ruling}
+use Rattle.switch_names.specs.Names.{Name, has, is_name}
+use Rattle.unit_decide.specs.Decision.{decide}
+use Rattle.unit_decide.specs.declared.decision.Decision.{Decision}
+use Rattle.unit_decide.specs.declared.facts.Facts.{Facts}
+use Rattle.unit_decide.proofs.TableLemmas.{same_or_started}
+use Rattle.unit_defs.proofs.NameLemmas.{name_turned}
+
+-- a name is added to a set
+pub has_added : (old new : List Name) (name unit : Name) (is_added : Bool) → is_added ≡ true → has new unit ≡ cond (is_name name unit) true (has old unit) → has new unit ≡ (has old unit || (is_added && is_name unit name))
+has_added old new name unit is_added is added =
+    added ∙ ap (λ b. cond b true (has old unit)) (name_turned name unit) ∙ either (is_name unit name) (has old unit) ∙ ap (λ b. has old unit || (b && is_name unit name)) (sym is)
+  where
+    either : (b h : Bool) → cond b true h ≡ (h || (true && b))
+    either true true = refl
+    either true false = refl
+    either false true = refl
+    either false false = refl
+
+positive : (n : ℕ) → not (suc n == 0) ≡ true
+positive n = grind (arith, nat_tests)
+
+filled_choice : (b : Bool) (name : Name) (names : List Name) (rest : Bool) → not (length names == 0) ≡ rest → not (length (cond b (name ∷ names) names) == 0) ≡ (b || rest)
+filled_choice true name names rest is = positive (length names)
+filled_choice false name names rest is = is
+
+-- what passes a test is no empty list where something passes
+filled : (test : Name → Bool) (names : List Name) → not (length (filter test names) == 0) ≡ list_any test names
+filled test [] = refl
+filled test (name ∷ names) = filled_choice (test name) name (filter test names) (list_any test names) (filled test names)
+
+without_sockets : (facts : Facts) (live : Bool) → is_socket_started (decide facts true) ≡ false → decide facts false ≡ decide facts live
+without_sockets facts false other = refl
+without_sockets facts true other =
+    elim (same_or_started facts) [
+      | inl same ↦ sym same
+      | inr both ↦ absurd (let started : is_socket_started (decide facts true) ≡ true = ap is_socket_started both.0 in cc)
+    ]
+
+-- live sockets that make no difference may be left out
+same_decision : (facts : Facts) (test : Name → Bool) (sockets : List Name) →
+    decide facts (not (length (if is_socket_started (decide facts true) then filter test sockets else []) == 0)) ≡ decide facts (list_any test sockets)
+same_decision facts test sockets =
+    elim (is_socket_started (decide facts true))
+    as (λ b. is_socket_started (decide facts true) ≡ b → decide facts (not (length (if b then filter test sockets else []) == 0)) ≡ decide facts (list_any test sockets)) [
+      | true ↦ λ is. ap (decide facts) (filled test sockets)
+      | false ↦ λ other. without_sockets facts (list_any test sockets) other
+    ] refl
+
+decided : (sight : Sight) (unit : Name) (facts : Facts) (live : List Name) (empty : Bool) (decision : Decision) → facts ≡ sight.systems.facts unit → live ≡ live_sockets sight unit → empty ≡ (length live == 0) →
+    decision ≡ decide facts (not empty) → decision ≡ decide (sight.systems.facts unit) (has_live_socket sight unit)
+decided sight unit facts live empty decision of among none is =
+    is ∙ ap (λ b. decide facts (not b)) (none ∙ ap (λ (names : List Name). length names == 0) among) ∙ ap (λ f. decide f (not (length (live_sockets sight unit) == 0))) of
+    ∙ same_decision (sight.systems.facts unit) (is_live_socket sight) (sight.systems.sockets unit)
+
+-- what is decided on a unit
+pub ruled : (sight : Sight) (unit copied : Name) (facts : Facts) (live : List Name) (empty : Bool) (decision : Decision) (left : Bool) → copied ≡ unit → facts ≡ sight.systems.facts unit →
+    live ≡ live_sockets sight unit → empty ≡ (length live == 0) → decision ≡ decide facts (not empty) → left ≡ is_left facts decision →
+    ◌≡◌ {A = Ruling} (record { unit = copied; decision = decision; live = live; is_left = left }) (ruling_of sight unit)
+ruled sight unit copied facts live empty decision left copy of among none is nothing =
+    let row = decided sight unit facts live empty decision of among none is in
+    λ i. record {
+      unit = copy i;
+      decision = row i;
+      live = among i;
+      is_left = (nothing ∙ ap (λ f. is_left f decision) of ∙ ap (λ d. is_left (sight.systems.facts unit) d) row) i;
+    }

@@ -1,0 +1,180 @@
+//! Collects the units to stop, reload, restart and start, and those that are left.
+ghost use Rattle.std.specs.Prelude.{◌≡◌, ◌&&◌, ◌||◌, List, ℕ, IfOk, OnOk, filter};
+ghost use Rattle.std.specs.List.{list_any};
+ghost use Rattle.std.specs.List.Sorted.{IsStrictlySortedBy};
+ghost use Rattle.host_trait.specs.World.{bytes_cmp};
+ghost use Rattle.owed_plan.specs.Collected.{defined};
+ghost use Rattle.owed_plan.specs.Lists.{is_active};
+ghost use Rattle.owed_plan.specs.Rulings.{is_reloaded, is_restarted, is_started, is_stopped, leaves, reloads, restarts, sight_of, starts, stops};
+ghost use Rattle.switch_names.specs.Names.{has, is_name};
+
+use crate::known::Known;
+use crate::ruling::Ruling;
+use std::alloc::{AllocError, Global};
+use std::collections::BTreeSet;
+use switch_names::{Listed, UnitName};
+use unit_decide::Decision;
+
+/// Whether a unit is stopped, whether or not it is started then.
+fn is_stopped(decision: Decision) -> bool
+    ensures { result ≡ is_stopped decision }
+{
+    matches!(
+        decision,
+        Decision::Stop | Decision::StopStart | Decision::SocketStart
+    )
+}
+
+/// Whether a unit is itself started, whether or not it is stopped first.
+fn is_started(decision: Decision) -> bool
+    ensures { result ≡ is_started decision }
+{
+    matches!(decision, Decision::Start | Decision::StopStart)
+}
+
+/// Whether a unit is reloaded.
+fn is_reloaded(decision: Decision) -> bool
+    ensures { result ≡ is_reloaded decision }
+{
+    matches!(decision, Decision::Reload)
+}
+
+/// Whether a unit is restarted.
+fn is_restarted(decision: Decision) -> bool
+    ensures { result ≡ is_restarted decision }
+{
+    matches!(decision, Decision::Restart)
+}
+
+/// Adds a name to a set, where it is to be there.
+pub fn add_if(
+    alloc: Global,
+    set: &mut BTreeSet<UnitName>,
+    name: &UnitName,
+    is_added: bool,
+) -> Result<(), AllocError>
+    ensures { OnOk result ((unit : List ℕ) → has set.new.keys unit ≡ (has set.old.keys unit || (is_added && is_name unit name.now))) }
+{
+    if is_added {
+        set.insert(name.copy(alloc)?)?;
+    }
+    Ok(())
+}
+
+/// Adds names to a set.
+pub fn add_names(
+    alloc: Global,
+    set: &mut BTreeSet<UnitName>,
+    names: &[UnitName],
+) -> Result<(), AllocError>
+    ensures { OnOk result ((unit : List ℕ) → has set.new.keys unit ≡ (has set.old.keys unit || has names.now unit)) }
+{
+    for name in names {
+        add_if(alloc, set, name, true)?;
+    }
+    Ok(())
+}
+
+/// Adds those of some names that are Active.
+fn add_active(
+    alloc: Global,
+    known: Known<'_>,
+    set: &mut BTreeSet<UnitName>,
+    names: &[UnitName],
+) -> Result<(), AllocError>
+    ensures { OnOk result ((unit : List ℕ) → has set.new.keys unit ≡ (has set.old.keys unit || has (filter (λ name. is_active ((sight_of known.entry).states name)) names.now) unit)) }
+{
+    for name in names {
+        add_if(alloc, set, name, known.is_active(name))?;
+    }
+    Ok(())
+}
+
+/// Adds those of some names that the new system defines.
+pub fn add_defined(
+    alloc: Global,
+    known: Known<'_>,
+    set: &mut BTreeSet<UnitName>,
+    names: &[UnitName],
+) -> Result<(), AllocError>
+    ensures { OnOk result ((unit : List ℕ) → has set.new.keys unit ≡ (has set.old.keys unit || has (defined (sight_of known.entry) names.now) unit)) }
+{
+    for name in names {
+        add_if(alloc, set, name, known.is_defined(name))?;
+    }
+    Ok(())
+}
+
+/// The units that are stopped: by their own decision, and the Active sockets of services that are
+/// left to them.
+pub fn stops(
+    alloc: Global,
+    known: Known<'_>,
+    rulings: &[Ruling],
+) -> Result<BTreeSet<UnitName>, AllocError>
+    ensures { IfOk result (λ set. (unit : List ℕ) → has set.keys unit ≡ list_any (stops (sight_of known.entry) unit) rulings.now) }
+{
+    let mut set = BTreeSet::new(alloc);
+    for ruling in rulings {
+        add_if(alloc, &mut set, &ruling.unit, is_stopped(ruling.decision))?;
+        add_active(alloc, known, &mut set, ruling.live.as_slice())?;
+    }
+    Ok(set)
+}
+
+/// The units that are started by what is decided on Active units.
+pub fn starts(alloc: Global, rulings: &[Ruling]) -> Result<BTreeSet<UnitName>, AllocError>
+    ensures { IfOk result (λ set. (unit : List ℕ) → has set.keys unit ≡ list_any (starts unit) rulings.now) }
+{
+    let mut set = BTreeSet::new(alloc);
+    for ruling in rulings {
+        add_if(alloc, &mut set, &ruling.unit, is_started(ruling.decision))?;
+        add_names(alloc, &mut set, ruling.live.as_slice())?;
+    }
+    Ok(set)
+}
+
+/// The Active units that are reloaded by their own decision.
+pub fn reloads(alloc: Global, rulings: &[Ruling]) -> Result<BTreeSet<UnitName>, AllocError>
+    ensures { IfOk result (λ set. (unit : List ℕ) → has set.keys unit ≡ list_any (reloads unit) rulings.now) }
+{
+    let mut set = BTreeSet::new(alloc);
+    for ruling in rulings {
+        add_if(alloc, &mut set, &ruling.unit, is_reloaded(ruling.decision))?;
+    }
+    Ok(set)
+}
+
+/// The Active units that are restarted by their own decision.
+pub fn restarts(alloc: Global, rulings: &[Ruling]) -> Result<BTreeSet<UnitName>, AllocError>
+    ensures { IfOk result (λ set. (unit : List ℕ) → has set.keys unit ≡ list_any (restarts unit) rulings.now) }
+{
+    let mut set = BTreeSet::new(alloc);
+    for ruling in rulings {
+        add_if(alloc, &mut set, &ruling.unit, is_restarted(ruling.decision))?;
+    }
+    Ok(set)
+}
+
+/// The changed units that get nothing.
+pub fn left(alloc: Global, rulings: &[Ruling]) -> Result<BTreeSet<UnitName>, AllocError>
+    ensures { IfOk result (λ set. (unit : List ℕ) → has set.keys unit ≡ list_any (leaves unit) rulings.now) }
+{
+    let mut set = BTreeSet::new(alloc);
+    for ruling in rulings {
+        add_if(alloc, &mut set, &ruling.unit, ruling.is_left)?;
+    }
+    Ok(set)
+}
+
+/// The names of a set in byte order.
+pub fn listed(alloc: Global, set: BTreeSet<UnitName>) -> Result<Listed<UnitName>, AllocError>
+    ensures names { IfOk result (λ names. names ≡ set.keys) }
+    ensures sorted { IsStrictlySortedBy bytes_cmp set.keys }
+{
+    let mut names = Listed::new(alloc);
+    for name in set {
+        names.push(name)?;
+    }
+    Ok(names)
+}
