@@ -14,7 +14,7 @@ use Rattle.std.specs.declared.cmp.Ordering.TheVariants.{Less, Equal, Greater}
 use Rattle.host_trait.specs.World.{bytes_cmp}
 use Rattle.host_trait.proofs.Places.{alike, bytes_total, found}
 
-some_more : (n : ℕ) → (suc n == 0) ≡ false
+pub some_more : (n : ℕ) → (suc n == 0) ≡ false
 some_more n = ne_eqb (suc n) 0 (λ e. omega arith)
 
 module _ {X : Type 0} where

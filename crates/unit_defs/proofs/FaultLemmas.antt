@@ -13,6 +13,7 @@ use Rattle.unit_defs.specs.Defs.{AreSorted, AreUnitsOf, first_faulty, part_in, u
 use Rattle.switch_names.specs.Names.{is_name}
 use Rattle.unit_defs.specs.Units.{HasNoFault, IsFirstFault}
 use Rattle.unit_defs.proofs.NameLemmas.{less_is_other, name_exact, name_itself, name_turned}
+use Rattle.unit_defs.proofs.PathLemmas.{some_same}
 
 abbrev fault_of : Unit → Option ℕ
 fault_of unit = option_and_then (λ (part : Part). part.fault) unit.part
@@ -49,9 +50,6 @@ lower_lacks name [] other less above = refl
 lower_lacks name (unit ∷ units) other less above =
     ap (λ b. cond b (Some unit) (unit_in units other)) (less_is_other other unit.name (bytes_total.trans other name unit.name less above.0))
     ∙ lower_lacks name units other less above.1
-
-some_same : {X : Type 0} (x y : X) → Some x ≡ Some y → x ≡ y
-some_same x y is = cc
 
 first_line : (unit : Unit) (units : List Unit) (name : List ℕ) (line : ℕ) → (o : Option ℕ) → fault_of unit ≡ o → option_or (option_map (λ n. (unit.name, n)) o) (first_faulty units) ≡ Some (name, line) →
     AreSorted (unit ∷ units) → (first_faulty units ≡ Some (name, line) → IsFirstIn units name line) → IsFirstIn (unit ∷ units) name line

@@ -1,6 +1,7 @@
 pub mod AgreeLemmas
 mod DropInLemmas
 mod FaultLemmas
+pub mod FirstFaultLemmas
 mod FoundLemmas
 pub mod NameLemmas
 pub mod OrderLemmas

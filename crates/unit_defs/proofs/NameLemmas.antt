@@ -51,7 +51,7 @@ has-append xs ys name = list_any-append (is_name name) xs ys
 pub has-filter-append : (p : List ℕ → Bool) (xs ys : List (List ℕ)) (name : List ℕ) → has (filter p (xs ++ ys)) name ≡ (has (filter p xs) name || has (filter p ys) name)
 has-filter-append p xs ys name = ap (λ zs. has zs name) (filter-append p xs ys) ∙ has-append (filter p xs) (filter p ys) name
 
-or_false : (b : Bool) → (b || false) ≡ b
+pub or_false : (b : Bool) → (b || false) ≡ b
 or_false true = refl
 or_false false = refl
 

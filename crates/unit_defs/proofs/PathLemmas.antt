@@ -17,7 +17,7 @@ use Rattle.unit_defs.specs.Place.{ArePlacesNamed, StandsAt, after_front, before_
 
 -- ---- fronts, ends and slashes of texts
 
-some_same : {X : Type 0} (x y : X) → Some x ≡ Some y → x ≡ y
+pub some_same : {X : Type 0} (x y : X) → Some x ≡ Some y → x ≡ y
 some_same x y is = cc
 
 chosen : {X : Type 0} (b : Bool) (x y : X) → cond b (Some x) None ≡ Some y → (b ≡ true) × (x ≡ y)

@@ -1,20 +1,16 @@
 -- What is read at all listed paths is all that the folder of units says.
-use Rattle.std.proofs.Common.{◌≡◌, ℕ, ◌-◌, ◌||◌, ◌&&◌, not, Bool, true, false, cond, List, [], ◌∷◌, ◌++◌, drop, length, nat_eq, codes, Option, None, Some, is_some, option_map, option_and_then, refl, sym, ap, subst, ◌∙◌, append_assoc}
+use Rattle.std.proofs.Common.{◌≡◌, ℕ, ◌||◌, ◌&&◌, not, Bool, true, false, cond, List, [], ◌∷◌, ◌++◌, length, get_or, codes, Option, None, Some, is_some, option_map, option_and_then, refl, sym, ap, subst, ◌∙◌, append_assoc, length-append, arith}
 use Rattle.std.specs.BTreeMap.{is_at}
-use Rattle.std.specs.FinMap.{contains_key-keys, find, from_entries, get, keys}
-use Rattle.std.specs.List.{flat_map, list_any, starts_with}
+use Rattle.std.specs.FinMap.{contains_key-keys, get, keys}
+use Rattle.std.specs.List.{flat_map, list_any}
 use Rattle.std.specs.Map.{lookup}
-use Rattle.std.specs.Option.{option_map_or, option_or}
+use Rattle.std.specs.Option.{option_map_or}
 use Rattle.std.specs.Ordering.{eq_by_cmp}
-use Rattle.std.proofs.lemmas.Bool.{both_ways}
-use Rattle.std.proofs.lemmas.Bool.Decides.{Decides-eqb}
 use Rattle.std.proofs.lemmas.Map.Views.{any-filter_same}
-use Rattle.std.proofs.lemmas.Slice.Eq.{bytes_eq-Decides, starts_is}
+use Rattle.std.proofs.lemmas.Slice.Eq.{bytes_eq-Decides}
 use Rattle.switch_names.specs.Path.{is_below, slash}
-use Rattle.switch_names.specs.SystemName.{NamesSystem, store_folder, store_name, store_name_fault, system_path}
 use Rattle.switch_names.specs.UnitName.{IsUnitName}
 use Rattle.switch_names.proofs.Below.{below_front}
-use Rattle.switch_names.proofs.Faultless.{of_kind}
 use Rattle.host_trait.specs.declared.leaf.LeafKind.{LeafKind}
 use Rattle.host_trait.specs.World.{Leaves, bytes_cmp, content_of, is_listed, is_path, stage}
 use Rattle.unit_defs.specs.declared.found.Found.{Found}
@@ -27,28 +23,15 @@ use Rattle.unit_defs.proofs.DropInLemmas.{same_in_name_order}
 use Rattle.unit_defs.proofs.NameLemmas.{name_exact, name_from}
 use Rattle.unit_defs.proofs.PlaceLemmas.{file_path, file_there}
 
-starts_so : (system : List ℕ) → NamesSystem system system → starts_with nat_eq system store_folder ≡ true
-starts_so system names = subst (λ s. starts_with nat_eq s store_folder ≡ true) names.same
-    (of_kind (starts_with nat_eq (system_path system) store_folder) (store_name_fault (length system - length (store_name (system_path system))) (store_name (system_path system))) names.no_fault).0
-
-stage_elsewhere : starts_with nat_eq stage store_folder ≡ false
-unfolding stage
-stage_elsewhere = refl
-
 -- nothing in the folder of units is the stage
-not_stage : (system rest : List ℕ) → NamesSystem system system → path_of system rest ≡ stage → ⊥
-unfolding unit_folder
-not_stage system rest names same =
-    let end : List ℕ = codes "/etc/systemd/system" in
-    let back : List ℕ = drop (length store_folder) system in
-    let front : system ≡ store_folder ++ back = (starts_is Decides-eqb system store_folder (starts_with nat_eq system store_folder) refl).0 (starts_so system names) in
-    let whole : path_of system rest ≡ store_folder ++ ((back ++ end) ++ slash ∷ rest) =
-    ap (λ s. (s ++ end) ++ slash ∷ rest) front
-    ∙ ap (λ s. s ++ slash ∷ rest) (append_assoc store_folder back end)
-    ∙ append_assoc store_folder (back ++ end) (slash ∷ rest) in
-    let starts : starts_with nat_eq (path_of system rest) store_folder ≡ true =
-    (starts_is Decides-eqb (path_of system rest) store_folder (starts_with nat_eq (path_of system rest) store_folder) refl).1 ((back ++ end) ++ slash ∷ rest) whole in
-    both_ways _ stage_elsewhere (subst (λ p. starts_with nat_eq p store_folder ≡ true) same starts)
+not_stage : (system rest : List ℕ) → path_of system rest ≡ stage → ⊥
+unfolding unit_folder stage
+not_stage [] rest same = absurd (let first = ap (λ (p : List ℕ). get_or p 0 0) same in omega arith)
+not_stage (a ∷ []) rest same = absurd (let second = ap (λ (p : List ℕ). get_or p 1 0) same in omega arith)
+not_stage (a ∷ b ∷ []) rest same = absurd (let third = ap (λ (p : List ℕ). get_or p 2 0) same in omega arith)
+not_stage (a ∷ b ∷ c ∷ []) rest same = absurd (let fifth = ap (λ (p : List ℕ). get_or p 4 0) same in omega arith)
+not_stage (a ∷ b ∷ c ∷ d ∷ more) rest same =
+    absurd (omega (arith, ap (λ (p : List ℕ). length p) same, length-append (more ++ codes "/etc/systemd/system") (slash ∷ rest), length-append more (codes "/etc/systemd/system")))
 
 false_from : (b : Bool) → (b ≡ true → ⊥) → b ≡ false
 false_from true lacks = absurd (lacks refl)
@@ -64,17 +47,17 @@ all_three true b c second third = ap not third
 all_three false b c second third = ap (λ x. x && not c) second ∙ ap not third
 
 -- what stands in the folder of units is listed
-is_among : (system rest : List ℕ) → NamesSystem system system → is_listed (unit_folder system) (path_of system rest) ≡ true
-is_among system rest names =
+is_among : (system rest : List ℕ) → is_listed (unit_folder system) (path_of system rest) ≡ true
+is_among system rest =
     all_three (is_path (path_of system rest) (unit_folder system)) (is_below (path_of system rest) (unit_folder system)) (is_path (path_of system rest) stage)
     (below_front (unit_folder system) rest)
-    (false_from _ (λ same. not_stage system rest names ((bytes_eq-Decides (path_of system rest) stage).0 same)))
+    (false_from _ (λ same. not_stage system rest ((bytes_eq-Decides (path_of system rest) stage).0 same)))
 
 any_alike : (p q : List ℕ → Bool) → ((x : List ℕ) → p x ≡ q x) → (xs : List (List ℕ)) → list_any p xs ≡ list_any q xs
 any_alike p q same [] = refl
 any_alike p q same (x ∷ xs) = ap (λ b. b || list_any p xs) (same x) ∙ ap (λ b. q x || b) (any_alike p q same xs)
 
-module _ (leaves : Leaves) (system unit : List ℕ) (names : NamesSystem system system) (named : IsUnitName unit) where
+module _ (leaves : Leaves) (system unit : List ℕ) (named : IsUnitName unit) where
   joined : path_of system [] ++ unit ≡ path_of system unit
   joined = append_assoc (unit_folder system) (slash ∷ []) unit
 
@@ -84,10 +67,10 @@ module _ (leaves : Leaves) (system unit : List ℕ) (names : NamesSystem system 
       (λ is. subst (λ p. is_file unit (place_after (path_of system []) p) ≡ true) (joined ∙ name_exact (path_of system unit) path is) (file_there (path_of system []) unit named))
 
   listed_so : (path : List ℕ) → is_file unit (place_after (path_of system []) path) ≡ true → is_listed (unit_folder system) path ≡ true
-  listed_so path is = subst (λ p. is_listed (unit_folder system) p ≡ true) (sym (file_path (path_of system []) path unit is ∙ joined)) (is_among system unit names)
+  listed_so path is = subst (λ p. is_listed (unit_folder system) p ≡ true) (sym (file_path (path_of system []) path unit is ∙ joined)) (is_among system unit)
 
   -- the unit's file is among the listed paths exactly where a leaf stands there
-  among : list_any (λ path. is_file unit (place_after (path_of system []) path)) (paths_of leaves system) ≡ is_some (get leaves (path_of system unit))
+  pub among : list_any (λ path. is_file unit (place_after (path_of system []) path)) (paths_of leaves system) ≡ is_some (get leaves (path_of system unit))
   among =
       any-filter_same (λ path. is_file unit (place_after (path_of system []) path)) (is_listed (unit_folder system)) true listed_so (keys leaves)
       ∙ any_alike (λ path. is_file unit (place_after (path_of system []) path)) (eq_by_cmp bytes_cmp (path_of system unit)) tested (keys leaves)
@@ -110,13 +93,13 @@ inner_at None name = refl
 inner_at (Some files) name = refl
 
 -- what is read at all listed paths is all
-pub files_all : (leaves : Leaves) (system front : List ℕ) (paths : List (List ℕ)) (found : Found) → NamesSystem system system → front ≡ path_of system [] → paths ≡ paths_of leaves system →
+pub files_all : (leaves : Leaves) (system front : List ℕ) (paths : List (List ℕ)) (found : Found) → front ≡ path_of system [] → paths ≡ paths_of leaves system →
     AreFilesAt leaves front paths found → AreFilesOf leaves system found
-files_all leaves system front paths found names is_front are_paths read =
+files_all leaves system front paths found is_front are_paths read =
     let all : AreFilesAt leaves (path_of system []) (paths_of leaves system) found =
     subst (λ ps. AreFilesAt leaves (path_of system []) ps found) are_paths (subst (λ f. AreFilesAt leaves f paths found) is_front read) in
     record {
-      file = λ unit named. all.file unit ∙ file_is leaves system unit names named;
+      file = λ unit named. all.file unit ∙ file_is leaves system unit named;
       drop_ins = λ unit named.
           same_in_name_order part_of (option_map_or (λ (files : UnitFiles). files.drop_ins.entries) (files_in found unit) [])
           (flat_map (λ path. drop_in_at unit (place_after (path_of system []) path) (content_of leaves path)) (paths_of leaves system))

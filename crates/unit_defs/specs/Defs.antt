@@ -1,5 +1,5 @@
 -- The units of a system as they are kept: in byte order, with what each wants.
-use Rattle.std.specs.Prelude.{◌≡◌, ℕ, List, [], ◌∷◌, Option, None, map, option_map, option_and_then, is_some}
+use Rattle.std.specs.Prelude.{◌≡◌, ℕ, ◌&&◌, ◌||◌, List, [], ◌∷◌, Option, None, map, filter, option_map, option_and_then, is_some}
 use Rattle.std.specs.List.{find}
 use Rattle.std.specs.List.Sorted.{IsStrictlySortedBy}
 use Rattle.std.specs.Option.{option_map_or, option_or}
@@ -9,9 +9,9 @@ use Rattle.unit_text.specs.declared.assignment.Assignment.{Assignment}
 use Rattle.unit_defs.specs.declared.part.Part.{Part}
 use Rattle.unit_defs.specs.declared.unit.Unit.{Unit}
 use Rattle.unit_defs.specs.declared.unit.Wants.{Wants}
-use Rattle.switch_names.specs.Names.{has, is_name}
+use Rattle.switch_names.specs.Names.{Name, has, is_name}
 use Rattle.unit_defs.specs.Files.{wants_of}
-use Rattle.unit_defs.specs.Units.{find_text, own_part, own_text, text_of, wanted, wanted_of}
+use Rattle.unit_defs.specs.Units.{can_be_wanted, find_text, own_part, own_text, text_of, wanted, wanted_of}
 
 -- the unit of this name
 abbrev pub unit_in : List Unit → List ℕ → Option Unit
@@ -57,6 +57,14 @@ AreSorted units = IsStrictlySortedBy bytes_cmp (map (λ unit. unit.name) units)
 pub record AreUnitsOf (leaves : Leaves) (system : List ℕ) (units : List Unit) : Type 0 where
   pub part : (name : List ℕ) → IsUnitName name → part_in units name ≡ own_part leaves system name
   pub wants : (name : List ℕ) → IsUnitName name → names_in units name ≡ wants_of leaves system name
+
+-- to a set are added those of these names that can be wanted
+abbrev pub AddsWanted : List Unit → List Name → List Name → List Name → Type 0
+AddsWanted units names old new = (unit : Name) → has new unit ≡ (has old unit || has (filter (can_be_wanted (own_in units)) names) unit)
+
+-- to a set is added this name, where it can be wanted
+abbrev pub AddsName : List Unit → Name → List Name → List Name → Type 0
+AddsName units name old new = (unit : Name) → has new unit ≡ (has old unit || (is_name unit name && can_be_wanted (own_in units) name))
 
 -- the units are sorted, and what is kept beside them is theirs
 pub record IsDefs (names : List (List ℕ)) (units : List Unit) (wants : List Wants) (nothing : List (List ℕ)) : Type 0 where

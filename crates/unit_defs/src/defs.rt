@@ -1,5 +1,5 @@
 //! The units of a system.
-ghost use Rattle.std.specs.Prelude.{◌≡◌, true, [], List, ℕ, IfOk, OnOk, IsErrOf};
+ghost use Rattle.std.specs.Prelude.{◌≡◌, true, [], List, ℕ, None, Some, IfOk, OnOk, IsErrOf};
 ghost use Rattle.std.specs.List.Sorted.{IsStrictlySortedBy};
 ghost use Rattle.std.specs.Option.{option_copied};
 ghost use Rattle.host_trait.specs.declared.tree.HostFault.TheVariants.{Device};
@@ -8,7 +8,7 @@ ghost use Rattle.host_trait.specs.Host.{Told, Passes, HasCause, HasCauseOf};
 ghost use Rattle.host_trait.specs.World.{bytes_cmp};
 ghost use Rattle.unit_defs.specs.declared.defs_fault.DefsFault.TheVariants.{Text, Host};
 ghost use Rattle.unit_defs.specs.Defs.{AreDefsOf, AreNamesOf, AreSorted, found_in, own_in, wanted_in};
-ghost use Rattle.unit_defs.specs.Units.{HasNoFault, IsFirstFault, can_be_wanted};
+ghost use Rattle.unit_defs.specs.Units.{HasNoFault, IsFirstFault, can_be_wanted, first_fault_of};
 ghost use Rattle.switch_names.specs.Names.{has};
 
 use crate::defs_fault::DefsFault;
@@ -85,6 +85,11 @@ impl Defs {
         ensures defs { IfOk result (λ defs. Told (T.host host.old) (λ w. AreDefsOf w.leaves system.now defs)) }
         ensures sound { OnOk result (Told (T.host host.old) (λ w. HasNoFault w.leaves system.now)) }
         ensures text { (unit : List ℕ) (line : ℕ) → IsErrOf result (Text unit line) → Told (T.host host.old) (λ w. IsFirstFault w.leaves system.now unit line) }
+
+        // By the law `first_faults_are_found` that is the first fault among the units with files.
+        ensures not_faulty { OnOk result (Told (T.host host.old) (λ w. first_fault_of w.leaves system.now ≡ None)) }
+        ensures faulty { (unit : List ℕ) (line : ℕ) → IsErrOf result (Text unit line) → Told (T.host host.old) (λ w. first_fault_of w.leaves system.now ≡ Some (unit, line)) }
+
         ensures moments { Passes (T.host host.old) (T.host host.new) IsSame }
         ensures cause { HasCauseOf (T.host host.old) (T.host host.new) (IsErrOf result (Host Device)) }
     {

@@ -15,4 +15,4 @@ mod wanting;
 
 pub use defs::Defs;
 pub use defs_fault::DefsFault;
-pub use laws::places_are_named;
+pub use laws::{first_faults_are_found, places_are_named};

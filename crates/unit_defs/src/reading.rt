@@ -103,7 +103,6 @@ fn read_folder<T: Tree>(
     ensures moments { Passes (T.host host.old) (T.host host.new) IsSame }
     ensures cause { HasCause (T.host host.old) (T.host host.new) result }
 {
-    let _name = system.as_str();
     let folder = unit_folder(alloc, system)?;
     let front = with_slash(alloc, folder.as_str())?;
     let paths = host.list(alloc, &folder)?;

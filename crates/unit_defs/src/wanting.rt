@@ -1,12 +1,11 @@
 //! The units that each unit of a system wants.
-ghost use Rattle.std.specs.Prelude.{◌≡◌, ◌&&◌, ◌||◌, ◌==◌, [], List, ℕ, IfOk, OnOk, filter, map, option_and_then};
+ghost use Rattle.std.specs.Prelude.{◌≡◌, ◌==◌, [], IfOk, OnOk, map, option_and_then};
 ghost use Rattle.std.specs.List.{flat_map, slice_split};
 ghost use Rattle.std.specs.List.Sorted.{IsStrictlySortedBy};
 ghost use Rattle.std.specs.Option.{option_copied};
 ghost use Rattle.switch_names.specs.UnitName.{template_of};
 ghost use Rattle.host_trait.specs.World.{bytes_cmp};
-ghost use Rattle.unit_defs.specs.Defs.{AreNamesOf, AreSorted, found_in, own_in, wants_for};
-ghost use Rattle.switch_names.specs.Names.{has, is_name};
+ghost use Rattle.unit_defs.specs.Defs.{AddsName, AddsWanted, AreNamesOf, AreSorted, found_in, own_in, wants_for};
 ghost use Rattle.unit_defs.specs.Units.{can_be_wanted, wanted, words_in, words_of};
 
 use crate::place::named;
@@ -56,7 +55,7 @@ fn can_be_wanted(units: &[Unit], name: &UnitName) -> bool
 /// Adds a unit that is wanted, where it can be.
 fn add_name(units: &[Unit], set: &mut BTreeSet<UnitName>, name: UnitName) -> Result<(), AllocError>
     requires { AreSorted units.now }
-    ensures { OnOk result ((unit : List ℕ) → has set.new.keys unit ≡ (has set.old.keys unit || (is_name unit name && can_be_wanted (own_in units.now) name))) }
+    ensures { OnOk result (AddsName units.now name set.old.keys set.new.keys) }
 {
     if can_be_wanted(units, &name) {
         set.insert(name)?;
@@ -72,7 +71,7 @@ fn add_names(
     names: &[UnitName],
 ) -> Result<(), AllocError>
     requires { AreSorted units.now }
-    ensures { OnOk result ((unit : List ℕ) → has set.new.keys unit ≡ (has set.old.keys unit || has (filter (can_be_wanted (own_in units.now)) names.now) unit)) }
+    ensures { OnOk result (AddsWanted units.now names.now set.old.keys set.new.keys) }
 {
     for name in names {
         add_name(units, set, name.copy(alloc)?)?;
@@ -88,7 +87,7 @@ fn add_word(
     word: &str,
 ) -> Result<(), AllocError>
     requires { AreSorted units.now }
-    ensures { OnOk result ((unit : List ℕ) → has set.new.keys unit ≡ (has set.old.keys unit || (is_name unit word.now && can_be_wanted (own_in units.now) word.now))) }
+    ensures { OnOk result (AddsName units.now word.now set.old.keys set.new.keys) }
 {
     match named(alloc, word)? {
         Some(name) => add_name(units, set, name),
@@ -118,7 +117,7 @@ fn add_tab_parts(
     text: &str,
 ) -> Result<(), AllocError>
     requires { AreSorted units.now }
-    ensures { OnOk result ((unit : List ℕ) → has set.new.keys unit ≡ (has set.old.keys unit || has (filter (can_be_wanted (own_in units.now)) (slice_split (λ byte. byte == 9) text.now)) unit)) }
+    ensures { OnOk result (AddsWanted units.now (slice_split (λ byte. byte == 9) text.now) set.old.keys set.new.keys) }
 {
     let parts = tab_parts(alloc, text)?;
     for part in parts.as_slice() {
@@ -135,7 +134,7 @@ fn add_words(
     text: &str,
 ) -> Result<(), AllocError>
     requires { AreSorted units.now }
-    ensures { OnOk result ((unit : List ℕ) → has set.new.keys unit ≡ (has set.old.keys unit || has (filter (can_be_wanted (own_in units.now)) (words_of text.now)) unit)) }
+    ensures { OnOk result (AddsWanted units.now (words_of text.now) set.old.keys set.new.keys) }
 {
     let parts = space_parts(alloc, text)?;
     for part in parts.as_slice() {
@@ -152,7 +151,7 @@ fn add_values(
     values: &[Text],
 ) -> Result<(), AllocError>
     requires { AreSorted units.now }
-    ensures { OnOk result ((unit : List ℕ) → has set.new.keys unit ≡ (has set.old.keys unit || has (filter (can_be_wanted (own_in units.now)) (flat_map words_of values.now)) unit)) }
+    ensures { OnOk result (AddsWanted units.now (flat_map words_of values.now) set.old.keys set.new.keys) }
 {
     for value in values {
         add_words(alloc, units, set, value.as_str())?;
@@ -168,7 +167,7 @@ fn add_text(
     text: Option<&UnitText>,
 ) -> Result<(), AllocError>
     requires { AreSorted units.now }
-    ensures { OnOk result ((unit : List ℕ) → has set.new.keys unit ≡ (has set.old.keys unit || has (filter (can_be_wanted (own_in units.now)) (words_in (option_copied text.entry))) unit)) }
+    ensures { OnOk result (AddsWanted units.now (words_in (option_copied text.entry)) set.old.keys set.new.keys) }
 {
     let Some(text) = text else {
         return Ok(());

@@ -23,7 +23,7 @@ returns-clause-found g c =
     let read = told_before c.list.ensures.moments c.in_ok-found.ensures.found in
     record {
       has = λ w is.
-          files_all w.leaves c.args.system.now _ _ c.in_ok-found.found c.as_str-name.ensures.names
+          files_all w.leaves c.args.system.now _ _ c.in_ok-found.found
           (c.as_str-2.ensures ∙ c.in_ok-front.ensures ∙ ap (λ (text : List ℕ). text ++ slash ∷ []) (c.as_str.ensures.text ∙ c.in_ok-folder.ensures))
           (c.as_slice.ensures ∙ c.in_ok-paths.ensures.paths.has w is ∙ ap (λ folder. listed folder w.leaves) c.in_ok-folder.ensures)
           (read.has w is);

@@ -1,10 +1,11 @@
-use Rattle.std.proofs.Common.{◌≡◌, ℕ, List, IfSome, ap, subst, sym, ◌∙◌}
+use Rattle.std.proofs.Common.{◌≡◌, ℕ, List, None, Some, IfSome, ap, subst, sym, ◌∙◌}
 use Rattle.switch_names.specs.UnitName.{IsUnitName}
 use Rattle.host_trait.proofs.Moments.{told_as}
 use Rattle.unit_defs.specs.Defs.{AreDefsOf, first_faulty}
-use Rattle.unit_defs.specs.Units.{HasNoFault, IsFirstFault}
+use Rattle.unit_defs.specs.Units.{HasNoFault, IsFirstFault, first_fault_of}
 use Rattle.unit_defs.proofs.AgreeLemmas.{are_defs}
 use Rattle.unit_defs.proofs.FaultLemmas.{first_is, no_fault, none_left}
+use Rattle.unit_defs.proofs.FirstFaultLemmas.{first_is_found, none_is_found}
 use Rattle.unit_defs.proofs.defs.Defs.read.Goals as goal
 
 pub returns-in-Some-clause-text : goal.returns-in-Some-clause-text
@@ -23,6 +24,15 @@ returns-clause-sound g c =
     let none = none_left c.in_ok-unit.field-0 c.in_default.not-Some ∙ c.in_ok-unit.ensures.first ∙ ap first_faulty c.as_slice.ensures.value in
     told_as c.in_ok-units.ensures.units (λ w. HasNoFault w.leaves c.args.system.now)
     (λ w is are. no_fault w.leaves c.args.system.now c.in_ok-units.units.items are none)
+
+pub returns-in-Some-clause-faulty : goal.returns-in-Some-clause-faulty
+returns-in-Some-clause-faulty g c = λ unit line same.
+    told_as (returns-in-Some-clause-text g c unit line same) (λ w. first_fault_of w.leaves c.args.system.now ≡ Some (unit, line))
+    (λ w is first. first_is_found w.leaves c.args.system.now unit line first)
+
+pub returns-clause-not_faulty : goal.returns-clause-not_faulty
+returns-clause-not_faulty g c =
+    told_as (returns-clause-sound g c) (λ w. first_fault_of w.leaves c.args.system.now ≡ None) (λ w is none. none_is_found w.leaves c.args.system.now none)
 
 pub returns-clause-defs : goal.returns-clause-defs
 returns-clause-defs g c =

@@ -1,0 +1,252 @@
+-- The first unit with a faulty file, among the units that have a file or a drop-in.
+use Rattle.std.proofs.Common.{◌≡◌, ◌⊎◌, ℕ, ◌==◌, ◌||◌, Bool, true, false, cond, List, [], ◌∷◌, ◌++◌, length, map, Option, None, Some, is_some, option_map, option_and_then, refl, sym, ap, subst, ◌∙◌, inl, inr}
+use Rattle.std.specs.FinMap.{get}
+use Rattle.std.specs.List.{AllByRecursion, find, flat_map, list_any}
+use Rattle.std.specs.List.Sorted.{IsStrictlySortedBy}
+use Rattle.std.specs.Option.{option_map_or, option_or}
+use Rattle.std.specs.declared.cmp.Ordering.TheVariants.{Less}
+use Rattle.std.proofs.lemmas.Bool.{both_ways}
+use Rattle.switch_names.specs.UnitName.{IsUnitName, template_of}
+use Rattle.switch_names.specs.Names.{has, is_name}
+use Rattle.host_trait.specs.World.{Leaves, bytes_cmp, content_of}
+use Rattle.host_trait.proofs.Places.{bytes_total}
+use Rattle.unit_defs.specs.declared.part.Part.{Part}
+use Rattle.unit_defs.specs.declared.place.Place.{Place}
+use Rattle.unit_defs.specs.declared.place.Place.TheVariants.{File, DropIn, Want}
+use Rattle.unit_defs.specs.Files.{base_of, drop_in_at, drop_ins_of, file_of, paths_of}
+use Rattle.unit_defs.specs.Found.{is_file}
+use Rattle.unit_defs.specs.Part.{merged, part_of}
+use Rattle.unit_defs.specs.Place.{path_of, place_of}
+use Rattle.unit_defs.specs.Units.{HasNoFault, IsFirstFault, first_fault_of, own_fault, unit_at, units_of}
+use Rattle.unit_defs.proofs.DropInLemmas.{none_exactly, some_more}
+use Rattle.unit_defs.proofs.NameLemmas.{has-append, less_is_other, name_exact, name_itself, name_turned, or_false}
+use Rattle.unit_defs.proofs.OrderLemmas.{has_in_order, in_order_sorted}
+use Rattle.unit_defs.proofs.PathLemmas.{places_named, some_same}
+use Rattle.unit_defs.proofs.WorldLemmas.{among}
+
+-- ---- the first of some sorted names that has a fault
+
+or_right : (a b : Bool) → b ≡ true → (a || b) ≡ true
+or_right true b is = refl
+or_right false b is = is
+
+or_cases : (a b : Bool) → (a || b) ≡ true → (a ≡ true) ⊎ (b ≡ true)
+or_cases true b is = inl refl
+or_cases false b is = inr is
+
+above_all : (name other : List ℕ) (names : List (List ℕ)) → AllByRecursion (λ b. bytes_cmp name b ≡ Less) names → has names other ≡ true → bytes_cmp name other ≡ Less
+above_all name other [] above there = absurd (cc)
+above_all name other (n ∷ names) above there = elim (or_cases (is_name other n) (has names other) there) [
+  | inl same ↦ subst (λ k. bytes_cmp name k ≡ Less) (sym (name_exact other n same)) above.0
+  | inr rest ↦ above_all name other names above.1 rest
+]
+
+not_both_less : {X : Type 0} (a b : List ℕ) → bytes_cmp a b ≡ Less → bytes_cmp b a ≡ Less → X
+not_both_less a b less more = absurd (both_ways _ (less_is_other a a (bytes_total.trans a b a less more)) (name_itself a))
+
+module _ (fault : List ℕ → Option ℕ) where
+  abbrev first_named : List (List ℕ) → Option (List ℕ × ℕ)
+  first_named names = option_and_then (λ name. option_map (λ line. (name, line)) (fault name)) (find (λ name. is_some (fault name)) names)
+
+  -- none of these names below this one has a fault
+  abbrev NoneBelow : List (List ℕ) → List ℕ → Type 0
+  NoneBelow names name = (other : List ℕ) → has names other ≡ true → bytes_cmp other name ≡ Less → fault other ≡ None
+
+  step : (name : List ℕ) (names : List (List ℕ)) (o : Option ℕ) → fault name ≡ o → first_named (name ∷ names) ≡ option_or (option_map (λ line. (name, line)) o) (first_named names)
+  step name names None is = ap (λ (o : Option ℕ). option_and_then (λ n. option_map (λ line. (n, line)) (fault n)) (cond (is_some o) (Some name) (find (λ n. is_some (fault n)) names))) is
+  step name names (Some line) is =
+      ap (λ (o : Option ℕ). option_and_then (λ n. option_map (λ line. (n, line)) (fault n)) (cond (is_some o) (Some name) (find (λ n. is_some (fault n)) names))) is
+      ∙ ap (option_map (λ line. (name, line))) is
+
+  first_to : (names : List (List ℕ)) (name : List ℕ) (line : ℕ) → IsStrictlySortedBy bytes_cmp names → has names name ≡ true → fault name ≡ Some line → NoneBelow names name →
+      first_named names ≡ Some (name, line)
+  unfolding IsStrictlySortedBy
+  first_to [] name line sorted there faulty earlier = absurd (cc)
+  first_to (n ∷ names) name line sorted there faulty earlier = by (is_name name n) refl there (λ rest. first_to names name line sorted.1 rest faulty (λ other is less. earlier other (or_right (is_name other n) (has names other) is) less))
+    where
+      by : (b : Bool) → is_name name n ≡ b → (b || has names name) ≡ true → (has names name ≡ true → first_named names ≡ Some (name, line)) → first_named (n ∷ names) ≡ Some (name, line)
+      by true same there rest =
+          step n names (Some line) (subst (λ k. fault k ≡ Some line) (name_exact name n same) faulty) ∙ ap (λ k. Some (k, line)) (sym (name_exact name n same))
+      by false other there rest =
+          step n names None (earlier n (ap (λ b. b || has names n) (name_itself n)) (above_all n name names sorted.0 there)) ∙ rest there
+
+  none_to : (names : List (List ℕ)) → ((name : List ℕ) → has names name ≡ true → fault name ≡ None) → first_named names ≡ None
+  none_to [] none = refl
+  none_to (n ∷ names) none =
+      step n names None (none n (ap (λ b. b || has names n) (name_itself n))) ∙ none_to names (λ name is. none name (or_right (is_name name n) (has names name) is))
+
+  none_from : (names : List (List ℕ)) → first_named names ≡ None → (name : List ℕ) → has names name ≡ true → fault name ≡ None
+  none_from [] none name there = absurd (cc)
+  none_from (n ∷ names) none name there = by (fault n) refl (sym (step n names (fault n) refl) ∙ none) (none_from names)
+    where
+      by : (o : Option ℕ) → fault n ≡ o → option_or (option_map (λ line. (n, line)) o) (first_named names) ≡ None →
+          (first_named names ≡ None → (other : List ℕ) → has names other ≡ true → fault other ≡ None) → fault name ≡ None
+      by None is none rest = elim (or_cases (is_name name n) (has names name) there) [
+        | inl same ↦ ap fault (name_exact name n same) ∙ is
+        | inr others ↦ rest none name others
+      ]
+      by (Some line) is none rest = absurd (cc)
+
+  -- what is found is the first of these names that has a fault
+  pub record IsFirstOf (names : List (List ℕ)) (name : List ℕ) (line : ℕ) : Type 0 where
+    pub there : has names name ≡ true
+    pub faulty : fault name ≡ Some line
+    pub earlier : NoneBelow names name
+
+  first_from : (names : List (List ℕ)) (name : List ℕ) (line : ℕ) → IsStrictlySortedBy bytes_cmp names → first_named names ≡ Some (name, line) → IsFirstOf names name line
+  unfolding IsStrictlySortedBy
+  first_from [] name line sorted first = absurd (cc)
+  first_from (n ∷ names) name line sorted first = by (fault n) refl (sym (step n names (fault n) refl) ∙ first) (first_from names name line sorted.1)
+    where
+      by : (o : Option ℕ) → fault n ≡ o → option_or (option_map (λ l. (n, l)) o) (first_named names) ≡ Some (name, line) →
+          (first_named names ≡ Some (name, line) → IsFirstOf names name line) → IsFirstOf (n ∷ names) name line
+      by None is first rest =
+          let found = rest first in
+          record {
+            there = or_right (is_name name n) (has names name) found.there;
+            faulty = found.faulty;
+            earlier = λ other there less. elim (or_cases (is_name other n) (has names other) there) [
+              | inl same ↦ ap fault (name_exact other n same) ∙ is
+              | inr others ↦ found.earlier other others less
+            ];
+          }
+      by (Some l) is first rest =
+          let same : (n, l) ≡ (name, line) = some_same (n, l) (name, line) first in
+          let same_name : n ≡ name = ap (λ (p : List ℕ × ℕ). p.0) same in
+          let same_line : l ≡ line = ap (λ (p : List ℕ × ℕ). p.1) same in
+          subst (λ k. IsFirstOf (n ∷ names) k line) same_name (record {
+            there = ap (λ b. b || has names n) (name_itself n);
+            faulty = is ∙ ap (λ k. Some k) same_line;
+            earlier = λ other there less. elim (or_cases (is_name other n) (has names other) there) [
+              | inl equal ↦ absurd (both_ways _ (less_is_other other n less) equal)
+              | inr others ↦ not_both_less n other (above_all n other names sorted.0 others) less
+            ];
+          })
+
+-- ---- the units that have a file or a drop-in
+
+has_by_test : {X : Type 0} (p : X → Bool) (f : X → List (List ℕ)) (name : List ℕ) → ((x : X) → p x ≡ true → has (f x) name ≡ true) → (xs : List X) → list_any p xs ≡ true → has (flat_map f xs) name ≡ true
+has_by_test p f name gives [] some = absurd (cc)
+has_by_test p f name gives (x ∷ xs) some = has-append (f x) (flat_map f xs) name ∙ elim (or_cases (p x) (list_any p xs) some) [
+  | inl first ↦ ap (λ b. b || has (flat_map f xs) name) (gives x first)
+  | inr rest ↦ or_right (has (f x) name) (has (flat_map f xs) name) (has_by_test p f name gives xs rest)
+]
+
+has_by_some : {X A : Type 0} (g : X → List A) (f : X → List (List ℕ)) (name : List ℕ) → ((x : X) → (length (g x) == 0) ≡ false → has (f x) name ≡ true) →
+    (xs : List X) → (length (flat_map g xs) == 0) ≡ false → has (flat_map f xs) name ≡ true
+has_by_some g f name gives [] some = absurd (cc)
+has_by_some {X} {A} g f name gives (x ∷ xs) some = has-append (f x) (flat_map f xs) name ∙ by (g x) refl some (has_by_some g f name gives xs)
+  where
+    by : (ys : List A) → g x ≡ ys → (length (ys ++ flat_map g xs) == 0) ≡ false → ((length (flat_map g xs) == 0) ≡ false → has (flat_map f xs) name ≡ true) → (has (f x) name || has (flat_map f xs) name) ≡ true
+    by [] is some rest = or_right (has (f x) name) (has (flat_map f xs) name) (rest some)
+    by (y ∷ ys) is some rest = ap (λ b. b || has (flat_map f xs) name) (gives x (ap (λ zs. length zs == 0) is ∙ some_more (length ys)))
+
+one_name : (unit other : List ℕ) → is_name other unit ≡ true → has (other ∷ []) unit ≡ true
+one_name unit other is = ap (λ b. b || false) (name_turned unit other ∙ is)
+
+at_file : (unit : List ℕ) (place : Option Place) → is_file unit place ≡ true → has (unit_at place) unit ≡ true
+at_file unit None is = absurd (cc)
+at_file unit (Some (File other)) is = one_name unit other is
+at_file unit (Some (DropIn other name)) is = absurd (cc)
+at_file unit (Some (Want other name)) is = absurd (cc)
+
+at_drop_in : (unit : List ℕ) (place : Option Place) (content : Option (List ℕ)) → (length (drop_in_at unit place content) == 0) ≡ false → has (unit_at place) unit ≡ true
+at_drop_in unit None content is = absurd (cc)
+at_drop_in unit (Some (File other)) content is = absurd (cc)
+at_drop_in unit (Some (Want other name)) content is = absurd (cc)
+at_drop_in unit (Some (DropIn other name)) None is = absurd (cc)
+at_drop_in unit (Some (DropIn other name)) (Some content) is = by (is_name other unit) refl is
+  where
+    by : (b : Bool) → is_name other unit ≡ b → (length {A = List ℕ × List ℕ} (cond b ((name, content) ∷ []) []) == 0) ≡ false → has (other ∷ []) unit ≡ true
+    by true same is = one_name unit other same
+    by false same is = absurd (cc)
+
+file_there : {X Y : Type 0} (x : X) (o : Option Y) → is_some (option_map (λ leaf. x) o) ≡ is_some o
+file_there x None = refl
+file_there x (Some leaf) = refl
+
+-- what has a fault has a file or drop-ins
+caused : (file : Option (Option (List ℕ))) (drop_ins : List (List ℕ)) (template : Option (List ℕ)) (all : List ℕ → List (List ℕ)) (line : ℕ) →
+    option_and_then (λ (part : Part). part.fault) (option_map (λ files. merged (map part_of files)) (option_map all (base_of file drop_ins template))) ≡ Some line →
+    (is_some file ≡ true) ⊎ ((length drop_ins == 0) ≡ false)
+caused (Some file) drop_ins template all line is = inl refl
+caused None [] template all line is = absurd (cc)
+caused None (drop_in ∷ drop_ins) template all line is = inr (some_more (length drop_ins))
+
+only_name : (unit other : List ℕ) → has (other ∷ []) unit ≡ true → unit ≡ other
+only_name unit other there = name_exact unit other (sym (or_false (is_name unit other)) ∙ there)
+
+none_or_some : {X : Type 0} (o : Option X) (x : X) → o ≡ None → o ≡ Some x → ⊥
+none_or_some o x none is = cc
+
+module _ (leaves : Leaves) (system : List ℕ) where
+  abbrev at_path : List ℕ → List (List ℕ)
+  at_path path = unit_at (place_of system path)
+
+  with_file : (unit : List ℕ) → IsUnitName unit → is_some (file_of leaves system unit) ≡ true → has (flat_map at_path (paths_of leaves system)) unit ≡ true
+  with_file unit named some =
+      has_by_test (λ path. is_file unit (place_of system path)) at_path unit (λ path. at_file unit (place_of system path)) (paths_of leaves system)
+      (among leaves system unit named ∙ sym (file_there (content_of leaves (path_of system unit)) (get leaves (path_of system unit))) ∙ some)
+
+  with_drop_ins : (unit : List ℕ) → (length (drop_ins_of leaves system unit) == 0) ≡ false → has (flat_map at_path (paths_of leaves system)) unit ≡ true
+  with_drop_ins unit some =
+      has_by_some (λ path. drop_in_at unit (place_of system path) (content_of leaves path)) at_path unit (λ path. at_drop_in unit (place_of system path) (content_of leaves path)) (paths_of leaves system)
+      (sym (none_exactly (flat_map (λ path. drop_in_at unit (place_of system path) (content_of leaves path)) (paths_of leaves system))) ∙ some)
+
+  -- a unit with a fault is among the units
+  faulty_there : (unit : List ℕ) (line : ℕ) → IsUnitName unit → own_fault leaves system unit ≡ Some line → has (units_of leaves system) unit ≡ true
+  faulty_there unit line named faulty = has_in_order (flat_map at_path (paths_of leaves system)) unit ∙ elim (by faulty) [
+    | inl file ↦ with_file unit named file
+    | inr drop_ins ↦ with_drop_ins unit drop_ins
+  ]
+    where
+      by : own_fault leaves system unit ≡ Some line → (is_some (file_of leaves system unit) ≡ true) ⊎ ((length (drop_ins_of leaves system unit) == 0) ≡ false)
+      by is = caused (file_of leaves system unit) (drop_ins_of leaves system unit) (option_and_then (λ name. option_and_then (λ file. file) (file_of leaves system name)) (template_of unit))
+          (λ file. file ∷ option_map_or (drop_ins_of leaves system) (template_of unit) [] ++ drop_ins_of leaves system unit) line is
+
+  named_at : (unit : List ℕ) (path : List ℕ) (place : Option Place) → place_of system path ≡ place → has (unit_at place) unit ≡ true → IsUnitName unit
+  named_at unit path None is there = absurd (cc)
+  named_at unit path (Some (Want other name)) is there = absurd (cc)
+  named_at unit path (Some (File other)) is there = subst IsUnitName (sym (only_name unit other there)) ((places_named system path (File other)).0 is).0
+  named_at unit path (Some (DropIn other name)) is there = subst IsUnitName (sym (only_name unit other there)) ((places_named system path (DropIn other name)).0 is).0
+
+  all_named : (unit : List ℕ) (paths : List (List ℕ)) → has (flat_map at_path paths) unit ≡ true → IsUnitName unit
+  all_named unit [] there = absurd (cc)
+  all_named unit (path ∷ paths) there = elim (or_cases (has (at_path path) unit) (has (flat_map at_path paths) unit) (sym (has-append (at_path path) (flat_map at_path paths) unit) ∙ there)) [
+    | inl first ↦ named_at unit path (place_of system path) refl first
+    | inr rest ↦ all_named unit paths rest
+  ]
+
+  -- each of the units has the name of one
+  units_named : (unit : List ℕ) → has (units_of leaves system) unit ≡ true → IsUnitName unit
+  units_named unit there = all_named unit (paths_of leaves system) (sym (has_in_order (flat_map at_path (paths_of leaves system)) unit) ∙ there)
+
+  no_fault_of : (unit : List ℕ) (o : Option ℕ) → own_fault leaves system unit ≡ o → ((line : ℕ) → own_fault leaves system unit ≡ Some line → ⊥) → own_fault leaves system unit ≡ None
+  no_fault_of unit None is lacks = is
+  no_fault_of unit (Some line) is lacks = absurd (lacks line is)
+
+  -- the first fault is found
+  pub first_is_found : (unit : List ℕ) (line : ℕ) → IsFirstFault leaves system unit line → first_fault_of leaves system ≡ Some (unit, line)
+  first_is_found unit line first =
+      first_to (own_fault leaves system) (units_of leaves system) unit line (in_order_sorted (flat_map at_path (paths_of leaves system)))
+      (faulty_there unit line first.named first.faulty) first.faulty (λ other there less. first.earlier other (units_named other there) less)
+
+  -- where no file is faulty none is found
+  pub none_is_found : HasNoFault leaves system → first_fault_of leaves system ≡ None
+  none_is_found none = none_to (own_fault leaves system) (units_of leaves system) (λ unit there. none unit (units_named unit there))
+
+  -- what is found is the first fault
+  pub found_is_first : (unit : List ℕ) (line : ℕ) → first_fault_of leaves system ≡ Some (unit, line) → IsFirstFault leaves system unit line
+  found_is_first unit line is =
+      let first = first_from (own_fault leaves system) (units_of leaves system) unit line (in_order_sorted (flat_map at_path (paths_of leaves system))) is in
+      record {
+        named = units_named unit first.there;
+        faulty = first.faulty;
+        earlier = λ other named less. no_fault_of other (own_fault leaves system other) refl (λ l faulty.
+            none_or_some (own_fault leaves system other) l (first.earlier other (faulty_there other l named faulty) less) faulty);
+      }
+
+  -- where none is found no file is faulty
+  pub found_none : first_fault_of leaves system ≡ None → HasNoFault leaves system
+  found_none is = λ unit named. no_fault_of unit (own_fault leaves system unit) refl (λ line faulty.
+      none_or_some (own_fault leaves system unit) line (none_from (own_fault leaves system) (units_of leaves system) is unit (faulty_there unit line named faulty)) faulty)
