@@ -6,6 +6,8 @@ mod duty;
 pub mod laws;
 mod owed;
 mod planning;
+#[cfg(test)]
+mod tests;
 
 pub use duty::{Duty, calls};
 pub use owed::Owed;
