@@ -1,2 +1,3 @@
+pub mod Known
 pub mod Plan
 pub mod System

@@ -8,6 +8,7 @@ use Rattle.owed_plan.specs.declared.owed.Owed.{Owed}
 use Rattle.owed_plan.specs.Calls.{calls_of}
 use Rattle.owed_plan.specs.Owed.{IsPlan}
 use Rattle.owed_plan.specs.Systems.{systems_at}
+use Rattle.unit_defs.specs.Defs.{AreDefsOf}
 use Rattle.switch_engine.specs.declared.plan.Plan.{Plan}
 use Rattle.switch_engine.specs.System.{current_system}
 
@@ -16,9 +17,10 @@ pub record IsOwedIn (w : WorldState) (system : List ℕ) (lists : Lists) (owed :
   pub listed : AreListsOf w.leaves lists
   pub planned : IsPlan (systems_at w.leaves (current_system w.leaves) system) (state_of w.manager.states) lists owed
 
--- the plan of a switch to a system: what is owed, and the calls by which it is given
+-- the plan of a switch to a system: the units that it defines, what is owed, and the calls by which it is given
 pub record IsPlanOf (system : List ℕ) (w : WorldState) (plan : Plan) : Type 0 where
   pub from : plan.from ≡ current_system w.leaves
   pub to : plan.to ≡ system
+  pub defs : AreDefsOf w.leaves system plan.defs
   pub owed : (lists : Lists) × IsOwedIn w system lists plan.owed
   pub duties : plan.duties ≡ calls_of plan.owed (state_of w.manager.states)

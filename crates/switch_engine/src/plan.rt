@@ -17,6 +17,25 @@ pub struct Plan {
 }
 
 impl Plan {
+    /// A plan of these parts.
+    pub(crate) fn new(
+        from: Option<SystemName>,
+        to: SystemName,
+        defs: Defs,
+        owed: Owed,
+        duties: Listed<Duty>,
+    ) -> Plan
+        ensures { result ≡ record { from = from; to = to; defs = defs; owed = owed; duties = duties } }
+    {
+        Plan {
+            from,
+            to,
+            defs,
+            owed,
+            duties,
+        }
+    }
+
     /// The system that is in use, where there is one.
     pub fn from(&self) -> Option<&SystemName>
         ensures { option_copied result ≡ self.now.from }

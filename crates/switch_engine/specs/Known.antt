@@ -1,0 +1,38 @@
+-- What is read of a world before a switch is planned: NixOS manual, "What happens during a system switch?".
+use Rattle.std.specs.Prelude.{◌≡◌, ℕ, List}
+use Rattle.host_trait.specs.States.{state_of}
+use Rattle.host_trait.specs.World.{Leaves, WorldState}
+use Rattle.owed_lists.specs.Lists.{AreListsOf}
+use Rattle.owed_plan.specs.Calls.{calls_of}
+use Rattle.owed_plan.specs.Owed.{IsPlan}
+use Rattle.owed_plan.specs.Systems.{AreOldDefs, systems_in}
+use Rattle.unit_defs.specs.Defs.{AreDefsOf}
+use Rattle.switch_engine.specs.declared.known.Known.{Known}
+use Rattle.switch_engine.specs.declared.known.OldSystem.{OldSystem}
+use Rattle.switch_engine.specs.declared.known.UnitStates.{UnitStates}
+use Rattle.switch_engine.specs.declared.plan.Plan.{Plan}
+use Rattle.switch_engine.specs.System.{current_system}
+
+-- this is the system in use, with its units
+pub record IsOldOf (leaves : Leaves) (old : OldSystem) : Type 0 where
+  pub name : old.name ≡ current_system leaves
+  pub defs : AreOldDefs leaves (current_system leaves) old.defs
+
+-- these are the states of the units and the lists of a world
+pub record AreStatesOf (w : WorldState) (units : UnitStates) : Type 0 where
+  pub states : units.states ≡ w.manager.states
+  pub lists : AreListsOf w.leaves units.lists
+
+-- all this is so in a world
+pub record IsKnownOf (system : List ℕ) (w : WorldState) (known : Known) : Type 0 where
+  pub old : IsOldOf w.leaves known.old
+  pub new : AreDefsOf w.leaves system known.new
+  pub units : AreStatesOf w known.units
+
+-- the plan of a switch to a system by what is known
+pub record IsPlanBy (system : List ℕ) (known : Known) (plan : Plan) : Type 0 where
+  pub from : plan.from ≡ known.old.name
+  pub to : plan.to ≡ system
+  pub defs : plan.defs ≡ known.new
+  pub owed : IsPlan (systems_in known.old.defs known.new) (state_of known.units.states) known.units.lists plan.owed
+  pub duties : plan.duties ≡ calls_of plan.owed (state_of known.units.states)
