@@ -1,9 +1,11 @@
 //! The calls by which what is owed is given, worked out by hand.
-use crate::{Duty, Owed, calls};
+use crate::{Duty, Owed, calls, plan};
 use host_trait::{Act, State, States};
+use owed_lists::Lists;
 use std::alloc::{AllocError, Global};
 use std::test::Fail;
 use switch_names::{Listed, NameFault, UnitName};
+use unit_defs::Defs;
 
 /// The units that a row names, with a blank between them.
 fn units(alloc: Global, row: &str) -> Result<Listed<UnitName>, NameFault> {
@@ -209,5 +211,22 @@ fn what_is_owed_is_given_by_these_calls(rt: HostRuntime) -> Result<(), Fail> {
         let got = calls(alloc, &owed, &states)?;
         assert_eq!(rt; shown(alloc, &got)?.as_str(), *want, "{name}");
     }
+    Ok(())
+}
+
+#[test]
+fn nothing_is_owed_between_systems_without_units(rt: HostRuntime) -> Result<(), Fail> {
+    let alloc = rt.alloc();
+    let none = Defs::none(alloc);
+    let states = states_of(alloc, "a.service multi-user.target", "b.service")?;
+    let lists = Lists {
+        starts: units(alloc, "c.service d.target")?,
+        restarts: units(alloc, "a.service")?,
+        reloads: units(alloc, "b.service")?,
+    };
+    let owed = plan(alloc, &none, &none, &states, &lists, &Listed::new(alloc))?;
+    assert_eq!(rt; owed.left.as_slice().len(), 0);
+    let got = calls(alloc, &owed, &states)?;
+    assert_eq!(rt; shown(alloc, &got)?.as_str(), "");
     Ok(())
 }
