@@ -1,2 +1,3 @@
 pub mod ActLemmas
 pub mod CallLemmas
+pub mod TableLemmas
