@@ -1,5 +1,5 @@
 -- Calls on units, one after the other, and what a cut may leave of them.
-use Rattle.std.proofs.Common.{◌≡◌, ◌⊎◌, ℕ, ◌+◌, List, [], ◌∷◌, ◌++◌, map, take, Some, refl, sym, ap, ◌∙◌, subst, ⊎_elim, zero, suc}
+use Rattle.std.proofs.Common.{◌≡◌, ℕ, ◌+◌, List, [], ◌∷◌, ◌++◌, map, take, Some, refl, sym, ap, ◌∙◌, subst, ⊎_elim, zero, suc}
 use Rattle.std.proofs.lemmas.List.{append-nil, append_assoc, take_more}
 use Rattle.std.proofs.lemmas.Option.{get_or_from_slice_get, slice_get_within}
 use Rattle.std.specs.List.{slice_get}
