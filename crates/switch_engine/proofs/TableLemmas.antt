@@ -80,16 +80,9 @@ table false false true false is Active = refl
 table false false true false is Inactive = refl
 table false false true false is Failed = refl
 
-module _ (owed : Owed) (states : Name → State) (manager : ManagerState) where
-  abbrev reload_of : Name → Act
-  reload_of unit = reload_act states owed.stops unit
-
+module _ (owed : Owed) (manager : ManagerState) where
   pub can_stops : CanPerform (stop_calls owed) manager
   can_stops = can_stop (sockets_first unit_kind owed.stops) manager
-
-  -- the reloads can be made after the stops
-  pub can_reloads : ((unit : Name) → state_of manager.states unit ≡ (if has owed.stops unit then Inactive else states unit)) → CanPerform (reload_calls owed states) manager
-  can_reloads stopped = can_act reload_of owed.reloads manager (λ unit reload. stopped unit ∙ still_active (has owed.stops unit) (states unit) reload)
 
   pub can_restarts : CanPerform (restart_calls owed) manager
   can_restarts = can_restart owed.restarts manager
@@ -103,17 +96,25 @@ module _ (owed : Owed) (states : Name → State) (manager : ManagerState) where
       after_stops (sockets_first unit_kind owed.stops) manager unit
       ∙ ap (λ b. after_stop b (state_of manager.states unit)) (has-sockets_first unit_kind owed.stops unit)
 
-  -- what is told to reload stays active, and what is started in its place becomes so or fails
-  pub after_reloads : (unit : Name) → state_of manager.states unit ≡ (if has owed.stops unit then Inactive else states unit) →
-      state_of (performed (reload_calls owed states) manager).states unit
-      ≡ (
-      if has owed.reloads unit then if is_active (states unit) && not (has owed.stops unit) then Active else brought_by manager.loaded manager.bad unit
-      else if has owed.stops unit then Inactive
-      else states unit)
-  after_reloads unit stopped =
-      brought_to reload_of owed.reloads manager manager.loaded manager.bad unit (after_stop (has owed.stops unit) (states unit)) refl refl stopped
-      ∙ ap (λ state. if has owed.reloads unit then state else after_stop (has owed.stops unit) (states unit))
-      (reloaded (has owed.stops unit) (brought_by manager.loaded manager.bad unit) (states unit) manager.loaded manager.bad unit refl)
+  module _ (states : Name → State) where
+    abbrev reload_of : Name → Act
+    reload_of unit = reload_act states owed.stops unit
+
+    -- the reloads can be made after the stops
+    pub can_reloads : ((unit : Name) → state_of manager.states unit ≡ (if has owed.stops unit then Inactive else states unit)) → CanPerform (reload_calls owed states) manager
+    can_reloads stopped = can_act reload_of owed.reloads manager (λ unit reload. stopped unit ∙ still_active (has owed.stops unit) (states unit) reload)
+
+    -- what is told to reload stays active, and what is started in its place becomes so or fails
+    pub after_reloads : (unit : Name) → state_of manager.states unit ≡ (if has owed.stops unit then Inactive else states unit) →
+        state_of (performed (reload_calls owed states) manager).states unit
+        ≡ (
+        if has owed.reloads unit then if is_active (states unit) && not (has owed.stops unit) then Active else brought_by manager.loaded manager.bad unit
+        else if has owed.stops unit then Inactive
+        else states unit)
+    after_reloads unit stopped =
+        brought_to reload_of owed.reloads manager manager.loaded manager.bad unit (after_stop (has owed.stops unit) (states unit)) refl refl stopped
+        ∙ ap (λ state. if has owed.reloads unit then state else after_stop (has owed.stops unit) (states unit))
+        (reloaded (has owed.stops unit) (brought_by manager.loaded manager.bad unit) (states unit) manager.loaded manager.bad unit refl)
 
 -- a manager after all that is owed, in four steps with the definitions loaded after the first
 module _ (owed : Owed) (text : List ℕ) (before : ManagerState) where
@@ -143,7 +144,7 @@ module _ (owed : Owed) (text : List ℕ) (before : ManagerState) where
       let bad_restarted = same_bad (restart_calls owed) reloaded_all ∙ bad_reloaded in
       let loaded_restarted = same_loaded (restart_calls owed) reloaded_all ∙ loaded_reloaded in
       let reloads : state_of reloaded_all.states unit ≡ after_reload (has owed.reloads unit) stops to (states unit) =
-      after_reloads owed states ready unit (after_all_stops owed states before unit)
+      after_reloads owed ready states unit (after_all_stops owed before unit)
       ∙ ap (λ bad. after_reload (has owed.reloads unit) stops (brought_by text bad unit) (states unit)) bad_ready in
       let restarts = brought_to (λ u. Restart) owed.restarts reloaded_all text before.bad unit (after_reload (has owed.reloads unit) stops to (states unit)) loaded_reloaded bad_reloaded reloads in
       brought_to (λ u. Start) owed.starts restarted_all text before.bad unit (if has owed.restarts unit then to else after_reload (has owed.reloads unit) stops to (states unit)) loaded_restarted bad_restarted restarts
@@ -169,5 +170,5 @@ module _ (owed : Owed) (text : List ℕ) (before : ManagerState) where
   can_rest =
       can-append (reload_calls owed states ++ restart_calls owed) (start_calls owed) ready
       (can-append (reload_calls owed states) (restart_calls owed) ready
-      (can_reloads owed states ready (λ unit. after_all_stops owed states before unit)) (can_restarts owed states (performed (reload_calls owed states) ready)))
-      (can_starts owed states (performed (reload_calls owed states ++ restart_calls owed) ready))
+      (can_reloads owed ready states (λ unit. after_all_stops owed before unit)) (can_restarts owed (performed (reload_calls owed states) ready)))
+      (can_starts owed (performed (reload_calls owed states ++ restart_calls owed) ready))
