@@ -18,10 +18,22 @@ duty act unit = record { act = act; unit = unit }
 abbrev pub reload_act : (Name → State) → List Name → Name → Act
 reload_act states stops unit = if is_active (states unit) && not (has stops unit) then Reload else Start
 
+-- the stops, sockets first
+abbrev pub stop_calls : Owed → List Duty
+stop_calls owed = map (duty Stop) (sockets_first unit_kind owed.stops)
+
+-- the reloads, given the states before the stops
+abbrev pub reload_calls : Owed → (Name → State) → List Duty
+reload_calls owed states = map (λ unit. duty (reload_act states owed.stops unit) unit) owed.reloads
+
+-- the restarts
+abbrev pub restart_calls : Owed → List Duty
+restart_calls owed = map (duty Restart) owed.restarts
+
+-- the starts
+abbrev pub start_calls : Owed → List Duty
+start_calls owed = map (duty Start) owed.starts
+
 -- the stops, sockets first; then reloads, restarts and starts
 abbrev pub calls_of : Owed → (Name → State) → List Duty
-calls_of owed states =
-    map (duty Stop) (sockets_first unit_kind owed.stops)
-    ++ map (λ unit. duty (reload_act states owed.stops unit) unit) owed.reloads
-    ++ map (duty Restart) owed.restarts
-    ++ map (duty Start) owed.starts
+calls_of owed states = stop_calls owed ++ reload_calls owed states ++ restart_calls owed ++ start_calls owed

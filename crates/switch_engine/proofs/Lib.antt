@@ -1,2 +1,5 @@
+pub mod ActLemmas
+pub mod CallLemmas
 pub mod KnownLemmas
 pub mod PullLemmas
+pub mod TableLemmas

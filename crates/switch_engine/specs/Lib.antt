@@ -1,3 +1,4 @@
+pub mod Acts
 pub mod Known
 pub mod Plan
 pub mod System

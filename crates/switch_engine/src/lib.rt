@@ -1,6 +1,7 @@
-//! Plans a switch to a system, before anything is put or changed.
+//! Plans a switch to a system before anything is put or changed, and makes its calls on units.
 #![tactic(auto)]
 
+mod acting;
 mod known;
 mod plan;
 mod plan_fault;
@@ -8,6 +9,7 @@ mod planning;
 mod refusal;
 mod system;
 
+pub use acting::call_units;
 pub use plan::Plan;
 pub use plan_fault::PlanFault;
 pub use planning::plan_units;
