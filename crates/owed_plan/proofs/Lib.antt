@@ -1,9 +1,9 @@
 pub mod ActiveLemmas
 pub mod CoreLemmas
+pub mod DecisionLemmas
 pub mod ListLemmas
 pub mod NameLemmas
 pub mod PartLemmas
 pub mod PlanLemmas
 pub mod PrefixLemmas
-pub mod RulingLemmas
 pub mod SteadyLemmas
