@@ -6,7 +6,7 @@ use host_memory::{MemoryHost, MemorySink};
 use host_trait::{Leaf, State, World, stage_path};
 use std::alloc::Global;
 use std::test::Fail;
-use switch_names::{Bytes, Path, UnitName};
+use switch_names::{Bytes, Path, Text, UnitName};
 
 /// A row of the table: what it shows, the unit files, the words, and how the run ends.
 struct Row {
@@ -119,47 +119,69 @@ fn dry_run(
     Ok(run(alloc, words.as_slice(), host, out))
 }
 
+/// The number of a run's status, what it says, the sink, and whether the host is unchanged.
+type End = (u8, Text, MemorySink, bool);
+
+/// How a dry run of a switch to a system ends.
+fn end_of(alloc: Global, units: &[(&str, &str)], system: &str) -> Result<End, Fail> {
+    let mut host = MemoryHost::new(alloc, world_of(alloc, units)?);
+    let mut out = ample_sink(alloc)?;
+    let status = dry_run(alloc, &mut host, &mut out, system)?;
+    let said = status.text(alloc)?;
+    let is_same = is_unchanged(alloc, &host, units)?;
+    Ok((status.number(), said, out, is_same))
+}
+
 #[test]
 fn a_dry_run_says_what_a_switch_does_to_the_units(rt: HostRuntime) -> Result<(), Fail> {
-    let alloc = rt.alloc();
     for row in ROWS {
-        let mut host = MemoryHost::new(alloc, world_of(alloc, row.units)?);
-        let mut out = ample_sink(alloc)?;
-        let status = dry_run(alloc, &mut host, &mut out, row.system)?;
+        let (status, said, out, is_same) = end_of(rt.alloc(), row.units, row.system)?;
+        let got = (status, said.as_str(), out.bytes(), is_same);
+        let want = (row.number, row.said, row.put.as_bytes(), true);
         let name = row.name;
-        assert_eq!(rt; status.number(), row.number, "{name}");
-        assert_eq!(rt; status.text(alloc)?.as_str(), row.said, "{name}");
-        assert_eq!(rt; out.bytes(), row.put.as_bytes(), "{name}");
-        assert!(rt; is_unchanged(alloc, &host, row.units)?, "{name}");
+        assert_eq!(rt; got, want, "{name}");
     }
     Ok(())
 }
 
+/// The number of the status of a dry run whose call with this number fails, the sink, and whether the host is unchanged.
+fn failing_run(alloc: Global, call: u64) -> Result<(u8, MemorySink, bool), Fail> {
+    let mut host = MemoryHost::new(alloc, world_of(alloc, &[OLD, NEW])?);
+    let mut out = ample_sink(alloc)?;
+    host.fail(numbers(alloc, &[call])?);
+    let status = dry_run(alloc, &mut host, &mut out, "nix/store/b-sys")?;
+    let is_same = is_unchanged(alloc, &host, &[OLD, NEW])?;
+    Ok((status.number(), out, is_same))
+}
+
 #[test]
 fn a_dry_run_that_fails_changes_nothing(rt: HostRuntime) -> Result<(), Fail> {
-    let alloc = rt.alloc();
-    let units = [OLD, NEW];
     let mut failed = 0;
     for call in 0..40 {
-        let mut host = MemoryHost::new(alloc, world_of(alloc, &units)?);
-        let mut out = ample_sink(alloc)?;
-        host.fail(numbers(alloc, &[call])?);
-        let status = dry_run(alloc, &mut host, &mut out, "nix/store/b-sys")?;
-        if status.number() == 3 {
+        let (status, out, is_same) = failing_run(rt.alloc(), call)?;
+        let is_failed = status == 3 && out.bytes().is_empty();
+        if is_failed {
             failed = call + 1;
-            assert_eq!(rt; out.bytes(), b"".as_slice(), "call {call}");
-        } else {
-            assert_eq!(rt; status.number(), 0, "call {call}");
         }
-        assert!(rt; is_unchanged(alloc, &host, &units)?, "call {call}");
+        let got = (is_failed || status == 0, is_same);
+        assert_eq!(rt; got, (true, true), "call {call}: {status}");
     }
     // The reads of a plan: the version, the link, the states, the unit files, and the lists.
     assert!(rt; failed > 5);
-    let mut host = MemoryHost::new(alloc, world_of(alloc, &units)?);
+    Ok(())
+}
+
+/// The number of the status of a dry run whose put fails, and whether the host is unchanged.
+fn unsaid_run(alloc: Global) -> Result<(u8, bool), Fail> {
+    let mut host = MemoryHost::new(alloc, world_of(alloc, &[OLD, NEW])?);
     let mut out = ample_sink(alloc)?;
     out.fail(numbers(alloc, &[0])?);
     let status = dry_run(alloc, &mut host, &mut out, "nix/store/b-sys")?;
-    assert_eq!(rt; status.number(), 6);
-    assert!(rt; is_unchanged(alloc, &host, &units)?);
+    Ok((status.number(), is_unchanged(alloc, &host, &[OLD, NEW])?))
+}
+
+#[test]
+fn a_dry_run_that_cannot_put_changes_nothing(rt: HostRuntime) -> Result<(), Fail> {
+    assert_eq!(rt; unsaid_run(rt.alloc())?, (6, true));
     Ok(())
 }

@@ -34,74 +34,90 @@ fn written(alloc: Global, gens: &Gens, system: &SystemName) -> Result<String, Al
     Ok(text)
 }
 
+/// What a row shows, the links, and the generations.
+const GENERATIONS: &[(&str, &[(&str, &str)], &str)] = &[
+    ("no links", &[], "None None Some(1)"),
+    (
+        "the numbers ascend, and other names are passed over",
+        &[
+            ("system", "system-2-link"),
+            ("system-0-link", "/nix/store/a"),
+            ("system-01-link", "/nix/store/a"),
+            ("system-1-link", "/nix/store/a"),
+            ("system-10-link", "/home/a"),
+            ("system-2-link", "nix/store/b"),
+            ("system-3-link.tmp", "/nix/store/a"),
+            ("system-4294967296-link", "/nix/store/a"),
+            ("user-3-link", "/nix/store/a"),
+        ],
+        "1 nix/store/a, 2 nix/store/b, 10 nothing, Some(2) Some(1) Some(11)",
+    ),
+    (
+        "the current one has to stand",
+        &[
+            ("system", "system-3-link"),
+            ("system-1-link", "/nix/store/a"),
+        ],
+        "1 nix/store/a, None None Some(2)",
+    ),
+    (
+        "the highest keeps its number for its system",
+        &[
+            ("system", "system-7-link"),
+            ("system-7-link", "/nix/store/b"),
+        ],
+        "7 nix/store/b, Some(7) None Some(7)",
+    ),
+    (
+        "none follows the last number",
+        &[("system-4294967295-link", "/nix/store/a")],
+        "4294967295 nix/store/a, None None None",
+    ),
+];
+
+/// What is found among these links, for a system.
+fn found(alloc: Global, links: &[(&str, &str)]) -> Result<String, Fail> {
+    let system = SystemName::parse(alloc, "nix/store/b")?;
+    let mut host = host_of(alloc, links)?;
+    let gens = all(alloc, &mut host)?;
+    Ok(written(alloc, &gens, &system)?)
+}
+
 #[test]
 fn generations_are_the_links_whose_names_are_written_so(rt: HostRuntime) -> Result<(), Fail> {
-    let alloc = rt.alloc();
-    let system = SystemName::parse(alloc, "nix/store/b")?;
-    let none: &[(&str, &str)] = &[];
-    let rows: [(&str, &[(&str, &str)], &str); 5] = [
-        ("no links", none, "None None Some(1)"),
-        (
-            "the numbers ascend, and other names are passed over",
-            &[
-                ("system", "system-2-link"),
-                ("system-0-link", "/nix/store/a"),
-                ("system-01-link", "/nix/store/a"),
-                ("system-1-link", "/nix/store/a"),
-                ("system-10-link", "/home/a"),
-                ("system-2-link", "nix/store/b"),
-                ("system-3-link.tmp", "/nix/store/a"),
-                ("system-4294967296-link", "/nix/store/a"),
-                ("user-3-link", "/nix/store/a"),
-            ],
-            "1 nix/store/a, 2 nix/store/b, 10 nothing, Some(2) Some(1) Some(11)",
-        ),
-        (
-            "the current one has to stand",
-            &[
-                ("system", "system-3-link"),
-                ("system-1-link", "/nix/store/a"),
-            ],
-            "1 nix/store/a, None None Some(2)",
-        ),
-        (
-            "the highest keeps its number for its system",
-            &[
-                ("system", "system-7-link"),
-                ("system-7-link", "/nix/store/b"),
-            ],
-            "7 nix/store/b, Some(7) None Some(7)",
-        ),
-        (
-            "none follows the last number",
-            &[("system-4294967295-link", "/nix/store/a")],
-            "4294967295 nix/store/a, None None None",
-        ),
-    ];
-    for (row, links, want) in rows {
-        let mut host = host_of(alloc, links)?;
-        let gens = all(alloc, &mut host)?;
-        let text = written(alloc, &gens, &system)?;
-        assert_eq!(rt; text.as_str(), want, "{row}");
+    for (row, links, want) in GENERATIONS {
+        let text = found(rt.alloc(), links)?;
+        assert_eq!(rt; text.as_str(), *want, "{row}");
     }
     Ok(())
 }
 
+/// A name, and its number.
+const NAMES: &[(&str, Option<u32>)] = &[
+    ("system-12-link", Some(12)),
+    ("system-012-link", None),
+    ("system", None),
+];
+
+/// The numbers that a name gives, that its path gives, and that it gives as a path.
+type Numbers = (Option<u32>, Option<u32>, Option<u32>);
+
+/// The numbers of a name.
+fn numbers_of(alloc: Global, name: &str) -> Result<Numbers, AllocError> {
+    let path = format!(in alloc; "nix/var/nix/profiles/{name}")?;
+    let by_name = number_of_name(alloc, name)?;
+    let by_path = number_of_path(alloc, path.as_str())?;
+    Ok((by_name, by_path, number_of_path(alloc, name)?))
+}
+
 #[test]
 fn a_link_bears_a_number_by_its_name_and_by_its_path(rt: HostRuntime) -> Result<(), Fail> {
-    let alloc = rt.alloc();
-    for (name, want) in [
-        ("system-12-link", Some(12)),
-        ("system-012-link", None),
-        ("system", None),
-    ] {
-        let path = format!(in alloc; "nix/var/nix/profiles/{name}")?;
-        assert_eq!(rt; number_of_name(alloc, name)?, want, "{name}");
-        assert_eq!(rt; number_of_path(alloc, path.as_str())?, want, "{name}");
+    for (name, want) in NAMES {
+        let got = numbers_of(rt.alloc(), name)?;
         assert_eq!(rt;
-            number_of_path(alloc, name)?,
-            None,
-            "{name} alone is no path of a link"
+            got,
+            (*want, *want, None),
+            "{name}, its path, and alone as a path"
         );
     }
     Ok(())

@@ -42,18 +42,23 @@ fn after_put_if_other(alloc: Global, leaf: &Leaf) -> Result<Result<bool, HostFau
     Ok(put_if_other(alloc, &mut host, &at, leaf))
 }
 
+/// What a removal answers on such a host, whether a read fails there, and the faults then.
+fn after_drop(alloc: Global) -> Result<(Option<HostFault>, bool, u64), AllocError> {
+    let at = place(alloc)?;
+    let mut host = fallen_host(alloc);
+    let dropped = drop_leaf(alloc, &mut host, &at).err();
+    let read = content(alloc, &mut host, &at);
+    let is_fault = matches!(read, Err(HostFault::Device));
+    Ok((dropped, is_fault, host.faults()))
+}
+
 #[test]
 fn every_call_fails_once_a_cut_has_fallen(rt: HostRuntime) -> Result<(), Fail> {
     let alloc = rt.alloc();
-    let at = place(alloc)?;
     let leaf = Leaf::link(alloc, "b")?;
     let device = Some(HostFault::Device);
     assert_eq!(rt; after_put(alloc, &leaf)?.err(), device);
     assert_eq!(rt; after_put_if_other(alloc, &leaf)?.err(), device);
-    let mut host = fallen_host(alloc);
-    assert_eq!(rt; drop_leaf(alloc, &mut host, &at).err(), device);
-    let read = content(alloc, &mut host, &at);
-    assert!(rt; matches!(read, Err(HostFault::Device)));
-    assert_eq!(rt; host.faults(), 3);
+    assert_eq!(rt; after_drop(alloc)?, (device, true, 3));
     Ok(())
 }
