@@ -4,4 +4,6 @@
 #[cfg(test)]
 mod defs_tests;
 #[cfg(test)]
+mod list_tests;
+#[cfg(test)]
 mod plan_tests;
