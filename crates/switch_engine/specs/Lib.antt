@@ -1,4 +1,5 @@
 pub mod Acts
+pub mod Final
 pub mod Known
 pub mod Plan
 pub mod System

@@ -2,7 +2,9 @@
 #![tactic(auto)]
 
 mod acting;
+mod carrying;
 mod known;
+mod outcome;
 mod plan;
 mod plan_fault;
 mod planning;
@@ -10,6 +12,8 @@ mod refusal;
 mod system;
 
 pub use acting::call_units;
+pub use carrying::carry_out;
+pub use outcome::Outcome;
 pub use plan::Plan;
 pub use plan_fault::PlanFault;
 pub use planning::plan_units;
