@@ -40,36 +40,51 @@ fn state_told<M: Manager>(alloc: Global, host: &mut M, unit: &UnitName) -> Optio
     }
 }
 
-#[test]
-fn what_one_host_has_done_another_reads(rt: HostRuntime) -> Result<(), Fail> {
+/// The state that a host tells of a unit, and its faults then.
+type Told = (Option<State>, u64);
+
+/// What a new host over a root tells of the unit.
+fn told_over<R: Files + AllocGlobal + Clone + Drop>(rt: &R, root: &str) -> Result<Told, Fail> {
     let alloc = rt.alloc();
     let unit = UnitName::parse(alloc, "a.service")?;
+    let mut host = FolderHost::open(rt, root)?;
+    let state = state_told(alloc, &mut host, &unit);
+    Ok((state, host.faults()))
+}
+
+/// What a new host over a root tells of the unit, whether it then starts the unit, and its faults.
+fn acted_over<R: Files + AllocGlobal + Clone + Drop>(
+    rt: &R,
+    root: &str,
+) -> Result<(Told, bool, u64), Fail> {
+    let alloc = rt.alloc();
+    let unit = UnitName::parse(alloc, "a.service")?;
+    let mut host = FolderHost::open(rt, root)?;
+    let state = state_told(alloc, &mut host, &unit);
+    let told = (state, host.faults());
+    let is_ok = load_and_start(alloc, &mut host, &unit).is_ok();
+    Ok((told, is_ok, host.faults()))
+}
+
+#[test]
+fn what_one_host_has_done_another_reads(rt: HostRuntime) -> Result<(), Fail> {
     write_root(&rt, "acted-root")?;
-    let mut first = FolderHost::open(&rt, "acted-root")?;
-    assert_eq!(rt; state_told(alloc, &mut first, &unit), Some(State::Inactive));
-    assert!(rt; load_and_start(alloc, &mut first, &unit).is_ok());
-    let mut second = FolderHost::open(&rt, "acted-root")?;
-    assert_eq!(rt; state_told(alloc, &mut second, &unit), Some(State::Active));
+    let acted = acted_over(&rt, "acted-root")?;
+    assert_eq!(rt; acted, ((Some(State::Inactive), 0), true, 0));
+    assert_eq!(rt; told_over(&rt, "acted-root")?, (Some(State::Active), 0));
     assert_eq!(rt;
         fs::read_to_string(&rt, "acted-root/manager")?.as_str(),
         "loaded /nix/store/a/etc\nactive a.service\nstart a.service /nix/store/a/etc\n"
     );
-    assert_eq!(rt; first.faults(), 0);
-    assert_eq!(rt; second.faults(), 0);
     Ok(())
 }
 
 #[test]
 fn a_state_that_cannot_be_read_is_counted(rt: HostRuntime) -> Result<(), Fail> {
-    let alloc = rt.alloc();
-    let unit = UnitName::parse(alloc, "a.service")?;
     write_root(&rt, "faulty-root")?;
     fs::write(&rt, "faulty-root/manager", "loaded\n")?;
-    let mut host = FolderHost::open(&rt, "faulty-root")?;
-    assert_eq!(rt; state_told(alloc, &mut host, &unit), None);
-    assert_eq!(rt; host.faults(), 1);
-    assert!(rt; load_and_start(alloc, &mut host, &unit).is_err());
-    assert_eq!(rt; host.faults(), 2);
+    let acted = acted_over(&rt, "faulty-root")?;
+    assert_eq!(rt; acted, ((None, 1), false, 2));
     assert_eq!(rt;
         fs::read_to_string(&rt, "faulty-root/manager")?.as_str(),
         "loaded\n"

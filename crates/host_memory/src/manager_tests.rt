@@ -175,8 +175,12 @@ const ROWS: &[(Option<Act>, bool, Option<u64>, &str)] = &[
 fn an_act_on_an_active_unit_leaves_its_row_of_the_table(rt: HostRuntime) -> Result<(), Fail> {
     for (act, is_bad, pick, want) in ROWS {
         let (is_whole, left) = end_of(rt.alloc(), *act, *is_bad, *pick)?;
-        assert_eq!(rt; left.as_str(), *want, "{act:?} at {pick:?}, bad: {is_bad}");
-        assert_eq!(rt; is_whole, pick.is_none(), "{act:?} at {pick:?}");
+        let got = (left.as_str(), is_whole);
+        assert_eq!(rt;
+            got,
+            (*want, pick.is_none()),
+            "{act:?} at {pick:?}, bad: {is_bad}"
+        );
     }
     Ok(())
 }
@@ -193,23 +197,29 @@ fn started(alloc: Global, is_bad: bool) -> Result<(String, Option<State>), Fail>
     Ok((written(alloc, host.world())?, state))
 }
 
+/// Whether the unit is bad, what a start leaves, and the unit's state.
+const STARTS: &[(bool, &str, State)] = &[
+    (
+        false,
+        "a.service Active /old Start a.service /old",
+        State::Active,
+    ),
+    (
+        true,
+        "a.service Failed /old Start a.service /old",
+        State::Failed,
+    ),
+];
+
 #[test]
 fn a_start_fails_where_the_unit_is_bad(rt: HostRuntime) -> Result<(), Fail> {
-    for (is_bad, want, state) in [
-        (
-            false,
-            "a.service Active /old Start a.service /old",
-            State::Active,
-        ),
-        (
-            true,
-            "a.service Failed /old Start a.service /old",
-            State::Failed,
-        ),
-    ] {
-        let (left, told) = started(rt.alloc(), is_bad)?;
-        assert_eq!(rt; left.as_str(), want, "bad: {is_bad}");
-        assert_eq!(rt; told, Some(state), "bad: {is_bad}");
+    for (is_bad, want, state) in STARTS {
+        let (left, told) = started(rt.alloc(), *is_bad)?;
+        assert_eq!(rt;
+            (left.as_str(), told),
+            (*want, Some(*state)),
+            "bad: {is_bad}"
+        );
     }
     Ok(())
 }

@@ -6,6 +6,7 @@ ghost use Rattle.host_trait.specs.World.{IsClear, empty_world, is_in_line, stage
 use super::*;
 use host_trait::{HostFault, Leaf, LeafKind, Sink, Tree, World, fixed_path, stage_path};
 use std::alloc::{AllocError, Global};
+use std::process::Abort;
 use std::test::Fail;
 use switch_names::{Bytes, Listed, Path};
 
@@ -17,31 +18,39 @@ fn listed(alloc: Global, numbers: &[u64]) -> Result<Listed<u64>, AllocError> {
     Ok(Listed::from_vec(numbers.to_vec(alloc)?))
 }
 
+/// A text, whether it is put whole, and the bytes and the faults of the sink then.
+type Put = (&'static str, bool, &'static str, u64);
+
+const FIRST_PUTS: &[Put] = &[
+    ("abc", true, "abc", 0),
+    ("defgh", true, "abcdefgh", 0),
+    ("", true, "abcdefgh", 0),
+    ("i", false, "abcdefgh", 1),
+];
+
+const LATER_PUTS: &[Put] = &[
+    ("i", true, "abcdefghi", 1),
+    ("j", false, "abcdefghi", 2),
+    ("jk", false, "abcdefghij", 3),
+];
+
+/// Puts the texts of these rows.
+fn put_rows(rt: &impl Abort, sink: &mut MemorySink, rows: &[Put]) {
+    for (text, is_ok, bytes, faults) in rows {
+        assert_eq!(rt; put(sink, text), *is_ok, "at {text}");
+        assert_eq!(rt; sink.bytes(), bytes.as_bytes(), "at {text}");
+        assert_eq!(rt; sink.faults(), *faults, "at {text}");
+    }
+}
+
 #[test]
 fn a_put_appends_what_fits_and_a_listed_put_nothing(rt: HostRuntime) -> Result<(), Fail> {
     let mut sink = MemorySink::new(rt.alloc());
     sink.room(8)?;
-    for (text, is_ok, bytes, faults) in [
-        ("abc", true, "abc", 0),
-        ("defgh", true, "abcdefgh", 0),
-        ("", true, "abcdefgh", 0),
-        ("i", false, "abcdefgh", 1),
-    ] {
-        assert_eq!(rt; put(&mut sink, text), is_ok, "at {text}");
-        assert_eq!(rt; sink.bytes(), bytes.as_bytes(), "at {text}");
-        assert_eq!(rt; sink.faults(), faults, "at {text}");
-    }
+    put_rows(&rt, &mut sink, FIRST_PUTS);
     sink.room(2)?;
     sink.fail(listed(rt.alloc(), &[1])?);
-    for (text, is_ok, bytes, faults) in [
-        ("i", true, "abcdefghi", 1),
-        ("j", false, "abcdefghi", 2),
-        ("jk", false, "abcdefghij", 3),
-    ] {
-        assert_eq!(rt; put(&mut sink, text), is_ok, "at {text}");
-        assert_eq!(rt; sink.bytes(), bytes.as_bytes(), "at {text}");
-        assert_eq!(rt; sink.faults(), faults, "at {text}");
-    }
+    put_rows(&rt, &mut sink, LATER_PUTS);
     Ok(())
 }
 
@@ -73,11 +82,11 @@ fn mode_at(world: &World, at: &Path) -> Option<u16> {
     }
 }
 
-/// How `put_and_remove` ends on an empty host: whether it is whole, and the files at the stage and the place.
-fn end_of(
-    alloc: Global,
-    host: &mut MemoryHost,
-) -> Result<(bool, Option<u16>, Option<u16>), AllocError>
+/// Whether an end is whole, and the modes of the files at the stage and the place.
+type End = (bool, Option<u16>, Option<u16>);
+
+/// How `put_and_remove` ends on an empty host.
+fn end_of(alloc: Global, host: &mut MemoryHost) -> Result<End, AllocError>
     requires { (host_of host.old).world ≡ Some empty_world }
 {
     let to = place(alloc)?;
@@ -102,54 +111,75 @@ fn count_at_place(alloc: Global, host: &mut MemoryHost) -> Result<Option<usize>,
     })
 }
 
+/// How `put_and_remove` ends on an empty host, whether the host then reads, and its faults.
+fn outcome(alloc: Global, host: &mut MemoryHost) -> Result<(End, bool, u64), AllocError>
+    requires { (host_of host.old).world ≡ Some empty_world }
+{
+    let end = end_of(alloc, host)?;
+    let is_read = may_read(alloc, host)?;
+    Ok((end, is_read, host.faults()))
+}
+
+/// How many leaves a host lists at the place once it is revived, and whether it reads.
+fn revived(alloc: Global, host: &mut MemoryHost) -> Result<(Option<usize>, bool), AllocError> {
+    host.revive();
+    Ok((count_at_place(alloc, host)?, may_read(alloc, host)?))
+}
+
+/// What a host that is cut gives, and what it gives once it is revived.
+type Cut = ((End, bool, u64), (Option<usize>, bool));
+
+/// What a host gives whose call after so many is cut with this pick.
+fn cut_at(alloc: Global, after: u64, pick: u64) -> Result<Cut, AllocError> {
+    let mut host = MemoryHost::new(alloc, World::new(alloc));
+    host.arm(after, pick);
+    Ok((outcome(alloc, &mut host)?, revived(alloc, &mut host)?))
+}
+
+/// The calls before a cut and its pick, the modes at the stage and the place, and the leaves at the place.
+const CUTS: &[(u64, u64, Option<u16>, Option<u16>, usize)] = &[
+    (0, 0, None, None, 0),
+    (0, 1, Some(0), None, 0),
+    (0, 2, Some(420), None, 0),
+    (0, 3, None, None, 0),
+    (1, 0, Some(420), None, 0),
+    (1, 1, None, Some(420), 1),
+    (1, 2, Some(420), None, 0),
+    (2, 0, None, Some(420), 1),
+    (2, 1, None, None, 0),
+    (2, 2, None, Some(420), 1),
+];
+
 #[test]
 fn a_cut_leaves_what_its_pick_gives(rt: HostRuntime) -> Result<(), Fail> {
-    for (after, pick, staged, put) in [
-        (0, 0, None, None),
-        (0, 1, Some(0), None),
-        (0, 2, Some(420), None),
-        (0, 3, None, None),
-        (1, 0, Some(420), None),
-        (1, 1, None, Some(420)),
-        (1, 2, Some(420), None),
-        (2, 0, None, Some(420)),
-        (2, 1, None, None),
-        (2, 2, None, Some(420)),
-    ] {
-        let mut host = MemoryHost::new(rt.alloc(), World::new(rt.alloc()));
-        host.arm(after, pick);
-        assert_eq!(rt;
-            end_of(rt.alloc(), &mut host)?,
-            (false, staged, put),
-            "at {after}, {pick}"
-        );
-        assert!(rt; !may_read(rt.alloc(), &mut host)?, "at {after}, {pick}");
-        assert_eq!(rt; host.faults(), 2, "at {after}, {pick}");
-        host.revive();
-        let count = count_at_place(rt.alloc(), &mut host)?;
-        assert_eq!(rt; count, Some(put.iter().count()), "at {after}, {pick}");
-        assert!(rt; may_read(rt.alloc(), &mut host)?, "at {after}, {pick}");
+    for (after, pick, staged, put, count) in CUTS {
+        let got = cut_at(rt.alloc(), *after, *pick)?;
+        let cut = ((false, *staged, *put), false, 2);
+        assert_eq!(rt; got, (cut, (Some(*count), true)), "at {after}, {pick}");
     }
     Ok(())
 }
 
+/// What a host gives whose call with this number fails.
+fn failing_at(alloc: Global, number: u64) -> Result<(End, bool, u64), AllocError> {
+    let mut host = MemoryHost::new(alloc, World::new(alloc));
+    host.fail(listed(alloc, &[number])?);
+    outcome(alloc, &mut host)
+}
+
+/// The number of a call that fails, and the end.
+const FAILURES: &[(u64, End)] = &[
+    (0, (false, None, None)),
+    (1, (false, Some(420), None)),
+    (2, (false, None, Some(420))),
+    (3, (true, None, None)),
+];
+
 #[test]
 fn a_listed_call_does_nothing(rt: HostRuntime) -> Result<(), Fail> {
-    for (number, is_whole, staged, put) in [
-        (0, false, None, None),
-        (1, false, Some(420), None),
-        (2, false, None, Some(420)),
-        (3, true, None, None),
-    ] {
-        let mut host = MemoryHost::new(rt.alloc(), World::new(rt.alloc()));
-        host.fail(listed(rt.alloc(), &[number])?);
-        assert_eq!(rt;
-            end_of(rt.alloc(), &mut host)?,
-            (is_whole, staged, put),
-            "at {number}"
-        );
-        assert_eq!(rt; may_read(rt.alloc(), &mut host)?, !is_whole, "at {number}");
-        assert_eq!(rt; host.faults(), 1, "at {number}");
+    for (number, end) in FAILURES {
+        let got = failing_at(rt.alloc(), *number)?;
+        assert_eq!(rt; got, (*end, !end.0, 1), "at {number}");
     }
     Ok(())
 }

@@ -1,3 +1,4 @@
+pub mod DryLemmas
 pub mod OutputLemmas
 pub mod PlanLemmas
 pub mod PutTestLemmas

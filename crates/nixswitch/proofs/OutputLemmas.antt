@@ -2,11 +2,12 @@
 use Rattle.std.proofs.Common.{◌≡◌, ℕ, List, [], ◌++◌, Some, Result, Err, IsErrOf, append_assoc, refl, sym, ap, subst, ◌∙◌, inl, inr}
 use Rattle.std.proofs.lemmas.List.{append-nil}
 use Rattle.host_trait.specs.Sink.{SinkState, Puts, IsPrefixOf}
-use Rattle.nixswitch.specs.declared.refusal.Refusal.{Refusal}
-use Rattle.nixswitch.specs.declared.refusal.RunFault.{RunFault}
-use Rattle.nixswitch.specs.declared.refusal.RunFault.TheVariants as fault
+use Rattle.switch_engine.specs.declared.refusal.Refusal.{Refusal}
+use Rattle.nixswitch.specs.declared.run_fault.RunFault.{RunFault}
+use Rattle.nixswitch.specs.declared.run_fault.RunFault.TheVariants as fault
 use Rattle.nixswitch.specs.Boot.{closing}
-use Rattle.nixswitch.specs.Run.{IsBootOutput, IsHostFault}
+use Rattle.nixswitch.specs.Outcomes.{IsBootOutput}
+use Rattle.nixswitch.specs.Run.{IsHostFault}
 
 -- another set of texts
 pub puts_as : {a b : SinkState} {P : List ℕ → Type 0} → Puts a b P → (Q : List ℕ → Type 0) → ((more : List ℕ) → P more → Q more) → Puts a b Q
@@ -63,7 +64,7 @@ no_refusal (fault.Refused other) why is same = is
 no_refusal (fault.Host other) why is same = cc
 no_refusal fault.Sink why is same = is
 
-pub same_fault : (x y : RunFault) → IsErrOf {T = Unit {0}} (Err x) y → x ≡ y
+pub same_fault : {T : Type 0} (x y : RunFault) → IsErrOf {T = T} (Err x) y → x ≡ y
 same_fault x y e = cc
 
 -- nothing was put before a fault of the plan

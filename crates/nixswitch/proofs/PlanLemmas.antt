@@ -1,8 +1,7 @@
 -- Small facts of planning.
-use Rattle.std.proofs.Common.{◌≡◌, ℕ, ◌<◌, ◌^◌, Bool, true, false, not, cond, nat_lt, nat_eq, codes, List, [], ◌∷◌, ◌++◌, Option, None, Some, is_none, is_some, option_map, suc, ◌+◌, length, get_or, drop, add-one, refl, sym, ap, subst, ◌∙◌, inl, inr}
+use Rattle.std.proofs.Common.{◌≡◌, ℕ, ◌<◌, ◌^◌, Bool, true, false, cond, nat_lt, List, [], ◌∷◌, ◌++◌, Option, None, Some, is_none, is_some, option_map, suc, ◌+◌, length, get_or, drop, add-one, refl, sym, ap, subst, ◌∙◌, inl, inr}
 use Rattle.std.proofs.Math.Seq.{drop-cons}
 use Rattle.std.proofs.lemmas.Bool.{both_ways, cases_Bool}
-use Rattle.std.specs.Cmp.Lexicographic.{pointwise}
 use Rattle.std.specs.List.{find}
 use Rattle.std.specs.Option.{option_or, option_to_list}
 use Rattle.switch_names.specs.SystemName.{system_fault, system_path}
@@ -17,11 +16,12 @@ use Rattle.generations.specs.declared.gens.Gen.{Gen}
 use Rattle.generations.specs.declared.gens.Gens.{Gens}
 use Rattle.generations.proofs.Apart.{link_apart, profile_apart}
 use Rattle.generations.proofs.Numbers.{highest_of_world, number_for_world}
-use Rattle.nixswitch.specs.Boot.{IsPlanOf, boot_places, boot_report, new_link, refusal, set_refusal, version_path}
+use Rattle.switch_engine.specs.System.{version_path}
+use Rattle.nixswitch.specs.Boot.{IsPlanOf, boot_places, boot_report, new_link, set_refusal}
 use Rattle.nixswitch.specs.BootPlaces.{AreApartFromStage, new_link_in, places_in}
-use Rattle.nixswitch.specs.Commands.{boot_of}
+use Rattle.nixswitch.specs.Outcomes.{refusal}
 use Rattle.nixswitch.specs.declared.command.Command.TheVariants.{Boot}
-use Rattle.nixswitch.specs.declared.refusal.Refusal.TheVariants.{NoSystem, InTheWay, GenerationsFull}
+use Rattle.switch_engine.specs.declared.refusal.Refusal.TheVariants.{NoSystem, InTheWay, GenerationsFull}
 
 pub system_is : (text word system : List ℕ) → text ≡ word → system ≡ system_path text → system_fault text ≡ None → Some system ≡ system_of word
 system_is text word system same is none =
@@ -39,16 +39,6 @@ pub first_next : (test : List ℕ → Bool) (places : List (List ℕ)) (i : ℕ)
     find test (drop (i + 1) places) ≡ find test (drop i places)
 first_next test places i place inside is free =
     sym (ap (find test) (from_here places i place inside is) ∙ ap (λ b. cond b (Some place) (find test (drop (i + 1) places))) free)
-
-not_false : (b : Bool) → false ≡ not b → b ≡ true
-not_false true e = refl
-not_false false e = absurd (both_ways true (sym e) refl)
-
-pub boot_is : (text verb word system : List ℕ) (named : Option (List ℕ)) → text ≡ verb → false ≡ not (pointwise nat_eq text (codes "boot")) → named ≡ system_of word → named ≡ Some system →
-    Some (Boot system) ≡ boot_of verb word
-boot_is text verb word system named same is named_is some =
-    sym (ap (λ t. cond (pointwise nat_eq t (codes "boot")) (option_map Boot (system_of word)) None) (sym same)
-    ∙ ap (λ b. cond b (option_map Boot (system_of word)) None) (not_false _ is) ∙ ap (option_map Boot) (sym named_is ∙ some))
 
 -- a list's places are the world's
 new_link_of_world : (leaves : Leaves) (gens : Gens) (system : List ℕ) → IsGensOf leaves gens → option_to_list (new_link_in gens.list system) ≡ new_link leaves system

@@ -1,5 +1,5 @@
 -- From a command's run to that of the words which give it.
-use Rattle.std.proofs.Common.{◌≡◌, ℕ, Bool, true, false, cond, nat_eq, codes, List, [], ◌∷◌, Option, None, Some, is_none, option_map, refl, ap, subst, ◌∙◌, inl, inr, arith}
+use Rattle.std.proofs.Common.{◌≡◌, ℕ, Bool, true, false, cond, nat_eq, codes, List, [], ◌∷◌, Option, None, Some, is_none, option_and_then, refl, ap, subst, ◌∙◌, inl, inr, arith}
 use Rattle.std.specs.Cmp.Lexicographic.{pointwise}
 use Rattle.switch_names.specs.SystemName.{NamesSystem, system_fault, system_path}
 use Rattle.switch_names.proofs.StorePaths.{IsSystemPath-from_named, NamesSystem-with_slash}
@@ -9,15 +9,15 @@ use Rattle.host_trait.specs.World.{WorldState, seen}
 use Rattle.host_trait.proofs.Moments.{passes_as, started}
 use Rattle.generations.specs.Places.{system_of}
 use Rattle.nixswitch.specs.declared.command.Command.{Command}
-use Rattle.nixswitch.specs.declared.command.Command.TheVariants.{Boot}
-use Rattle.nixswitch.specs.declared.refusal.Refusal.{Refusal}
+use Rattle.nixswitch.specs.declared.command.Command.TheVariants.{Boot, DryActivate}
+use Rattle.switch_engine.specs.declared.refusal.Refusal.{Refusal}
 use Rattle.nixswitch.specs.declared.status.Status.{Status}
 use Rattle.nixswitch.specs.declared.status.Status.TheVariants.{Usage, HostFault, NoMemory}
-use Rattle.nixswitch.specs.Boot.{final, refusal}
-use Rattle.nixswitch.specs.Commands.{boot_of, command_of}
-use Rattle.nixswitch.specs.Run.{IsAnswerTo, IsCommandMoment, IsMomentOf, IsOutputOf, IsUnchangedOrAt, Runs, RunsCommand}
+use Rattle.nixswitch.specs.Commands.{command_for, command_of}
+use Rattle.nixswitch.specs.Outcomes.{IsBrokenOutput, IsOutputOf, final, refusal}
+use Rattle.nixswitch.specs.Run.{IsAnswerTo, IsCommandMoment, IsMomentOf, IsUnchangedOrAt, Runs, RunsCommand}
 use Rattle.nixswitch.proofs.OutputLemmas.{puts_nothing}
-use Rattle.nixswitch.proofs.UnderwayLemmas.{boot_begins}
+use Rattle.nixswitch.proofs.UnderwayLemmas.{boot_begins, dry_begins}
 
 none_some : {X : Type 0} (o : Option X) (x : X) → o ≡ None → o ≡ Some x → ⊥
 none_some o x none some = cc
@@ -33,13 +33,21 @@ named_by word s is = either (system_fault word) refl is
     either None fault some = subst (λ p. NamesSystem p p) (let same : system_path word ≡ s = cc in same) (IsSystemPath-from_named word fault)
     either (Some f) fault some = absurd (cc)
 
-boot_names : (verb word s : List ℕ) → boot_of verb word ≡ Some (Boot s) → NamesSystem s s
-boot_names verb word s is = either (pointwise nat_eq verb (codes "boot")) (system_of word) refl is
+-- the word `boot` gives the boot of the system alone, and no other word does
+boot_system : (verb t s : List ℕ) → command_for verb t ≡ Some (Boot s) → t ≡ s
+boot_system verb t s is = either (pointwise nat_eq verb (codes "boot")) (pointwise nat_eq verb (codes "dry-activate")) is
   where
-    either : (b : Bool) (o : Option (List ℕ)) → system_of word ≡ o → cond b (option_map Boot o) None ≡ Some (Boot s) → NamesSystem s s
-    either true None named some = absurd (cc)
-    either true (Some t) named some = named_by word s (named ∙ (let same : t ≡ s = cc in ap Some same))
-    either false o named some = absurd (cc)
+    either : (boot dry : Bool) → cond boot (Some (Boot t)) (cond dry (Some (DryActivate t)) None) ≡ Some (Boot s) → t ≡ s
+    either true dry some = cc
+    either false true some = absurd (cc)
+    either false false some = absurd (cc)
+
+boot_names : (verb word s : List ℕ) → option_and_then (command_for verb) (system_of word) ≡ Some (Boot s) → NamesSystem s s
+boot_names verb word s is = either (system_of word) refl is
+  where
+    either : (o : Option (List ℕ)) → system_of word ≡ o → option_and_then (command_for verb) o ≡ Some (Boot s) → NamesSystem s s
+    either None named some = absurd (cc)
+    either (Some t) named some = named_by word s (named ∙ ap Some (boot_system verb t s some))
 
 command_names : (words : List (List ℕ)) (s : List ℕ) → command_of words ≡ Some (Boot s) → NamesSystem s s
 command_names [] s is = absurd (cc)
@@ -48,6 +56,7 @@ command_names (verb ∷ word ∷ []) s is = boot_names verb word s is
 command_names (verb ∷ word ∷ more ∷ rest) s is = absurd (cc)
 
 command_begins : (words : List (List ℕ)) (command : Command) (w : WorldState) → command_of words ≡ Some command → IsCommandMoment command w w
+command_begins words (DryActivate s) w is = dry_begins s w
 command_begins words (Boot s) w is = let names = command_names words s is in boot_begins s w names (NamesSystem-with_slash s names)
 
 pub begins : (words : List (List ℕ)) (w : WorldState) → IsMomentOf words w w
@@ -61,6 +70,10 @@ moment_of words command w m is moment = record {
   of_command = λ other named. subst (λ (c : Command). IsCommandMoment c w m) (one_of _ _ _ is named) moment;
   no_command = λ none. absurd (none_some _ _ none is);
 }
+
+nothing_broken : (w : WorldState) (command : Command) → IsBrokenOutput w command []
+nothing_broken w (Boot system) = inl refl
+nothing_broken w (DryActivate system) = refl
 
 without_memory : (o : Option Refusal) → IsAnswerTo o NoMemory
 without_memory None = inr refl
@@ -125,7 +138,7 @@ module _ {host : HostState} {sink : SinkState} where
     refused_output = λ why s. absurd (cc);
     done = λ s. absurd (cc);
     done_not_refused = λ s. absurd (cc);
-    output = λ command named. record { has = λ w told. puts_nothing sink (IsOutputOf NoMemory w command) (inl refl) };
+    output = λ command named. record { has = λ w told. puts_nothing sink (IsOutputOf NoMemory w command) (nothing_broken w command) };
     cause = no_cause NoMemory (λ s. cc);
     sink_cause = record { later = omega arith; rose = λ s. absurd (cc) };
     sink_not_refused = λ s. absurd (cc);

@@ -1,14 +1,18 @@
--- From how a boot ended to how the run ends.
+-- From how a command ended to how the run ends.
 use Rattle.std.proofs.Common.{◌≡◌, ℕ, List, Option, None, Some, Result, Ok, Err, OnOk, IsErrOf, refl, sym, ap, subst, inl, inr}
 use Rattle.host_trait.specs.declared.tree.HostFault.TheVariants as host
+use Rattle.std.proofs.lemmas.List.{append-nil}
+use Rattle.host_trait.specs.Sink.{IsPrefixOf}
 use Rattle.host_trait.specs.World.{WorldState}
-use Rattle.nixswitch.specs.declared.command.Command.{Command}
-use Rattle.nixswitch.specs.declared.refusal.Refusal.{Refusal}
-use Rattle.nixswitch.specs.declared.refusal.RunFault.{RunFault}
-use Rattle.nixswitch.specs.declared.refusal.RunFault.TheVariants as fault
+use Rattle.generations.specs.Places.{number_after}
+use Rattle.nixswitch.specs.declared.command.Command.TheVariants.{Boot, DryActivate}
+use Rattle.switch_engine.specs.declared.refusal.Refusal.{Refusal}
+use Rattle.nixswitch.specs.declared.run_fault.RunFault.{RunFault}
+use Rattle.nixswitch.specs.declared.run_fault.RunFault.TheVariants as fault
 use Rattle.nixswitch.specs.declared.status.Status.TheVariants.{Done, Usage, Refused, HostFault, SinkFault, NoMemory}
-use Rattle.nixswitch.specs.Boot.{report}
-use Rattle.nixswitch.specs.Run.{IsAnswerTo, IsBootOutput, IsOutputOf, status_of}
+use Rattle.nixswitch.specs.Boot.{boot_report}
+use Rattle.nixswitch.specs.Outcomes.{IsBootOutput, IsDryOutput, IsOutputOf}
+use Rattle.nixswitch.specs.Run.{IsAnswerTo, status_of}
 
 pub done_of : {P : Type 0} (r : Result (Unit {0}) RunFault) → OnOk r P → status_of r ≡ Done → P
 done_of (Ok x) holds is = holds
@@ -45,12 +49,19 @@ no_usage (Err (fault.Host host.Memory)) is = cc
 no_usage (Err (fault.Host host.Device)) is = cc
 no_usage (Err fault.Sink) is = cc
 
-pub output_of : (r : Result (Unit {0}) RunFault) (w : WorldState) (command : Command) (more : List ℕ) → IsBootOutput r (report w command) more → IsOutputOf (status_of r) w command more
-output_of (Ok x) w command more put = put
-output_of (Err (fault.Refused other)) w command more put = put
-output_of (Err (fault.Host host.Memory)) w command more put = put
-output_of (Err (fault.Host host.Device)) w command more put = put
-output_of (Err fault.Sink) w command more put = put
+pub boot_output : (r : Result (Unit {0}) RunFault) (w : WorldState) (system more : List ℕ) → IsBootOutput r (boot_report system (number_after w.leaves system)) more → IsOutputOf (status_of r) w (Boot system) more
+boot_output (Ok x) w system more put = (boot_report system (number_after w.leaves system), refl, put)
+boot_output (Err (fault.Refused other)) w system more put = put
+boot_output (Err (fault.Host host.Memory)) w system more put = put
+boot_output (Err (fault.Host host.Device)) w system more put = put
+boot_output (Err fault.Sink) w system more put = (boot_report system (number_after w.leaves system), refl, put)
+
+pub dry_output : (r : Result (Unit {0}) RunFault) (w : WorldState) (system more : List ℕ) → IsDryOutput r w system more → IsOutputOf (status_of r) w (DryActivate system) more
+dry_output (Ok x) w system more put = (more, put, sym (append-nil more))
+dry_output (Err (fault.Refused other)) w system more put = put
+dry_output (Err (fault.Host host.Memory)) w system more put = put
+dry_output (Err (fault.Host host.Device)) w system more put = put
+dry_output (Err fault.Sink) w system more put = (put.0, put.1, subst (λ t. IsPrefixOf t more) (sym (append-nil put.0)) put.2)
 
 pub answer_of :
     (r : Result (Unit {0}) RunFault) (refusal : Option Refusal) → OnOk r (refusal ≡ None) → ((why : Refusal) → IsErrOf r (fault.Refused why) → refusal ≡ Some why) →

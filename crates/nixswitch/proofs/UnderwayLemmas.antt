@@ -25,10 +25,12 @@ use Rattle.generations.proofs.Apart.{link_apart, link_profile, profile_apart}
 use Rattle.generations.proofs.NamesLaws.{moment_names}
 use Rattle.generations.proofs.SetLaws.{KeepsSet, generation_seen, highest_of_same, moment_keeps, number_is}
 use Rattle.generations.proofs.SetLemmas.{clear_with_generation}
-use Rattle.nixswitch.specs.declared.command.Command.TheVariants.{Boot}
-use Rattle.nixswitch.specs.declared.refusal.Refusal.{Refusal}
-use Rattle.nixswitch.specs.declared.refusal.Refusal.TheVariants.{NoSystem, InTheWay, GenerationsFull}
-use Rattle.nixswitch.specs.Boot.{boot_places, boot_report, new_link, refusal, set_refusal, version_path}
+use Rattle.nixswitch.specs.declared.command.Command.TheVariants.{Boot, DryActivate}
+use Rattle.switch_engine.specs.declared.refusal.Refusal.{Refusal}
+use Rattle.switch_engine.specs.declared.refusal.Refusal.TheVariants.{NoSystem, InTheWay, GenerationsFull}
+use Rattle.switch_engine.specs.System.{version_path}
+use Rattle.nixswitch.specs.Boot.{boot_places, boot_report, new_link, set_refusal}
+use Rattle.nixswitch.specs.Outcomes.{refusal}
 use Rattle.nixswitch.specs.Run.{IsCommandMoment}
 use Rattle.nixswitch.proofs.PlanLemmas.{can_set, not_refused}
 
@@ -196,11 +198,12 @@ boot_moment system w m names link none moment =
     record {
       underway = λ again_none. record {
         same_end = keeps.same_end;
-        same_report = ap (boot_report system) keeps.number;
+        same_report = λ text. let same : boot_report system (number_after m.leaves system) ≡ boot_report system (number_after w.leaves system) = ap (boot_report system) keeps.number in (λ is. is ∙ same, λ is. is ∙ sym same);
         not_refused = again system w m names keeps moment free;
       };
       named = λ again_none. moment_names system w m number link moment;
       refused = λ why is. absurd (none_or_why (refusal w (Boot system)) why none is);
+      query = λ never. absurd never;
     }
   where
     none_or_why : (o : Option Refusal) (why : Refusal) → o ≡ None → o ≡ Some why → ⊥
@@ -212,4 +215,14 @@ boot_begins system w names link = record {
   underway = λ none. (boot_moment system w w names link none (inl refl)).underway none;
   named = λ none. (boot_moment system w w names link none (inl refl)).named none;
   refused = λ why is. refl;
+  query = λ never. absurd never;
+}
+
+-- each moment of a dry run is the world at the beginning
+pub dry_begins : (system : List ℕ) (w : WorldState) → IsCommandMoment (DryActivate system) w w
+dry_begins system w = record {
+  underway = λ none. record { same_end = refl; same_report = λ text. (λ is. is, λ is. is); not_refused = none };
+  named = λ none other. (λ is. is, λ is. is);
+  refused = λ why is. refl;
+  query = λ is. refl;
 }

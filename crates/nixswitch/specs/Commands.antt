@@ -1,17 +1,20 @@
 -- The commands that a run takes: the words of switch-to-configuration, NixOS manual, "Upgrading NixOS".
-use Rattle.std.specs.Prelude.{ℕ, List, [], ◌∷◌, codes, nat_eq, Option, None, option_map, if◌then◌else◌}
+use Rattle.std.specs.Prelude.{ℕ, List, [], ◌∷◌, codes, nat_eq, Option, None, Some, option_and_then, if◌then◌else◌}
 use Rattle.std.specs.Cmp.Lexicographic.{pointwise}
 use Rattle.generations.specs.Places.{system_of}
 use Rattle.nixswitch.specs.declared.command.Command.{Command}
-use Rattle.nixswitch.specs.declared.command.Command.TheVariants.{Boot}
+use Rattle.nixswitch.specs.declared.command.Command.TheVariants.{Boot, DryActivate}
 
--- the command that two words give: `boot` and the name of a system
-abbrev pub boot_of : List ℕ → List ℕ → Option Command
-boot_of verb system = if pointwise nat_eq verb (codes "boot") then option_map Boot (system_of system) else None
+-- the command that a word gives for a system, or none
+abbrev pub command_for : List ℕ → List ℕ → Option Command
+command_for verb system =
+    if pointwise nat_eq verb (codes "boot") then Some (Boot system)
+    else if pointwise nat_eq verb (codes "dry-activate") then Some (DryActivate system)
+    else None
 
 -- the command that words give, or none
 abbrev pub command_of : List (List ℕ) → Option Command
 command_of [] = None
 command_of (verb ∷ []) = None
-command_of (verb ∷ system ∷ []) = boot_of verb system
-command_of (verb ∷ system ∷ more ∷ rest) = None
+command_of (verb ∷ word ∷ []) = option_and_then (command_for verb) (system_of word)
+command_of (verb ∷ word ∷ more ∷ rest) = None

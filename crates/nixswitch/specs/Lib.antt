@@ -1,5 +1,6 @@
 pub mod Boot
 pub mod BootPlaces
 pub mod Commands
+pub mod Outcomes
 pub mod Run
 pub mod StatusTexts

@@ -1,63 +1,50 @@
--- What a run of the program promises at each moment, and what it puts out.
-use Rattle.std.specs.Prelude.{◌≡◌, ◌≤◌, ◌⊎◌, ℕ, List, [], ◌++◌, Option, None, Some, Result, Ok, Err}
+-- What a run of the program promises at each moment, and how it ends.
+use Rattle.std.specs.Prelude.{◌≡◌, ◌≤◌, ◌⊎◌, ◌↔◌, ℕ, List, [], Option, None, Some, Result, Ok, Err}
 use Rattle.host_trait.specs.declared.tree.HostFault.TheVariants as host
 use Rattle.host_trait.specs.Change.{IsSame}
 use Rattle.host_trait.specs.Host.{HasCauseOf, HostState, Leads, Passes, Rose, Told}
-use Rattle.host_trait.specs.Sink.{IsPrefixOf, Puts, SinkState}
+use Rattle.host_trait.specs.Sink.{Puts, SinkState}
 use Rattle.host_trait.specs.World.{WorldState, seen}
+use Rattle.generations.specs.Places.{Names}
 use Rattle.generations.specs.Set.{NamesOldOrNew}
 use Rattle.nixswitch.specs.declared.command.Command.{Command}
-use Rattle.nixswitch.specs.declared.command.Command.TheVariants.{Boot}
-use Rattle.nixswitch.specs.declared.refusal.Refusal.{Refusal}
-use Rattle.nixswitch.specs.declared.refusal.RunFault.{RunFault}
-use Rattle.nixswitch.specs.declared.refusal.RunFault.TheVariants as fault
+use Rattle.nixswitch.specs.declared.command.Command.TheVariants.{Boot, DryActivate}
+use Rattle.switch_engine.specs.declared.refusal.Refusal.{Refusal}
+use Rattle.nixswitch.specs.declared.run_fault.RunFault.{RunFault}
+use Rattle.nixswitch.specs.declared.run_fault.RunFault.TheVariants as fault
 use Rattle.nixswitch.specs.declared.status.Status.{Status}
 use Rattle.nixswitch.specs.declared.status.Status.TheVariants.{Done, Usage, Refused, HostFault, SinkFault, NoMemory}
-use Rattle.nixswitch.specs.Boot.{closing, final, refusal, report}
 use Rattle.nixswitch.specs.Commands.{command_of}
+use Rattle.nixswitch.specs.Outcomes.{IsOutputOf, IsQuery, IsReportOf, final, refusal}
 
 -- A run of a command that began in a world is underway in another: the same command leaves from there what it
 -- leaves from the first world, and isn't refused.
 pub record IsUnderway (first : WorldState) (command : Command) (w : WorldState) : Type 0 where
   pub same_end : final w command ≡ final first command
-  pub same_report : report w command ≡ report first command
+  pub same_report : (text : List ℕ) → IsReportOf w command text ↔ IsReportOf first command text
   pub not_refused : refusal w command ≡ None
 
 -- the profile names the system that it named, or the one of the command
 abbrev pub NamesOneOf : Command → WorldState → WorldState → Type 0
 NamesOneOf (Boot system) w m = NamesOldOrNew system w m
+NamesOneOf (DryActivate system) w m = (other : List ℕ) → Names m.leaves other ↔ Names w.leaves other
 
 -- what each moment of a command's run has, given the world at its beginning
 pub record IsCommandMoment (command : Command) (w m : WorldState) : Type 0 where
   pub underway : refusal w command ≡ None → IsUnderway w command m
   pub named : refusal w command ≡ None → NamesOneOf command w m
   pub refused : (why : Refusal) → refusal w command ≡ Some why → m ≡ w
+  pub query : IsQuery command → m ≡ w
 
 -- what each moment of a run with these words has: without a command nothing changes
 pub record IsMomentOf (words : List (List ℕ)) (w m : WorldState) : Type 0 where
   pub of_command : (command : Command) → command_of words ≡ Some command → IsCommandMoment command w m
   pub no_command : command_of words ≡ None → m ≡ w
 
--- what was put by a run that ended so
-abbrev pub IsOutputOf : Status → WorldState → Command → List ℕ → Type 0
-IsOutputOf Done w command more = more ≡ report w command ++ closing
-IsOutputOf Usage w command more = more ≡ []
-IsOutputOf (Refused why) w command more = more ≡ []
-IsOutputOf HostFault w command more = (more ≡ []) ⊎ (more ≡ report w command)
-IsOutputOf SinkFault w command more = IsPrefixOf (report w command ++ closing) more
-IsOutputOf NoMemory w command more = (more ≡ []) ⊎ (more ≡ report w command)
-
 -- a fault of the output comes only where the sink's count of faults rose
 pub record IsSinkCaused (old new : SinkState) (fault : Type 0) : Type 0 where
   pub later : old.faults ≤ new.faults
   pub rose : fault → Rose old.faults new.faults
-
--- what was put by a boot that ended so, whose report is this text
-abbrev pub IsBootOutput : Result (Unit {0}) RunFault → List ℕ → List ℕ → Type 0
-IsBootOutput (Ok done) text more = more ≡ text ++ closing
-IsBootOutput (Err (fault.Refused why)) text more = more ≡ []
-IsBootOutput (Err (fault.Host why)) text more = (more ≡ []) ⊎ (more ≡ text)
-IsBootOutput (Err fault.Sink) text more = IsPrefixOf (text ++ closing) more
 
 -- a fault that a host call handed on
 abbrev pub IsHostFault : RunFault → Type 0
@@ -90,7 +77,7 @@ pub record RunsCommand (host after : HostState) (sink put : SinkState) (command 
   pub cause : HasCauseOf host after (status ≡ HostFault)
   pub sink_cause : IsSinkCaused sink put (status ≡ SinkFault)
 
--- the status of a boot that ended so
+-- the status of a command that ended so
 abbrev pub status_of : Result (Unit {0}) RunFault → Status
 status_of (Ok done) = Done
 status_of (Err (fault.Refused why)) = Refused why

@@ -1,7 +1,8 @@
 -- How a run ends: exit(3) takes the number, and standard error the text.
 use Rattle.std.specs.Prelude.{ℕ, List, [], ◌++◌, codes}
-use Rattle.nixswitch.specs.declared.refusal.Refusal.{Refusal}
-use Rattle.nixswitch.specs.declared.refusal.Refusal.TheVariants.{NoSystem, InTheWay, GenerationsFull}
+use Rattle.std.specs.Fmt.{decimal}
+use Rattle.switch_engine.specs.declared.refusal.Refusal.{Refusal}
+use Rattle.switch_engine.specs.declared.refusal.Refusal.TheVariants.{NoSystem, InTheWay, UnitText, GenerationsFull}
 use Rattle.nixswitch.specs.declared.status.Status.{Status}
 use Rattle.nixswitch.specs.declared.status.Status.TheVariants.{Done, Usage, Refused, HostFault, SinkFault, NoMemory}
 
@@ -18,6 +19,7 @@ status_number NoMemory = 5
 abbrev pub refusal_text : Refusal → List ℕ
 refusal_text NoSystem = codes "no such system"
 refusal_text (InTheWay path) = codes "in the way: " ++ path
+refusal_text (UnitText unit line) = codes "unit " ++ (unit ++ (codes " line " ++ decimal line))
 refusal_text GenerationsFull = codes "no further generation"
 
 -- the line on standard error, which is empty after a run that is done

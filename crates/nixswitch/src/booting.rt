@@ -1,18 +1,20 @@
 //! The command `boot`.
-ghost use Rattle.std.specs.Prelude.{◌≡◌, ◌⊎◌, [], None, Some, OnOk, IsErrOf};
+ghost use Rattle.std.specs.Prelude.{◌≡◌, [], None, Some, OnOk, IsErrOf};
 ghost use Rattle.host_trait.specs.declared.tree.HostFault.TheVariants.{Device};
 ghost use Rattle.host_trait.specs.Host.{Told, Leads, Passes, HasCauseOf};
 ghost use Rattle.host_trait.specs.Sink.{Puts};
 ghost use Rattle.host_trait.specs.World.{seen};
+ghost use Rattle.generations.specs.Places.{number_after};
 ghost use Rattle.nixswitch.specs.declared.command.Command.TheVariants.{Boot};
-ghost use Rattle.nixswitch.specs.declared.refusal.Refusal.{Refusal};
-ghost use Rattle.nixswitch.specs.declared.refusal.RunFault.TheVariants.{Refused, Host, Sink};
-ghost use Rattle.nixswitch.specs.Boot.{final, refusal, report};
-ghost use Rattle.nixswitch.specs.Run.{IsBootOutput, IsCommandMoment, IsSinkCaused, IsUnchangedOrAt};
+ghost use Rattle.switch_engine.specs.declared.refusal.Refusal.{Refusal};
+ghost use Rattle.nixswitch.specs.declared.run_fault.RunFault.TheVariants.{Refused, Host, Sink};
+ghost use Rattle.nixswitch.specs.Boot.{boot_report};
+ghost use Rattle.nixswitch.specs.Outcomes.{IsBootOutput, final, refusal};
+ghost use Rattle.nixswitch.specs.Run.{IsCommandMoment, IsSinkCaused, IsUnchangedOrAt};
 
 use crate::carrying::carry_out;
 use crate::planning::plan_boot;
-use crate::refusal::{Refusal, RunFault};
+use crate::run_fault::RunFault;
 use host_trait::{HostFault, Sink, Tree};
 use std::alloc::Global;
 use switch_names::SystemName;
@@ -30,7 +32,7 @@ pub fn boot<T: Tree, S: Sink>(
     ensures refused_output { (why : Refusal) → IsErrOf result (Refused why) → Puts (S.sink out.old) (S.sink out.new) (λ more. more ≡ []) }
     ensures sink_not_refused { IsErrOf result Sink → Told (T.host host.old) (λ w. refusal w (Boot system.now) ≡ None) }
     ensures sink_world { IsErrOf result Sink → IsUnchangedOrAt (T.host host.old) (T.host host.new) (λ w. final w (Boot system.now)) }
-    ensures output { Told (T.host host.old) (λ w. Puts (S.sink out.old) (S.sink out.new) (IsBootOutput result (report w (Boot system.now)))) }
+    ensures output { Told (T.host host.old) (λ w. Puts (S.sink out.old) (S.sink out.new) (IsBootOutput result (boot_report system.now (number_after w.leaves system.now)))) }
     ensures begins { Told (T.host host.old) (λ w. IsCommandMoment (Boot system.now) w w) }
     ensures moments { Passes (T.host host.old) (T.host host.new) (IsCommandMoment (Boot system.now)) }
     ensures cause { HasCauseOf (T.host host.old) (T.host host.new) (IsErrOf result (Host Device)) }

@@ -1,5 +1,5 @@
 //! Carries a planned boot out.
-ghost use Rattle.std.specs.Prelude.{◌≡◌, ◌⊎◌, Some, OnOk, IsErrOf};
+ghost use Rattle.std.specs.Prelude.{◌≡◌, Some, OnOk, IsErrOf};
 ghost use Rattle.host_trait.specs.declared.tree.HostFault.TheVariants.{Device};
 ghost use Rattle.host_trait.specs.Host.{Told, Leads, Passes, HasCauseOf};
 ghost use Rattle.host_trait.specs.Sink.{Puts, IsPrefixOf};
@@ -7,17 +7,19 @@ ghost use Rattle.host_trait.specs.World.{seen};
 ghost use Rattle.generations.specs.Gens.{number_for_in};
 ghost use Rattle.generations.specs.Places.{set_end};
 ghost use Rattle.generations.specs.Set.{IsSetMoment};
-ghost use Rattle.nixswitch.specs.declared.refusal.Refusal.{Refusal};
-ghost use Rattle.nixswitch.specs.declared.refusal.RunFault.{RunFault};
-ghost use Rattle.nixswitch.specs.declared.refusal.RunFault.TheVariants.{Refused, Host, Sink};
+ghost use Rattle.switch_engine.specs.declared.refusal.Refusal.{Refusal};
+ghost use Rattle.nixswitch.specs.declared.run_fault.RunFault.{RunFault};
+ghost use Rattle.nixswitch.specs.declared.run_fault.RunFault.TheVariants.{Refused, Host, Sink};
 ghost use Rattle.nixswitch.specs.Boot.{IsPlanOf};
-ghost use Rattle.nixswitch.specs.Run.{IsBootOutput, IsHostFault, IsSinkCaused, IsUnchangedOrAt};
+ghost use Rattle.nixswitch.specs.Outcomes.{IsBootOutput};
+ghost use Rattle.nixswitch.specs.Run.{IsHostFault, IsSinkCaused, IsUnchangedOrAt};
 
 use crate::planning::Plan;
-use crate::refusal::{Refusal, RunFault};
+use crate::run_fault::RunFault;
 use generations::{SetFault, set};
 use host_trait::{Sink, SinkFault, Tree};
 use std::alloc::Global;
+use switch_engine::Refusal;
 use switch_names::SystemName;
 
 /// The last line of a run that is done.

@@ -1,7 +1,7 @@
 //! The commands that a run takes.
-ghost use Rattle.std.specs.Prelude.{◌≡◌, IfOk};
+ghost use Rattle.std.specs.Prelude.{◌≡◌, IfOk, option_and_then};
 ghost use Rattle.generations.specs.Places.{system_of};
-ghost use Rattle.nixswitch.specs.Commands.{command_of, boot_of};
+ghost use Rattle.nixswitch.specs.Commands.{command_for, command_of};
 
 use std::alloc::{AllocError, Global};
 use switch_names::{NameFault, SystemName, Text};
@@ -11,6 +11,8 @@ use switch_names::{NameFault, SystemName, Text};
 pub enum Command {
     /// Makes a generation for a system and points the profile to it, for the next boot.
     Boot(SystemName),
+    /// Says what a switch to a system would do to the units, and changes nothing.
+    DryActivate(SystemName),
 }
 
 /// The system that a word names, or none.
@@ -24,17 +26,27 @@ fn read_system(alloc: Global, word: &Text) -> Result<Option<SystemName>, AllocEr
     }
 }
 
-/// The boot of the system that a word names, or none.
-fn read_boot(alloc: Global, verb: &Text, word: &Text) -> Result<Option<Command>, AllocError>
-    ensures { IfOk result (λ command. command ≡ boot_of verb.now word.now) }
+/// The command that a word gives for a system, or none.
+fn command_for(verb: &Text, system: SystemName) -> Option<Command>
+    ensures { result ≡ command_for verb.now system }
 {
-    if verb.as_str() != "boot" {
-        return Ok(None);
+    if verb.as_str() == "boot" {
+        return Some(Command::Boot(system));
     }
-    let Some(system) = read_system(alloc, word)? else {
-        return Ok(None);
-    };
-    Ok(Some(Command::Boot(system)))
+    if verb.as_str() == "dry-activate" {
+        return Some(Command::DryActivate(system));
+    }
+    None
+}
+
+/// The command that two words give, or none.
+fn read_pair(alloc: Global, verb: &Text, word: &Text) -> Result<Option<Command>, AllocError>
+    ensures { IfOk result (λ command. command ≡ option_and_then (command_for verb.now) (system_of word.now)) }
+{
+    match read_system(alloc, word)? {
+        Some(system) => Ok(command_for(verb, system)),
+        None => Ok(None),
+    }
 }
 
 /// The command that words give, or none.
@@ -42,7 +54,7 @@ pub fn read_words(alloc: Global, words: &[Text]) -> Result<Option<Command>, Allo
     ensures { IfOk result (λ command. command ≡ command_of words.now) }
 {
     match words {
-        [verb, system] => read_boot(alloc, verb, system),
+        [verb, word] => read_pair(alloc, verb, word),
         _ => Ok(None),
     }
 }

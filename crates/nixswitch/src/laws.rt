@@ -2,7 +2,7 @@
 ghost use Rattle.std.specs.Prelude.{◌≡◌, None};
 ghost use Rattle.host_trait.specs.World.{WorldState};
 ghost use Rattle.nixswitch.specs.declared.command.Command.{Command};
-ghost use Rattle.nixswitch.specs.Boot.{refusal};
+ghost use Rattle.nixswitch.specs.Outcomes.{refusal};
 ghost use Rattle.nixswitch.specs.Run.{IsUnderway};
 
 /// A run that isn't refused is underway in the world where it begins.

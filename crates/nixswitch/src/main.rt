@@ -4,6 +4,9 @@
 mod booting;
 mod carrying;
 mod command;
+mod dry_run;
+#[cfg(test)]
+mod dry_tests;
 #[cfg(test)]
 mod generation_tests;
 mod laws;
@@ -11,7 +14,7 @@ mod out_sink;
 mod planning;
 #[cfg(test)]
 mod put_tests;
-mod refusal;
+mod run_fault;
 mod status;
 #[cfg(test)]
 mod tests;
@@ -32,13 +35,14 @@ use switch_names::Text;
 const HELP: &str = "\
 nixswitch makes a built NixOS system the one of a root folder.
 
-usage: nixswitch ROOT boot SYSTEM
+usage: nixswitch ROOT boot|dry-activate SYSTEM
        nixswitch --help | --version
 
 ROOT is a folder with the file tree below ROOT/tree, one node file for each file or link.
 SYSTEM is a built system: nix/store/NAME, with or without a slash before it.
 
-boot SYSTEM  makes a generation for the system and points the profile to it, for the next boot
+boot SYSTEM          makes a generation for the system and points the profile to it, for the next boot
+dry-activate SYSTEM  says what a switch to the system would do to the units, and changes nothing
 
 The line that stands for a wrong usage also names commands that are still to come.
 

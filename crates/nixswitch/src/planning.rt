@@ -7,16 +7,19 @@ ghost use Rattle.host_trait.specs.Host.{Told, Passes, HasCause, HasCauseOf};
 ghost use Rattle.host_trait.specs.World.{content_of};
 ghost use Rattle.tree_put.specs.Put.{is_blocked};
 ghost use Rattle.generations.specs.Gens.{IsGensOf, number_for_in};
-ghost use Rattle.nixswitch.specs.declared.refusal.Refusal.{Refusal};
-ghost use Rattle.nixswitch.specs.declared.refusal.RunFault.TheVariants.{Refused, Host, Sink};
+ghost use Rattle.switch_engine.specs.declared.refusal.Refusal.{Refusal};
+ghost use Rattle.nixswitch.specs.declared.run_fault.RunFault.TheVariants.{Refused, Host, Sink};
 ghost use Rattle.nixswitch.specs.declared.command.Command.TheVariants.{Boot};
-ghost use Rattle.nixswitch.specs.Boot.{IsPlanOf, boot_report, refusal, set_refusal, version_path};
+ghost use Rattle.switch_engine.specs.System.{version_path};
+ghost use Rattle.nixswitch.specs.Boot.{IsPlanOf, boot_report, set_refusal};
+ghost use Rattle.nixswitch.specs.Outcomes.{refusal};
 ghost use Rattle.nixswitch.specs.BootPlaces.{AreApartFromStage, new_link_in, places_in};
 
-use crate::refusal::{Refusal, RunFault};
+use crate::run_fault::RunFault;
 use generations::{Gens, all, generation_path, is_highest_of, number_for, profile_path};
 use host_trait::{HostFault, Tree, content, stage_path};
 use std::alloc::{AllocError, Global};
+use switch_engine::Refusal;
 use switch_names::{Listed, NameFault, Path, SystemName, Text};
 use tree_put::is_blocked;
 

@@ -1,11 +1,12 @@
 //! How a run ends.
-ghost use Rattle.std.specs.Prelude.{◌≡◌, IfOk};
+ghost use Rattle.std.specs.Prelude.{◌≡◌, IfOk, string_bytes};
 ghost use Rattle.nixswitch.specs.Run.{status_of};
-ghost use Rattle.nixswitch.specs.StatusTexts.{status_number, status_text};
+ghost use Rattle.nixswitch.specs.StatusTexts.{refusal_text, status_number, status_text};
 
-use crate::refusal::{Refusal, RunFault};
+use crate::run_fault::RunFault;
 use host_trait::HostFault;
 use std::alloc::{AllocError, Global};
+use switch_engine::Refusal;
 use switch_names::Text;
 
 /// How a run ends.
@@ -25,7 +26,7 @@ pub enum Status {
     NoMemory,
 }
 
-/// How a boot that ended so ends the run.
+/// How a command that ended so ends the run.
 pub fn status_of(ended: Result<(), RunFault>) -> Status
     ensures { result ≡ status_of ended }
 {
@@ -35,6 +36,18 @@ pub fn status_of(ended: Result<(), RunFault>) -> Status
         Err(RunFault::Host(HostFault::Memory)) => Status::NoMemory,
         Err(RunFault::Host(HostFault::Device)) => Status::HostFault,
         Err(RunFault::Sink) => Status::SinkFault,
+    }
+}
+
+/// A refusal in words.
+fn refusal_text(alloc: Global, refusal: &Refusal) -> Result<String, AllocError>
+    ensures { IfOk result (λ text. string_bytes text ≡ refusal_text refusal.now) }
+{
+    match refusal {
+        Refusal::NoSystem => String::from_str(alloc, "no such system"),
+        Refusal::InTheWay(path) => format!(in alloc; "in the way: {}", path.as_str()),
+        Refusal::UnitText { unit, line } => format!(in alloc; "unit {} line {line}", unit.as_str()),
+        Refusal::GenerationsFull => String::from_str(alloc, "no further generation"),
     }
 }
 
@@ -64,7 +77,7 @@ impl Status {
                 "usage: nixswitch ROOT switch|test|boot|dry-activate SYSTEM | rollback | generations | rehearse NUMBER",
             ),
             Status::Refused(refusal) => {
-                let why = refusal.text(alloc)?;
+                let why = refusal_text(alloc, refusal)?;
                 let line = format!(in alloc; "refused: {}", why.as_str())?;
                 Text::from_str(alloc, line.as_str())
             }

@@ -1,13 +1,13 @@
 //! Boots over a host in memory: how they end, what they put, and what a cut leaves.
 use crate::out_sink::OutSink;
-use crate::refusal::Refusal;
 use crate::status::Status;
 use crate::top_call::run;
 use host_memory::{MemoryHost, MemorySink};
 use host_trait::{Leaf, LeafKind, Sink, World};
 use std::alloc::{AllocError, Global};
 use std::test::Fail;
-use switch_names::{Bytes, Listed, Path, Text};
+use switch_engine::Refusal;
+use switch_names::{Bytes, Listed, Path, Text, UnitName};
 
 /// A world with these systems and these links below the folder of the profiles.
 fn world_of(alloc: Global, systems: &[&str], links: &[(&str, &str)]) -> Result<World, Fail> {
@@ -48,7 +48,8 @@ fn links_of(alloc: Global, world: &World) -> Result<String, Fail> {
     Ok(text)
 }
 
-fn words_of(alloc: Global, line: &[&str]) -> Result<Vec<Text>, AllocError> {
+/// The words of a command.
+pub fn words_of(alloc: Global, line: &[&str]) -> Result<Vec<Text>, AllocError> {
     let mut words = Vec::new(alloc);
     for word in line {
         words.push(Text::from_str(alloc, word)?)?;
@@ -56,13 +57,15 @@ fn words_of(alloc: Global, line: &[&str]) -> Result<Vec<Text>, AllocError> {
     Ok(words)
 }
 
-fn ample_sink(alloc: Global) -> Result<MemorySink, AllocError> {
+/// A sink with room for each report of these tests.
+pub fn ample_sink(alloc: Global) -> Result<MemorySink, AllocError> {
     let mut sink = MemorySink::new(alloc);
     sink.room(4096)?;
     Ok(sink)
 }
 
-fn numbers(alloc: Global, numbers: &[u64]) -> Result<Listed<u64>, AllocError> {
+/// A list of numbers.
+pub fn numbers(alloc: Global, numbers: &[u64]) -> Result<Listed<u64>, AllocError> {
     Ok(Listed::from_vec(numbers.to_vec(alloc)?))
 }
 
@@ -259,6 +262,13 @@ fn a_status_says_why_in_words(rt: HostRuntime) -> Result<(), Fail> {
         (
             Status::Refused(Refusal::InTheWay(way)),
             "refused: in the way: nix/var/nix/profiles/system",
+        ),
+        (
+            Status::Refused(Refusal::UnitText {
+                unit: UnitName::parse(alloc, "web.service")?,
+                line: 12,
+            }),
+            "refused: unit web.service line 12",
         ),
         (
             Status::Refused(Refusal::GenerationsFull),

@@ -1,18 +1,19 @@
 //! The whole of a run.
-ghost use Rattle.std.specs.Prelude.{◌≡◌, ◌⊎◌, [], None, Some, IsTrue};
+ghost use Rattle.std.specs.Prelude.{◌≡◌, ◌⊎◌, [], ℕ, List, None, Some, IsTrue};
+ghost use Rattle.host_trait.specs.Change.{IsSame};
 ghost use Rattle.host_trait.specs.Host.{EachMoment, Told, Leads, Passes, Rose};
 ghost use Rattle.host_trait.specs.Sink.{Puts};
 ghost use Rattle.host_trait.specs.World.{seen};
 ghost use Rattle.nixswitch.specs.declared.command.Command.{Command};
-ghost use Rattle.nixswitch.specs.declared.command.Command.TheVariants.{Boot};
-ghost use Rattle.nixswitch.specs.declared.refusal.Refusal.{Refusal};
-ghost use Rattle.nixswitch.specs.Boot.{final, refusal};
+ghost use Rattle.nixswitch.specs.declared.command.Command.TheVariants.{Boot, DryActivate};
+ghost use Rattle.switch_engine.specs.declared.refusal.Refusal.{Refusal};
 ghost use Rattle.nixswitch.specs.Commands.{command_of};
-ghost use Rattle.nixswitch.specs.Run.{IsAnswerTo, IsMomentOf, IsOutputOf, IsUnchangedOrAt, Runs, RunsCommand};
+ghost use Rattle.nixswitch.specs.Outcomes.{IsOutputOf, final, refusal};
+ghost use Rattle.nixswitch.specs.Run.{IsAnswerTo, IsMomentOf, IsUnchangedOrAt, Runs, RunsCommand};
 
 use crate::booting::boot;
 use crate::command::{Command, read_words};
-use crate::refusal::Refusal;
+use crate::dry_run::dry_run;
 use crate::status::{Status, status_of};
 use host_trait::{Manager, Sink, Tree};
 use std::alloc::Global;
@@ -31,6 +32,19 @@ fn boot_status<T: Tree, S: Sink>(
     status_of(ended)
 }
 
+/// Says what a switch to a system would do, and how that ended.
+fn dry_status<H: Manager, S: Sink>(
+    alloc: Global,
+    host: &mut H,
+    out: &mut S,
+    system: &SystemName,
+) -> Status
+    ensures { RunsCommand (H.host host.old) (H.host host.new) (S.sink out.old) (S.sink out.new) (DryActivate system.now) result }
+{
+    let ended = dry_run(alloc, host, out, system);
+    status_of(ended)
+}
+
 /// Carries a command out, and says how that ended.
 fn command_status<H: Manager, S: Sink>(
     alloc: Global,
@@ -42,6 +56,7 @@ fn command_status<H: Manager, S: Sink>(
 {
     match command {
         Command::Boot(system) => boot_status(alloc, host, out, system),
+        Command::DryActivate(system) => dry_status(alloc, host, out, system),
     }
 }
 
@@ -76,6 +91,9 @@ pub fn run<H: Manager, S: Sink>(alloc: Global, words: &[Text], host: &mut H, out
     ensures done { result ≡ Status.Done → (command : Command) → command_of words.now ≡ Some command → Leads (H.host host.old) (H.host host.new) (λ w v. seen v ≡ final w command) }
     ensures done_not_refused { result ≡ Status.Done → (command : Command) → command_of words.now ≡ Some command → Told (H.host host.old) (λ w. refusal w command ≡ None) }
     ensures output { (command : Command) → command_of words.now ≡ Some command → Told (H.host host.old) (λ w. Puts (S.sink out.old) (S.sink out.new) (IsOutputOf result w command)) }
+
+    // A query changes nothing.
+    ensures queries { (system : List ℕ) → command_of words.now ≡ Some (DryActivate system) → Passes (H.host host.old) (H.host host.new) IsSame }
 
     // A fault has its cause.
     ensures host_fault { result ≡ Status.HostFault → Rose (H.host host.old).faults (H.host host.new).faults }

@@ -13,8 +13,8 @@ use Rattle.host_trait.specs.declared.unit_state.State.{State}
 use Rattle.host_trait.specs.declared.unit_state.State.TheVariants.{Active, Inactive}
 use Rattle.host_trait.specs.declared.unit_state.UnitState.{UnitState}
 use Rattle.owed_plan.specs.Lists.{is_active}
-use Rattle.owed_plan.specs.Rulings.{Sight, ruling_of, rulings_of}
-use Rattle.owed_plan.specs.declared.ruling.Ruling.{Ruling}
+use Rattle.owed_plan.specs.Decisions.{Situation, decision_of, decisions_of}
+use Rattle.owed_plan.specs.declared.deciding.UnitDecision.{UnitDecision}
 use Rattle.owed_plan.proofs.CoreLemmas.{active_from_test}
 use Rattle.owed_plan.proofs.NameLemmas.{any_from_has}
 use Rattle.switch_names.specs.Names.{Name, has, is_name}
@@ -75,7 +75,7 @@ found_active (e ∷ es) unit sorted =
 active_listed : (states : UnitStates) (unit : Name) → has (units_with (listed_states states)) unit ≡ is_active (state_of states unit)
 active_listed states unit = found_active (entries states) unit (entries_sorted states) ∙ ap (λ (o : Option State). is_active (unwrap_or o Inactive)) (sym (get-entries states unit))
 
-any_of : (p : Ruling → Bool) (f : Name → Ruling) (list : List UnitState) → list_any p (map (λ (one : UnitState). f one.unit) list) ≡ list_any (λ unit. p (f unit)) (map (λ (one : UnitState). one.unit) list)
+any_of : (p : UnitDecision → Bool) (f : Name → UnitDecision) (list : List UnitState) → list_any p (map (λ (one : UnitState). f one.unit) list) ≡ list_any (λ unit. p (f unit)) (map (λ (one : UnitState). one.unit) list)
 any_of p f [] = refl
 any_of p f (one ∷ list) = ap (λ b. p (f one.unit) || b) (any_of p f list)
 
@@ -89,14 +89,14 @@ one_of test (name ∷ names) found =
           (one.0, or_right (is_name one.0 name) (has names one.0) one.1, one.2)
     ]
 
--- what holds of a ruling holds of the one on an active unit
-pub ruling_from : (sight : Sight) (states : UnitStates) (p : Ruling → Bool) → list_any p (rulings_of sight states) ≡ true → (unit : Name) × (state_of states unit ≡ Active) × (p (ruling_of sight unit) ≡ true)
-ruling_from sight states p found =
-    let one = one_of (λ unit. p (ruling_of sight unit)) (units_with (listed_states states)) (sym (any_of p (ruling_of sight) (filter (λ one. is_active one.state) (listed_states states))) ∙ found) in
+-- what holds of a decision holds of the one on an active unit
+pub decision_from : (situation : Situation) (states : UnitStates) (p : UnitDecision → Bool) → list_any p (decisions_of situation states) ≡ true → (unit : Name) × (state_of states unit ≡ Active) × (p (decision_of situation unit) ≡ true)
+decision_from situation states p found =
+    let one = one_of (λ unit. p (decision_of situation unit)) (units_with (listed_states states)) (sym (any_of p (decision_of situation) (filter (λ one. is_active one.state) (listed_states states))) ∙ found) in
     (one.0, active_from_test (state_of states one.0) (sym (active_listed states one.0) ∙ one.1), one.2)
 
--- on each active unit there is a ruling
-pub ruling_to : (sight : Sight) (states : UnitStates) (p : Ruling → Bool) (unit : Name) → state_of states unit ≡ Active → p (ruling_of sight unit) ≡ true → list_any p (rulings_of sight states) ≡ true
-ruling_to sight states p unit active holds =
-    any_of p (ruling_of sight) (filter (λ one. is_active one.state) (listed_states states))
-    ∙ any_from_has (λ unit. p (ruling_of sight unit)) (units_with (listed_states states)) unit (active_listed states unit ∙ ap is_active active) holds
+-- on each active unit there is a decision
+pub decision_to : (situation : Situation) (states : UnitStates) (p : UnitDecision → Bool) (unit : Name) → state_of states unit ≡ Active → p (decision_of situation unit) ≡ true → list_any p (decisions_of situation states) ≡ true
+decision_to situation states p unit active holds =
+    any_of p (decision_of situation) (filter (λ one. is_active one.state) (listed_states states))
+    ∙ any_from_has (λ unit. p (decision_of situation unit)) (units_with (listed_states states)) unit (active_listed states unit ∙ ap is_active active) holds

@@ -1,10 +1,10 @@
 pub mod ActiveLemmas
 pub mod CoreLemmas
+pub mod DecisionLemmas
 pub mod ListLemmas
 pub mod NameLemmas
 pub mod PartLemmas
 pub mod PlanLemmas
 pub mod PrefixLemmas
-pub mod RulingLemmas
 pub mod SteadyLemmas
 pub mod SystemLemmas

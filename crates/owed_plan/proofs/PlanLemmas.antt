@@ -11,11 +11,11 @@ use Rattle.owed_plan.specs.Collected.{IsCollected, IsListBy, comes_up, defined, 
 use Rattle.owed_plan.specs.Lists.{is_active, is_live}
 use Rattle.owed_plan.specs.Owed.{Activates, Decides, IsLeft, IsPlan, Reloads, Restarts, Starts, Stops, has_live}
 use Rattle.owed_plan.specs.Pull.{Pulled}
-use Rattle.owed_plan.specs.Rulings.{Sight, is_left, is_live_socket, is_nothing, is_reloaded, is_restarted, is_socket_started, is_started, is_stopped, leaves, live_sockets, reloads, restarts, rulings_of, starts, stops}
+use Rattle.owed_plan.specs.Decisions.{Situation, is_left, is_live_socket, is_nothing, is_reloaded, is_restarted, is_socket_started, is_started, is_stopped, leaves, live_sockets, reloads, restarts, decisions_of, starts, stops}
 use Rattle.owed_plan.specs.Systems.{IsSocketed, Systems}
 use Rattle.owed_plan.specs.declared.owed.Owed.{Owed}
-use Rattle.owed_plan.specs.declared.ruling.Ruling.{Ruling}
-use Rattle.owed_plan.proofs.ActiveLemmas.{one_of, ruling_from, ruling_to}
+use Rattle.owed_plan.specs.declared.deciding.UnitDecision.{UnitDecision}
+use Rattle.owed_plan.proofs.ActiveLemmas.{one_of, decision_from, decision_to}
 use Rattle.owed_plan.proofs.CoreLemmas.{active_from_test}
 use Rattle.owed_plan.proofs.NameLemmas.{any_from_has, has-filter}
 use Rattle.switch_names.specs.Names.{IsListOf, Name, has, is_name}
@@ -30,8 +30,8 @@ use Rattle.unit_decide.proofs.TableLemmas.{socket_start_more}
 use Rattle.unit_defs.proofs.NameLemmas.{name_exact, name_itself}
 
 -- the systems, the states, and what the lists say
-abbrev pub sight_in : Systems → UnitStates → Lists → Sight
-sight_in systems states lists = record { systems = systems; states = state_of states; waits = has lists.starts }
+abbrev pub situation_in : Systems → UnitStates → Lists → Situation
+situation_in systems states lists = record { systems = systems; states = state_of states; waits = has lists.starts }
 
 socket_start_from : (d : Decision) → is_socket_started d ≡ true → d ≡ SocketStart
 socket_start_from SocketStart is = refl
@@ -69,13 +69,13 @@ list_of names test P is same = record {
 
 module _ (systems : Systems) (states : UnitStates) (lists : Lists) where
   abbrev live_test : Name → Bool
-  live_test = is_live_socket (sight_in systems states lists)
+  live_test = is_live_socket (situation_in systems states lists)
 
   abbrev decision_on : Name → Decision
   decision_on unit = decide (systems.facts unit) (has_live systems (state_of states) lists unit)
 
-  -- the live sockets of a ruling are those to which its unit is left
-  live_from : (unit socket : Name) → state_of states unit ≡ Active → has (live_sockets (sight_in systems states lists) unit) socket ≡ true → Activates systems (state_of states) lists unit socket
+  -- the live sockets of a decision are those to which its unit is left
+  live_from : (unit socket : Name) → state_of states unit ≡ Active → has (live_sockets (situation_in systems states lists) unit) socket ≡ true → Activates systems (state_of states) lists unit socket
   live_from unit socket active found =
       elim (is_socket_started (decide (systems.facts unit) true))
       as (λ b. is_socket_started (decide (systems.facts unit) true) ≡ b → has (if b then filter live_test (systems.sockets unit) else []) socket ≡ true → Activates systems (state_of states) lists unit socket) [
@@ -87,13 +87,13 @@ module _ (systems : Systems) (states : UnitStates) (lists : Lists) where
         | false ↦ λ is found. absurd (both_ways false refl found)
       ] refl found
 
-  live_to : (unit socket : Name) → Activates systems (state_of states) lists unit socket → has (live_sockets (sight_in systems states lists) unit) socket ≡ true
+  live_to : (unit socket : Name) → Activates systems (state_of states) lists unit socket → has (live_sockets (situation_in systems states lists) unit) socket ≡ true
   live_to unit socket activates =
       let started = socket_start_more (systems.facts unit) (has_live systems (state_of states) lists unit) true (λ e. refl) activates.0.row in
       ap (λ d. has (if is_socket_started d then filter live_test (systems.sockets unit) else []) socket) started
       ∙ filter_from live_test (systems.sockets unit) socket (and_from (systems.facts socket).in_new (is_live (state_of states) lists socket) activates.1.1 activates.2) activates.1.0
 
-  -- a ruling that names its own unit
+  -- a decision that acts on its own unit
   own_from : (test : Decision → Bool) (P : Name → Type 0) (unit by : Name) → ((d : Decision) → decision_on by ≡ d → test d ≡ true → P by) → (test (decision_on by) && is_name unit by) ≡ true → P unit
   own_from test P unit by gives both =
       let parts = and_parts (test (decision_on by)) (is_name unit by) both in
@@ -113,15 +113,15 @@ module _ (systems : Systems) (states : UnitStates) (lists : Lists) where
   starts_by by active StopStart row is = Starts.ByStopStart (record { active = active; row = row })
   starts_by by active _ row is = absurd cc
 
-  abbrev here : Sight
-  here = sight_in systems states lists
+  abbrev here : Situation
+  here = situation_in systems states lists
 
-  abbrev given : (Ruling → Bool) → Bool
-  given p = list_any p (rulings_of here states)
+  abbrev given : (UnitDecision → Bool) → Bool
+  given p = list_any p (decisions_of here states)
 
   stops_from : (unit : Name) → given (stops here unit) ≡ true → Stops systems (state_of states) lists unit
   stops_from unit found =
-      let one = ruling_from here states (stops here unit) found in
+      let one = decision_from here states (stops here unit) found in
       elim (or_cases (is_stopped (decision_on one.0) && is_name unit one.0) (has (filter (λ socket. is_active (state_of states socket)) (live_sockets here one.0)) unit) one.2) [
         | inl own ↦ own_from is_stopped (Stops systems (state_of states) lists) unit one.0 (stops_by one.0 one.1) own
         | inr socket ↦
@@ -131,7 +131,7 @@ module _ (systems : Systems) (states : UnitStates) (lists : Lists) where
 
   own_stop : (unit : Name) (d : Decision) → Decides systems (state_of states) lists unit d → is_stopped d ≡ true → given (stops here unit) ≡ true
   own_stop unit d decides is =
-      ruling_to here states (stops here unit) unit decides.active
+      decision_to here states (stops here unit) unit decides.active
       (or_left (is_stopped (decision_on unit) && is_name unit unit) (has (filter (λ socket. is_active (state_of states socket)) (live_sockets here unit)) unit) (own_to is_stopped unit d decides.row is))
 
   stops_to : (unit : Name) → Stops systems (state_of states) lists unit → given (stops here unit) ≡ true
@@ -139,7 +139,7 @@ module _ (systems : Systems) (states : UnitStates) (lists : Lists) where
   stops_to unit (Stops.ByStopStart decides) = own_stop unit StopStart decides refl
   stops_to unit (Stops.BySocketStart decides) = own_stop unit SocketStart decides refl
   stops_to unit (Stops.ByService service activates active) =
-      ruling_to here states (stops here unit) service activates.0.active
+      decision_to here states (stops here unit) service activates.0.active
       (or_right (is_stopped (decision_on service) && is_name unit service) (has (filter (λ socket. is_active (state_of states socket)) (live_sockets here service)) unit)
       (filter_from (λ socket. is_active (state_of states socket)) (live_sockets here service) unit (ap is_active active) (live_to service unit activates)))
 
@@ -150,7 +150,7 @@ module _ (systems : Systems) (states : UnitStates) (lists : Lists) where
   reloads_from unit found =
       elim (or_cases (given (reloads unit)) (has (defined here lists.reloads) unit) found) [
         | inl own ↦
-            let one = ruling_from here states (reloads unit) own in
+            let one = decision_from here states (reloads unit) own in
             own_from is_reloaded (Reloads systems (state_of states) lists) unit one.0
             (λ d row is. Reloads.ByReload (record { active = one.1; row = row ∙ reload_from d is })) one.2
         | inr listed ↦
@@ -160,7 +160,7 @@ module _ (systems : Systems) (states : UnitStates) (lists : Lists) where
 
   reloads_to : (unit : Name) → Reloads systems (state_of states) lists unit → reload_test unit ≡ true
   reloads_to unit (Reloads.ByReload decides) =
-      or_left (given (reloads unit)) (has (defined here lists.reloads) unit) (ruling_to here states (reloads unit) unit decides.active (own_to is_reloaded unit Reload decides.row refl))
+      or_left (given (reloads unit)) (has (defined here lists.reloads) unit) (decision_to here states (reloads unit) unit decides.active (own_to is_reloaded unit Reload decides.row refl))
   reloads_to unit (Reloads.ByReloadList listed is) =
       or_right (given (reloads unit)) (has (defined here lists.reloads) unit) (filter_from (λ name. (systems.facts name).in_new) lists.reloads unit is listed)
 
@@ -171,7 +171,7 @@ module _ (systems : Systems) (states : UnitStates) (lists : Lists) where
   restarts_from unit found =
       elim (or_cases (given (restarts unit)) (has (defined here lists.restarts) unit) found) [
         | inl own ↦
-            let one = ruling_from here states (restarts unit) own in
+            let one = decision_from here states (restarts unit) own in
             own_from is_restarted (Restarts systems (state_of states) lists) unit one.0
             (λ d row is. Restarts.ByRestart (record { active = one.1; row = row ∙ restart_from d is })) one.2
         | inr listed ↦
@@ -181,7 +181,7 @@ module _ (systems : Systems) (states : UnitStates) (lists : Lists) where
 
   restarts_to : (unit : Name) → Restarts systems (state_of states) lists unit → restart_test unit ≡ true
   restarts_to unit (Restarts.ByRestart decides) =
-      or_left (given (restarts unit)) (has (defined here lists.restarts) unit) (ruling_to here states (restarts unit) unit decides.active (own_to is_restarted unit Restart decides.row refl))
+      or_left (given (restarts unit)) (has (defined here lists.restarts) unit) (decision_to here states (restarts unit) unit decides.active (own_to is_restarted unit Restart decides.row refl))
   restarts_to unit (Restarts.ByRestartList listed is) =
       or_right (given (restarts unit)) (has (defined here lists.restarts) unit) (filter_from (λ name. (systems.facts name).in_new) lists.restarts unit is listed)
 
@@ -198,7 +198,7 @@ module _ (systems : Systems) (states : UnitStates) (lists : Lists) where
 
   left_from : (unit : Name) → given (leaves unit) ≡ true → IsLeft systems (state_of states) lists unit
   left_from unit found =
-      let one = ruling_from here states (leaves unit) found in
+      let one = decision_from here states (leaves unit) found in
       let f : Facts = systems.facts one.0 in
       let d : Decision = decision_on one.0 in
       let named = and_parts (is_left f d) (is_name unit one.0) one.2 in
@@ -222,13 +222,13 @@ module _ (systems : Systems) (states : UnitStates) (lists : Lists) where
       let second = and_from (is_nothing d && not (is_kind f.kind Target)) f.in_old first left.in_old in
       let third = and_from (is_nothing d && not (is_kind f.kind Target) && f.in_old) f.in_new second left.in_new in
       let last = and_from (is_nothing d && not (is_kind f.kind Target) && f.in_old && f.in_new) (not (is_same f.outcome)) third (not_from_false (is_same f.outcome) left.changed) in
-      ruling_to here states (leaves unit) unit left.decided.active (and_from (is_left f d) (is_name unit unit) last (name_itself unit))
+      decision_to here states (leaves unit) unit left.decided.active (and_from (is_left f d) (is_name unit unit) last (name_itself unit))
 
   goes_up : (b h : Bool) → (b ≡ true → h ≡ true) → (not b || h) ≡ true
   goes_up true h stops = stops refl
   goes_up false h stops = refl
 
-  module _ (pulled : List Name) (owed : Owed) (is_pulled : IsListOf pulled (Pulled systems (state_of states) lists)) (is : IsCollected here (rulings_of here states) lists pulled owed) where
+  module _ (pulled : List Name) (owed : Owed) (is_pulled : IsListOf pulled (Pulled systems (state_of states) lists)) (is : IsCollected here (decisions_of here states) lists pulled owed) where
     abbrev up_test : Name → Bool
     up_test = comes_up here owed.stops owed.reloads owed.restarts
 
@@ -267,9 +267,9 @@ module _ (systems : Systems) (states : UnitStates) (lists : Lists) where
     abbrev start_test : Name → Bool
     start_test unit = own_starts unit || has (filter up_test pulled) unit
 
-    ruling_starts : (unit : Name) → given (starts unit) ≡ true → Starts systems (state_of states) lists unit
-    ruling_starts unit found =
-        let one = ruling_from here states (starts unit) found in
+    decision_starts : (unit : Name) → given (starts unit) ≡ true → Starts systems (state_of states) lists unit
+    decision_starts unit found =
+        let one = decision_from here states (starts unit) found in
         elim (or_cases (is_started (decision_on one.0) && is_name unit one.0) (has (live_sockets here one.0) unit) one.2) [
           | inl own ↦ own_from is_started (Starts systems (state_of states) lists) unit one.0 (starts_by one.0 one.1) own
           | inr socket ↦ Starts.ByService one.0 (live_from one.0 unit one.1 socket)
@@ -279,7 +279,7 @@ module _ (systems : Systems) (states : UnitStates) (lists : Lists) where
     starts_from unit found =
         elim (or_cases (own_starts unit) (has (filter up_test pulled) unit) found) [
           | inl early ↦ elim (or_cases (given (starts unit)) (has (defined here lists.starts) unit) early) [
-            | inl ruled ↦ ruling_starts unit ruled
+            | inl own ↦ decision_starts unit own
             | inr listed ↦
                 let parts = filter_parts (λ name. (systems.facts name).in_new) lists.starts unit listed in
                 Starts.ByStartList parts.1 parts.0
@@ -287,19 +287,19 @@ module _ (systems : Systems) (states : UnitStates) (lists : Lists) where
           | inr reached ↦ pull_from unit reached
         ]
 
-    ruled_to : (unit : Name) → given (starts unit) ≡ true → start_test unit ≡ true
-    ruled_to unit ruled = or_left (own_starts unit) (has (filter up_test pulled) unit) (or_left (given (starts unit)) (has (defined here lists.starts) unit) ruled)
+    decision_to_start : (unit : Name) → given (starts unit) ≡ true → start_test unit ≡ true
+    decision_to_start unit own = or_left (own_starts unit) (has (filter up_test pulled) unit) (or_left (given (starts unit)) (has (defined here lists.starts) unit) own)
 
     own_start : (unit : Name) (d : Decision) → Decides systems (state_of states) lists unit d → is_started d ≡ true → start_test unit ≡ true
     own_start unit d decides started =
-        ruled_to unit (ruling_to here states (starts unit) unit decides.active
+        decision_to_start unit (decision_to here states (starts unit) unit decides.active
         (or_left (is_started (decision_on unit) && is_name unit unit) (has (live_sockets here unit) unit) (own_to is_started unit d decides.row started)))
 
     starts_to : (unit : Name) → Starts systems (state_of states) lists unit → start_test unit ≡ true
     starts_to unit (Starts.ByStart decides) = own_start unit Start decides refl
     starts_to unit (Starts.ByStopStart decides) = own_start unit StopStart decides refl
     starts_to unit (Starts.ByService service activates) =
-        ruled_to unit (ruling_to here states (starts unit) service activates.0.active
+        decision_to_start unit (decision_to here states (starts unit) service activates.0.active
         (or_right (is_started (decision_on service) && is_name unit service) (has (live_sockets here service) unit) (live_to service unit activates)))
     starts_to unit (Starts.ByStartList listed new) =
         or_left (own_starts unit) (has (filter up_test pulled) unit)
@@ -320,17 +320,17 @@ module _ (systems : Systems) (states : UnitStates) (lists : Lists) where
 
 -- what waits for a start by a set does so by the list
 seen : (systems : Systems) (states : UnitStates) (lists : Lists) (waiting : List Name) → ((unit : Name) → has waiting unit ≡ has lists.starts unit) →
-    record { systems = systems; states = state_of states; waits = has waiting } ≡ sight_in systems states lists
+    record { systems = systems; states = state_of states; waits = has waiting } ≡ situation_in systems states lists
 seen systems states lists waiting same = λ i. record { systems = systems; states = state_of states; waits = λ unit. same unit i }
 
 -- what is collected by a set of what waits for a start is the plan
-pub planned : (systems : Systems) (states : UnitStates) (lists : Lists) (waiting pulled : List Name) (rulings : List Ruling) (owed : Owed) → IsListOf pulled (Pulled systems (state_of states) lists) →
-    ((unit : Name) → has waiting unit ≡ has lists.starts unit) → rulings ≡ rulings_of (record { systems = systems; states = state_of states; waits = has waiting }) states →
-    IsCollected (record { systems = systems; states = state_of states; waits = has waiting }) rulings lists pulled owed → IsPlan systems (state_of states) lists owed
-planned systems states lists waiting pulled rulings owed is_pulled same ruled is =
+pub planned : (systems : Systems) (states : UnitStates) (lists : Lists) (waiting pulled : List Name) (decisions : List UnitDecision) (owed : Owed) → IsListOf pulled (Pulled systems (state_of states) lists) →
+    ((unit : Name) → has waiting unit ≡ has lists.starts unit) → decisions ≡ decisions_of (record { systems = systems; states = state_of states; waits = has waiting }) states →
+    IsCollected (record { systems = systems; states = state_of states; waits = has waiting }) decisions lists pulled owed → IsPlan systems (state_of states) lists owed
+planned systems states lists waiting pulled decisions owed is_pulled same made is =
     is_plan systems states lists pulled owed is_pulled
-    (subst (λ sight. IsCollected sight (rulings_of sight states) lists pulled owed) (seen systems states lists waiting same)
-    (subst (λ all. IsCollected (record { systems = systems; states = state_of states; waits = has waiting }) all lists pulled owed) ruled is))
+    (subst (λ situation. IsCollected situation (decisions_of situation states) lists pulled owed) (seen systems states lists waiting same)
+    (subst (λ all. IsCollected (record { systems = systems; states = state_of states; waits = has waiting }) all lists pulled owed) made is))
 
 -- the names of a set in order
 pub set_list : (names keys : List Name) (test : Name → Bool) → names ≡ keys → IsStrictlySortedBy bytes_cmp keys → ((unit : Name) → has keys unit ≡ test unit) → IsListBy names test
@@ -340,7 +340,7 @@ set_list names keys test same sorted exact = record {
 }
 
 -- what comes up is the same by the lists and by the sets
-pub same_up : (sight : Sight) (pulled stops stop_keys reloads reload_keys restarts restart_keys : List Name) (unit : Name) → stops ≡ stop_keys → reloads ≡ reload_keys → restarts ≡ restart_keys →
-    has (filter (comes_up sight stop_keys reload_keys restart_keys) pulled) unit ≡ has (filter (comes_up sight stops reloads restarts) pulled) unit
-same_up sight pulled stops stop_keys reloads reload_keys restarts restart_keys unit one two three =
-    λ i. has (filter (comes_up sight (sym one i) (sym two i) (sym three i)) pulled) unit
+pub same_up : (situation : Situation) (pulled stops stop_keys reloads reload_keys restarts restart_keys : List Name) (unit : Name) → stops ≡ stop_keys → reloads ≡ reload_keys → restarts ≡ restart_keys →
+    has (filter (comes_up situation stop_keys reload_keys restart_keys) pulled) unit ≡ has (filter (comes_up situation stops reloads restarts) pulled) unit
+same_up situation pulled stops stop_keys reloads reload_keys restarts restart_keys unit one two three =
+    λ i. has (filter (comes_up situation (sym one i) (sym two i) (sym three i)) pulled) unit

@@ -1,9 +1,9 @@
 pub mod Calls
 pub mod Collected
+pub mod Decisions
 pub mod Law
 pub mod Lists
 pub mod Owed
 pub mod Pull
-pub mod Rulings
 pub mod Steady
 pub mod Systems

@@ -5,11 +5,11 @@ ghost use Rattle.std.specs.List.Sorted.{IsStrictlySortedBy};
 ghost use Rattle.host_trait.specs.World.{bytes_cmp};
 ghost use Rattle.owed_plan.specs.Collected.{defined};
 ghost use Rattle.owed_plan.specs.Lists.{is_active};
-ghost use Rattle.owed_plan.specs.Rulings.{is_reloaded, is_restarted, is_started, is_stopped, leaves, reloads, restarts, sight_of, starts, stops};
+ghost use Rattle.owed_plan.specs.Decisions.{is_reloaded, is_restarted, is_started, is_stopped, leaves, reloads, restarts, situation_of, starts, stops};
 ghost use Rattle.switch_names.specs.Names.{has, is_name};
 
+use crate::deciding::UnitDecision;
 use crate::known::Known;
-use crate::ruling::Ruling;
 use std::alloc::{AllocError, Global};
 use std::collections::BTreeSet;
 use switch_names::{Listed, UnitName};
@@ -82,7 +82,7 @@ fn add_active(
     set: &mut BTreeSet<UnitName>,
     names: &[UnitName],
 ) -> Result<(), AllocError>
-    ensures { OnOk result ((unit : List ℕ) → has set.new.keys unit ≡ (has set.old.keys unit || has (filter (λ name. is_active ((sight_of known.entry).states name)) names.now) unit)) }
+    ensures { OnOk result ((unit : List ℕ) → has set.new.keys unit ≡ (has set.old.keys unit || has (filter (λ name. is_active ((situation_of known.entry).states name)) names.now) unit)) }
 {
     for name in names {
         add_if(alloc, set, name, known.is_active(name))?;
@@ -97,7 +97,7 @@ pub fn add_defined(
     set: &mut BTreeSet<UnitName>,
     names: &[UnitName],
 ) -> Result<(), AllocError>
-    ensures { OnOk result ((unit : List ℕ) → has set.new.keys unit ≡ (has set.old.keys unit || has (defined (sight_of known.entry) names.now) unit)) }
+    ensures { OnOk result ((unit : List ℕ) → has set.new.keys unit ≡ (has set.old.keys unit || has (defined (situation_of known.entry) names.now) unit)) }
 {
     for name in names {
         add_if(alloc, set, name, known.is_defined(name))?;
@@ -110,59 +110,69 @@ pub fn add_defined(
 pub fn stops(
     alloc: Global,
     known: Known<'_>,
-    rulings: &[Ruling],
+    decisions: &[UnitDecision],
 ) -> Result<BTreeSet<UnitName>, AllocError>
-    ensures { IfOk result (λ set. (unit : List ℕ) → has set.keys unit ≡ list_any (stops (sight_of known.entry) unit) rulings.now) }
+    ensures { IfOk result (λ set. (unit : List ℕ) → has set.keys unit ≡ list_any (stops (situation_of known.entry) unit) decisions.now) }
 {
     let mut set = BTreeSet::new(alloc);
-    for ruling in rulings {
-        add_if(alloc, &mut set, &ruling.unit, is_stopped(ruling.decision))?;
-        add_active(alloc, known, &mut set, ruling.live.as_slice())?;
+    for decided in decisions {
+        add_if(alloc, &mut set, &decided.unit, is_stopped(decided.decision))?;
+        add_active(alloc, known, &mut set, decided.live.as_slice())?;
     }
     Ok(set)
 }
 
 /// The units that are started by what is decided on Active units.
-pub fn starts(alloc: Global, rulings: &[Ruling]) -> Result<BTreeSet<UnitName>, AllocError>
-    ensures { IfOk result (λ set. (unit : List ℕ) → has set.keys unit ≡ list_any (starts unit) rulings.now) }
+pub fn starts(alloc: Global, decisions: &[UnitDecision]) -> Result<BTreeSet<UnitName>, AllocError>
+    ensures { IfOk result (λ set. (unit : List ℕ) → has set.keys unit ≡ list_any (starts unit) decisions.now) }
 {
     let mut set = BTreeSet::new(alloc);
-    for ruling in rulings {
-        add_if(alloc, &mut set, &ruling.unit, is_started(ruling.decision))?;
-        add_names(alloc, &mut set, ruling.live.as_slice())?;
+    for decided in decisions {
+        add_if(alloc, &mut set, &decided.unit, is_started(decided.decision))?;
+        add_names(alloc, &mut set, decided.live.as_slice())?;
     }
     Ok(set)
 }
 
 /// The Active units that are reloaded by their own decision.
-pub fn reloads(alloc: Global, rulings: &[Ruling]) -> Result<BTreeSet<UnitName>, AllocError>
-    ensures { IfOk result (λ set. (unit : List ℕ) → has set.keys unit ≡ list_any (reloads unit) rulings.now) }
+pub fn reloads(alloc: Global, decisions: &[UnitDecision]) -> Result<BTreeSet<UnitName>, AllocError>
+    ensures { IfOk result (λ set. (unit : List ℕ) → has set.keys unit ≡ list_any (reloads unit) decisions.now) }
 {
     let mut set = BTreeSet::new(alloc);
-    for ruling in rulings {
-        add_if(alloc, &mut set, &ruling.unit, is_reloaded(ruling.decision))?;
+    for decided in decisions {
+        add_if(
+            alloc,
+            &mut set,
+            &decided.unit,
+            is_reloaded(decided.decision),
+        )?;
     }
     Ok(set)
 }
 
 /// The Active units that are restarted by their own decision.
-pub fn restarts(alloc: Global, rulings: &[Ruling]) -> Result<BTreeSet<UnitName>, AllocError>
-    ensures { IfOk result (λ set. (unit : List ℕ) → has set.keys unit ≡ list_any (restarts unit) rulings.now) }
+pub fn restarts(alloc: Global, decisions: &[UnitDecision]) -> Result<BTreeSet<UnitName>, AllocError>
+    ensures { IfOk result (λ set. (unit : List ℕ) → has set.keys unit ≡ list_any (restarts unit) decisions.now) }
 {
     let mut set = BTreeSet::new(alloc);
-    for ruling in rulings {
-        add_if(alloc, &mut set, &ruling.unit, is_restarted(ruling.decision))?;
+    for decided in decisions {
+        add_if(
+            alloc,
+            &mut set,
+            &decided.unit,
+            is_restarted(decided.decision),
+        )?;
     }
     Ok(set)
 }
 
 /// The changed units that get nothing.
-pub fn left(alloc: Global, rulings: &[Ruling]) -> Result<BTreeSet<UnitName>, AllocError>
-    ensures { IfOk result (λ set. (unit : List ℕ) → has set.keys unit ≡ list_any (leaves unit) rulings.now) }
+pub fn left(alloc: Global, decisions: &[UnitDecision]) -> Result<BTreeSet<UnitName>, AllocError>
+    ensures { IfOk result (λ set. (unit : List ℕ) → has set.keys unit ≡ list_any (leaves unit) decisions.now) }
 {
     let mut set = BTreeSet::new(alloc);
-    for ruling in rulings {
-        add_if(alloc, &mut set, &ruling.unit, ruling.is_left)?;
+    for decided in decisions {
+        add_if(alloc, &mut set, &decided.unit, decided.is_left)?;
     }
     Ok(set)
 }

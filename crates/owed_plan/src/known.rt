@@ -2,7 +2,7 @@
 ghost use Rattle.std.specs.Prelude.{◌≡◌, ◌&&◌, IfOk};
 ghost use Rattle.owed_plan.specs.Lists.{is_active};
 ghost use Rattle.owed_plan.specs.Collected.{is_socketed};
-ghost use Rattle.owed_plan.specs.Rulings.{is_live_socket, sight_of};
+ghost use Rattle.owed_plan.specs.Decisions.{is_live_socket, situation_of};
 
 use host_trait::{State, States};
 use std::alloc::{AllocError, Global};
@@ -30,35 +30,35 @@ pub fn is_active(state: State) -> bool
 impl Known<'_> {
     /// What the table of decisions reads of a unit.
     pub fn facts(self, unit: &UnitName) -> Facts
-        ensures { result ≡ (sight_of self.entry).systems.facts unit.now }
+        ensures { result ≡ (situation_of self.entry).systems.facts unit.now }
     {
         Facts::of(self.old.find(unit), self.new.find(unit), unit)
     }
 
     /// Whether the new system defines a unit.
     pub fn is_defined(self, unit: &UnitName) -> bool
-        ensures { result ≡ ((sight_of self.entry).systems.facts unit.now).in_new }
+        ensures { result ≡ ((situation_of self.entry).systems.facts unit.now).in_new }
     {
         self.new.find(unit).is_some()
     }
 
     /// Whether a unit is Active.
     pub fn is_active(self, unit: &UnitName) -> bool
-        ensures { result ≡ is_active ((sight_of self.entry).states unit.now) }
+        ensures { result ≡ is_active ((situation_of self.entry).states unit.now) }
     {
         is_active(self.states.of(unit))
     }
 
     /// Whether a socket that the new system defines is Active or waits for a start.
     pub fn is_live_socket(self, socket: &UnitName) -> bool
-        ensures { result ≡ is_live_socket (sight_of self.entry) socket.now }
+        ensures { result ≡ is_live_socket (situation_of self.entry) socket.now }
     {
         self.is_defined(socket) && (self.is_active(socket) || self.waiting.contains(socket))
     }
 
     /// The sockets that a unit is paired with.
     pub fn sockets(self, alloc: Global, unit: &UnitName) -> Result<Listed<UnitName>, AllocError>
-        ensures { IfOk result (λ sockets. sockets ≡ (sight_of self.entry).systems.sockets unit.now) }
+        ensures { IfOk result (λ sockets. sockets ≡ (situation_of self.entry).systems.sockets unit.now) }
     {
         match self.new.find(unit) {
             Some(text) => sockets(alloc, text, unit),
@@ -68,7 +68,7 @@ impl Known<'_> {
 
     /// Whether a unit is a service with a socket that the new system defines.
     pub fn is_socketed(self, alloc: Global, unit: &UnitName) -> Result<bool, AllocError>
-        ensures { IfOk result (λ is. is ≡ is_socketed (sight_of self.entry).systems unit.now) }
+        ensures { IfOk result (λ is. is ≡ is_socketed (situation_of self.entry).systems unit.now) }
     {
         if !is_service(unit.kind()) {
             return Ok(false);

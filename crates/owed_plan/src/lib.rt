@@ -3,12 +3,12 @@
 #![tactic(auto)]
 
 mod collecting;
+mod deciding;
 mod duty;
 mod known;
 pub mod laws;
 mod owed;
 mod planning;
-mod ruling;
 #[cfg(test)]
 mod tests;
 

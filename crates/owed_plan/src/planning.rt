@@ -5,16 +5,16 @@ ghost use Rattle.host_trait.specs.States.{state_of};
 ghost use Rattle.owed_plan.specs.Collected.{IsCollected, comes_up, defined};
 ghost use Rattle.owed_plan.specs.Owed.{IsPlan};
 ghost use Rattle.owed_plan.specs.Pull.{Pulled};
-ghost use Rattle.owed_plan.specs.Rulings.{reloads, restarts, sight_of, starts};
+ghost use Rattle.owed_plan.specs.Decisions.{reloads, restarts, situation_of, starts};
 ghost use Rattle.owed_plan.specs.Systems.{systems_in};
 ghost use Rattle.switch_names.specs.Names.{IsListOf, has};
 
 use crate::collecting::{
     add_defined, add_if, add_names, left, listed, reloads, restarts, starts, stops,
 };
+use crate::deciding::{UnitDecision, decide_units};
 use crate::known::Known;
 use crate::owed::Owed;
-use crate::ruling::{Ruling, rulings};
 use host_trait::States;
 use owed_lists::Lists;
 use std::alloc::{AllocError, Global};
@@ -37,7 +37,7 @@ fn comes_up(
     handled: Handled<'_>,
     unit: &UnitName,
 ) -> Result<bool, AllocError>
-    ensures { IfOk result (λ is. is ≡ comes_up (sight_of known.entry) handled.entry.stops.now.keys handled.entry.reloads.now.keys handled.entry.restarts.now.keys unit.now) }
+    ensures { IfOk result (λ is. is ≡ comes_up (situation_of known.entry) handled.entry.stops.now.keys handled.entry.reloads.now.keys handled.entry.restarts.now.keys unit.now) }
 {
     if known.is_active(unit) && !handled.stops.contains(unit) {
         return Ok(false);
@@ -57,7 +57,7 @@ fn add_pulled(
     pulled: &[UnitName],
 ) -> Result<(), AllocError>
     ensures { OnOk result ((unit : List ℕ) → has set.new.keys unit ≡ (has set.old.keys unit
-        || has (filter (comes_up (sight_of known.entry) handled.entry.stops.now.keys handled.entry.reloads.now.keys handled.entry.restarts.now.keys) pulled.now) unit)) }
+        || has (filter (comes_up (situation_of known.entry) handled.entry.stops.now.keys handled.entry.reloads.now.keys handled.entry.restarts.now.keys) pulled.now) unit)) }
 {
     for unit in pulled {
         add_if(alloc, set, unit, comes_up(alloc, known, handled, unit)?)?;
@@ -69,12 +69,12 @@ fn add_pulled(
 fn all_reloads(
     alloc: Global,
     known: Known<'_>,
-    rulings: &[Ruling],
+    decisions: &[UnitDecision],
     lists: &Lists,
 ) -> Result<BTreeSet<UnitName>, AllocError>
-    ensures { IfOk result (λ set. (unit : List ℕ) → has set.keys unit ≡ (list_any (reloads unit) rulings.now || has (defined (sight_of known.entry) lists.now.reloads) unit)) }
+    ensures { IfOk result (λ set. (unit : List ℕ) → has set.keys unit ≡ (list_any (reloads unit) decisions.now || has (defined (situation_of known.entry) lists.now.reloads) unit)) }
 {
-    let mut set = reloads(alloc, rulings)?;
+    let mut set = reloads(alloc, decisions)?;
     add_defined(alloc, known, &mut set, lists.reloads.as_slice())?;
     Ok(set)
 }
@@ -83,12 +83,12 @@ fn all_reloads(
 fn all_restarts(
     alloc: Global,
     known: Known<'_>,
-    rulings: &[Ruling],
+    decisions: &[UnitDecision],
     lists: &Lists,
 ) -> Result<BTreeSet<UnitName>, AllocError>
-    ensures { IfOk result (λ set. (unit : List ℕ) → has set.keys unit ≡ (list_any (restarts unit) rulings.now || has (defined (sight_of known.entry) lists.now.restarts) unit)) }
+    ensures { IfOk result (λ set. (unit : List ℕ) → has set.keys unit ≡ (list_any (restarts unit) decisions.now || has (defined (situation_of known.entry) lists.now.restarts) unit)) }
 {
-    let mut set = restarts(alloc, rulings)?;
+    let mut set = restarts(alloc, decisions)?;
     add_defined(alloc, known, &mut set, lists.restarts.as_slice())?;
     Ok(set)
 }
@@ -98,12 +98,12 @@ fn all_restarts(
 fn own_starts(
     alloc: Global,
     known: Known<'_>,
-    rulings: &[Ruling],
+    decisions: &[UnitDecision],
     lists: &Lists,
 ) -> Result<BTreeSet<UnitName>, AllocError>
-    ensures { IfOk result (λ set. (unit : List ℕ) → has set.keys unit ≡ (list_any (starts unit) rulings.now || has (defined (sight_of known.entry) lists.now.starts) unit)) }
+    ensures { IfOk result (λ set. (unit : List ℕ) → has set.keys unit ≡ (list_any (starts unit) decisions.now || has (defined (situation_of known.entry) lists.now.starts) unit)) }
 {
-    let mut set = starts(alloc, rulings)?;
+    let mut set = starts(alloc, decisions)?;
     add_defined(alloc, known, &mut set, lists.starts.as_slice())?;
     Ok(set)
 }
@@ -112,23 +112,23 @@ fn own_starts(
 fn collect(
     alloc: Global,
     known: Known<'_>,
-    rulings: &[Ruling],
+    decisions: &[UnitDecision],
     lists: &Lists,
     pulled: &[UnitName],
 ) -> Result<Owed, AllocError>
-    ensures { IfOk result (IsCollected (sight_of known.entry) rulings.now lists.now pulled.now) }
+    ensures { IfOk result (IsCollected (situation_of known.entry) decisions.now lists.now pulled.now) }
 {
-    let stops = stops(alloc, known, rulings)?;
-    let reloads = all_reloads(alloc, known, rulings, lists)?;
-    let restarts = all_restarts(alloc, known, rulings, lists)?;
-    let mut starts = own_starts(alloc, known, rulings, lists)?;
+    let stops = stops(alloc, known, decisions)?;
+    let reloads = all_reloads(alloc, known, decisions, lists)?;
+    let restarts = all_restarts(alloc, known, decisions, lists)?;
+    let mut starts = own_starts(alloc, known, decisions, lists)?;
     let handled = Handled {
         stops: &stops,
         reloads: &reloads,
         restarts: &restarts,
     };
     add_pulled(alloc, known, handled, &mut starts, pulled)?;
-    let left = left(alloc, rulings)?;
+    let left = left(alloc, decisions)?;
     Ok(Owed {
         stops: listed(alloc, stops)?,
         reloads: listed(alloc, reloads)?,
@@ -169,7 +169,7 @@ pub fn plan(
         states,
         waiting: &waiting,
     };
-    let rulings = rulings(alloc, known)?;
-    let owed = collect(alloc, known, rulings.as_slice(), lists, pulled.as_slice())?;
+    let decisions = decide_units(alloc, known)?;
+    let owed = collect(alloc, known, decisions.as_slice(), lists, pulled.as_slice())?;
     Ok(owed)
 }

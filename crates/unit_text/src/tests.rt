@@ -1,5 +1,5 @@
 //! What unit files say, by the rules of systemd.syntax(7).
-use crate::{UnitText, parse};
+use crate::{TextFault, UnitText, parse};
 use std::alloc::{AllocError, Global};
 use std::test::Fail;
 use switch_names::Text;
@@ -14,136 +14,182 @@ fn shown(alloc: Global, values: &[Text]) -> Result<String, AllocError> {
     Ok(out)
 }
 
+/// What a row shows, a file, and the values of a key of it.
+const VALUES: &[(&str, &str, &str)] = &[
+    ("an empty file", "", ""),
+    ("no final line feed", "[S]\nK=1", "1|"),
+    ("a list", "[S]\nK=1\nK=2\n", "1|2|"),
+    ("a cleared list", "[S]\nK=A=1\nK=\nK=B=2", "B=2|"),
+    ("a cleared key", "[S]\nK=1\nK= \t\n", ""),
+    (
+        "a joined line",
+        "[S]\nK=/bin/x \\\n# note\n; more\n  --y\n",
+        "/bin/x    --y|",
+    ),
+    (
+        "a comment that ends in a backslash",
+        "[S]\n# a \\\nK=1\n",
+        "1|",
+    ),
+    ("a backslash at the end", "[S]\nK=a\\", "a|"),
+    (
+        "a backslash before a comment at the end",
+        "[S]\nK=a\\\n#b",
+        "a|",
+    ),
+    ("blanks at a beginning", "[S]\nK=a\\\n \t b\n", "a  \t b|"),
+    (
+        "an empty line that is joined",
+        "[S]\nK=a\\\n\nK=b\n",
+        "a|b|",
+    ),
+    ("carriage returns", "[S]\r\n K\t= 1 \r\n", "1|"),
+    (
+        "a backslash before a carriage return",
+        "[S]\r\nK=a\\\r\nK=b\r\n",
+        "a\\|b|",
+    ),
+    ("an equals sign in a value", "[S]\nK==a=b\n", "=a=b|"),
+    (
+        "a section that comes again",
+        "[S]\nK=1\n[T]\nK=2\n[S]\nK=3\n",
+        "1|3|",
+    ),
+    ("other sections and keys", "[S ]\nK=1\n[S]\nk=2\n", ""),
+    ("a section on two lines", "[\\\n#\nS]\nK=1\n[S]\nK=2", "2|"),
+];
+
+/// The values of a key of a file.
+fn values_in(alloc: Global, file: &str) -> Result<String, TextFault> {
+    let text = parse(alloc, file.as_bytes())?;
+    Ok(shown(alloc, text.values("S", "K"))?)
+}
+
 #[test]
 fn values_are_those_after_the_last_empty_one(rt: HostRuntime) -> Result<(), Fail> {
-    let alloc = rt.alloc();
-    for (name, file, want) in [
-        ("an empty file", "", ""),
-        ("no final line feed", "[S]\nK=1", "1|"),
-        ("a list", "[S]\nK=1\nK=2\n", "1|2|"),
-        ("a cleared list", "[S]\nK=A=1\nK=\nK=B=2", "B=2|"),
-        ("a cleared key", "[S]\nK=1\nK= \t\n", ""),
-        (
-            "a joined line",
-            "[S]\nK=/bin/x \\\n# note\n; more\n  --y\n",
-            "/bin/x    --y|",
-        ),
-        (
-            "a comment that ends in a backslash",
-            "[S]\n# a \\\nK=1\n",
-            "1|",
-        ),
-        ("a backslash at the end", "[S]\nK=a\\", "a|"),
-        (
-            "a backslash before a comment at the end",
-            "[S]\nK=a\\\n#b",
-            "a|",
-        ),
-        ("blanks at a beginning", "[S]\nK=a\\\n \t b\n", "a  \t b|"),
-        (
-            "an empty line that is joined",
-            "[S]\nK=a\\\n\nK=b\n",
-            "a|b|",
-        ),
-        ("carriage returns", "[S]\r\n K\t= 1 \r\n", "1|"),
-        (
-            "a backslash before a carriage return",
-            "[S]\r\nK=a\\\r\nK=b\r\n",
-            "a\\|b|",
-        ),
-        ("an equals sign in a value", "[S]\nK==a=b\n", "=a=b|"),
-        (
-            "a section that comes again",
-            "[S]\nK=1\n[T]\nK=2\n[S]\nK=3\n",
-            "1|3|",
-        ),
-        ("other sections and keys", "[S ]\nK=1\n[S]\nk=2\n", ""),
-        ("a section on two lines", "[\\\n#\nS]\nK=1\n[S]\nK=2", "2|"),
-    ] {
-        let text = parse(alloc, file.as_bytes())?;
-        let got = shown(alloc, text.values("S", "K"))?;
-        assert_eq!(rt; got.as_str(), want, "{name}");
+    for (name, file, want) in VALUES {
+        let got = values_in(rt.alloc(), file)?;
+        assert_eq!(rt; got.as_str(), *want, "{name}");
     }
     Ok(())
+}
+
+/// A file, and its fault.
+const FAULTS: &[(&[u8], &str)] = &[
+    (b"[A", "Section(1)"),
+    (b"[]", "Section(1)"),
+    (b"\n[A[]", "Section(2)"),
+    (b"[A]B\n", "Section(1)"),
+    (b"[A]\n=x", "Key(2)"),
+    (b"[A]\n \t=x", "Key(2)"),
+    (b"[A]\nx", "Key(2)"),
+    (b"A=1\n", "NoSection(1)"),
+    (b"#\nA=1\n[A]\nx", "NoSection(2)"),
+    (b"x", "Key(1)"),
+    (b"[A]\n\xff", "Utf8(2)"),
+    (b"[A]\n#\xff\nx", "Utf8(2)"),
+    (b"[A]\nx\n\xff", "Key(2)"),
+    (b"[A]\nx\\\n\xff", "Utf8(3)"),
+    (b"[A]\nx\\\n#\xff\ny", "Utf8(3)"),
+    (b"[A]\nx\\\n#\xff", "Key(2)"),
+    (b"[A]\nK=x\\\n#\xff", "Utf8(3)"),
+];
+
+/// The fault of a file, or that there is none.
+fn fault_in(alloc: Global, file: &[u8]) -> Result<String, AllocError> {
+    match parse(alloc, file) {
+        Ok(_) => String::from_str(alloc, "none"),
+        Err(fault) => format!(in alloc; "{fault:?}"),
+    }
 }
 
 #[test]
 fn the_fault_of_the_least_line_is_given(rt: HostRuntime) -> Result<(), Fail> {
-    let alloc = rt.alloc();
-    let files: [(&[u8], &str); 17] = [
-        (b"[A", "Section(1)"),
-        (b"[]", "Section(1)"),
-        (b"\n[A[]", "Section(2)"),
-        (b"[A]B\n", "Section(1)"),
-        (b"[A]\n=x", "Key(2)"),
-        (b"[A]\n \t=x", "Key(2)"),
-        (b"[A]\nx", "Key(2)"),
-        (b"A=1\n", "NoSection(1)"),
-        (b"#\nA=1\n[A]\nx", "NoSection(2)"),
-        (b"x", "Key(1)"),
-        (b"[A]\n\xff", "Utf8(2)"),
-        (b"[A]\n#\xff\nx", "Utf8(2)"),
-        (b"[A]\nx\n\xff", "Key(2)"),
-        (b"[A]\nx\\\n\xff", "Utf8(3)"),
-        (b"[A]\nx\\\n#\xff\ny", "Utf8(3)"),
-        (b"[A]\nx\\\n#\xff", "Key(2)"),
-        (b"[A]\nK=x\\\n#\xff", "Utf8(3)"),
-    ];
-    for (file, want) in files {
-        let got = match parse(alloc, file) {
-            Ok(_) => String::from_str(alloc, "none")?,
-            Err(fault) => format!(in alloc; "{fault:?}")?,
-        };
-        assert_eq!(rt; got.as_str(), want, "{file:?}");
+    for (file, want) in FAULTS {
+        let got = fault_in(rt.alloc(), file)?;
+        assert_eq!(rt; got.as_str(), *want, "{file:?}");
     }
     Ok(())
 }
 
-#[test]
-fn later_assignments_go_after_the_present_ones(rt: HostRuntime) -> Result<(), Fail> {
-    let alloc = rt.alloc();
+/// A text to which a later one is applied.
+fn merged_text(alloc: Global) -> Result<UnitText, TextFault> {
     let mut text = parse(alloc, b"[S]\nK=1\n[A]\nZ=1\nB=1")?;
     text.add(alloc, &parse(alloc, b"[S]\nK=\nL=on\n[A]\nB=2")?)?;
-    assert_eq!(rt; text.values("S", "K").len(), 0);
-    assert_eq!(rt;
-        shown(alloc, text.copy(alloc)?.values("A", "B"))?.as_str(),
-        "1|2|"
-    );
+    Ok(text)
+}
+
+/// The keys that have a value, with a blank after each.
+fn shown_keys(alloc: Global, text: &UnitText) -> Result<String, AllocError> {
     let mut keys = String::new(alloc);
     for at in text.keys().as_slice() {
         keys.push_str(at.section.as_str())?;
         keys.push_str(at.key.as_str())?;
         keys.push(' ')?;
     }
-    assert_eq!(rt; keys.as_str(), "AB AZ SL ");
-    let mut single = UnitText::empty(alloc);
-    single.assign(alloc, "S", "K", "a\\")?;
-    assert_eq!(rt; shown(alloc, single.values("S", "K"))?.as_str(), "a\\|");
-    Ok(())
+    Ok(keys)
+}
+
+/// The values of a key of a copy.
+fn copied_values(alloc: Global, text: &UnitText) -> Result<String, AllocError> {
+    let copied = text.copy(alloc)?;
+    shown(alloc, copied.values("A", "B"))
+}
+
+/// How many values a key has that the later text clears, the values of one that it adds to, and the keys.
+fn merged(alloc: Global) -> Result<(usize, String, String), TextFault> {
+    let text = merged_text(alloc)?;
+    let cleared = text.values("S", "K").len();
+    let values = copied_values(alloc, &text)?;
+    Ok((cleared, values, shown_keys(alloc, &text)?))
 }
 
 #[test]
+fn later_assignments_go_after_the_present_ones(rt: HostRuntime) -> Result<(), Fail> {
+    let (cleared, values, keys) = merged(rt.alloc())?;
+    let got = (cleared, values.as_str(), keys.as_str());
+    assert_eq!(rt; got, (0, "1|2|", "AB AZ SL "));
+    Ok(())
+}
+
+/// The values of a key that is given one with a backslash at its end.
+fn assigned(alloc: Global) -> Result<String, AllocError> {
+    let mut text = UnitText::empty(alloc);
+    text.assign(alloc, "S", "K", "a\\")?;
+    shown(alloc, text.values("S", "K"))
+}
+
+#[test]
+fn a_value_is_assigned_as_it_stands(rt: HostRuntime) -> Result<(), Fail> {
+    assert_eq!(rt; assigned(rt.alloc())?.as_str(), "a\\|");
+    Ok(())
+}
+
+const FLAG_FILE: &[u8] =
+    b"[S]\na=1\nb=yEs\nc=TRUE\nd=on\ne=0\nf=No\ng=false\nh=OFF\ni=t\nj=no\nj=yes\nk=no\nk=";
+
+/// A key, and what it says as a flag that is unset and set where it says nothing.
+const FLAGS: &[(&str, bool, bool)] = &[
+    ("a", true, true),
+    ("b", true, true),
+    ("c", true, true),
+    ("d", true, true),
+    ("e", false, false),
+    ("f", false, false),
+    ("g", false, false),
+    ("h", false, false),
+    ("i", false, true),
+    ("j", true, true),
+    ("k", false, true),
+    ("l", false, true),
+];
+
+#[test]
 fn a_flag_is_read_from_the_last_value(rt: HostRuntime) -> Result<(), Fail> {
-    let text = parse(
-        rt.alloc(),
-        b"[S]\na=1\nb=yEs\nc=TRUE\nd=on\ne=0\nf=No\ng=false\nh=OFF\ni=t\nj=no\nj=yes\nk=no\nk=",
-    )?;
-    for (key, unset, set) in [
-        ("a", true, true),
-        ("b", true, true),
-        ("c", true, true),
-        ("d", true, true),
-        ("e", false, false),
-        ("f", false, false),
-        ("g", false, false),
-        ("h", false, false),
-        ("i", false, true),
-        ("j", true, true),
-        ("k", false, true),
-        ("l", false, true),
-    ] {
-        assert_eq!(rt; text.flag("S", key, false), unset, "{key}");
-        assert_eq!(rt; text.flag("S", key, true), set, "{key}");
+    let text = parse(rt.alloc(), FLAG_FILE)?;
+    for (key, unset, set) in FLAGS {
+        assert_eq!(rt; text.flag("S", key, false), *unset, "{key}");
+        assert_eq!(rt; text.flag("S", key, true), *set, "{key}");
     }
     Ok(())
 }

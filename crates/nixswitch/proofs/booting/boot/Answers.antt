@@ -6,11 +6,13 @@ use Rattle.host_trait.specs.Change.{IsSame}
 use Rattle.host_trait.specs.Host.{Told, Leads}
 use Rattle.host_trait.specs.Sink.{Puts}
 use Rattle.host_trait.specs.World.{WorldState, seen}
+use Rattle.generations.specs.Places.{number_after}
 use Rattle.host_trait.proofs.Moments.{leads_then, same_as, same_then, told_after, told_as}
 use Rattle.nixswitch.specs.declared.command.Command.TheVariants.{Boot}
-use Rattle.nixswitch.specs.declared.refusal.RunFault.TheVariants.{Refused, Sink}
-use Rattle.nixswitch.specs.Boot.{IsPlanOf, final, refusal, report}
-use Rattle.nixswitch.specs.Run.{IsBootOutput, IsCommandMoment}
+use Rattle.nixswitch.specs.declared.run_fault.RunFault.TheVariants.{Refused, Sink}
+use Rattle.nixswitch.specs.Boot.{IsPlanOf, boot_report}
+use Rattle.nixswitch.specs.Outcomes.{IsBootOutput, final, refusal}
+use Rattle.nixswitch.specs.Run.{IsCommandMoment}
 use Rattle.nixswitch.proofs.OutputLemmas.{nothing_output, puts_as, puts_nothing, same_fault}
 use Rattle.nixswitch.proofs.ResultLemmas.{on_ok_always, on_ok_as}
 use Rattle.nixswitch.proofs.UnderwayLemmas.{boot_begins, boot_moment}
@@ -38,8 +40,8 @@ pub returns-in_err-plan-clause-output : goal.returns-in_err-plan-clause-output
 returns-in_err-plan-clause-output g c =
     let p = err_from_is_err_and c.from_residual.result c.from_residual.ensures.1 in
     record {
-      has = λ w is. puts_nothing (g.S.Sink.sink c.args.out.now) (IsBootOutput c.from_residual.result (report w (Boot c.args.system.now)))
-          (subst (λ r. IsBootOutput r (report w (Boot c.args.system.now)) []) (sym p.1) (nothing_output p.0 (report w (Boot c.args.system.now))));
+      has = λ w is. puts_nothing (g.S.Sink.sink c.args.out.now) (IsBootOutput c.from_residual.result (boot_report c.args.system.now (number_after w.leaves c.args.system.now)))
+          (subst (λ r. IsBootOutput r (boot_report c.args.system.now (number_after w.leaves c.args.system.now)) []) (sym p.1) (nothing_output p.0 (boot_report c.args.system.now (number_after w.leaves c.args.system.now))));
     }
 
 pub returns-in_err-plan-clause-moments : goal.returns-in_err-plan-clause-moments
@@ -84,8 +86,8 @@ returns-clause-sink_world g c e = ⊎_elim
     (c.carry_out.ensures.sink_world e)
 
 pub returns-clause-output : goal.returns-clause-output
-returns-clause-output g c = told_as c.in_ok-plan.ensures.plan (λ w. Puts (g.S.Sink.sink c.args.out.now) (g.S.Sink.sink c.carry_out.new.out) (IsBootOutput c.carry_out.result (report w (Boot c.args.system.now))))
-    (λ w is plan. puts_as c.carry_out.ensures.output (IsBootOutput c.carry_out.result (report w (Boot c.args.system.now)))
+returns-clause-output g c = told_as c.in_ok-plan.ensures.plan (λ w. Puts (g.S.Sink.sink c.args.out.now) (g.S.Sink.sink c.carry_out.new.out) (IsBootOutput c.carry_out.result (boot_report c.args.system.now (number_after w.leaves c.args.system.now))))
+    (λ w is plan. puts_as c.carry_out.ensures.output (IsBootOutput c.carry_out.result (boot_report c.args.system.now (number_after w.leaves c.args.system.now)))
     (λ more put. subst (λ t. IsBootOutput c.carry_out.result t more) plan.text put))
 
 pub returns-clause-moments : goal.returns-clause-moments

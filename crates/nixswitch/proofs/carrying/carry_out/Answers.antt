@@ -4,8 +4,9 @@ use Rattle.host_trait.specs.Change.{IsSame}
 use Rattle.host_trait.specs.Sink.{IsPrefixOf}
 use Rattle.host_trait.proofs.Moments.{started}
 use Rattle.generations.specs.Set.{IsSetMoment}
-use Rattle.nixswitch.specs.Run.{IsBootOutput, IsHostFault}
-use Rattle.nixswitch.specs.declared.refusal.RunFault.TheVariants.{Refused, Sink}
+use Rattle.nixswitch.specs.Outcomes.{IsBootOutput}
+use Rattle.nixswitch.specs.Run.{IsHostFault}
+use Rattle.nixswitch.specs.declared.run_fault.RunFault.TheVariants.{Refused, Sink}
 use Rattle.nixswitch.proofs.OutputLemmas.{host_output, no_refusal, no_sink, puts_as, report_prefix, same_fault, sink_output}
 use Rattle.nixswitch.proofs.carrying.carry_out.Goals as goal
 

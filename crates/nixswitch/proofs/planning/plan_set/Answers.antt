@@ -3,7 +3,7 @@ use Rattle.host_trait.specs.Change.{IsSame}
 use Rattle.host_trait.proofs.Moments.{started, told_as}
 use Rattle.nixswitch.specs.Boot.{IsPlanOf, set_refusal}
 use Rattle.nixswitch.specs.BootPlaces.{AreApartFromStage}
-use Rattle.nixswitch.specs.declared.refusal.Refusal.TheVariants.{InTheWay, GenerationsFull}
+use Rattle.switch_engine.specs.declared.refusal.Refusal.TheVariants.{InTheWay, GenerationsFull}
 use Rattle.nixswitch.proofs.PlanLemmas.{found_of_world, free_list, full_of, full_refused, in_way_refused, not_some, places_apart, plan_is}
 use Rattle.nixswitch.proofs.planning.plan_set.Goals as goal
 

@@ -1,10 +1,10 @@
 use Rattle.std.proofs.Common.{sym, subst}
 use Rattle.nixswitch.specs.declared.command.Command.TheVariants.{Boot}
 use Rattle.nixswitch.specs.declared.status.Status.{Status}
-use Rattle.nixswitch.specs.Run.{IsOutputOf, RunsCommand, status_of}
-use Rattle.nixswitch.specs.Boot.{refusal}
+use Rattle.nixswitch.specs.Outcomes.{IsOutputOf, refusal}
+use Rattle.nixswitch.specs.Run.{RunsCommand, status_of}
 use Rattle.nixswitch.proofs.OutputLemmas.{puts_as}
-use Rattle.nixswitch.proofs.StatusLemmas.{answer_of, done_of, host_of, no_usage, on_ok_told, output_of, refused_of, sink_of}
+use Rattle.nixswitch.proofs.StatusLemmas.{answer_of, done_of, host_of, boot_output, no_usage, on_ok_told, refused_of, sink_of}
 use Rattle.nixswitch.proofs.top_call.boot_status.Goals as goal
 
 pub returns : goal.returns
@@ -19,7 +19,7 @@ returns g c =
       not_usage = λ is. no_usage r is;
       sink_not_refused = λ is. e.sink_not_refused (sink_of r is);
       sink_world = λ is. e.sink_world (sink_of r is);
-      output = record { has = λ w told. puts_as (e.output.has w told) (IsOutputOf (status_of r) w (Boot c.args.system.now)) (λ more put. output_of r w (Boot c.args.system.now) more put) };
+      output = record { has = λ w told. puts_as (e.output.has w told) (IsOutputOf (status_of r) w (Boot c.args.system.now)) (λ more put. boot_output r w c.args.system.now more put) };
       completes = λ no_host no_sink. record {
         has = λ w told.
             answer_of r (refusal w (Boot c.args.system.now)) (on_ok_told r e.ok_not_refused (λ t. t.has w told)) (λ why is. (e.refused why is).has w told)

@@ -1,6 +1,6 @@
 use Rattle.std.proofs.Common.{true, cond, ap, ◌∙◌}
 use Rattle.switch_names.specs.Names.{has, is_name}
-use Rattle.owed_plan.proofs.RulingLemmas.{has_added}
+use Rattle.owed_plan.proofs.DecisionLemmas.{has_added}
 use Rattle.owed_plan.proofs.collecting.add_if.Goals as goal
 
 pub returns-in_ok-insert : goal.returns-in_ok-insert

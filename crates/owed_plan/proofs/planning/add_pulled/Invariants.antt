@@ -1,6 +1,6 @@
 use Rattle.std.proofs.Common.{◌≡◌, ◌||◌, List, ℕ, filter, take}
 use Rattle.owed_plan.specs.Collected.{comes_up}
-use Rattle.owed_plan.specs.Rulings.{sight_of}
+use Rattle.owed_plan.specs.Decisions.{situation_of}
 use Rattle.switch_names.specs.Names.{has}
 use Rattle.owed_plan.proofs.planning.add_pulled.Given as goal
 
@@ -8,4 +8,4 @@ use Rattle.owed_plan.proofs.planning.add_pulled.Given as goal
 abbrev pub invariant-loop-unit : goal.invariant-loop-unit
 invariant-loop-unit l = (unit : List ℕ) →
     has l.set.keys unit
-    ≡ (has l.fn.set.keys unit || has (filter (comes_up (sight_of l.known) l.handled.stops.now.keys l.handled.reloads.now.keys l.handled.restarts.now.keys) (take l.unit-index l.pulled)) unit)
+    ≡ (has l.fn.set.keys unit || has (filter (comes_up (situation_of l.known) l.handled.stops.now.keys l.handled.reloads.now.keys l.handled.restarts.now.keys) (take l.unit-index l.pulled)) unit)

@@ -1,7 +1,7 @@
 use Rattle.std.proofs.Common.{◌||◌, filter, ap, ◌∙◌}
 use Rattle.std.specs.List.{list_any}
 use Rattle.owed_plan.specs.Collected.{comes_up, defined}
-use Rattle.owed_plan.specs.Rulings.{sight_of, starts}
+use Rattle.owed_plan.specs.Decisions.{situation_of, starts}
 use Rattle.switch_names.specs.Names.{has}
 use Rattle.owed_plan.proofs.PlanLemmas.{same_up, set_list}
 use Rattle.owed_plan.proofs.planning.collect.Goals as goal
@@ -13,8 +13,8 @@ returns c = record {
   restarts = set_list c.in_ok-listed-3.field-0 c.in_ok-restarts.restarts.keys _ c.in_ok-listed-3.ensures.names c.listed-3.ensures.sorted c.in_ok-restarts.ensures;
   starts = set_list c.in_ok-listed-4.field-0 c.add_pulled.new.set.keys _ c.in_ok-listed-4.ensures.names c.listed-4.ensures.sorted (λ unit.
       c.in_ok-add_pulled.ensures unit
-      ∙ ap (λ b. b || has (filter (comes_up (sight_of c.args.known) c.in_ok-stops.stops.keys c.in_ok-reloads.reloads.keys c.in_ok-restarts.restarts.keys) c.args.pulled.now) unit) (c.in_ok-starts.ensures unit)
-      ∙ ap (λ b. list_any (starts unit) c.args.rulings.now || has (defined (sight_of c.args.known) c.args.lists.now.starts) unit || b)
-      (same_up (sight_of c.args.known) c.args.pulled.now _ _ _ _ _ _ unit c.in_ok-listed.ensures.names c.in_ok-listed-2.ensures.names c.in_ok-listed-3.ensures.names));
+      ∙ ap (λ b. b || has (filter (comes_up (situation_of c.args.known) c.in_ok-stops.stops.keys c.in_ok-reloads.reloads.keys c.in_ok-restarts.restarts.keys) c.args.pulled.now) unit) (c.in_ok-starts.ensures unit)
+      ∙ ap (λ b. list_any (starts unit) c.args.decisions.now || has (defined (situation_of c.args.known) c.args.lists.now.starts) unit || b)
+      (same_up (situation_of c.args.known) c.args.pulled.now _ _ _ _ _ _ unit c.in_ok-listed.ensures.names c.in_ok-listed-2.ensures.names c.in_ok-listed-3.ensures.names));
   left = set_list c.in_ok-listed-5.field-0 c.in_ok-left.left.keys _ c.in_ok-listed-5.ensures.names c.listed-5.ensures.sorted c.in_ok-left.ensures;
 }

@@ -2,8 +2,8 @@
 use Rattle.std.proofs.Common.{◌≡◌, ◌==◌, ◌||◌, ◌&&◌, ℕ, suc, Bool, true, false, cond, not, List, [], ◌∷◌, filter, length, if◌then◌else◌, inl, inr, refl, sym, ap, ◌∙◌, arith}
 use Rattle.std.proofs.lemmas.Bool.Decides.{nat_tests}
 use Rattle.std.specs.List.{list_any}
-use Rattle.owed_plan.specs.Rulings.{Sight, has_live_socket, is_left, is_live_socket, is_socket_started, live_sockets, ruling_of}
-use Rattle.owed_plan.specs.declared.ruling.Ruling.{Ruling}
+use Rattle.owed_plan.specs.Decisions.{Situation, has_live_socket, is_left, is_live_socket, is_socket_started, live_sockets, decision_of}
+use Rattle.owed_plan.specs.declared.deciding.UnitDecision.{UnitDecision}
 use Rattle.switch_names.specs.Names.{Name, has, is_name}
 use Rattle.unit_decide.specs.Decision.{decide}
 use Rattle.unit_decide.specs.declared.decision.Decision.{Decision}
@@ -52,21 +52,21 @@ same_decision facts test sockets =
       | false ↦ λ other. without_sockets facts (list_any test sockets) other
     ] refl
 
-decided : (sight : Sight) (unit : Name) (facts : Facts) (live : List Name) (empty : Bool) (decision : Decision) → facts ≡ sight.systems.facts unit → live ≡ live_sockets sight unit → empty ≡ (length live == 0) →
-    decision ≡ decide facts (not empty) → decision ≡ decide (sight.systems.facts unit) (has_live_socket sight unit)
-decided sight unit facts live empty decision of among none is =
-    is ∙ ap (λ b. decide facts (not b)) (none ∙ ap (λ (names : List Name). length names == 0) among) ∙ ap (λ f. decide f (not (length (live_sockets sight unit) == 0))) of
-    ∙ same_decision (sight.systems.facts unit) (is_live_socket sight) (sight.systems.sockets unit)
+same_row : (situation : Situation) (unit : Name) (facts : Facts) (live : List Name) (empty : Bool) (decision : Decision) → facts ≡ situation.systems.facts unit → live ≡ live_sockets situation unit → empty ≡ (length live == 0) →
+    decision ≡ decide facts (not empty) → decision ≡ decide (situation.systems.facts unit) (has_live_socket situation unit)
+same_row situation unit facts live empty decision of among none is =
+    is ∙ ap (λ b. decide facts (not b)) (none ∙ ap (λ (names : List Name). length names == 0) among) ∙ ap (λ f. decide f (not (length (live_sockets situation unit) == 0))) of
+    ∙ same_decision (situation.systems.facts unit) (is_live_socket situation) (situation.systems.sockets unit)
 
 -- what is decided on a unit
-pub ruled : (sight : Sight) (unit copied : Name) (facts : Facts) (live : List Name) (empty : Bool) (decision : Decision) (left : Bool) → copied ≡ unit → facts ≡ sight.systems.facts unit →
-    live ≡ live_sockets sight unit → empty ≡ (length live == 0) → decision ≡ decide facts (not empty) → left ≡ is_left facts decision →
-    ◌≡◌ {A = Ruling} (record { unit = copied; decision = decision; live = live; is_left = left }) (ruling_of sight unit)
-ruled sight unit copied facts live empty decision left copy of among none is nothing =
-    let row = decided sight unit facts live empty decision of among none is in
+pub unit_decided : (situation : Situation) (unit copied : Name) (facts : Facts) (live : List Name) (empty : Bool) (decision : Decision) (left : Bool) → copied ≡ unit → facts ≡ situation.systems.facts unit →
+    live ≡ live_sockets situation unit → empty ≡ (length live == 0) → decision ≡ decide facts (not empty) → left ≡ is_left facts decision →
+    ◌≡◌ {A = UnitDecision} (record { unit = copied; decision = decision; live = live; is_left = left }) (decision_of situation unit)
+unit_decided situation unit copied facts live empty decision left copy of among none is nothing =
+    let row = same_row situation unit facts live empty decision of among none is in
     λ i. record {
       unit = copy i;
       decision = row i;
       live = among i;
-      is_left = (nothing ∙ ap (λ f. is_left f decision) of ∙ ap (λ d. is_left (sight.systems.facts unit) d) row) i;
+      is_left = (nothing ∙ ap (λ f. is_left f decision) of ∙ ap (λ d. is_left (situation.systems.facts unit) d) row) i;
     }

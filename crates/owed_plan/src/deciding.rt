@@ -1,6 +1,6 @@
 //! What is decided on each Active unit.
 ghost use Rattle.std.specs.Prelude.{◌≡◌, IfOk, filter};
-ghost use Rattle.owed_plan.specs.Rulings.{is_left, is_live_socket, is_nothing, is_socket_started, live_sockets, ruling_of, rulings_of, sight_of};
+ghost use Rattle.owed_plan.specs.Decisions.{is_left, is_live_socket, is_nothing, is_socket_started, live_sockets, decision_of, decisions_of, situation_of};
 
 use crate::known::{Known, is_active};
 use std::alloc::{AllocError, Global};
@@ -9,7 +9,7 @@ use unit_decide::{Decision, Facts, decide_by, is_same, is_target};
 
 /// What is decided on an Active unit.
 #[derive(Debug, Drop)]
-pub struct Ruling {
+pub struct UnitDecision {
     pub unit: UnitName,
     pub decision: Decision,
     /// The live sockets of a unit that is left to its sockets; others have none here.
@@ -49,7 +49,7 @@ fn live_among(
     known: Known<'_>,
     sockets: &[UnitName],
 ) -> Result<Listed<UnitName>, AllocError>
-    ensures { IfOk result (λ live. live ≡ filter (is_live_socket (sight_of known.entry)) sockets.now) }
+    ensures { IfOk result (λ live. live ≡ filter (is_live_socket (situation_of known.entry)) sockets.now) }
 {
     let mut live = Listed::new(alloc);
     for socket in sockets {
@@ -67,8 +67,8 @@ fn live_sockets(
     facts: &Facts,
     unit: &UnitName,
 ) -> Result<Listed<UnitName>, AllocError>
-    requires { facts.now ≡ (sight_of known).systems.facts unit.now }
-    ensures { IfOk result (λ live. live ≡ live_sockets (sight_of known.entry) unit.now) }
+    requires { facts.now ≡ (situation_of known).systems.facts unit.now }
+    ensures { IfOk result (λ live. live ≡ live_sockets (situation_of known.entry) unit.now) }
 {
     if !is_socket_started(decide_by(facts, true)) {
         return Ok(Listed::new(alloc));
@@ -78,13 +78,13 @@ fn live_sockets(
 }
 
 /// What is decided on an Active unit.
-fn rule(alloc: Global, known: Known<'_>, unit: &UnitName) -> Result<Ruling, AllocError>
-    ensures { IfOk result (λ ruling. ruling ≡ ruling_of (sight_of known.entry) unit.now) }
+fn decide_unit(alloc: Global, known: Known<'_>, unit: &UnitName) -> Result<UnitDecision, AllocError>
+    ensures { IfOk result (λ decided. decided ≡ decision_of (situation_of known.entry) unit.now) }
 {
     let facts = known.facts(unit);
     let live = live_sockets(alloc, known, &facts, unit)?;
     let decision = decide_by(&facts, !live.as_slice().is_empty());
-    Ok(Ruling {
+    Ok(UnitDecision {
         unit: unit.copy(alloc)?,
         decision,
         live,
@@ -93,14 +93,14 @@ fn rule(alloc: Global, known: Known<'_>, unit: &UnitName) -> Result<Ruling, Allo
 }
 
 /// What is decided on each Active unit.
-pub fn rulings(alloc: Global, known: Known<'_>) -> Result<Vec<Ruling>, AllocError>
-    ensures { IfOk result (λ rulings. rulings.items ≡ rulings_of (sight_of known.entry) known.entry.states.now) }
+pub fn decide_units(alloc: Global, known: Known<'_>) -> Result<Vec<UnitDecision>, AllocError>
+    ensures { IfOk result (λ decisions. decisions.items ≡ decisions_of (situation_of known.entry) known.entry.states.now) }
 {
-    let mut rulings = Vec::new(alloc);
+    let mut decisions = Vec::new(alloc);
     for one in known.states.list().as_slice() {
         if is_active(one.state) {
-            rulings.push(rule(alloc, known, &one.unit)?)?;
+            decisions.push(decide_unit(alloc, known, &one.unit)?)?;
         }
     }
-    Ok(rulings)
+    Ok(decisions)
 }

@@ -6,7 +6,7 @@ use Rattle.host_trait.specs.declared.unit_state.State.{State}
 use Rattle.owed_plan.specs.Lists.{is_active}
 use Rattle.owed_plan.specs.Systems.{Systems, systems_in}
 use Rattle.owed_plan.specs.declared.known.Known.{Known}
-use Rattle.owed_plan.specs.declared.ruling.Ruling.{Ruling}
+use Rattle.owed_plan.specs.declared.deciding.UnitDecision.{UnitDecision}
 use Rattle.switch_names.specs.Names.{Name, has, is_name}
 use Rattle.switch_names.specs.declared.unit_kind.UnitKind.TheVariants.{Target}
 use Rattle.unit_decide.specs.Decision.{decide}
@@ -16,13 +16,14 @@ use Rattle.unit_decide.specs.declared.decision.Decision.TheVariants.{Nothing, Re
 use Rattle.unit_decide.specs.declared.facts.Facts.{Facts}
 
 -- the systems, the states of the units, and whether a unit waits for a start
-pub record Sight : Type 0 where
+pub record Situation : Type 0 where
   pub systems : Systems
   pub states : Name → State
   pub waits : Name → Bool
 
-abbrev pub sight_of : Known → Sight
-sight_of known = record {
+-- the situation as far as it is known
+abbrev pub situation_of : Known → Situation
+situation_of known = record {
   systems = systems_in known.old.now known.new.now;
   states = state_of known.states.now;
   waits = has known.waiting.now.keys;
@@ -41,65 +42,72 @@ is_started Start = true
 is_started StopStart = true
 is_started decision = false
 
+-- the decision is to stop the unit and to start its live sockets
 abbrev pub is_socket_started : Decision → Bool
 is_socket_started SocketStart = true
 is_socket_started decision = false
 
+-- the decision is to reload the unit
 abbrev pub is_reloaded : Decision → Bool
 is_reloaded Reload = true
 is_reloaded decision = false
 
+-- the decision is to restart the unit
 abbrev pub is_restarted : Decision → Bool
 is_restarted Restart = true
 is_restarted decision = false
 
+-- the decision is to leave the unit as it is
 abbrev pub is_nothing : Decision → Bool
 is_nothing Nothing = true
 is_nothing decision = false
 
 -- a socket that the new system defines is active or waits for a start
-abbrev pub is_live_socket : Sight → Name → Bool
-is_live_socket sight socket = (sight.systems.facts socket).in_new && (is_active (sight.states socket) || sight.waits socket)
+abbrev pub is_live_socket : Situation → Name → Bool
+is_live_socket situation socket = (situation.systems.facts socket).in_new && (is_active (situation.states socket) || situation.waits socket)
 
 -- the live sockets of a unit that a live socket leaves to its sockets
-abbrev pub live_sockets : Sight → Name → List Name
-live_sockets sight unit =
-    if is_socket_started (decide (sight.systems.facts unit) true) then filter (is_live_socket sight) (sight.systems.sockets unit) else []
+abbrev pub live_sockets : Situation → Name → List Name
+live_sockets situation unit =
+    if is_socket_started (decide (situation.systems.facts unit) true) then filter (is_live_socket situation) (situation.systems.sockets unit) else []
 
 -- the unit has a live socket
-abbrev pub has_live_socket : Sight → Name → Bool
-has_live_socket sight unit = list_any (is_live_socket sight) (sight.systems.sockets unit)
+abbrev pub has_live_socket : Situation → Name → Bool
+has_live_socket situation unit = list_any (is_live_socket situation) (situation.systems.sockets unit)
 
 -- a changed unit that both systems define, that is no target, and that gets nothing
 abbrev pub is_left : Facts → Decision → Bool
 is_left facts decision = is_nothing decision && not (is_kind facts.kind Target) && facts.in_old && facts.in_new && not (is_same facts.outcome)
 
 -- what is decided on an active unit
-abbrev pub ruling_of : Sight → Name → Ruling
-ruling_of sight unit = record {
+abbrev pub decision_of : Situation → Name → UnitDecision
+decision_of situation unit = record {
   unit = unit;
-  decision = decide (sight.systems.facts unit) (has_live_socket sight unit);
-  live = live_sockets sight unit;
-  is_left = is_left (sight.systems.facts unit) (decide (sight.systems.facts unit) (has_live_socket sight unit));
+  decision = decide (situation.systems.facts unit) (has_live_socket situation unit);
+  live = live_sockets situation unit;
+  is_left = is_left (situation.systems.facts unit) (decide (situation.systems.facts unit) (has_live_socket situation unit));
 }
 
 -- what is decided on each active unit
-abbrev pub rulings_of : Sight → UnitStates → List Ruling
-rulings_of sight states = map (λ one. ruling_of sight one.unit) (filter (λ one. is_active one.state) (listed_states states))
+abbrev pub decisions_of : Situation → UnitStates → List UnitDecision
+decisions_of situation states = map (λ one. decision_of situation one.unit) (filter (λ one. is_active one.state) (listed_states states))
 
--- the ruling stops the unit: it is the unit that it is on, or an active one of its live sockets
-abbrev pub stops : Sight → Name → Ruling → Bool
-stops sight unit ruling = is_stopped ruling.decision && is_name unit ruling.unit || has (filter (λ socket. is_active (sight.states socket)) ruling.live) unit
+-- what is decided stops the unit: the unit that it is decided on, or an active one of its live sockets
+abbrev pub stops : Situation → Name → UnitDecision → Bool
+stops situation unit decided = is_stopped decided.decision && is_name unit decided.unit || has (filter (λ socket. is_active (situation.states socket)) decided.live) unit
 
--- the ruling starts the unit: it is the unit that it is on, or one of its live sockets
-abbrev pub starts : Name → Ruling → Bool
-starts unit ruling = is_started ruling.decision && is_name unit ruling.unit || has ruling.live unit
+-- what is decided starts the unit: the unit that it is decided on, or one of its live sockets
+abbrev pub starts : Name → UnitDecision → Bool
+starts unit decided = is_started decided.decision && is_name unit decided.unit || has decided.live unit
 
-abbrev pub reloads : Name → Ruling → Bool
-reloads unit ruling = is_reloaded ruling.decision && is_name unit ruling.unit
+-- what is decided reloads the unit
+abbrev pub reloads : Name → UnitDecision → Bool
+reloads unit decided = is_reloaded decided.decision && is_name unit decided.unit
 
-abbrev pub restarts : Name → Ruling → Bool
-restarts unit ruling = is_restarted ruling.decision && is_name unit ruling.unit
+-- what is decided restarts the unit
+abbrev pub restarts : Name → UnitDecision → Bool
+restarts unit decided = is_restarted decided.decision && is_name unit decided.unit
 
-abbrev pub leaves : Name → Ruling → Bool
-leaves unit ruling = ruling.is_left && is_name unit ruling.unit
+-- what is decided leaves the unit, which has changed, as it is
+abbrev pub leaves : Name → UnitDecision → Bool
+leaves unit decided = decided.is_left && is_name unit decided.unit

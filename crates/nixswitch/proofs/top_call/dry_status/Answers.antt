@@ -1,0 +1,44 @@
+use Rattle.std.proofs.Common.{◌≡◌, ap, inl, sym, subst}
+use Rattle.host_trait.specs.World.{seen}
+use Rattle.host_trait.proofs.Moments.{leads_as, same_as}
+use Rattle.nixswitch.specs.declared.command.Command.TheVariants.{DryActivate}
+use Rattle.nixswitch.specs.declared.status.Status.{Status}
+use Rattle.nixswitch.specs.Outcomes.{IsOutputOf, refusal}
+use Rattle.nixswitch.specs.Run.{IsCommandMoment, RunsCommand, status_of}
+use Rattle.nixswitch.proofs.OutputLemmas.{puts_as}
+use Rattle.nixswitch.proofs.StatusLemmas.{answer_of, done_of, dry_output, host_of, no_usage, on_ok_told, refused_of, sink_of}
+use Rattle.nixswitch.proofs.UnderwayLemmas.{dry_begins}
+use Rattle.nixswitch.proofs.top_call.dry_status.Goals as goal
+
+pub returns : goal.returns
+returns g c =
+    let r = c.dry_run-ended.result in
+    let e = c.dry_run-ended.ensures in
+    let system = c.args.system.now in
+    let runs : RunsCommand (g.H.Tree.host c.args.host.now) (g.H.Tree.host c.dry_run-ended.new.host) (g.S.Sink.sink c.args.out.now) (g.S.Sink.sink c.dry_run-ended.new.out) (DryActivate system) (status_of r) = record {
+      done = λ is. leads_as e.moments.tells (λ w v. seen v ≡ seen w) (λ w v told same. ap seen same);
+      done_not_refused = λ is. done_of r e.ok_not_refused is;
+      refused = λ why is. e.refused why (refused_of r why is);
+      refused_output = λ why is. e.refused_output why (refused_of r why is);
+      not_usage = λ is. no_usage r is;
+      sink_not_refused = λ is. e.sink_not_refused (sink_of r is);
+      sink_world = λ is. inl e.moments;
+      output = record { has = λ w told. puts_as (e.output.has w told) (IsOutputOf (status_of r) w (DryActivate system)) (λ more put. dry_output r w system more put) };
+      completes = λ no_host no_sink. record {
+        has = λ w told.
+            answer_of r (refusal w (DryActivate system)) (on_ok_told r e.ok_not_refused (λ t. t.has w told)) (λ why is. (e.refused why is).has w told)
+            (λ is. no_host (e.cause.rose is)) (λ is. no_sink (e.sink_cause.rose is));
+      };
+      begins = record { has = λ w told. dry_begins system w };
+      moments = same_as e.moments (IsCommandMoment (DryActivate system)) (λ w told. dry_begins system w);
+      cause = record {
+        later = e.cause.later;
+        rose = λ is. e.cause.rose (host_of r is);
+        stays_sure = e.cause.stays_sure;
+        never_sure = λ sure is. e.cause.never_sure sure (host_of r is);
+        same_last = e.cause.same_last;
+      };
+      sink_cause = record { later = e.sink_cause.later; rose = λ is. e.sink_cause.rose (sink_of r is) };
+    } in
+    subst (λ (s : Status). RunsCommand (g.H.Tree.host c.args.host.now) (g.H.Tree.host c.dry_run-ended.new.host) (g.S.Sink.sink c.args.out.now) (g.S.Sink.sink c.dry_run-ended.new.out) (DryActivate system) s)
+    (sym c.status_of.ensures) runs
