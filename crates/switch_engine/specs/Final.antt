@@ -1,10 +1,12 @@
 -- What a switch to a system leaves: NixOS manual, "What happens during a system switch?".
-use Rattle.std.specs.Prelude.{◌≡◌, ◌++◌, ℕ, IsSome, List, ◌∷◌, codes, map}
+use Rattle.std.specs.Prelude.{◌≡◌, ◌++◌, ◌&&◌, ℕ, Bool, true, false, is_some, IsSome, List, ◌∷◌, codes, map}
 use Rattle.std.specs.FinMap.{insert, remove}
 use Rattle.host_trait.specs.declared.entry.Entry.{Entry}
 use Rattle.host_trait.specs.declared.leaf.LeafKind.{LeafKind}
 use Rattle.host_trait.specs.declared.leaf.LeafKind.TheVariants.{Link}
+use Rattle.host_trait.specs.declared.unit_state.State.{State}
 use Rattle.host_trait.specs.declared.unit_state.State.TheVariants.{Failed}
+use Rattle.host_trait.specs.declared.unit_state.UnitState.{UnitState}
 use Rattle.host_trait.specs.Change.{definitions_place}
 use Rattle.host_trait.specs.States.{UnitStates, state_of}
 use Rattle.host_trait.specs.World.{IsClear, Leaves, WorldState, stage}
@@ -12,7 +14,9 @@ use Rattle.owed_lists.specs.Lists.{reloads_place, restarts_place, starts_place}
 use Rattle.owed_lists.specs.Record.{CanRecord}
 use Rattle.owed_plan.specs.declared.owed.Owed.{Owed}
 use Rattle.owed_plan.specs.Calls.{reload_calls, restart_calls, start_calls, stop_calls}
+use Rattle.switch_engine.specs.declared.links.Links.{Links}
 use Rattle.switch_engine.specs.Acts.{entry_of, final_state}
+use Rattle.switch_engine.specs.Steps.{IsEntering}
 use Rattle.switch_engine.specs.System.{current_place}
 use Rattle.switch_names.specs.Names.{Name}
 use Rattle.switch_names.specs.Path.{slash}
@@ -26,6 +30,10 @@ system_leaf system = Link (slash ∷ system)
 -- where the definitions of a system lie
 abbrev pub definitions_of : Name → List ℕ
 definitions_of system = slash ∷ (system ++ codes "/etc")
+
+-- both links of a switch to a system
+abbrev pub links_to : Name → Links
+links_to system = record { definitions = Link (definitions_of system); current = system_leaf system }
 
 -- the leaves after a switch, but for the stage: both links name the system, and no list is left
 abbrev pub final_leaves : Name → Leaves → Leaves
@@ -48,11 +56,8 @@ pub record IsFinal (system : Name) (owed : Owed) (w v : WorldState) : Type 0 whe
   pub journal : v.manager.journal ≡ w.manager.journal ++ entries_of system owed w
 
 -- at a moment of a switch the journal is that of the beginning and the first so many of its entries
-pub record IsSwitchMoment (system : Name) (owed : Owed) (w m : WorldState) : Type 0 where
-  pub entered : List Entry
-  pub rest : List Entry
-  pub journal : m.manager.journal ≡ w.manager.journal ++ entered
-  pub prefix : entries_of system owed w ≡ entered ++ rest
+abbrev pub IsSwitchMoment : Name → Owed → WorldState → WorldState → Type 0
+IsSwitchMoment system owed w m = IsEntering (entries_of system owed w) w m
 
 -- nothing stands in the way of what a switch writes
 pub record CanSwitch (w : WorldState) : Type 0 where
@@ -63,3 +68,12 @@ pub record CanSwitch (w : WorldState) : Type 0 where
 -- a unit that the system defines has failed
 abbrev pub HasFailed : List Unit → UnitStates → Type 0
 HasFailed units states = (unit : Name) × (state_of states unit ≡ Failed) × IsSome (found_in units unit)
+
+-- whether a unit is in the state of those that failed
+abbrev pub is_failed : State → Bool
+is_failed Failed = true
+is_failed state = false
+
+-- whether this is the state of a unit that has failed and that the system defines
+abbrev pub is_failed_of : List Unit → UnitState → Bool
+is_failed_of units one = is_failed one.state && is_some (found_in units one.unit)

@@ -2,4 +2,5 @@ pub mod Acts
 pub mod Final
 pub mod Known
 pub mod Plan
+pub mod Steps
 pub mod System

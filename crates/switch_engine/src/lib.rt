@@ -3,7 +3,10 @@
 
 mod acting;
 mod carrying;
+mod giving;
 mod known;
+mod linking;
+mod links;
 mod outcome;
 mod plan;
 mod plan_fault;

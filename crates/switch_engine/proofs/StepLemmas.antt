@@ -1,0 +1,235 @@
+-- What the steps of a switch leave, and what is entered in the journal on their way.
+use Rattle.std.proofs.Common.{◌≡◌, ◌≢◌, ◌⊎◌, ℕ, false, List, [], ◌∷◌, ◌++◌, map, take, drop, Some, refl, sym, ap, subst, ◌∙◌, inl, inr, ⊎_elim}
+use Rattle.std.proofs.lemmas.List.{append-nil, append_assoc, map-append, take-append-drop}
+use Rattle.std.specs.FinMap.{get, insert}
+use Rattle.std.specs.Ordering.{eq_by_cmp}
+use Rattle.host_trait.specs.declared.entry.Entry.{Entry}
+use Rattle.host_trait.specs.declared.leaf.LeafKind.{LeafKind}
+use Rattle.host_trait.specs.declared.manager_state.ManagerState.{ManagerState}
+use Rattle.host_trait.specs.Change.{DaemonReload, IsMoment, definitions_place, finished, loaded_from}
+use Rattle.host_trait.specs.Host.{HostState, Becomes, Leads, Passes}
+use Rattle.host_trait.specs.Manager.{loading}
+use Rattle.host_trait.specs.World.{IsClear, WorldState, bytes_cmp, is_in_line, seen, stage, with_leaf, with_manager, without_leaf}
+use Rattle.host_trait.proofs.Moments.{goes_on, leads_as, leads_then, passes_as}
+use Rattle.host_trait.proofs.Places.{at_same}
+use Rattle.host_trait.proofs.Seen.{clear_seen, other_of, seen_at, seen_with_leaf, stage_clear_seen}
+use Rattle.host_trait.proofs.Sound.{clear_insert, get_other}
+use Rattle.owed_lists.specs.declared.lists.Lists.{Lists}
+use Rattle.owed_lists.specs.Lists.{reloads_place, restarts_place, starts_place}
+use Rattle.owed_lists.specs.Record.{IsRecordMoment, with_list, with_lists, with_restarts, with_starts}
+use Rattle.owed_plan.specs.declared.duty.Duty.{Duty}
+use Rattle.switch_names.specs.Names.{Name}
+use Rattle.switch_engine.specs.declared.links.Links.{Links}
+use Rattle.switch_engine.specs.Acts.{CanPerform, IsPerforming, entry_of, performed, with_calls}
+use Rattle.switch_engine.specs.Steps.{CanLink, IsCalling, IsEntering, IsSameJournal, IsSameManager, with_links, with_stops, with_system}
+use Rattle.switch_engine.specs.System.{current_place}
+use Rattle.switch_engine.proofs.CallLemmas.{entered, performed-append, same_loaded}
+use Rattle.tree_put.specs.Put.{AreApart, CanPut, IsOldOrGone, IsOldOrNew}
+use Rattle.tree_put.proofs.PutLemmas.{apart_ne}
+
+-- ---- entries of a journal
+
+-- nothing is entered yet
+pub none_entered : (entries : List Entry) (w m : WorldState) → m.manager.journal ≡ w.manager.journal → IsEntering entries w m
+none_entered entries w m same = record {
+  entered = [];
+  rest = entries;
+  journal = same ∙ sym (append-nil w.manager.journal);
+  prefix = refl;
+}
+
+-- some of the first entries
+pub first_entered : (entries more : List Entry) (w m : WorldState) → IsEntering entries w m → IsEntering (entries ++ more) w m
+first_entered entries more w m is = record {
+  entered = is.entered;
+  rest = is.rest ++ more;
+  journal = is.journal;
+  prefix = ap (λ es. es ++ more) is.prefix ∙ append_assoc is.entered is.rest more;
+}
+
+-- all of the first entries, and some of those after them
+pub then_entered : (entries more : List Entry) (w v m : WorldState) → v.manager.journal ≡ w.manager.journal ++ entries → IsEntering more v m → IsEntering (entries ++ more) w m
+then_entered entries more w v m all is = record {
+  entered = entries ++ is.entered;
+  rest = is.rest;
+  journal = is.journal ∙ ap (λ js. js ++ is.entered) all ∙ append_assoc w.manager.journal entries is.entered;
+  prefix = ap (λ es. entries ++ es) is.prefix ∙ sym (append_assoc entries is.entered is.rest);
+}
+
+-- ---- calls
+
+-- the first so many calls are entered
+pub so_many_entered : (calls : List Duty) (count : ℕ) (w m : WorldState) → m.manager.journal ≡ (performed (take count calls) w.manager).journal → IsCalling calls w m
+so_many_entered calls count w m is = record {
+  entered = map (entry_of w.manager.loaded) (take count calls);
+  rest = map (entry_of w.manager.loaded) (drop count calls);
+  journal = is ∙ entered (take count calls) w.manager;
+  prefix = ap (map (entry_of w.manager.loaded)) (sym (take-append-drop count calls)) ∙ map-append (entry_of w.manager.loaded) (take count calls) (drop count calls);
+}
+
+pub calling : (calls : List Duty) (w m : WorldState) → IsPerforming calls w m → IsCalling calls w m
+calling calls w m (IsPerforming.After count is) = so_many_entered calls count w m (ap (λ (x : WorldState). x.manager.journal) is)
+calling calls w m (IsPerforming.Within count unit there is) = so_many_entered calls count w m (ap (λ (x : WorldState). x.manager.journal) is)
+
+-- all calls are entered
+pub all_called : (calls : List Duty) (w m : WorldState) → m.manager.journal ≡ (performed calls w.manager).journal → IsCalling calls w m
+all_called calls w m is = record {
+  entered = map (entry_of w.manager.loaded) calls;
+  rest = [];
+  journal = is ∙ entered calls w.manager;
+  prefix = sym (append-nil (map (entry_of w.manager.loaded) calls));
+}
+
+-- calls after a change of the leaves
+pub calling_after : (calls : List Duty) (w v m : WorldState) → v.manager ≡ w.manager → IsCalling calls v m → IsCalling calls w m
+calling_after calls w v m same is = record {
+  entered = is.entered;
+  rest = is.rest;
+  journal = is.journal ∙ ap (λ (x : ManagerState). x.journal ++ is.entered) same;
+  prefix = ap (λ (x : ManagerState). map (entry_of x.loaded) calls) (sym same) ∙ is.prefix;
+}
+
+pub calling_first : (calls more : List Duty) (w m : WorldState) → IsCalling calls w m → IsCalling (calls ++ more) w m
+calling_first calls more w m is =
+    subst (λ es. IsEntering es w m) (sym (map-append (entry_of w.manager.loaded) calls more))
+    (first_entered (map (entry_of w.manager.loaded) calls) (map (entry_of w.manager.loaded) more) w m is)
+
+pub calling_then : (calls more : List Duty) (w v m : WorldState) → v.manager ≡ performed calls w.manager → IsCalling more v m → IsCalling (calls ++ more) w m
+calling_then calls more w v m made is =
+    let loaded = ap (λ (x : ManagerState). x.loaded) made ∙ same_loaded calls w.manager in
+    subst (λ es. IsEntering es w m) (sym (map-append (entry_of w.manager.loaded) calls more))
+    (then_entered (map (entry_of w.manager.loaded) calls) (map (entry_of w.manager.loaded) more) w v m
+    (ap (λ (x : ManagerState). x.journal) made ∙ entered calls w.manager)
+    (subst (λ text. IsEntering (map (entry_of text) more) v m) loaded is))
+
+-- calls that can be made, split in two
+pub can_first : (calls more : List Duty) (manager : ManagerState) → CanPerform (calls ++ more) manager → CanPerform calls manager
+can_first [] more manager can = tt
+can_first (call ∷ calls) more manager can = (can.0, can_first calls more (Rattle.host_trait.specs.Manager.acted call.act call.unit manager) can.1)
+
+pub can_then : (calls more : List Duty) (manager : ManagerState) → CanPerform (calls ++ more) manager → CanPerform more (performed calls manager)
+can_then [] more manager can = can
+can_then (call ∷ calls) more manager can = can_then calls more (Rattle.host_trait.specs.Manager.acted call.act call.unit manager) can.1
+
+-- a host on which these calls were made
+abbrev pub Performs : HostState → HostState → List Duty → Type 0
+Performs a b calls = Leads a b (λ w v. v.manager ≡ performed calls w.manager)
+
+module _ {a b c : HostState} (calls more : List Duty) where
+  pub way_then : Passes a b (IsCalling calls) → Performs a b calls → Passes b c (IsCalling more) → Passes a c (IsCalling (calls ++ more))
+  way_then first made second =
+      goes_on first made second (IsCalling (calls ++ more))
+      (λ w m is moment. calling_first calls more w m moment) (λ w v m is is_v done moment. calling_then calls more w v m done moment)
+
+  pub made_then : Performs a b calls → Performs b c more → Performs a c (calls ++ more)
+  made_then first second =
+      leads_then first second (λ w v. v.manager ≡ performed (calls ++ more) w.manager)
+      (λ w v u is is_v done then. then ∙ ap (performed more) done ∙ sym (performed-append calls more w.manager))
+
+-- ---- the leaves alone
+
+pub manager_seen : (v w : WorldState) → seen v ≡ seen w → v.manager ≡ w.manager
+manager_seen v w is = ap (λ (x : WorldState). x.manager) is
+
+pub manager_gone : (at : List ℕ) (w m : WorldState) → IsOldOrGone at w m → m.manager ≡ w.manager
+manager_gone at w m moment = ⊎_elim (λ old. ap (λ (x : WorldState). x.manager) old) (λ gone. ap (λ (x : WorldState). x.manager) gone) moment
+
+pub manager_renewed : (at : List ℕ) (leaf : LeafKind) (w m : WorldState) → IsOldOrNew at leaf w m → m.manager ≡ w.manager
+manager_renewed at leaf w m moment = ⊎_elim (λ old. manager_seen m w old) (λ new. manager_seen m (with_leaf at leaf w) new) moment
+
+same_manager : (at : List ℕ) (names : List Name) (w : WorldState) → (with_list at names w).manager ≡ w.manager
+same_manager at [] w = refl
+same_manager at (name ∷ names) w = refl
+
+module _ (lists : Lists) (w : WorldState) where
+  starts_manager : (with_starts lists w).manager ≡ w.manager
+  starts_manager = same_manager starts_place lists.starts w
+
+  restarts_manager : (with_restarts lists w).manager ≡ w.manager
+  restarts_manager = same_manager restarts_place lists.restarts (with_starts lists w) ∙ starts_manager
+
+  -- the lists leave the manager as it is
+  pub lists_manager : (with_lists lists w).manager ≡ w.manager
+  lists_manager = same_manager reloads_place lists.reloads (with_restarts lists w) ∙ restarts_manager
+
+  pub manager_recording : (m : WorldState) → IsRecordMoment lists w m → m.manager ≡ w.manager
+  manager_recording m moment =
+      ⊎_elim (λ none. manager_seen m w none)
+      (λ first. ⊎_elim (λ one. manager_seen m (with_starts lists w) one ∙ starts_manager)
+      (λ second. ⊎_elim (λ two. manager_seen m (with_restarts lists w) two ∙ restarts_manager)
+      (λ all. manager_seen m (with_lists lists w) all ∙ lists_manager) second) first) moment
+
+-- the stops after the lists
+pub stopped_world : (lists : Lists) (stops : List Duty) (w v u : WorldState) → seen v ≡ seen (with_lists lists w) → u ≡ with_calls stops v → seen u ≡ seen (with_stops lists stops w)
+stopped_world lists stops w v u came made = ap seen made ∙ ap (with_calls stops) came
+
+-- ---- the links
+
+pub definitions_apart : AreApart definitions_place stage
+unfolding definitions_place stage
+definitions_apart = record { other = refl; line = refl }
+
+pub current_apart : AreApart current_place stage
+unfolding current_place stage
+current_apart = record { other = refl; line = refl }
+
+definitions_current : AreApart definitions_place current_place
+unfolding definitions_place current_place
+definitions_current = record { other = refl; line = refl }
+
+pub stage_definitions : is_in_line stage definitions_place ≡ false
+unfolding definitions_place stage
+stage_definitions = refl
+
+pub stage_current : is_in_line stage current_place ≡ false
+unfolding current_place stage
+stage_current = refl
+
+-- the second link can be put after the first
+pub can_current : (leaf : LeafKind) (w v : WorldState) → CanLink w → seen v ≡ seen (with_leaf definitions_place leaf w) → CanPut current_place v
+can_current leaf w v can came = record {
+  stage = stage_clear_seen v (with_leaf definitions_place leaf w) came (clear_insert w.leaves definitions_place stage leaf definitions_apart.line can.stage);
+  place = clear_seen v (with_leaf definitions_place leaf w) current_place stage_current came
+      (clear_insert w.leaves definitions_place current_place leaf definitions_current.line can.current);
+}
+
+module _ (links : Links) (w v : WorldState) where
+  pub linked_world : (u : WorldState) → seen v ≡ seen (with_leaf definitions_place links.definitions w) → seen u ≡ seen (with_leaf current_place links.current v) → seen u ≡ seen (with_links links w)
+  linked_world u came new = new ∙ seen_with_leaf current_place links.current v (with_leaf definitions_place links.definitions w) came
+
+  -- links put on worlds that are equal but for the stage
+  pub seen_with_links : seen v ≡ seen w → seen (with_links links v) ≡ seen (with_links links w)
+  seen_with_links same =
+      seen_with_leaf current_place links.current (with_leaf definitions_place links.definitions v) (with_leaf definitions_place links.definitions w)
+      (seen_with_leaf definitions_place links.definitions v w same)
+
+  -- the link to the definitions stands
+  definitions_stand : seen v ≡ seen (with_links links w) → get v.leaves definitions_place ≡ Some links.definitions
+  definitions_stand came =
+      seen_at v (with_links links w) came definitions_place (apart_ne definitions_place stage definitions_apart)
+      ∙ get_other (insert w.leaves definitions_place links.definitions) current_place definitions_place links.current
+      (other_of definitions_place current_place (apart_ne definitions_place current_place definitions_current))
+      ∙ at_same w.leaves definitions_place links.definitions
+
+  -- what is loaded then is what it leads to
+  pub loaded_world : (u : WorldState) → seen v ≡ seen (with_links links w) → u ≡ finished DaemonReload v → seen u ≡ seen (with_system links w)
+  loaded_world u came done =
+      ap seen done
+      ∙ ap (λ leaf. with_manager (loading (loaded_from leaf) v.manager) (seen v)) (definitions_stand came)
+      ∙ ap (λ (x : WorldState). with_manager (loading (loaded_from (Some links.definitions)) x.manager) x) came
+
+pub reload_journal : (w v m : WorldState) → v.manager ≡ w.manager → IsMoment DaemonReload v m → m.manager.journal ≡ w.manager.journal
+reload_journal w v m same moment =
+    ⊎_elim (λ old. ap (λ (x : WorldState). x.manager.journal) old)
+    (λ later. ⊎_elim (λ done. ap (λ (x : WorldState). x.manager.journal) done) (λ none. absurd none) later) moment
+    ∙ ap (λ (x : ManagerState). x.journal) same
+
+module _ {a b c : HostState} where
+  pub same_managers : Passes a b IsSameManager → Passes b c IsSameManager → Passes a c IsSameManager
+  same_managers first second =
+      goes_on first first.tells second IsSameManager (λ w m is same. same) (λ w v m is is_v before same. same ∙ before)
+
+  pub journal_kept : Passes a b IsSameManager → Passes b c (IsMoment DaemonReload) → Passes a c IsSameJournal
+  journal_kept first second =
+      goes_on first first.tells second IsSameJournal
+      (λ w m is same. ap (λ (x : ManagerState). x.journal) same) (λ w v m is is_v same moment. reload_journal w v m same moment)

@@ -1,0 +1,60 @@
+-- The steps of a switch: NixOS manual, "What happens during a system switch?".
+use Rattle.std.specs.Prelude.{◌≡◌, ◌++◌, List, Some, map}
+use Rattle.host_trait.specs.declared.entry.Entry.{Entry}
+use Rattle.host_trait.specs.Change.{definitions_place, loaded_from}
+use Rattle.host_trait.specs.Manager.{loading}
+use Rattle.host_trait.specs.World.{IsClear, WorldState, stage, with_leaf, with_manager, without_leaf}
+use Rattle.owed_lists.specs.declared.lists.Lists.{Lists}
+use Rattle.owed_lists.specs.declared.lists.Which.{Which}
+use Rattle.owed_lists.specs.declared.lists.Which.TheVariants.{Starts, Restarts, Reloads}
+use Rattle.owed_lists.specs.Lists.{place_of}
+use Rattle.owed_lists.specs.Record.{with_lists}
+use Rattle.owed_plan.specs.declared.duty.Duty.{Duty}
+use Rattle.switch_engine.specs.declared.links.Links.{Links}
+use Rattle.switch_engine.specs.Acts.{entry_of, with_calls}
+use Rattle.switch_engine.specs.System.{current_place}
+
+-- at a moment the first so many of these entries have been added to the journal
+pub record IsEntering (entries : List Entry) (w m : WorldState) : Type 0 where
+  pub entered : List Entry
+  pub rest : List Entry
+  pub journal : m.manager.journal ≡ w.manager.journal ++ entered
+  pub prefix : entries ≡ entered ++ rest
+
+-- at a moment some of these calls have been entered, with the definitions that were loaded before
+abbrev pub IsCalling : List Duty → WorldState → WorldState → Type 0
+IsCalling calls w m = IsEntering (map (entry_of w.manager.loaded) calls) w m
+
+-- at a moment nothing has been entered
+abbrev pub IsSameJournal : WorldState → WorldState → Type 0
+IsSameJournal w m = m.manager.journal ≡ w.manager.journal
+
+-- at a moment the manager is as it was
+abbrev pub IsSameManager : WorldState → WorldState → Type 0
+IsSameManager w m = m.manager ≡ w.manager
+
+-- nothing stands in the way of the links
+pub record CanLink (w : WorldState) : Type 0 where
+  pub stage : IsClear w.leaves stage
+  pub definitions : IsClear w.leaves definitions_place
+  pub current : IsClear w.leaves current_place
+
+-- the world with the lists recorded, after the stops
+abbrev pub with_stops : Lists → List Duty → WorldState → WorldState
+with_stops lists stops w = with_calls stops (with_lists lists w)
+
+-- the world with both links
+abbrev pub with_links : Links → WorldState → WorldState
+with_links links w = with_leaf current_place links.current (with_leaf definitions_place links.definitions w)
+
+-- the world with both links, and with the definitions loaded to which the first leads
+abbrev pub with_system : Links → WorldState → WorldState
+with_system links w = with_manager (loading (loaded_from (Some links.definitions)) w.manager) (with_links links w)
+
+-- the world after calls, without their list
+abbrev pub with_given : Which → List Duty → WorldState → WorldState
+with_given which calls w = without_leaf (place_of which) (with_calls calls w)
+
+-- the world after reloads, restarts and starts, without their lists
+abbrev pub with_all_given : List Duty → List Duty → List Duty → WorldState → WorldState
+with_all_given reloads restarts starts w = with_given Starts starts (with_given Restarts restarts (with_given Reloads reloads w))
