@@ -15,13 +15,14 @@ use Rattle.host_trait.proofs.Places.{at_same}
 use Rattle.host_trait.proofs.Seen.{clear_seen, other_of, seen_at, seen_with_leaf, stage_clear_seen}
 use Rattle.host_trait.proofs.Sound.{clear_insert, get_other}
 use Rattle.owed_lists.specs.declared.lists.Lists.{Lists}
+use Rattle.owed_lists.specs.declared.lists.Which.{Which}
 use Rattle.owed_lists.specs.Lists.{reloads_place, restarts_place, starts_place}
 use Rattle.owed_lists.specs.Record.{IsRecordMoment, with_list, with_lists, with_restarts, with_starts}
 use Rattle.owed_plan.specs.declared.duty.Duty.{Duty}
 use Rattle.switch_names.specs.Names.{Name}
 use Rattle.switch_engine.specs.declared.links.Links.{Links}
 use Rattle.switch_engine.specs.Acts.{CanPerform, IsPerforming, entry_of, performed, with_calls}
-use Rattle.switch_engine.specs.Steps.{CanLink, IsCalling, IsEntering, IsSameJournal, IsSameManager, with_links, with_stops, with_system}
+use Rattle.switch_engine.specs.Steps.{CanLink, IsCalling, IsEntering, IsSameJournal, IsSameManager, with_given, with_links, with_stops, with_system}
 use Rattle.switch_engine.specs.System.{current_place}
 use Rattle.switch_engine.proofs.CallLemmas.{entered, performed-append, same_loaded}
 use Rattle.tree_put.specs.Put.{AreApart, CanPut, IsOldOrGone, IsOldOrNew}
@@ -126,6 +127,10 @@ module _ {a b c : HostState} (calls more : List Duty) where
       leads_then first second (λ w v. v.manager ≡ performed (calls ++ more) w.manager)
       (λ w v u is is_v done then. then ∙ ap (performed more) done ∙ sym (performed-append calls more w.manager))
 
+-- calls without their list are these calls
+pub made_of : {a b : HostState} (which : Which) (calls : List Duty) → Becomes a b (with_given which calls) → Performs a b calls
+made_of which calls made = leads_as made (λ w v. v.manager ≡ performed calls w.manager) (λ w v is given. ap (λ (x : WorldState). x.manager) given)
+
 -- ---- the leaves alone
 
 pub manager_seen : (v w : WorldState) → seen v ≡ seen w → v.manager ≡ w.manager
@@ -158,6 +163,10 @@ module _ (lists : Lists) (w : WorldState) where
       (λ first. ⊎_elim (λ one. manager_seen m (with_starts lists w) one ∙ starts_manager)
       (λ second. ⊎_elim (λ two. manager_seen m (with_restarts lists w) two ∙ restarts_manager)
       (λ all. manager_seen m (with_lists lists w) all ∙ lists_manager) second) first) moment
+
+pub record_entered : (lists : Lists) (stops : List Duty) (w m : WorldState) → IsRecordMoment lists w m → IsCalling stops w m
+record_entered lists stops w m moment =
+    none_entered (map (entry_of w.manager.loaded) stops) w m (ap (λ (x : ManagerState). x.journal) (manager_recording lists w m moment))
 
 -- the stops after the lists
 pub stopped_world : (lists : Lists) (stops : List Duty) (w v u : WorldState) → seen v ≡ seen (with_lists lists w) → u ≡ with_calls stops v → seen u ≡ seen (with_stops lists stops w)
