@@ -1,6 +1,7 @@
 -- The steps of a switch: NixOS manual, "What happens during a system switch?".
 use Rattle.std.specs.Prelude.{◌≡◌, ◌++◌, List, Some, map}
 use Rattle.host_trait.specs.declared.entry.Entry.{Entry}
+use Rattle.host_trait.specs.declared.unit_state.State.{State}
 use Rattle.host_trait.specs.Change.{definitions_place, loaded_from}
 use Rattle.host_trait.specs.Manager.{loading}
 use Rattle.host_trait.specs.World.{IsClear, WorldState, stage, with_leaf, with_manager, without_leaf}
@@ -10,9 +11,19 @@ use Rattle.owed_lists.specs.declared.lists.Which.TheVariants.{Starts, Restarts, 
 use Rattle.owed_lists.specs.Lists.{place_of}
 use Rattle.owed_lists.specs.Record.{with_lists}
 use Rattle.owed_plan.specs.declared.duty.Duty.{Duty}
+use Rattle.owed_plan.specs.declared.owed.Owed.{Owed}
+use Rattle.owed_plan.specs.Calls.{reload_calls, restart_calls, start_calls, stop_calls}
+use Rattle.switch_names.specs.Names.{Name}
 use Rattle.switch_engine.specs.declared.links.Links.{Links}
 use Rattle.switch_engine.specs.Acts.{entry_of, with_calls}
 use Rattle.switch_engine.specs.System.{current_place}
+
+-- these are the calls of a plan, each kind by itself
+pub record AreCallsOf (owed : Owed) (states : Name → State) (stops reloads restarts starts : List Duty) : Type 0 where
+  pub are_stops : stops ≡ stop_calls owed
+  pub are_reloads : reloads ≡ reload_calls owed states
+  pub are_restarts : restarts ≡ restart_calls owed
+  pub are_starts : starts ≡ start_calls owed
 
 -- at a moment the first so many of these entries have been added to the journal
 pub record IsEntering (entries : List Entry) (w m : WorldState) : Type 0 where

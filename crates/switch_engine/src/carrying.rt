@@ -1,5 +1,5 @@
 //! Carries a planned switch out.
-ghost use Rattle.std.specs.Prelude.{◌≡◌, ◌↔◌, IfOk, IsTrue, OnOk, take, drop};
+ghost use Rattle.std.specs.Prelude.{◌≡◌, ◌↔◌, IfOk, IsTrue, OnOk};
 ghost use Rattle.host_trait.specs.Host.{Told, Leads, Passes, HasCause};
 ghost use Rattle.switch_engine.specs.Final.{CanSwitch, HasFailed, IsFinal, IsSwitchMoment, links_to};
 ghost use Rattle.switch_engine.specs.Plan.{IsPlanOf};
@@ -9,23 +9,9 @@ use crate::linking::load_system;
 use crate::links::{Links, links_to};
 use crate::outcome::{Outcome, has_failed};
 use crate::plan::Plan;
+use crate::plan_calls::calls_of;
 use host_trait::{HostFault, Manager};
-use owed_plan::Duty;
 use std::alloc::Global;
-
-/// The first so many calls.
-fn first_calls(calls: &[Duty], count: usize) -> &[Duty]
-    ensures { result.now ≡ take count calls.now }
-{
-    &calls[..count.min(calls.len())]
-}
-
-/// The calls after the first so many.
-fn calls_after(calls: &[Duty], count: usize) -> &[Duty]
-    ensures { result.now ≡ drop count calls.now }
-{
-    &calls[count.min(calls.len())..]
-}
 
 /// Takes all steps of a planned switch, in their order.
 fn switch_units<H: Manager>(
@@ -41,18 +27,10 @@ fn switch_units<H: Manager>(
     ensures moments { Passes (H.host host.old) (H.host host.new) (IsSwitchMoment plan.now.to plan.now.owed) }
     ensures cause { HasCause (H.host host.old) (H.host host.new) result }
 {
-    let owed = plan.owed();
-    let calls = plan.duties().as_slice();
-    let stops = first_calls(calls, owed.stops.as_slice().len());
-    let others = calls_after(calls, owed.stops.as_slice().len());
-    let reloads = first_calls(others, owed.reloads.as_slice().len());
-    let later = calls_after(others, owed.reloads.as_slice().len());
-    let restarts = first_calls(later, owed.restarts.as_slice().len());
-    let starts = calls_after(later, owed.restarts.as_slice().len());
-
-    stop_units(alloc, host, plan.recorded(), stops)?;
+    let calls = calls_of(plan);
+    stop_units(alloc, host, plan.recorded(), calls.stops)?;
     load_system(alloc, host, links)?;
-    give_all(alloc, host, reloads, restarts, starts)?;
+    give_all(alloc, host, calls.reloads, calls.restarts, calls.starts)?;
     Ok(())
 }
 

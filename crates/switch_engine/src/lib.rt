@@ -9,6 +9,7 @@ mod linking;
 mod links;
 mod outcome;
 mod plan;
+mod plan_calls;
 mod plan_fault;
 mod planning;
 mod refusal;

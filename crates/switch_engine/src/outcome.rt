@@ -24,7 +24,7 @@ fn is_failed(state: State) -> bool
 
 /// Whether a unit has failed that the system defines.
 fn is_failed_of(defs: &Defs, one: &UnitState) -> bool
-    ensures { result ≡ is_failed_of defs.now one.entry }
+    ensures { result ≡ is_failed_of defs.now one.now }
 {
     is_failed(one.state) && defs.find(&one.unit).is_some()
 }
