@@ -63,10 +63,10 @@ module _ (units : List Unit) where
       elim (or_cases (is_failed_of units (record { unit = e.0; state = e.1 })) (list_any (is_failed_of units) (listed es)) is) [
         | inl holds ↦
             let both = both_of (is_failed e.1) _ holds in
-            (e.0, ap (λ b. unwrap_or (cond b (Some e.1) (find bytes_cmp e.0 es)) Inactive) (name_itself e.0) ∙ failed_from e.1 both.0, both.1)
+            (e.0, (ap (λ b. unwrap_or (cond b (Some e.1) (find bytes_cmp e.0 es)) Inactive) (name_itself e.0) ∙ failed_from e.1 both.0, both.1))
         | inr more ↦
             let rest = failed_among es (right_of (below_all bytes_cmp e.0 es) _ sorted) more in
-            (rest.0, after rest.0 rest.1 (is_name rest.0 e.0) refl, rest.2)
+            (rest.0, (after rest.0 rest.1.0 (is_name rest.0 e.0) refl, rest.1.1))
       ]
     where
       after : (unit : Name) → unwrap_or (find bytes_cmp unit es) Inactive ≡ Failed → (b : Bool) → is_name unit e.0 ≡ b → unwrap_or (find bytes_cmp unit (e ∷ es)) Inactive ≡ Failed
@@ -77,22 +77,22 @@ module _ (units : List Unit) where
 
   failed_here : (es : List (Name × State)) (unit : Name) → found es unit → list_any (is_failed_of units) (listed es) ≡ true
   failed_here [] unit is = absurd (not_failed None refl is.0)
-  failed_here (e ∷ es) unit is = at (is_name unit e.0) refl
+  failed_here (e ∷ es) unit is = at (λ here. failed_here es unit here) (is_name unit e.0) refl
     where
-      at : (b : Bool) → is_name unit e.0 ≡ b → list_any (is_failed_of units) (listed (e ∷ es)) ≡ true
-      at true same =
+      at : (found es unit → list_any (is_failed_of units) (listed es) ≡ true) → (b : Bool) → is_name unit e.0 ≡ b → list_any (is_failed_of units) (listed (e ∷ es)) ≡ true
+      at rest true same =
           let state : e.1 ≡ Failed = sym (ap (λ b. unwrap_or (cond b (Some e.1) (find bytes_cmp unit es)) Inactive) same) ∙ is.0 in
           or_left (is_failed_of units (record { unit = e.0; state = e.1 })) (list_any (is_failed_of units) (listed es))
           (and_from (is_failed e.1) _ (ap is_failed state) (subst (λ name. IsSome (found_in units name)) (name_exact unit e.0 same) is.1))
-      at false other =
+      at rest false other =
           or_right (is_failed_of units (record { unit = e.0; state = e.1 })) (list_any (is_failed_of units) (listed es))
-          (failed_here es unit (sym (ap (λ b. unwrap_or (cond b (Some e.1) (find bytes_cmp unit es)) Inactive) other) ∙ is.0, is.1))
+          (rest (sym (ap (λ b. unwrap_or (cond b (Some e.1) (find bytes_cmp unit es)) Inactive) other) ∙ is.0, is.1))
 
   -- what a test of all states says
   pub has_failed : (states : UnitStates) → list_any (is_failed_of units) (listed_states states) ≡ true → HasFailed units states
   has_failed states is =
       let one = failed_among (entries states) (entries_sorted states) is in
-      (one.0, ap (λ (o : Option State). unwrap_or o Inactive) (get-entries states one.0) ∙ one.1, one.2)
+      (one.0, ap (λ (o : Option State). unwrap_or o Inactive) (get-entries states one.0) ∙ one.1.0, one.1.1)
 
   pub failed_is_found : (states : UnitStates) → HasFailed units states → list_any (is_failed_of units) (listed_states states) ≡ true
   failed_is_found states is =

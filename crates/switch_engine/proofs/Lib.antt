@@ -1,8 +1,10 @@
 pub mod ActLemmas
 pub mod CallLemmas
 pub mod FailedLemmas
+pub mod FinalLemmas
 pub mod KnownLemmas
 pub mod PartLemmas
 pub mod PullLemmas
 pub mod StepLemmas
+pub mod SwitchLemmas
 pub mod TableLemmas
