@@ -1,5 +1,5 @@
 -- All steps of a switch, one after the other.
-use Rattle.std.proofs.Common.{◌≡◌, ℕ, false, List, ◌++◌, map, Some, refl, sym, ap, subst, ◌∙◌}
+use Rattle.std.proofs.Common.{◌≡◌, ℕ, false, List, [], ◌∷◌, ◌++◌, map, Some, refl, sym, ap, subst, ◌∙◌}
 use Rattle.std.specs.FinMap.{remove}
 use Rattle.host_trait.specs.declared.manager_state.ManagerState.{ManagerState}
 use Rattle.host_trait.specs.declared.unit_state.State.{State}
@@ -10,11 +10,11 @@ use Rattle.host_trait.specs.States.{state_of}
 use Rattle.host_trait.specs.World.{IsClear, Leaves, WorldState, is_in_line, seen, stage}
 use Rattle.host_trait.proofs.Moments.{goes_on, leads_then, passes_as, told_after, told_as}
 use Rattle.host_trait.proofs.Seen.{clear_seen, stage_clear_seen}
+use Rattle.host_trait.proofs.Sound.{clear_insert, clear_remove}
 use Rattle.owed_lists.specs.declared.lists.Lists.{Lists}
 use Rattle.owed_lists.specs.declared.lists.Which.TheVariants.{Starts, Restarts, Reloads}
 use Rattle.owed_lists.specs.Lists.{reloads_place, restarts_place, starts_place}
-use Rattle.owed_lists.specs.Record.{with_lists, with_restarts, with_starts}
-use Rattle.owed_lists.proofs.RecordLemmas.{clear_with_list, place_apart}
+use Rattle.owed_lists.specs.Record.{list_leaf, with_list, with_lists, with_restarts, with_starts}
 use Rattle.owed_plan.specs.declared.duty.Duty.{Duty}
 use Rattle.owed_plan.specs.declared.owed.Owed.{Owed}
 use Rattle.owed_plan.specs.Calls.{reload_calls, restart_calls, start_calls, stop_calls}
@@ -30,6 +30,18 @@ use Rattle.switch_engine.proofs.StepLemmas.{all_called, first_entered, lists_man
 use Rattle.switch_engine.proofs.TableLemmas.{all_entered, can_rest, can_stops, final_states, in_one, ready, started_all}
 
 -- ---- what is clear stays so where the lists are recorded
+
+starts_stage : is_in_line starts_place stage ≡ false
+unfolding starts_place stage
+starts_stage = refl
+
+restarts_stage : is_in_line restarts_place stage ≡ false
+unfolding restarts_place stage
+restarts_stage = refl
+
+reloads_stage : is_in_line reloads_place stage ≡ false
+unfolding reloads_place stage
+reloads_stage = refl
 
 starts_definitions : is_in_line starts_place definitions_place ≡ false
 unfolding starts_place definitions_place
@@ -55,6 +67,10 @@ reloads_current : is_in_line reloads_place current_place ≡ false
 unfolding reloads_place current_place
 reloads_current = refl
 
+clear_with_list : (at p : List ℕ) (names : List Name) (w : WorldState) → is_in_line at p ≡ false → IsClear w.leaves p → IsClear (with_list at names w).leaves p
+clear_with_list at p [] w apart clear = clear_remove w.leaves at p clear
+clear_with_list at p (name ∷ names) w apart clear = clear_insert w.leaves at p (list_leaf (name ∷ names)) apart clear
+
 clear_with_lists : (lists : Lists) (w : WorldState) (p : List ℕ) → is_in_line starts_place p ≡ false → is_in_line restarts_place p ≡ false → is_in_line reloads_place p ≡ false →
     IsClear w.leaves p → IsClear (with_lists lists w).leaves p
 clear_with_lists lists w p starts restarts reloads clear =
@@ -66,7 +82,7 @@ pub can_link : (lists : Lists) (stops : List Duty) (w v : WorldState) → CanSwi
 can_link lists stops w v can came =
     let u : WorldState = with_stops lists stops w in
     record {
-      stage = stage_clear_seen v u came (clear_with_lists lists w stage (place_apart Starts).line (place_apart Restarts).line (place_apart Reloads).line can.lists.stage);
+      stage = stage_clear_seen v u came (clear_with_lists lists w stage starts_stage restarts_stage reloads_stage can.lists.stage);
       definitions = clear_seen v u definitions_place stage_definitions came
           (clear_with_lists lists w definitions_place starts_definitions restarts_definitions reloads_definitions can.definitions);
       current = clear_seen v u current_place stage_current came (clear_with_lists lists w current_place starts_current restarts_current reloads_current can.current);
@@ -93,7 +109,7 @@ module _ (system : Name) (owed : Owed) (lists : Lists) (w : WorldState) where
   pub ready_world : (links : Links) (stops : List Duty) (v u : WorldState) → links ≡ links_to system → stops ≡ stop_calls owed →
       seen v ≡ seen (with_stops lists stops w) → seen u ≡ seen (with_system links v) → IsReady system owed lists w u
   ready_world links stops v u to are came then = record {
-    leaves = ap (λ (x : WorldState). x.leaves) then ∙ ap (λ (x : WorldState). x.leaves) (seen_with_links links v (with_stops lists stops w) came)
+    leaves = ap (λ (x : WorldState). x.leaves) then ∙ ap (λ (x : WorldState). x.leaves) (seen_with_links links (with_stops lists stops w) v came)
         ∙ ap (λ links. remove (with_links links (with_lists lists w)).leaves stage) to;
     manager = manager_seen u (with_system links v) then
         ∙ (λ i. loading (loaded_from (Some (to i).definitions)) (stopped_manager stops v are came i));
@@ -127,8 +143,7 @@ module _ (system : Name) (owed : Owed) (lists : Lists) (w : WorldState) where
         then_entered (map (entry_of w.manager.loaded) (stop_calls owed)) (map (entry_of text) rest) w u m
         (ap (λ (x : ManagerState). x.journal) is.manager ∙ entered (stop_calls owed) w.manager)
         (subst (λ entries. IsEntering entries u m)
-        (λ i. map (entry_of (is.manager i).loaded) (reload i ++ restart i ++ start i) ) moment
-        )
+        (λ i. map (entry_of (is.manager i).loaded) (reload i ++ restart i ++ start i)) moment)
 
   first_part : (m : WorldState) → IsCalling (stop_calls owed) w m → IsSwitchMoment system owed w m
   first_part m moment = first_entered (map (entry_of w.manager.loaded) (stop_calls owed)) (map (entry_of (definitions_of system)) rest) w m moment
@@ -142,11 +157,13 @@ module _ (system : Name) (owed : Owed) (lists : Lists) (w : WorldState) where
 
 -- ---- all of it, host by host
 
+pub stops_can : (owed : Owed) (stops reloads restarts starts : List Duty) {a : HostState} →
+    Told a (λ w. AreCallsOf owed (state_of w.manager.states) stops reloads restarts starts) → Told a (λ w. CanPerform stops w.manager)
+stops_can owed stops reloads restarts starts calls =
+    told_as calls (λ w. CanPerform stops w.manager) (λ w is are. subst (λ calls. CanPerform calls w.manager) (sym are.are_stops) (can_stops owed w.manager))
+
 module _ (system : Name) (owed : Owed) (lists : Lists) (links : Links) (to : links ≡ links_to system) (stops reloads restarts starts : List Duty)
     {a b : HostState} (calls : Told a (λ w. AreCallsOf owed (state_of w.manager.states) stops reloads restarts starts)) (stop_way : Passes a b (IsCalling stops)) where
-  pub stops_can : Told a (λ w. CanPerform stops w.manager)
-  stops_can = told_as calls (λ w. CanPerform stops w.manager) (λ w is are. subst (λ calls. CanPerform calls w.manager) (sym are.are_stops) (can_stops owed w.manager))
-
   pub first_way : Passes a b (IsSwitchMoment system owed)
   first_way = passes_as stop_way (IsSwitchMoment system owed) (λ w m is moment. stop_moment system owed lists w stops m (calls.has w is).are_stops moment)
 

@@ -1,37 +1,67 @@
-use Rattle.std.proofs.Common.{rules, ◌≡◌, ◌↔◌, IfOk, IsTrue, OnOk, ℕ, ◌+◌, ◌-◌, ◌*◌, ◌<◌, ◌≤◌, length, ◌/◌, ◌%◌, Bool, true, false, nat_eq, nat_lt, List, [], ◌∷◌, ◌++◌, slice_index_or, slice_set, bit_and, bit_or, Fits, w8, w32, w64, Bor, MutBor}
-use Rattle.host_trait.specs.Host.{Told, Leads, Passes, HasCause}
-use Rattle.switch_engine.specs.Final.{CanSwitch, HasFailed, IsFinal, IsSwitchMoment, links_to}
-use Rattle.switch_engine.specs.Plan.{IsPlanOf}
+use Rattle.std.proofs.Common.{◌≡◌, sym}
+use Rattle.host_trait.specs.States.{state_of}
+use Rattle.host_trait.proofs.Moments.{told_after, told_as}
+use Rattle.owed_lists.specs.Record.{CanRecord}
+use Rattle.switch_engine.specs.Steps.{AreCallsOf, CanLink}
+use Rattle.switch_engine.proofs.SwitchLemmas.{can_link, ends, first_way, gets_ready, rest_can, second_way, stops_can, third_way}
 use Rattle.switch_engine.proofs.carrying.switch_units.Goals as goal
 
--- src/carrying.rt:31:5
 pub stop_units-requires-clause-calls : goal.stop_units-requires-clause-calls
-stop_units-requires-clause-calls g c = ?
+stop_units-requires-clause-calls g c =
+    let plan = c.args.plan.now in let calls = c.calls_of-calls.result in
+    let told = told_as c.requires.planned (λ w. AreCallsOf plan.owed (state_of w.manager.states) calls.stops.now calls.reloads.now calls.restarts.now calls.starts.now)
+    (λ w is planned. c.calls_of-calls.ensures (state_of w.manager.states) planned.duties) in
+    stops_can plan.owed calls.stops.now calls.reloads.now calls.restarts.now calls.starts.now told
 
--- src/carrying.rt:31:5
 pub returns-in_err-stop_units-clause-moments : goal.returns-in_err-stop_units-clause-moments
-returns-in_err-stop_units-clause-moments g c = ?
+returns-in_err-stop_units-clause-moments g c =
+    let plan = c.args.plan.now in let calls = c.calls_of-calls.result in
+    let told = told_as c.requires.planned (λ w. AreCallsOf plan.owed (state_of w.manager.states) calls.stops.now calls.reloads.now calls.restarts.now calls.starts.now)
+    (λ w is planned. c.calls_of-calls.ensures (state_of w.manager.states) planned.duties) in
+    first_way plan.to plan.owed c.recorded.result.now c.args.links.now c.requires.links calls.stops.now calls.reloads.now calls.restarts.now calls.starts.now told
+    c.stop_units.ensures.moments
 
--- src/carrying.rt:32:5
 pub load_system-requires : goal.load_system-requires
-load_system-requires g c = ?
+load_system-requires g c =
+    told_after c.stop_units.ensures.moments c.in_ok-stop_units.ensures.ok CanLink
+    (λ w v is came. can_link c.recorded.result.now c.calls_of-calls.result.stops.now w v (c.requires.can.has w is) came)
 
--- src/carrying.rt:32:5
 pub returns-in_err-load_system-clause-moments : goal.returns-in_err-load_system-clause-moments
-returns-in_err-load_system-clause-moments g c = ?
+returns-in_err-load_system-clause-moments g c =
+    let plan = c.args.plan.now in let calls = c.calls_of-calls.result in
+    let told = told_as c.requires.planned (λ w. AreCallsOf plan.owed (state_of w.manager.states) calls.stops.now calls.reloads.now calls.restarts.now calls.starts.now)
+    (λ w is planned. c.calls_of-calls.ensures (state_of w.manager.states) planned.duties) in
+    second_way plan.to plan.owed c.recorded.result.now c.args.links.now c.requires.links calls.stops.now calls.reloads.now calls.restarts.now calls.starts.now told
+    c.stop_units.ensures.moments c.in_ok-stop_units.ensures.ok c.load_system.ensures.moments
 
--- src/carrying.rt:33:5
 pub give_all-requires : goal.give_all-requires
-give_all-requires g c = ?
+give_all-requires g c =
+    let plan = c.args.plan.now in let calls = c.calls_of-calls.result in
+    let told = told_as c.requires.planned (λ w. AreCallsOf plan.owed (state_of w.manager.states) calls.stops.now calls.reloads.now calls.restarts.now calls.starts.now)
+    (λ w is planned. c.calls_of-calls.ensures (state_of w.manager.states) planned.duties) in
+    rest_can plan.to plan.owed c.recorded.result.now c.args.links.now c.requires.links calls.stops.now calls.reloads.now calls.restarts.now calls.starts.now told
+    c.stop_units.ensures.moments c.in_ok-stop_units.ensures.ok c.load_system.ensures.moments c.in_ok-load_system.ensures.ok
 
--- src/carrying.rt:33:5
 pub returns-in_err-give_all-clause-moments : goal.returns-in_err-give_all-clause-moments
-returns-in_err-give_all-clause-moments g c = ?
+returns-in_err-give_all-clause-moments g c =
+    let plan = c.args.plan.now in let calls = c.calls_of-calls.result in
+    let told = told_as c.requires.planned (λ w. AreCallsOf plan.owed (state_of w.manager.states) calls.stops.now calls.reloads.now calls.restarts.now calls.starts.now)
+    (λ w is planned. c.calls_of-calls.ensures (state_of w.manager.states) planned.duties) in
+    third_way plan.to plan.owed c.recorded.result.now c.args.links.now c.requires.links calls.stops.now calls.reloads.now calls.restarts.now calls.starts.now told
+    c.stop_units.ensures.moments c.in_ok-stop_units.ensures.ok c.load_system.ensures.moments c.in_ok-load_system.ensures.ok c.give_all.ensures.moments
 
--- src/carrying.rt:17:1
 pub returns-clause-ok : goal.returns-clause-ok
-returns-clause-ok g c = ?
+returns-clause-ok g c =
+    let plan = c.args.plan.now in let calls = c.calls_of-calls.result in
+    let told = told_as c.requires.planned (λ w. AreCallsOf plan.owed (state_of w.manager.states) calls.stops.now calls.reloads.now calls.restarts.now calls.starts.now)
+    (λ w is planned. c.calls_of-calls.ensures (state_of w.manager.states) planned.duties) in
+    ends plan.to plan.owed c.recorded.result.now c.args.links.now c.requires.links calls.stops.now calls.reloads.now calls.restarts.now calls.starts.now told
+    c.stop_units.ensures.moments c.in_ok-stop_units.ensures.ok c.load_system.ensures.moments c.in_ok-load_system.ensures.ok c.in_ok-give_all.ensures.ok
 
--- src/carrying.rt:17:1
 pub returns-clause-moments : goal.returns-clause-moments
-returns-clause-moments g c = ?
+returns-clause-moments g c =
+    let plan = c.args.plan.now in let calls = c.calls_of-calls.result in
+    let told = told_as c.requires.planned (λ w. AreCallsOf plan.owed (state_of w.manager.states) calls.stops.now calls.reloads.now calls.restarts.now calls.starts.now)
+    (λ w is planned. c.calls_of-calls.ensures (state_of w.manager.states) planned.duties) in
+    third_way plan.to plan.owed c.recorded.result.now c.args.links.now c.requires.links calls.stops.now calls.reloads.now calls.restarts.now calls.starts.now told
+    c.stop_units.ensures.moments c.in_ok-stop_units.ensures.ok c.load_system.ensures.moments c.in_ok-load_system.ensures.ok c.give_all.ensures.moments
