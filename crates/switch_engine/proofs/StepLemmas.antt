@@ -1,7 +1,7 @@
 -- What the steps of a switch leave, and what is entered in the journal on their way.
 use Rattle.std.proofs.Common.{◌≡◌, ◌≢◌, ◌⊎◌, ℕ, false, List, [], ◌∷◌, ◌++◌, map, take, drop, Some, refl, sym, ap, subst, ◌∙◌, inl, inr, ⊎_elim}
 use Rattle.std.proofs.lemmas.List.{append-nil, append_assoc, map-append, take-append-drop}
-use Rattle.std.specs.FinMap.{get, insert}
+use Rattle.std.specs.FinMap.{get, insert, remove}
 use Rattle.std.specs.Ordering.{eq_by_cmp}
 use Rattle.host_trait.specs.declared.entry.Entry.{Entry}
 use Rattle.host_trait.specs.declared.leaf.LeafKind.{LeafKind}
@@ -9,7 +9,7 @@ use Rattle.host_trait.specs.declared.manager_state.ManagerState.{ManagerState}
 use Rattle.host_trait.specs.Change.{DaemonReload, IsMoment, definitions_place, finished, loaded_from}
 use Rattle.host_trait.specs.Host.{HostState, Becomes, Leads, Passes}
 use Rattle.host_trait.specs.Manager.{loading}
-use Rattle.host_trait.specs.World.{IsClear, WorldState, bytes_cmp, is_in_line, seen, stage, with_leaf, with_manager, without_leaf}
+use Rattle.host_trait.specs.World.{IsClear, Leaves, WorldState, bytes_cmp, is_in_line, seen, stage, with_leaf, with_manager, without_leaf}
 use Rattle.host_trait.proofs.Moments.{goes_on, leads_as, leads_then, passes_as}
 use Rattle.host_trait.proofs.Places.{at_same}
 use Rattle.host_trait.proofs.Seen.{clear_seen, other_of, seen_at, seen_with_leaf, stage_clear_seen}
@@ -22,7 +22,7 @@ use Rattle.owed_plan.specs.declared.duty.Duty.{Duty}
 use Rattle.switch_names.specs.Names.{Name}
 use Rattle.switch_engine.specs.declared.links.Links.{Links}
 use Rattle.switch_engine.specs.Acts.{CanPerform, IsPerforming, entry_of, performed, with_calls}
-use Rattle.switch_engine.specs.Steps.{CanLink, IsCalling, IsEntering, IsSameJournal, IsSameManager, with_given, with_links, with_stops, with_system}
+use Rattle.switch_engine.specs.Steps.{CanLink, IsCalling, IsEntering, IsGiving, IsSameJournal, IsSameManager, IsStopping, with_given, with_links, with_stops, with_system}
 use Rattle.switch_engine.specs.System.{current_place}
 use Rattle.switch_engine.proofs.CallLemmas.{entered, performed-append, same_loaded}
 use Rattle.tree_put.specs.Put.{AreApart, CanPut, IsOldOrGone, IsOldOrNew}
@@ -71,6 +71,11 @@ so_many_entered calls count w m is = record {
 pub calling : (calls : List Duty) (w m : WorldState) → IsPerforming calls w m → IsCalling calls w m
 calling calls w m (IsPerforming.After count is) = so_many_entered calls count w m (ap (λ (x : WorldState). x.manager.journal) is)
 calling calls w m (IsPerforming.Within count unit there is) = so_many_entered calls count w m (ap (λ (x : WorldState). x.manager.journal) is)
+
+-- calls leave the leaves as they are
+leaves_performing : (calls : List Duty) (w m : WorldState) → IsPerforming calls w m → m.leaves ≡ w.leaves
+leaves_performing calls w m (IsPerforming.After count is) = ap (λ (x : WorldState). x.leaves) is
+leaves_performing calls w m (IsPerforming.Within count unit there is) = ap (λ (x : WorldState). x.leaves) is
 
 -- all calls are entered
 pub all_called : (calls : List Duty) (w m : WorldState) → m.manager.journal ≡ (performed calls w.manager).journal → IsCalling calls w m
@@ -127,6 +132,21 @@ module _ {a b c : HostState} (calls more : List Duty) where
       leads_then first second (λ w v. v.manager ≡ performed (calls ++ more) w.manager)
       (λ w v u is is_v done then. then ∙ ap (performed more) done ∙ sym (performed-append calls more w.manager))
 
+pub manager_gone : (at : List ℕ) (w m : WorldState) → IsOldOrGone at w m → m.manager ≡ w.manager
+manager_gone at w m moment = ⊎_elim (λ old. ap (λ (x : WorldState). x.manager) old) (λ gone. ap (λ (x : WorldState). x.manager) gone) moment
+
+pub giving : (calls : List Duty) (w m : WorldState) → IsPerforming calls w m → IsGiving calls w m
+giving calls w m moment = record { calling = calling calls w m moment; listed = inl (leaves_performing calls w m moment) }
+
+-- the list goes after the calls
+pub given : (at : List ℕ) (calls : List Duty) (w v m : WorldState) → v ≡ with_calls calls w → IsOldOrGone at v m → IsGiving calls w m
+given at calls w v m made moment =
+    let manager = manager_gone at v m moment ∙ ap (λ (x : WorldState). x.manager) made in
+    record { calling = all_called calls w m (ap (λ (x : ManagerState). x.journal) manager); listed = inr manager }
+
+pub giving_way : {a b : HostState} (calls : List Duty) → Passes a b (IsGiving calls) → Passes a b (IsCalling calls)
+giving_way calls way = passes_as way (IsCalling calls) (λ w m is moment. moment.calling)
+
 -- calls without their list are these calls
 pub made_of : {a b : HostState} (which : Which) (calls : List Duty) → Becomes a b (with_given which calls) → Performs a b calls
 made_of which calls made = leads_as made (λ w v. v.manager ≡ performed calls w.manager) (λ w v is given. ap (λ (x : WorldState). x.manager) given)
@@ -135,9 +155,6 @@ made_of which calls made = leads_as made (λ w v. v.manager ≡ performed calls 
 
 pub manager_seen : (v w : WorldState) → seen v ≡ seen w → v.manager ≡ w.manager
 manager_seen v w is = ap (λ (x : WorldState). x.manager) is
-
-pub manager_gone : (at : List ℕ) (w m : WorldState) → IsOldOrGone at w m → m.manager ≡ w.manager
-manager_gone at w m moment = ⊎_elim (λ old. ap (λ (x : WorldState). x.manager) old) (λ gone. ap (λ (x : WorldState). x.manager) gone) moment
 
 pub manager_renewed : (at : List ℕ) (leaf : LeafKind) (w m : WorldState) → IsOldOrNew at leaf w m → m.manager ≡ w.manager
 manager_renewed at leaf w m moment = ⊎_elim (λ old. manager_seen m w old) (λ new. manager_seen m (with_leaf at leaf w) new) moment
@@ -164,11 +181,24 @@ module _ (lists : Lists) (w : WorldState) where
       (λ second. ⊎_elim (λ two. manager_seen m (with_restarts lists w) two ∙ restarts_manager)
       (λ all. manager_seen m (with_lists lists w) all ∙ lists_manager) second) first) moment
 
-pub record_entered : (lists : Lists) (stops : List Duty) (w m : WorldState) → IsRecordMoment lists w m → IsCalling stops w m
+record_entered : (lists : Lists) (stops : List Duty) (w m : WorldState) → IsRecordMoment lists w m → IsCalling stops w m
 record_entered lists stops w m moment =
     none_entered (map (entry_of w.manager.loaded) stops) w m (ap (λ (x : ManagerState). x.journal) (manager_recording lists w m moment))
 
--- the stops after the lists
+pub recording : (lists : Lists) (stops : List Duty) (w m : WorldState) → IsRecordMoment lists w m → IsStopping lists stops w m
+recording lists stops w m moment = record {
+  calling = record_entered lists stops w m moment;
+  recorded = inl (manager_recording lists w m moment);
+}
+
+-- the stops after the lists are recorded
+pub stopping : (lists : Lists) (stops : List Duty) (w v m : WorldState) → seen v ≡ seen (with_lists lists w) → IsPerforming stops v m → IsStopping lists stops w m
+stopping lists stops w v m came moment = record {
+  calling = calling_after stops w v m (manager_seen v (with_lists lists w) came ∙ lists_manager lists w) (calling stops v m moment);
+  recorded = inr (ap (λ (l : Leaves). remove l stage) (leaves_performing stops v m moment) ∙ ap (λ (x : WorldState). x.leaves) came);
+}
+
+-- what the stops after the lists leave
 pub stopped_world : (lists : Lists) (stops : List Duty) (w v u : WorldState) → seen v ≡ seen (with_lists lists w) → u ≡ with_calls stops v → seen u ≡ seen (with_stops lists stops w)
 stopped_world lists stops w v u came made = ap seen made ∙ ap (with_calls stops) came
 

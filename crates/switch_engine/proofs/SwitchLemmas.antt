@@ -22,7 +22,7 @@ use Rattle.switch_names.specs.Names.{Name}
 use Rattle.switch_engine.specs.declared.links.Links.{Links}
 use Rattle.switch_engine.specs.Acts.{CanPerform, entry_of, performed}
 use Rattle.switch_engine.specs.Final.{CanSwitch, IsFinal, IsSwitchMoment, definitions_of, links_to}
-use Rattle.switch_engine.specs.Steps.{AreCallsOf, CanLink, IsCalling, IsEntering, IsSameJournal, with_all_given, with_links, with_stops, with_system}
+use Rattle.switch_engine.specs.Steps.{AreCallsOf, CanLink, IsCalling, IsEntering, IsSameJournal, IsStopping, with_all_given, with_links, with_stops, with_system}
 use Rattle.switch_engine.specs.System.{current_place}
 use Rattle.switch_engine.proofs.CallLemmas.{entered, same_bad, same_loaded}
 use Rattle.switch_engine.proofs.FinalLemmas.{all_leaves}
@@ -163,15 +163,15 @@ stops_can owed stops reloads restarts starts calls =
     told_as calls (λ w. CanPerform stops w.manager) (λ w is are. subst (λ calls. CanPerform calls w.manager) (sym are.are_stops) (can_stops owed w.manager))
 
 module _ (system : Name) (owed : Owed) (lists : Lists) (links : Links) (to : links ≡ links_to system) (stops reloads restarts starts : List Duty)
-    {a b : HostState} (calls : Told a (λ w. AreCallsOf owed (state_of w.manager.states) stops reloads restarts starts)) (stop_way : Passes a b (IsCalling stops)) where
+    {a b : HostState} (calls : Told a (λ w. AreCallsOf owed (state_of w.manager.states) stops reloads restarts starts)) (stop_way : Passes a b (IsStopping lists stops)) where
   pub first_way : Passes a b (IsSwitchMoment system owed)
-  first_way = passes_as stop_way (IsSwitchMoment system owed) (λ w m is moment. stop_moment system owed lists w stops m (calls.has w is).are_stops moment)
+  first_way = passes_as stop_way (IsSwitchMoment system owed) (λ w m is moment. stop_moment system owed lists w stops m (calls.has w is).are_stops moment.calling)
 
   module _ {c : HostState} (stopped : Comes a b (with_stops lists stops)) (load_way : Passes b c IsSameJournal) where
     pub second_way : Passes a c (IsSwitchMoment system owed)
     second_way =
         goes_on stop_way stopped load_way (IsSwitchMoment system owed)
-        (λ w m is moment. stop_moment system owed lists w stops m (calls.has w is).are_stops moment)
+        (λ w m is moment. stop_moment system owed lists w stops m (calls.has w is).are_stops moment.calling)
         (λ w v m is is_v came same. load_moment system owed lists w stops v m (calls.has w is).are_stops came same)
 
     module _ (loaded : Comes b c (with_system links)) where

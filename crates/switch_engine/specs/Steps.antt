@@ -1,5 +1,6 @@
 -- The steps of a switch: NixOS manual, "What happens during a system switch?".
-use Rattle.std.specs.Prelude.{◌≡◌, ◌++◌, List, Some, map}
+use Rattle.std.specs.Prelude.{◌≡◌, ◌⊎◌, ◌++◌, List, Some, map}
+use Rattle.std.specs.FinMap.{remove}
 use Rattle.host_trait.specs.declared.entry.Entry.{Entry}
 use Rattle.host_trait.specs.declared.unit_state.State.{State}
 use Rattle.host_trait.specs.Change.{definitions_place, loaded_from}
@@ -15,7 +16,7 @@ use Rattle.owed_plan.specs.declared.owed.Owed.{Owed}
 use Rattle.owed_plan.specs.Calls.{reload_calls, restart_calls, start_calls, stop_calls}
 use Rattle.switch_names.specs.Names.{Name}
 use Rattle.switch_engine.specs.declared.links.Links.{Links}
-use Rattle.switch_engine.specs.Acts.{entry_of, with_calls}
+use Rattle.switch_engine.specs.Acts.{entry_of, performed, with_calls}
 use Rattle.switch_engine.specs.System.{current_place}
 
 -- these are the calls of a plan, each kind by itself
@@ -35,6 +36,16 @@ pub record IsEntering (entries : List Entry) (w m : WorldState) : Type 0 where
 -- at a moment some of these calls have been entered, with the definitions that were loaded before
 abbrev pub IsCalling : List Duty → WorldState → WorldState → Type 0
 IsCalling calls w m = IsEntering (map (entry_of w.manager.loaded) calls) w m
+
+-- at a moment of the stops no unit has changed yet, or the lists are recorded
+pub record IsStopping (lists : Lists) (stops : List Duty) (w m : WorldState) : Type 0 where
+  pub calling : IsCalling stops w m
+  pub recorded : (m.manager ≡ w.manager) ⊎ (remove m.leaves stage ≡ remove (with_lists lists w).leaves stage)
+
+-- at a moment of some calls their list stands yet, or all of them have been made
+pub record IsGiving (calls : List Duty) (w m : WorldState) : Type 0 where
+  pub calling : IsCalling calls w m
+  pub listed : (m.leaves ≡ w.leaves) ⊎ (m.manager ≡ performed calls w.manager)
 
 -- at a moment nothing has been entered
 abbrev pub IsSameJournal : WorldState → WorldState → Type 0

@@ -3,7 +3,7 @@ ghost use Rattle.std.specs.Prelude.{◌++◌, OnOk};
 ghost use Rattle.host_trait.specs.Host.{Told, Becomes, Comes, Passes, HasCause};
 ghost use Rattle.owed_lists.specs.Record.{CanRecord};
 ghost use Rattle.switch_engine.specs.Acts.{CanPerform};
-ghost use Rattle.switch_engine.specs.Steps.{IsCalling, with_all_given, with_given, with_stops};
+ghost use Rattle.switch_engine.specs.Steps.{IsCalling, IsGiving, IsStopping, with_all_given, with_given, with_stops};
 
 use crate::acting::call_units;
 use host_trait::{HostFault, Manager};
@@ -21,7 +21,7 @@ pub fn stop_units<H: Manager>(
     requires lists { Told (H.host host.old) CanRecord }
     requires calls { Told (H.host host.old) (λ w. CanPerform stops.now w.manager) }
     ensures ok { OnOk result (Comes (H.host host.old) (H.host host.new) (with_stops lists.now stops.now)) }
-    ensures moments { Passes (H.host host.old) (H.host host.new) (IsCalling stops.now) }
+    ensures moments { Passes (H.host host.old) (H.host host.new) (IsStopping lists.now stops.now) }
     ensures cause { HasCause (H.host host.old) (H.host host.new) result }
 {
     record(alloc, host, lists)?;
@@ -38,7 +38,7 @@ fn give<H: Manager>(
 ) -> Result<(), HostFault>
     requires { Told (H.host host.old) (λ w. CanPerform calls.now w.manager) }
     ensures ok { OnOk result (Becomes (H.host host.old) (H.host host.new) (with_given which calls.now)) }
-    ensures moments { Passes (H.host host.old) (H.host host.new) (IsCalling calls.now) }
+    ensures moments { Passes (H.host host.old) (H.host host.new) (IsGiving calls.now) }
     ensures cause { HasCause (H.host host.old) (H.host host.new) result }
 {
     call_units(alloc, host, calls)?;

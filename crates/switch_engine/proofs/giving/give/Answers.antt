@@ -1,21 +1,20 @@
 use Rattle.std.proofs.Common.{◌≡◌, ap, ◌∙◌}
-use Rattle.host_trait.specs.declared.manager_state.ManagerState.{ManagerState}
-use Rattle.host_trait.specs.World.{WorldState, without_leaf}
+use Rattle.host_trait.specs.World.{without_leaf}
 use Rattle.host_trait.proofs.Moments.{goes_on, leads_then, passes_as}
 use Rattle.owed_lists.specs.Lists.{place_of}
-use Rattle.switch_engine.specs.Steps.{IsCalling, with_given}
-use Rattle.switch_engine.proofs.StepLemmas.{all_called, calling, manager_gone}
+use Rattle.switch_engine.specs.Steps.{IsGiving, with_given}
+use Rattle.switch_engine.proofs.StepLemmas.{given, giving}
 use Rattle.switch_engine.proofs.giving.give.Goals as goal
 
 pub returns-in_err-call_units-clause-moments : goal.returns-in_err-call_units-clause-moments
 returns-in_err-call_units-clause-moments g c =
-    passes_as c.call_units.ensures.moments (IsCalling c.args.calls.now) (λ w m is moment. calling c.args.calls.now w m moment)
+    passes_as c.call_units.ensures.moments (IsGiving c.args.calls.now) (λ w m is moment. giving c.args.calls.now w m moment)
 
 pub returns-in_err-clear-clause-moments : goal.returns-in_err-clear-clause-moments
 returns-in_err-clear-clause-moments g c =
-    goes_on c.call_units.ensures.moments c.in_ok-call_units.ensures.ok c.clear.ensures.moments (IsCalling c.args.calls.now)
-    (λ w m is moment. calling c.args.calls.now w m moment)
-    (λ w v m is is_v made moment. all_called c.args.calls.now w m (ap (λ (x : ManagerState). x.journal) (manager_gone (place_of c.args.which) v m moment) ∙ ap (λ (x : WorldState). x.manager.journal) made))
+    goes_on c.call_units.ensures.moments c.in_ok-call_units.ensures.ok c.clear.ensures.moments (IsGiving c.args.calls.now)
+    (λ w m is moment. giving c.args.calls.now w m moment)
+    (λ w v m is is_v made moment. given (place_of c.args.which) c.args.calls.now w v m made moment)
 
 pub returns-clause-ok : goal.returns-clause-ok
 returns-clause-ok g c =
@@ -24,6 +23,6 @@ returns-clause-ok g c =
 
 pub returns-clause-moments : goal.returns-clause-moments
 returns-clause-moments g c =
-    goes_on c.call_units.ensures.moments c.in_ok-call_units.ensures.ok c.clear.ensures.moments (IsCalling c.args.calls.now)
-    (λ w m is moment. calling c.args.calls.now w m moment)
-    (λ w v m is is_v made moment. all_called c.args.calls.now w m (ap (λ (x : ManagerState). x.journal) (manager_gone (place_of c.args.which) v m moment) ∙ ap (λ (x : WorldState). x.manager.journal) made))
+    goes_on c.call_units.ensures.moments c.in_ok-call_units.ensures.ok c.clear.ensures.moments (IsGiving c.args.calls.now)
+    (λ w m is moment. giving c.args.calls.now w m moment)
+    (λ w v m is is_v made moment. given (place_of c.args.which) c.args.calls.now w v m made moment)
