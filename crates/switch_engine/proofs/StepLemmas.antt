@@ -1,15 +1,14 @@
 -- What the steps of a switch leave, and what is entered in the journal on their way.
-use Rattle.std.proofs.Common.{◌≡◌, ◌≢◌, ◌⊎◌, ℕ, false, List, [], ◌∷◌, ◌++◌, map, take, drop, Some, refl, sym, ap, subst, ◌∙◌, inl, inr, ⊎_elim}
+use Rattle.std.proofs.Common.{◌≡◌, ℕ, false, List, [], ◌∷◌, ◌++◌, map, take, drop, Some, refl, sym, ap, subst, ◌∙◌, inl, inr, ⊎_elim}
 use Rattle.std.proofs.lemmas.List.{append-nil, append_assoc, map-append, take-append-drop}
 use Rattle.std.specs.FinMap.{get, insert, remove}
-use Rattle.std.specs.Ordering.{eq_by_cmp}
 use Rattle.host_trait.specs.declared.entry.Entry.{Entry}
 use Rattle.host_trait.specs.declared.leaf.LeafKind.{LeafKind}
 use Rattle.host_trait.specs.declared.manager_state.ManagerState.{ManagerState}
 use Rattle.host_trait.specs.Change.{DaemonReload, IsMoment, definitions_place, finished, loaded_from}
 use Rattle.host_trait.specs.Host.{HostState, Becomes, Leads, Passes}
 use Rattle.host_trait.specs.Manager.{loading}
-use Rattle.host_trait.specs.World.{IsClear, Leaves, WorldState, bytes_cmp, is_in_line, seen, stage, with_leaf, with_manager, without_leaf}
+use Rattle.host_trait.specs.World.{Leaves, WorldState, is_in_line, seen, stage, with_leaf, with_manager}
 use Rattle.host_trait.proofs.Moments.{goes_on, leads_as, leads_then, passes_as}
 use Rattle.host_trait.proofs.Places.{at_same}
 use Rattle.host_trait.proofs.Seen.{clear_seen, other_of, seen_at, seen_with_leaf, stage_clear_seen}

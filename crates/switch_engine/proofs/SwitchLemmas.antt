@@ -7,12 +7,11 @@ use Rattle.host_trait.specs.Change.{definitions_place, loaded_from}
 use Rattle.host_trait.specs.Host.{HostState, Told, Comes, Becomes, Leads, Passes}
 use Rattle.host_trait.specs.Manager.{loading}
 use Rattle.host_trait.specs.States.{state_of}
-use Rattle.host_trait.specs.World.{IsClear, Leaves, WorldState, is_in_line, seen, stage}
+use Rattle.host_trait.specs.World.{IsClear, WorldState, is_in_line, seen, stage}
 use Rattle.host_trait.proofs.Moments.{goes_on, leads_then, passes_as, told_after, told_as}
 use Rattle.host_trait.proofs.Seen.{clear_seen, stage_clear_seen}
 use Rattle.host_trait.proofs.Sound.{clear_insert, clear_remove}
 use Rattle.owed_lists.specs.declared.lists.Lists.{Lists}
-use Rattle.owed_lists.specs.declared.lists.Which.TheVariants.{Starts, Restarts, Reloads}
 use Rattle.owed_lists.specs.Lists.{reloads_place, restarts_place, starts_place}
 use Rattle.owed_lists.specs.Record.{list_leaf, with_list, with_lists, with_restarts, with_starts}
 use Rattle.owed_plan.specs.declared.duty.Duty.{Duty}

@@ -39,11 +39,7 @@ fn switch_units<H: Manager>(
 /// after the last of its calls.
 ///
 /// Source: NixOS manual, "What happens during a system switch?".
-pub fn carry_out<H: Manager>(
-    alloc: Global,
-    host: &mut H,
-    plan: &Plan,
-) -> Result<Outcome, HostFault>
+pub fn carry_out<H: Manager>(alloc: Global, host: &mut H, plan: &Plan) -> Result<Outcome, HostFault>
     requires planned { Told (H.host host.old) (λ w. IsPlanOf plan.now.to w plan.now) }
     requires can { Told (H.host host.old) CanSwitch }
     ensures ok { OnOk result (Leads (H.host host.old) (H.host host.new) (IsFinal plan.now.to plan.now.owed)) }

@@ -50,11 +50,7 @@ fn put_links<T: Tree>(alloc: Global, host: &mut T, links: &Links) -> Result<(), 
 }
 
 /// Puts both links to a system, and then loads its definitions.
-pub fn load_system<H: Manager>(
-    alloc: Global,
-    host: &mut H,
-    links: &Links,
-) -> Result<(), HostFault>
+pub fn load_system<H: Manager>(alloc: Global, host: &mut H, links: &Links) -> Result<(), HostFault>
     requires { Told (H.host host.old) CanLink }
     ensures ok { OnOk result (Comes (H.host host.old) (H.host host.new) (with_system links.now)) }
     ensures moments { Passes (H.host host.old) (H.host host.new) IsSameJournal }

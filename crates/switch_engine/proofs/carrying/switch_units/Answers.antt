@@ -1,9 +1,7 @@
-use Rattle.std.proofs.Common.{◌≡◌, sym}
 use Rattle.host_trait.specs.States.{state_of}
 use Rattle.host_trait.proofs.Moments.{told_after, told_as}
-use Rattle.owed_lists.specs.Record.{CanRecord}
 use Rattle.switch_engine.specs.Steps.{AreCallsOf, CanLink}
-use Rattle.switch_engine.proofs.SwitchLemmas.{can_link, ends, first_way, gets_ready, rest_can, second_way, stops_can, third_way}
+use Rattle.switch_engine.proofs.SwitchLemmas.{can_link, ends, first_way, rest_can, second_way, stops_can, third_way}
 use Rattle.switch_engine.proofs.carrying.switch_units.Goals as goal
 
 pub stop_units-requires-clause-calls : goal.stop_units-requires-clause-calls

@@ -1,11 +1,8 @@
-use Rattle.std.proofs.Common.{◌≡◌, ◌++◌, refl, sym, ap, subst, ◌∙◌}
-use Rattle.host_trait.specs.declared.manager_state.ManagerState.{ManagerState}
-use Rattle.host_trait.specs.World.{WorldState}
-use Rattle.host_trait.proofs.Moments.{leads_as, leads_then, passes_as, told_after, told_as}
+use Rattle.std.proofs.Common.{◌≡◌, ◌++◌, sym, ap, subst, ◌∙◌}
+use Rattle.host_trait.proofs.Moments.{leads_then, passes_as, told_after, told_as}
 use Rattle.owed_lists.specs.declared.lists.Which.TheVariants.{Starts, Restarts, Reloads}
-use Rattle.switch_engine.specs.Acts.{CanPerform, performed}
+use Rattle.switch_engine.specs.Acts.{CanPerform}
 use Rattle.switch_engine.specs.Steps.{IsCalling, with_all_given, with_given}
-use Rattle.switch_engine.proofs.CallLemmas.{performed-append}
 use Rattle.switch_engine.proofs.StepLemmas.{calling_first, can_first, can_then, giving_way, made_of, made_then, way_then}
 use Rattle.switch_engine.proofs.giving.give_all.Goals as goal
 

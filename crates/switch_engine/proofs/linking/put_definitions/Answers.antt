@@ -1,4 +1,4 @@
-use Rattle.std.proofs.Common.{◌≡◌, refl, sym, subst}
+use Rattle.std.proofs.Common.{refl, sym, subst}
 use Rattle.host_trait.specs.World.{stage}
 use Rattle.host_trait.proofs.Moments.{passes_as, started}
 use Rattle.tree_put.specs.Put.{AreApart}
