@@ -1,6 +1,7 @@
 -- What a switch to a system leaves: NixOS manual, "What happens during a system switch?".
-use Rattle.std.specs.Prelude.{◌≡◌, ◌++◌, ◌&&◌, ℕ, Bool, true, false, is_some, IsSome, List, ◌∷◌, codes, map}
+use Rattle.std.specs.Prelude.{◌≡◌, ◌++◌, ◌&&◌, ℕ, Bool, true, false, is_some, IsSome, List, codes, map}
 use Rattle.std.specs.FinMap.{insert, remove}
+use Rattle.generations.specs.Places.{link_target}
 use Rattle.host_trait.specs.declared.entry.Entry.{Entry}
 use Rattle.host_trait.specs.declared.leaf.LeafKind.{LeafKind}
 use Rattle.host_trait.specs.declared.leaf.LeafKind.TheVariants.{Link}
@@ -19,17 +20,16 @@ use Rattle.switch_engine.specs.Acts.{entry_of, final_state}
 use Rattle.switch_engine.specs.Steps.{IsEntering}
 use Rattle.switch_engine.specs.System.{current_place}
 use Rattle.switch_names.specs.Names.{Name}
-use Rattle.switch_names.specs.Path.{slash}
 use Rattle.unit_defs.specs.declared.unit.Unit.{Unit}
 use Rattle.unit_defs.specs.Defs.{found_in}
 
 -- the link to a system
 abbrev pub system_leaf : Name → LeafKind
-system_leaf system = Link (slash ∷ system)
+system_leaf system = Link (link_target system)
 
 -- where the definitions of a system lie
 abbrev pub definitions_of : Name → List ℕ
-definitions_of system = slash ∷ (system ++ codes "/etc")
+definitions_of system = link_target system ++ codes "/etc"
 
 -- both links of a switch to a system
 abbrev pub links_to : Name → Links
@@ -69,7 +69,7 @@ pub record CanSwitch (w : WorldState) : Type 0 where
 abbrev pub HasFailed : List Unit → UnitStates → Type 0
 HasFailed units states = (unit : Name) × (state_of states unit ≡ Failed) × IsSome (found_in units unit)
 
--- whether a unit is in the state of those that failed
+-- whether a state is that of a unit that has failed
 abbrev pub is_failed : State → Bool
 is_failed Failed = true
 is_failed state = false
