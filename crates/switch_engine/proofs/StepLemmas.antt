@@ -1,27 +1,29 @@
 -- What the steps of a switch leave, and what is entered in the journal on their way.
-use Rattle.std.proofs.Common.{◌≡◌, ℕ, false, List, [], ◌∷◌, ◌++◌, map, take, drop, Some, refl, sym, ap, subst, ◌∙◌, inl, inr, ⊎_elim}
+use Rattle.std.proofs.Common.{◌≡◌, ◌≢◌, ℕ, false, List, [], ◌∷◌, ◌++◌, map, take, drop, Some, refl, sym, ap, subst, ◌∙◌, inl, inr, ⊎_elim, rules}
 use Rattle.std.proofs.lemmas.List.{append-nil, append_assoc, map-append, take-append-drop}
-use Rattle.std.specs.FinMap.{get, insert, remove}
+use Rattle.std.specs.FinMap.{get, gets, insert, remove}
+use Rattle.std.specs.Ordering.{eq_by_cmp}
 use Rattle.host_trait.specs.declared.entry.Entry.{Entry}
 use Rattle.host_trait.specs.declared.leaf.LeafKind.{LeafKind}
 use Rattle.host_trait.specs.declared.manager_state.ManagerState.{ManagerState}
 use Rattle.host_trait.specs.Change.{DaemonReload, IsMoment, definitions_place, finished, loaded_from}
 use Rattle.host_trait.specs.Host.{HostState, Becomes, Leads, Passes}
 use Rattle.host_trait.specs.Manager.{loading}
-use Rattle.host_trait.specs.World.{Leaves, WorldState, is_in_line, seen, stage, with_leaf, with_manager}
+use Rattle.host_trait.specs.World.{Leaves, WorldState, bytes_cmp, is_in_line, seen, stage, with_leaf, with_manager}
 use Rattle.host_trait.proofs.Moments.{goes_on, leads_as, leads_then, passes_as}
 use Rattle.host_trait.proofs.Places.{at_same}
 use Rattle.host_trait.proofs.Seen.{clear_seen, other_of, seen_at, seen_with_leaf, stage_clear_seen}
 use Rattle.host_trait.proofs.Sound.{clear_insert, get_other}
 use Rattle.owed_lists.specs.declared.lists.Lists.{Lists}
 use Rattle.owed_lists.specs.declared.lists.Which.{Which}
-use Rattle.owed_lists.specs.Lists.{reloads_place, restarts_place, starts_place}
+use Rattle.owed_lists.specs.declared.lists.Which.TheVariants.{Starts, Restarts, Reloads}
+use Rattle.owed_lists.specs.Lists.{place_of, reloads_place, restarts_place, starts_place}
 use Rattle.owed_lists.specs.Record.{IsRecordMoment, with_list, with_lists, with_restarts, with_starts}
 use Rattle.owed_plan.specs.declared.duty.Duty.{Duty}
 use Rattle.switch_names.specs.Names.{Name}
 use Rattle.switch_engine.specs.declared.links.Links.{Links}
 use Rattle.switch_engine.specs.Acts.{CanPerform, IsPerforming, entry_of, performed, with_calls}
-use Rattle.switch_engine.specs.Steps.{CanLink, IsCalling, IsEntering, IsGiving, IsSameJournal, IsSameManager, IsStopping, with_given, with_links, with_stops, with_system}
+use Rattle.switch_engine.specs.Steps.{CanLink, IsCalling, IsEntering, IsGiving, IsLinking, IsLoading, IsStopping, with_given, with_links, with_stops, with_system}
 use Rattle.switch_engine.specs.System.{current_place}
 use Rattle.switch_engine.proofs.CallLemmas.{entered, performed-append, same_loaded}
 use Rattle.tree_put.specs.Put.{AreApart, CanPut, IsOldOrGone, IsOldOrNew}
@@ -134,17 +136,36 @@ module _ {a b c : HostState} (calls more : List Duty) where
 pub manager_gone : (at : List ℕ) (w m : WorldState) → IsOldOrGone at w m → m.manager ≡ w.manager
 manager_gone at w m moment = ⊎_elim (λ old. ap (λ (x : WorldState). x.manager) old) (λ gone. ap (λ (x : WorldState). x.manager) gone) moment
 
-pub giving : (calls : List Duty) (w m : WorldState) → IsPerforming calls w m → IsGiving calls w m
-giving calls w m moment = record { calling = calling calls w m moment; listed = inl (leaves_performing calls w m moment) }
+pub giving : (which : Which) (calls : List Duty) (w m : WorldState) → IsPerforming calls w m → IsGiving which calls w m
+giving which calls w m moment =
+    let leaves = leaves_performing calls w m moment in
+    record {
+      calling = calling calls w m moment;
+      listed = inl (ap (λ (l : Leaves). get l (place_of which)) leaves);
+      others = λ q other. ap (λ (l : Leaves). get l q) leaves;
+    }
+
+removed_other : (leaves : Leaves) (k q : List ℕ) → eq_by_cmp bytes_cmp q k ≡ false → get (remove leaves k) q ≡ get leaves q
+removed_other leaves k q other = grind (gets, rules)
+
+pub removed_elsewhere : (leaves : Leaves) (k q : List ℕ) → q ≢ k → get (remove leaves k) q ≡ get leaves q
+removed_elsewhere leaves k q other = removed_other leaves k q (other_of q k other)
+
+gone_elsewhere : (at q : List ℕ) (w m : WorldState) → q ≢ at → IsOldOrGone at w m → get m.leaves q ≡ get w.leaves q
+gone_elsewhere at q w m other moment =
+    ⊎_elim (λ old. ap (λ (x : WorldState). get x.leaves q) old)
+    (λ gone. ap (λ (x : WorldState). get x.leaves q) gone ∙ removed_elsewhere w.leaves at q other) moment
 
 -- the list goes after the calls
-pub given : (at : List ℕ) (calls : List Duty) (w v m : WorldState) → v ≡ with_calls calls w → IsOldOrGone at v m → IsGiving calls w m
-given at calls w v m made moment =
+pub given : (which : Which) (calls : List Duty) (w v m : WorldState) → v ≡ with_calls calls w → IsOldOrGone (place_of which) v m → IsGiving which calls w m
+given which calls w v m made moment =
+    let at = place_of which in
     let manager = manager_gone at v m moment ∙ ap (λ (x : WorldState). x.manager) made in
-    record { calling = all_called calls w m (ap (λ (x : ManagerState). x.journal) manager); listed = inr manager }
-
-pub giving_way : {a b : HostState} (calls : List Duty) → Passes a b (IsGiving calls) → Passes a b (IsCalling calls)
-giving_way calls way = passes_as way (IsCalling calls) (λ w m is moment. moment.calling)
+    record {
+      calling = all_called calls w m (ap (λ (x : ManagerState). x.journal) manager);
+      listed = inr manager;
+      others = λ q other. gone_elsewhere at q v m other moment ∙ ap (λ (x : WorldState). get x.leaves q) made;
+    }
 
 -- calls without their list are these calls
 pub made_of : {a b : HostState} (which : Which) (calls : List Duty) → Becomes a b (with_given which calls) → Performs a b calls
@@ -256,18 +277,67 @@ module _ (links : Links) (w v : WorldState) where
       ∙ ap (λ leaf. with_manager (loading (loaded_from leaf) v.manager) (seen v)) (definitions_stand came)
       ∙ ap (λ (x : WorldState). with_manager (loading (loaded_from (Some links.definitions)) x.manager) x) came
 
-pub reload_journal : (w v m : WorldState) → v.manager ≡ w.manager → IsMoment DaemonReload v m → m.manager.journal ≡ w.manager.journal
-reload_journal w v m same moment =
-    ⊎_elim (λ old. ap (λ (x : WorldState). x.manager.journal) old)
-    (λ later. ⊎_elim (λ done. ap (λ (x : WorldState). x.manager.journal) done) (λ none. absurd none) later) moment
-    ∙ ap (λ (x : ManagerState). x.journal) same
+-- ---- the lists while the links are put
+
+list_stage : (which : Which) → AreApart (place_of which) stage
+unfolding starts_place restarts_place reloads_place stage
+list_stage Starts = record { other = refl; line = refl }
+list_stage Restarts = record { other = refl; line = refl }
+list_stage Reloads = record { other = refl; line = refl }
+
+list_definitions : (which : Which) → AreApart (place_of which) definitions_place
+unfolding starts_place restarts_place reloads_place definitions_place
+list_definitions Starts = record { other = refl; line = refl }
+list_definitions Restarts = record { other = refl; line = refl }
+list_definitions Reloads = record { other = refl; line = refl }
+
+list_current : (which : Which) → AreApart (place_of which) current_place
+unfolding starts_place restarts_place reloads_place current_place
+list_current Starts = record { other = refl; line = refl }
+list_current Restarts = record { other = refl; line = refl }
+list_current Reloads = record { other = refl; line = refl }
+
+pub not_stage : (which : Which) → place_of which ≢ stage
+not_stage which = apart_ne (place_of which) stage (list_stage which)
+
+pub not_definitions : (which : Which) → place_of which ≢ definitions_place
+not_definitions which = apart_ne (place_of which) definitions_place (list_definitions which)
+
+pub not_current : (which : Which) → place_of which ≢ current_place
+not_current which = apart_ne (place_of which) current_place (list_current which)
+
+pub linking : (at : List ℕ) (leaf : LeafKind) (w m : WorldState) → ((which : Which) → place_of which ≢ at) → IsOldOrNew at leaf w m → IsLinking w m
+linking at leaf w m other moment = record {
+  manager = manager_renewed at leaf w m moment;
+  lists = λ which.
+      let place = place_of which in
+      ⊎_elim (λ old. seen_at m w old place (not_stage which))
+      (λ new. seen_at m (with_leaf at leaf w) new place (not_stage which) ∙ get_other w.leaves at place leaf (other_of place at (other which))) moment;
+}
+
+pub nothing_linked : (w : WorldState) → IsLinking w w
+nothing_linked w = record { manager = refl; lists = λ which. refl }
+
+pub linking_loads : (w m : WorldState) → IsLinking w m → IsLoading w m
+linking_loads w m is = record { journal = ap (λ (x : ManagerState). x.journal) is.manager; lists = is.lists }
+
+loading_moment : (w v m : WorldState) → IsLinking w v → IsMoment DaemonReload v m → IsLoading w m
+loading_moment w v m is moment = record {
+  journal = ⊎_elim (λ old. ap (λ (x : WorldState). x.manager.journal) old)
+      (λ later. ⊎_elim (λ done. ap (λ (x : WorldState). x.manager.journal) done) (λ none. absurd none) later) moment
+      ∙ ap (λ (x : ManagerState). x.journal) is.manager;
+  lists = λ which.
+      ⊎_elim (λ old. ap (λ (x : WorldState). get x.leaves (place_of which)) old)
+      (λ later. ⊎_elim (λ done. ap (λ (x : WorldState). get x.leaves (place_of which)) done) (λ none. absurd none) later) moment
+      ∙ is.lists which;
+}
 
 module _ {a b c : HostState} where
-  pub same_managers : Passes a b IsSameManager → Passes b c IsSameManager → Passes a c IsSameManager
-  same_managers first second =
-      goes_on first first.tells second IsSameManager (λ w m is same. same) (λ w v m is is_v before same. same ∙ before)
+  pub linking_on : Passes a b IsLinking → Passes b c IsLinking → Passes a c IsLinking
+  linking_on first second =
+      goes_on first first.tells second IsLinking (λ w m is moment. moment)
+      (λ w v m is is_v before then. record { manager = then.manager ∙ before.manager; lists = λ which. then.lists which ∙ before.lists which })
 
-  pub journal_kept : Passes a b IsSameManager → Passes b c (IsMoment DaemonReload) → Passes a c IsSameJournal
-  journal_kept first second =
-      goes_on first first.tells second IsSameJournal
-      (λ w m is same. ap (λ (x : ManagerState). x.journal) same) (λ w v m is is_v same moment. reload_journal w v m same moment)
+  pub loading_on : Passes a b IsLinking → Passes b c (IsMoment DaemonReload) → Passes a c IsLoading
+  loading_on first second =
+      goes_on first first.tells second IsLoading (λ w m is moment. linking_loads w m moment) (λ w v m is is_v before moment. loading_moment w v m before moment)

@@ -1,6 +1,6 @@
 -- All steps of a switch, one after the other.
-use Rattle.std.proofs.Common.{◌≡◌, ℕ, false, List, [], ◌∷◌, ◌++◌, map, Some, refl, sym, ap, subst, ◌∙◌}
-use Rattle.std.specs.FinMap.{remove}
+use Rattle.std.proofs.Common.{◌≡◌, ℕ, false, List, [], ◌∷◌, ◌++◌, map, Some, refl, sym, ap, subst, ◌∙◌, inl, inr, ⊎_elim}
+use Rattle.std.specs.FinMap.{get, insert, remove}
 use Rattle.host_trait.specs.declared.manager_state.ManagerState.{ManagerState}
 use Rattle.host_trait.specs.declared.unit_state.State.{State}
 use Rattle.host_trait.specs.Change.{definitions_place, loaded_from}
@@ -9,10 +9,12 @@ use Rattle.host_trait.specs.Manager.{loading}
 use Rattle.host_trait.specs.States.{state_of}
 use Rattle.host_trait.specs.World.{IsClear, WorldState, is_in_line, seen, stage}
 use Rattle.host_trait.proofs.Moments.{goes_on, leads_then, passes_as, told_after, told_as}
-use Rattle.host_trait.proofs.Seen.{clear_seen, stage_clear_seen}
-use Rattle.host_trait.proofs.Sound.{clear_insert, clear_remove}
+use Rattle.host_trait.proofs.Seen.{clear_seen, other_of, stage_clear_seen}
+use Rattle.host_trait.proofs.Sound.{clear_insert, clear_remove, get_other}
 use Rattle.owed_lists.specs.declared.lists.Lists.{Lists}
-use Rattle.owed_lists.specs.Lists.{reloads_place, restarts_place, starts_place}
+use Rattle.owed_lists.specs.declared.lists.Which.{Which}
+use Rattle.owed_lists.specs.declared.lists.Which.TheVariants.{Starts, Restarts, Reloads}
+use Rattle.owed_lists.specs.Lists.{place_of, reloads_place, restarts_place, starts_place}
 use Rattle.owed_lists.specs.Record.{list_leaf, with_list, with_lists, with_restarts, with_starts}
 use Rattle.owed_plan.specs.declared.duty.Duty.{Duty}
 use Rattle.owed_plan.specs.declared.owed.Owed.{Owed}
@@ -20,12 +22,14 @@ use Rattle.owed_plan.specs.Calls.{reload_calls, restart_calls, start_calls, stop
 use Rattle.switch_names.specs.Names.{Name}
 use Rattle.switch_engine.specs.declared.links.Links.{Links}
 use Rattle.switch_engine.specs.Acts.{CanPerform, entry_of, performed}
-use Rattle.switch_engine.specs.Final.{CanSwitch, IsFinal, IsSwitchMoment, definitions_of, links_to}
-use Rattle.switch_engine.specs.Steps.{AreCallsOf, CanLink, IsCalling, IsEntering, IsSameJournal, IsStopping, with_all_given, with_links, with_stops, with_system}
+use Rattle.switch_engine.specs.Final.{AreOutlived, CanSwitch, IsFinal, IsSwitchMoment, definitions_of, entries_of, links_to}
+use Rattle.switch_engine.specs.Plan.{lists_of}
+use Rattle.switch_engine.specs.Steps.{AreCallsOf, CanLink, IsCalling, IsEntering, IsGivingAll, IsLoading, IsStopping, StandsUntil, leaf_of_list, with_all_given, with_links, with_stops, with_system}
 use Rattle.switch_engine.specs.System.{current_place}
 use Rattle.switch_engine.proofs.CallLemmas.{entered, same_bad, same_loaded}
 use Rattle.switch_engine.proofs.FinalLemmas.{all_leaves}
-use Rattle.switch_engine.proofs.StepLemmas.{all_called, first_entered, lists_manager, manager_seen, seen_with_links, stage_current, stage_definitions, then_entered}
+use Rattle.switch_engine.proofs.OutlivedLemmas.{names_of, recorded_at, same_list, stands_since}
+use Rattle.switch_engine.proofs.StepLemmas.{all_called, first_entered, lists_manager, manager_seen, seen_with_links, stage_current, stage_definitions, then_entered, not_current, not_definitions}
 use Rattle.switch_engine.proofs.TableLemmas.{all_entered, can_rest, can_stops, final_states, in_one, ready, started_all}
 
 -- ---- what is clear stays so where the lists are recorded
@@ -136,23 +140,59 @@ module _ (system : Name) (owed : Owed) (lists : Lists) (w : WorldState) where
           journal = ap (λ (m : ManagerState). m.journal) manager ∙ all_entered owed text w.manager;
         }
 
-    pub last_moment : (m : WorldState) → IsCalling (reloads ++ restarts ++ starts) u m → IsSwitchMoment system owed w m
-    last_moment m moment =
-        let text = definitions_of system in
-        then_entered (map (entry_of w.manager.loaded) (stop_calls owed)) (map (entry_of text) rest) w u m
-        (ap (λ (x : ManagerState). x.journal) is.manager ∙ entered (stop_calls owed) w.manager)
-        (subst (λ entries. IsEntering entries u m)
-        (λ i. map (entry_of (is.manager i).loaded) (reload i ++ restart i ++ start i)) moment)
+    pub last_moment : (m : WorldState) → lists ≡ lists_of owed → IsGivingAll reloads restarts starts u m → IsSwitchMoment system owed w m
+    last_moment m recorded moment =
+        let text = definitions_of system in let before = map (entry_of w.manager.loaded) (stop_calls owed) in
+        let since : u.manager.journal ≡ w.manager.journal ++ before = ap (λ (x : ManagerState). x.journal) is.manager ∙ entered (stop_calls owed) w.manager in
+        record {
+          entering = then_entered before (map (entry_of text) rest) w u m since
+              (subst (λ entries. IsEntering entries u m) (λ i. map (entry_of (is.manager i).loaded) (reload i ++ restart i ++ start i)) moment.calling);
+          lists = inr (record {
+            reload_list = stands_since reloads_place _ (leaf_of_list owed.reloads) before (map (entry_of text) (reload_calls owed states)) w u m
+                (stands_there Reloads ∙ ap (λ l. leaf_of_list l.reloads) recorded) since
+                (subst (λ entries. StandsUntil reloads_place (get u.leaves reloads_place) entries u m) (λ i. map (entry_of (is.manager i).loaded) (reload i)) moment.reload_list);
+            restart_list = stands_since restarts_place _ (leaf_of_list owed.restarts) before (map (entry_of text) (reload_calls owed states ++ restart_calls owed)) w u m
+                (stands_there Restarts ∙ ap (λ l. leaf_of_list l.restarts) recorded) since
+                (subst (λ entries. StandsUntil restarts_place (get u.leaves restarts_place) entries u m) (λ i. map (entry_of (is.manager i).loaded) (reload i ++ restart i)) moment.restart_list);
+            start_list = stands_since starts_place _ (leaf_of_list owed.starts) before (map (entry_of text) rest) w u m
+                (stands_there Starts ∙ ap (λ l. leaf_of_list l.starts) recorded) since
+                (subst (λ entries. StandsUntil starts_place (get u.leaves starts_place) entries u m) (λ i. map (entry_of (is.manager i).loaded) (reload i ++ restart i ++ start i)) moment.start_list);
+          });
+        }
+      where
+        stands_there : (which : Which) → get u.leaves (place_of which) ≡ leaf_of_list (names_of lists which)
+        stands_there which =
+            let at = place_of which in let linked = insert (with_lists lists w).leaves definitions_place (links_to system).definitions in
+            same_list u.leaves (with_links (links_to system) (with_lists lists w)).leaves which is.leaves
+            ∙ get_other linked current_place at (links_to system).current (other_of at current_place (not_current which))
+            ∙ get_other (with_lists lists w).leaves definitions_place at (links_to system).definitions (other_of at definitions_place (not_definitions which))
+            ∙ recorded_at lists w which
 
-  first_part : (m : WorldState) → IsCalling (stop_calls owed) w m → IsSwitchMoment system owed w m
+  -- where the lists stand, they outlive their calls
+  all_stand : (m : WorldState) → lists ≡ lists_of owed → ((which : Which) → get m.leaves (place_of which) ≡ leaf_of_list (names_of lists which)) → AreOutlived system owed w m
+  all_stand m recorded there = record {
+    reload_list = inl (there Reloads ∙ ap (λ l. leaf_of_list l.reloads) recorded);
+    restart_list = inl (there Restarts ∙ ap (λ l. leaf_of_list l.restarts) recorded);
+    start_list = inl (there Starts ∙ ap (λ l. leaf_of_list l.starts) recorded);
+  }
+
+  first_part : (m : WorldState) → IsCalling (stop_calls owed) w m → IsEntering (entries_of system owed w) w m
   first_part m moment = first_entered (map (entry_of w.manager.loaded) (stop_calls owed)) (map (entry_of (definitions_of system)) rest) w m moment
 
-  pub stop_moment : (stops : List Duty) (m : WorldState) → stops ≡ stop_calls owed → IsCalling stops w m → IsSwitchMoment system owed w m
-  stop_moment stops m are moment = first_part m (subst (λ calls. IsCalling calls w m) are moment)
+  pub stop_moment : (stops : List Duty) (m : WorldState) → stops ≡ stop_calls owed → lists ≡ lists_of owed → IsStopping lists stops w m → IsSwitchMoment system owed w m
+  stop_moment stops m are recorded moment = record {
+    entering = first_part m (subst (λ calls. IsCalling calls w m) are moment.calling);
+    lists = ⊎_elim (λ still. inl still)
+        (λ leaves. inr (all_stand m recorded (λ which. same_list m.leaves (with_lists lists w).leaves which leaves ∙ recorded_at lists w which))) moment.recorded;
+  }
 
-  pub load_moment : (stops : List Duty) (v m : WorldState) → stops ≡ stop_calls owed → seen v ≡ seen (with_stops lists stops w) → IsSameJournal v m → IsSwitchMoment system owed w m
-  load_moment stops v m are came same =
-      first_part m (all_called (stop_calls owed) w m (same ∙ ap (λ (x : ManagerState). x.journal) (stopped_manager stops v are came)))
+  pub load_moment : (stops : List Duty) (v m : WorldState) → stops ≡ stop_calls owed → lists ≡ lists_of owed → seen v ≡ seen (with_stops lists stops w) → IsLoading v m →
+      IsSwitchMoment system owed w m
+  load_moment stops v m are recorded came moment = record {
+    entering = first_part m (all_called (stop_calls owed) w m (moment.journal ∙ ap (λ (x : ManagerState). x.journal) (stopped_manager stops v are came)));
+    lists = inr (all_stand m recorded (λ which.
+        moment.lists which ∙ same_list v.leaves (with_lists lists w).leaves which (ap (λ (x : WorldState). x.leaves) came) ∙ recorded_at lists w which));
+  }
 
 -- ---- all of it, host by host
 
@@ -162,16 +202,16 @@ stops_can owed stops reloads restarts starts calls =
     told_as calls (λ w. CanPerform stops w.manager) (λ w is are. subst (λ calls. CanPerform calls w.manager) (sym are.are_stops) (can_stops owed w.manager))
 
 module _ (system : Name) (owed : Owed) (lists : Lists) (links : Links) (to : links ≡ links_to system) (stops reloads restarts starts : List Duty)
-    {a b : HostState} (calls : Told a (λ w. AreCallsOf owed (state_of w.manager.states) stops reloads restarts starts)) (stop_way : Passes a b (IsStopping lists stops)) where
+    {a b : HostState} (calls : Told a (λ w. AreCallsOf owed (state_of w.manager.states) stops reloads restarts starts)) (recorded : Told a (λ w. lists ≡ lists_of owed)) (stop_way : Passes a b (IsStopping lists stops)) where
   pub first_way : Passes a b (IsSwitchMoment system owed)
-  first_way = passes_as stop_way (IsSwitchMoment system owed) (λ w m is moment. stop_moment system owed lists w stops m (calls.has w is).are_stops moment.calling)
+  first_way = passes_as stop_way (IsSwitchMoment system owed) (λ w m is moment. stop_moment system owed lists w stops m (calls.has w is).are_stops (recorded.has w is) moment)
 
-  module _ {c : HostState} (stopped : Comes a b (with_stops lists stops)) (load_way : Passes b c IsSameJournal) where
+  module _ {c : HostState} (stopped : Comes a b (with_stops lists stops)) (load_way : Passes b c IsLoading) where
     pub second_way : Passes a c (IsSwitchMoment system owed)
     second_way =
         goes_on stop_way stopped load_way (IsSwitchMoment system owed)
-        (λ w m is moment. stop_moment system owed lists w stops m (calls.has w is).are_stops moment.calling)
-        (λ w v m is is_v came same. load_moment system owed lists w stops v m (calls.has w is).are_stops came same)
+        (λ w m is moment. stop_moment system owed lists w stops m (calls.has w is).are_stops (recorded.has w is) moment)
+        (λ w v m is is_v came same. load_moment system owed lists w stops v m (calls.has w is).are_stops (recorded.has w is) came same)
 
     module _ (loaded : Comes b c (with_system links)) where
       pub gets_ready : Leads a c (IsReady system owed lists)
@@ -185,11 +225,11 @@ module _ (system : Name) (owed : Owed) (lists : Lists) (links : Links) (to : lin
           (λ w u is at. let are = calls.has w is in
           can_give system owed lists w u at reloads restarts starts are.are_reloads are.are_restarts are.are_starts)
 
-      pub third_way : {d : HostState} → Passes c d (IsCalling (reloads ++ restarts ++ starts)) → Passes a d (IsSwitchMoment system owed)
+      pub third_way : {d : HostState} → Passes c d (IsGivingAll reloads restarts starts) → Passes a d (IsSwitchMoment system owed)
       third_way give_way =
           goes_on second_way gets_ready give_way (IsSwitchMoment system owed) (λ w m is moment. moment)
           (λ w u m is is_u at moment. let are = calls.has w is in
-          last_moment system owed lists w u at reloads restarts starts are.are_reloads are.are_restarts are.are_starts m moment)
+          last_moment system owed lists w u at reloads restarts starts are.are_reloads are.are_restarts are.are_starts m (recorded.has w is) moment)
 
       pub ends : {d : HostState} → Becomes c d (with_all_given reloads restarts starts) → Leads a d (IsFinal system owed)
       ends given =

@@ -1,5 +1,5 @@
 -- What a switch to a system leaves: NixOS manual, "What happens during a system switch?".
-use Rattle.std.specs.Prelude.{◌≡◌, ◌++◌, ◌&&◌, ℕ, Bool, true, false, is_some, IsSome, List, codes, map}
+use Rattle.std.specs.Prelude.{◌≡◌, ◌⊎◌, ◌++◌, ◌&&◌, ℕ, Bool, true, false, is_some, IsSome, List, codes, map}
 use Rattle.std.specs.FinMap.{insert, remove}
 use Rattle.generations.specs.Places.{link_target}
 use Rattle.host_trait.specs.declared.entry.Entry.{Entry}
@@ -13,11 +13,12 @@ use Rattle.host_trait.specs.States.{UnitStates, state_of}
 use Rattle.host_trait.specs.World.{IsClear, Leaves, WorldState, stage}
 use Rattle.owed_lists.specs.Lists.{reloads_place, restarts_place, starts_place}
 use Rattle.owed_lists.specs.Record.{CanRecord}
+use Rattle.owed_plan.specs.declared.duty.Duty.{Duty}
 use Rattle.owed_plan.specs.declared.owed.Owed.{Owed}
 use Rattle.owed_plan.specs.Calls.{reload_calls, restart_calls, start_calls, stop_calls}
 use Rattle.switch_engine.specs.declared.links.Links.{Links}
 use Rattle.switch_engine.specs.Acts.{entry_of, final_state}
-use Rattle.switch_engine.specs.Steps.{IsEntering}
+use Rattle.switch_engine.specs.Steps.{IsEntering, StandsUntil, leaf_of_list}
 use Rattle.switch_engine.specs.System.{current_place}
 use Rattle.switch_names.specs.Names.{Name}
 use Rattle.unit_defs.specs.declared.unit.Unit.{Unit}
@@ -41,11 +42,13 @@ final_leaves system leaves =
     let linked : Leaves = insert (insert leaves definitions_place (Link (definitions_of system))) current_place (system_leaf system) in
     remove (remove (remove (remove linked reloads_place) restarts_place) starts_place) stage
 
--- what a switch enters in the journal: the stops under the old definitions, the other calls under the new ones
+-- the entries of the stops under the old definitions, and then those of other calls under the new ones
+abbrev pub entries_by : Name → Owed → WorldState → List Duty → List Entry
+entries_by system owed w calls = map (entry_of w.manager.loaded) (stop_calls owed) ++ map (entry_of (definitions_of system)) calls
+
+-- what a switch enters in the journal: stops, reloads, restarts and starts
 abbrev pub entries_of : Name → Owed → WorldState → List Entry
-entries_of system owed w =
-    map (entry_of w.manager.loaded) (stop_calls owed)
-    ++ map (entry_of (definitions_of system)) (reload_calls owed (state_of w.manager.states) ++ restart_calls owed ++ start_calls owed)
+entries_of system owed w = entries_by system owed w (reload_calls owed (state_of w.manager.states) ++ restart_calls owed ++ start_calls owed)
 
 -- the world that a switch leaves
 pub record IsFinal (system : Name) (owed : Owed) (w v : WorldState) : Type 0 where
@@ -55,9 +58,17 @@ pub record IsFinal (system : Name) (owed : Owed) (w v : WorldState) : Type 0 whe
   pub bad : v.manager.bad ≡ w.manager.bad
   pub journal : v.manager.journal ≡ w.manager.journal ++ entries_of system owed w
 
--- at a moment of a switch the journal is that of the beginning and the first so many of its entries
-abbrev pub IsSwitchMoment : Name → Owed → WorldState → WorldState → Type 0
-IsSwitchMoment system owed w m = IsEntering (entries_of system owed w) w m
+-- at a moment each list stands, until its calls have been entered
+pub record AreOutlived (system : Name) (owed : Owed) (w m : WorldState) : Type 0 where
+  pub reload_list : StandsUntil reloads_place (leaf_of_list owed.reloads) (entries_by system owed w (reload_calls owed (state_of w.manager.states))) w m
+  pub restart_list : StandsUntil restarts_place (leaf_of_list owed.restarts) (entries_by system owed w (reload_calls owed (state_of w.manager.states) ++ restart_calls owed)) w m
+  pub start_list : StandsUntil starts_place (leaf_of_list owed.starts) (entries_of system owed w) w m
+
+-- at a moment of a switch the first so many entries have been added to the journal, and lists outlive their calls
+-- unless the manager is as it was
+pub record IsSwitchMoment (system : Name) (owed : Owed) (w m : WorldState) : Type 0 where
+  pub entering : IsEntering (entries_of system owed w) w m
+  pub lists : (m.manager ≡ w.manager) ⊎ AreOutlived system owed w m
 
 -- nothing stands in the way of what a switch writes
 pub record CanSwitch (w : WorldState) : Type 0 where

@@ -1,7 +1,8 @@
 -- The steps of a switch: NixOS manual, "What happens during a system switch?".
-use Rattle.std.specs.Prelude.{◌≡◌, ◌⊎◌, ◌++◌, List, Some, map}
-use Rattle.std.specs.FinMap.{remove}
+use Rattle.std.specs.Prelude.{◌≡◌, ◌≢◌, ◌⊎◌, ◌++◌, ℕ, List, [], ◌∷◌, Option, None, Some, map}
+use Rattle.std.specs.FinMap.{get, remove}
 use Rattle.host_trait.specs.declared.entry.Entry.{Entry}
+use Rattle.host_trait.specs.declared.leaf.LeafKind.{LeafKind}
 use Rattle.host_trait.specs.declared.unit_state.State.{State}
 use Rattle.host_trait.specs.Change.{definitions_place, loaded_from}
 use Rattle.host_trait.specs.Manager.{loading}
@@ -9,8 +10,8 @@ use Rattle.host_trait.specs.World.{IsClear, WorldState, stage, with_leaf, with_m
 use Rattle.owed_lists.specs.declared.lists.Lists.{Lists}
 use Rattle.owed_lists.specs.declared.lists.Which.{Which}
 use Rattle.owed_lists.specs.declared.lists.Which.TheVariants.{Starts, Restarts, Reloads}
-use Rattle.owed_lists.specs.Lists.{place_of}
-use Rattle.owed_lists.specs.Record.{with_lists}
+use Rattle.owed_lists.specs.Lists.{place_of, reloads_place, restarts_place, starts_place}
+use Rattle.owed_lists.specs.Record.{list_leaf, with_lists}
 use Rattle.owed_plan.specs.declared.duty.Duty.{Duty}
 use Rattle.owed_plan.specs.declared.owed.Owed.{Owed}
 use Rattle.owed_plan.specs.Calls.{reload_calls, restart_calls, start_calls, stop_calls}
@@ -42,18 +43,41 @@ pub record IsStopping (lists : Lists) (stops : List Duty) (w m : WorldState) : T
   pub calling : IsCalling stops w m
   pub recorded : (m.manager ≡ w.manager) ⊎ (remove m.leaves stage ≡ remove (with_lists lists w).leaves stage)
 
--- at a moment of some calls their list stands yet, or all of them have been made
-pub record IsGiving (calls : List Duty) (w m : WorldState) : Type 0 where
+-- the leaf of a list: none where it is empty
+abbrev pub leaf_of_list : List Name → Option LeafKind
+leaf_of_list [] = None
+leaf_of_list (name ∷ names) = Some (list_leaf (name ∷ names))
+
+-- at a moment this stands at a place, or these entries have all been added to the journal
+abbrev pub StandsUntil : List ℕ → Option LeafKind → List Entry → WorldState → WorldState → Type 0
+StandsUntil at leaf entries w m = (get m.leaves at ≡ leaf) ⊎ ((more : List Entry) × (m.manager.journal ≡ w.manager.journal ++ (entries ++ more)))
+
+-- at a moment of some calls their list stands yet, or all of them have been made; other places are as they were
+pub record IsGiving (which : Which) (calls : List Duty) (w m : WorldState) : Type 0 where
   pub calling : IsCalling calls w m
-  pub listed : (m.leaves ≡ w.leaves) ⊎ (m.manager ≡ performed calls w.manager)
+  pub listed : (get m.leaves (place_of which) ≡ get w.leaves (place_of which)) ⊎ (m.manager ≡ performed calls w.manager)
+  pub others : (q : List ℕ) → q ≢ place_of which → get m.leaves q ≡ get w.leaves q
 
--- at a moment nothing has been entered
-abbrev pub IsSameJournal : WorldState → WorldState → Type 0
-IsSameJournal w m = m.manager.journal ≡ w.manager.journal
+-- at a moment of the reloads, restarts and starts each list stands until its calls have been entered
+pub record IsGivingAll (reloads restarts starts : List Duty) (w m : WorldState) : Type 0 where
+  pub calling : IsCalling (reloads ++ restarts ++ starts) w m
+  pub reload_list : StandsUntil reloads_place (get w.leaves reloads_place) (map (entry_of w.manager.loaded) reloads) w m
+  pub restart_list : StandsUntil restarts_place (get w.leaves restarts_place) (map (entry_of w.manager.loaded) (reloads ++ restarts)) w m
+  pub start_list : StandsUntil starts_place (get w.leaves starts_place) (map (entry_of w.manager.loaded) (reloads ++ restarts ++ starts)) w m
 
--- at a moment the manager is as it was
-abbrev pub IsSameManager : WorldState → WorldState → Type 0
-IsSameManager w m = m.manager ≡ w.manager
+-- at a moment the lists are as they were
+abbrev pub AreSameLists : WorldState → WorldState → Type 0
+AreSameLists w m = (which : Which) → get m.leaves (place_of which) ≡ get w.leaves (place_of which)
+
+-- at a moment of the links the manager and the lists are as they were
+pub record IsLinking (w m : WorldState) : Type 0 where
+  pub manager : m.manager ≡ w.manager
+  pub lists : AreSameLists w m
+
+-- at a moment of the load nothing has been entered, and the lists are as they were
+pub record IsLoading (w m : WorldState) : Type 0 where
+  pub journal : m.manager.journal ≡ w.manager.journal
+  pub lists : AreSameLists w m
 
 -- nothing stands in the way of the links
 pub record CanLink (w : WorldState) : Type 0 where

@@ -3,7 +3,7 @@ ghost use Rattle.std.specs.Prelude.{◌++◌, OnOk};
 ghost use Rattle.host_trait.specs.Host.{Told, Becomes, Comes, Passes, HasCause};
 ghost use Rattle.owed_lists.specs.Record.{CanRecord};
 ghost use Rattle.switch_engine.specs.Acts.{CanPerform};
-ghost use Rattle.switch_engine.specs.Steps.{IsCalling, IsGiving, IsStopping, with_all_given, with_given, with_stops};
+ghost use Rattle.switch_engine.specs.Steps.{IsGiving, IsGivingAll, IsStopping, with_all_given, with_given, with_stops};
 
 use crate::acting::call_units;
 use host_trait::{HostFault, Manager};
@@ -38,7 +38,7 @@ fn give<H: Manager>(
 ) -> Result<(), HostFault>
     requires { Told (H.host host.old) (λ w. CanPerform calls.now w.manager) }
     ensures ok { OnOk result (Becomes (H.host host.old) (H.host host.new) (with_given which calls.now)) }
-    ensures moments { Passes (H.host host.old) (H.host host.new) (IsGiving calls.now) }
+    ensures moments { Passes (H.host host.old) (H.host host.new) (IsGiving which calls.now) }
     ensures cause { HasCause (H.host host.old) (H.host host.new) result }
 {
     call_units(alloc, host, calls)?;
@@ -56,7 +56,7 @@ pub fn give_all<H: Manager>(
 ) -> Result<(), HostFault>
     requires { Told (H.host host.old) (λ w. CanPerform (reloads.now ++ restarts.now ++ starts.now) w.manager) }
     ensures ok { OnOk result (Becomes (H.host host.old) (H.host host.new) (with_all_given reloads.now restarts.now starts.now)) }
-    ensures moments { Passes (H.host host.old) (H.host host.new) (IsCalling (reloads.now ++ restarts.now ++ starts.now)) }
+    ensures moments { Passes (H.host host.old) (H.host host.new) (IsGivingAll reloads.now restarts.now starts.now) }
     ensures cause { HasCause (H.host host.old) (H.host host.new) result }
 {
     give(alloc, host, Which::Reloads, reloads)?;

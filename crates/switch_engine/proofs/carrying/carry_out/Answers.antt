@@ -1,4 +1,4 @@
-use Rattle.std.proofs.Common.{refl, sym, subst}
+use Rattle.std.proofs.Common.{refl, sym, subst, inl}
 use Rattle.host_trait.proofs.Moments.{goes_on_same, leads_then, started}
 use Rattle.switch_engine.specs.Final.{IsFinal, IsSwitchMoment, entries_of}
 use Rattle.switch_engine.proofs.StepLemmas.{none_entered}
@@ -6,7 +6,8 @@ use Rattle.switch_engine.proofs.carrying.carry_out.Goals as goal
 
 pub returns-in_err-links-clause-moments : goal.returns-in_err-links-clause-moments
 returns-in_err-links-clause-moments g c =
-    let plan = c.args.plan.now in started (IsSwitchMoment plan.to plan.owed) (λ w is. none_entered (entries_of plan.to plan.owed w) w w refl)
+    let plan = c.args.plan.now in started (IsSwitchMoment plan.to plan.owed) (λ w is.
+    record { entering = none_entered (entries_of plan.to plan.owed w) w w refl; lists = inl refl })
 
 pub returns-in_err-states-clause-moments : goal.returns-in_err-states-clause-moments
 returns-in_err-states-clause-moments g c =

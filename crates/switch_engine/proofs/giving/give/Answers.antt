@@ -8,13 +8,13 @@ use Rattle.switch_engine.proofs.giving.give.Goals as goal
 
 pub returns-in_err-call_units-clause-moments : goal.returns-in_err-call_units-clause-moments
 returns-in_err-call_units-clause-moments g c =
-    passes_as c.call_units.ensures.moments (IsGiving c.args.calls.now) (λ w m is moment. giving c.args.calls.now w m moment)
+    passes_as c.call_units.ensures.moments (IsGiving c.args.which c.args.calls.now) (λ w m is moment. giving c.args.which c.args.calls.now w m moment)
 
 pub returns-in_err-clear-clause-moments : goal.returns-in_err-clear-clause-moments
 returns-in_err-clear-clause-moments g c =
-    goes_on c.call_units.ensures.moments c.in_ok-call_units.ensures.ok c.clear.ensures.moments (IsGiving c.args.calls.now)
-    (λ w m is moment. giving c.args.calls.now w m moment)
-    (λ w v m is is_v made moment. given (place_of c.args.which) c.args.calls.now w v m made moment)
+    goes_on c.call_units.ensures.moments c.in_ok-call_units.ensures.ok c.clear.ensures.moments (IsGiving c.args.which c.args.calls.now)
+    (λ w m is moment. giving c.args.which c.args.calls.now w m moment)
+    (λ w v m is is_v made moment. given c.args.which c.args.calls.now w v m made moment)
 
 pub returns-clause-ok : goal.returns-clause-ok
 returns-clause-ok g c =
@@ -23,6 +23,6 @@ returns-clause-ok g c =
 
 pub returns-clause-moments : goal.returns-clause-moments
 returns-clause-moments g c =
-    goes_on c.call_units.ensures.moments c.in_ok-call_units.ensures.ok c.clear.ensures.moments (IsGiving c.args.calls.now)
-    (λ w m is moment. giving c.args.calls.now w m moment)
-    (λ w v m is is_v made moment. given (place_of c.args.which) c.args.calls.now w v m made moment)
+    goes_on c.call_units.ensures.moments c.in_ok-call_units.ensures.ok c.clear.ensures.moments (IsGiving c.args.which c.args.calls.now)
+    (λ w m is moment. giving c.args.which c.args.calls.now w m moment)
+    (λ w v m is is_v made moment. given c.args.which c.args.calls.now w v m made moment)

@@ -1,17 +1,16 @@
-use Rattle.std.proofs.Common.{◌≡◌, ap}
-use Rattle.host_trait.specs.declared.manager_state.ManagerState.{ManagerState}
+use Rattle.std.proofs.Common.{◌≡◌}
 use Rattle.host_trait.specs.World.{seen}
 use Rattle.host_trait.proofs.Moments.{leads_then, passes_as}
-use Rattle.switch_engine.specs.Steps.{IsSameJournal, with_system}
-use Rattle.switch_engine.proofs.StepLemmas.{journal_kept, loaded_world}
+use Rattle.switch_engine.specs.Steps.{IsLoading, with_system}
+use Rattle.switch_engine.proofs.StepLemmas.{linking_loads, loaded_world, loading_on}
 use Rattle.switch_engine.proofs.linking.load_system.Goals as goal
 
 pub returns-in_err-put_links-clause-moments : goal.returns-in_err-put_links-clause-moments
 returns-in_err-put_links-clause-moments g c =
-    passes_as c.put_links.ensures.moments IsSameJournal (λ w m is same. ap (λ (x : ManagerState). x.journal) same)
+    passes_as c.put_links.ensures.moments IsLoading (λ w m is moment. linking_loads w m moment)
 
 pub returns-in_err-daemon_reload-clause-moments : goal.returns-in_err-daemon_reload-clause-moments
-returns-in_err-daemon_reload-clause-moments g c = journal_kept c.put_links.ensures.moments c.daemon_reload.ensures.moments
+returns-in_err-daemon_reload-clause-moments g c = loading_on c.put_links.ensures.moments c.daemon_reload.ensures.moments
 
 pub returns-clause-ok : goal.returns-clause-ok
 returns-clause-ok g c =
@@ -19,4 +18,4 @@ returns-clause-ok g c =
     (λ w v u is is_v came done. loaded_world c.args.links.now w v u came done)
 
 pub returns-clause-moments : goal.returns-clause-moments
-returns-clause-moments g c = journal_kept c.put_links.ensures.moments c.daemon_reload.ensures.moments
+returns-clause-moments g c = loading_on c.put_links.ensures.moments c.daemon_reload.ensures.moments

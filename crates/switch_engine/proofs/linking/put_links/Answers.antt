@@ -5,7 +5,7 @@ use Rattle.host_trait.proofs.Moments.{leads_then, told_after, told_as}
 use Rattle.tree_put.specs.Put.{CanPut}
 use Rattle.switch_engine.specs.Steps.{with_links}
 use Rattle.switch_engine.specs.System.{current_place}
-use Rattle.switch_engine.proofs.StepLemmas.{can_current, linked_world, same_managers}
+use Rattle.switch_engine.proofs.StepLemmas.{can_current, linked_world, linking_on}
 use Rattle.switch_engine.proofs.linking.put_links.Goals as goal
 
 pub put_definitions-requires : goal.put_definitions-requires
@@ -17,7 +17,7 @@ put_current-requires g c =
     (λ w v is came. can_current c.args.links.now.definitions w v (c.requires.has w is) came)
 
 pub returns-in_err-put_current-clause-moments : goal.returns-in_err-put_current-clause-moments
-returns-in_err-put_current-clause-moments g c = same_managers c.put_definitions.ensures.moments c.put_current.ensures.moments
+returns-in_err-put_current-clause-moments g c = linking_on c.put_definitions.ensures.moments c.put_current.ensures.moments
 
 pub returns-clause-ok : goal.returns-clause-ok
 returns-clause-ok g c =
@@ -25,4 +25,4 @@ returns-clause-ok g c =
     (λ w v u is is_v came new. linked_world c.args.links.now w v u came new)
 
 pub returns-clause-moments : goal.returns-clause-moments
-returns-clause-moments g c = same_managers c.put_definitions.ensures.moments c.put_current.ensures.moments
+returns-clause-moments g c = linking_on c.put_definitions.ensures.moments c.put_current.ensures.moments
