@@ -1,5 +1,5 @@
 -- Reloads, restarts and starts: each list stands until its calls have been entered.
-use Rattle.std.proofs.Common.{◌≡◌, ◌≢◌, ◌⊎◌, ℕ, List, [], ◌++◌, map, refl, sym, ap, ◌∙◌, inl, inr, ⊎_elim}
+use Rattle.std.proofs.Common.{◌≡◌, ◌≢◌, ℕ, List, [], ◌++◌, map, refl, sym, ap, ◌∙◌, inl, inr, ⊎_elim}
 use Rattle.std.proofs.lemmas.List.{append-nil, append_assoc, map-append}
 use Rattle.std.specs.FinMap.{get}
 use Rattle.host_trait.specs.declared.entry.Entry.{Entry}
@@ -9,7 +9,7 @@ use Rattle.owed_lists.specs.declared.lists.Which.TheVariants.{Starts, Restarts, 
 use Rattle.owed_lists.specs.Lists.{reloads_place, restarts_place, starts_place}
 use Rattle.owed_plan.specs.declared.duty.Duty.{Duty}
 use Rattle.switch_engine.specs.Acts.{entry_of, performed}
-use Rattle.switch_engine.specs.Steps.{IsGiving, IsGivingAll, StandsUntil, with_given}
+use Rattle.switch_engine.specs.Steps.{IsGiving, IsGivingAll, with_given}
 use Rattle.switch_engine.proofs.CallLemmas.{entered, performed-append}
 use Rattle.switch_engine.proofs.StepLemmas.{calling_first, calling_then, removed_elsewhere}
 use Rattle.tree_put.specs.Put.{AreApart}

@@ -1,5 +1,5 @@
 -- The lists at the moments of a switch: they outlive their calls.
-use Rattle.std.proofs.Common.{◌≡◌, ◌≢◌, ◌⊎◌, ℕ, List, [], ◌∷◌, ◌++◌, map, None, refl, sym, ap, ◌∙◌, inl, inr, ⊎_elim, rules}
+use Rattle.std.proofs.Common.{◌≡◌, ◌≢◌, ◌⊎◌, ℕ, List, [], ◌∷◌, ◌++◌, None, sym, ap, ◌∙◌, inl, inr, ⊎_elim, rules}
 use Rattle.std.proofs.lemmas.List.{append_assoc}
 use Rattle.std.specs.FinMap.{get, gets, remove}
 use Rattle.host_trait.specs.declared.entry.Entry.{Entry}
@@ -55,5 +55,8 @@ pub stands_since : (at : List ℕ) (there leaf : Rattle.std.proofs.Common.Option
     there ≡ leaf → u.manager.journal ≡ w.manager.journal ++ before → StandsUntil at there entries u m → StandsUntil at leaf (before ++ entries) w m
 stands_since at there leaf before entries w u m same since stands =
     ⊎_elim (λ yet. inl (yet ∙ same))
-    (λ all. inr (all.0, all.1 ∙ ap (λ js. js ++ (entries ++ all.0)) since ∙ append_assoc w.manager.journal before (entries ++ all.0)
-    ∙ ap (λ es. w.manager.journal ++ es) (sym (append_assoc before entries all.0)))) stands
+    (λ all. inr (
+      all.0,
+      all.1 ∙ ap (λ js. js ++ (entries ++ all.0)) since ∙ append_assoc w.manager.journal before (entries ++ all.0)
+          ∙ ap (λ es. w.manager.journal ++ es) (sym (append_assoc before entries all.0)),
+    )) stands

@@ -7,10 +7,10 @@ use Rattle.host_trait.specs.declared.entry.Entry.{Entry}
 use Rattle.host_trait.specs.declared.leaf.LeafKind.{LeafKind}
 use Rattle.host_trait.specs.declared.manager_state.ManagerState.{ManagerState}
 use Rattle.host_trait.specs.Change.{DaemonReload, IsMoment, definitions_place, finished, loaded_from}
-use Rattle.host_trait.specs.Host.{HostState, Becomes, Leads, Passes}
+use Rattle.host_trait.specs.Host.{HostState, Passes}
 use Rattle.host_trait.specs.Manager.{loading}
 use Rattle.host_trait.specs.World.{Leaves, WorldState, bytes_cmp, is_in_line, seen, stage, with_leaf, with_manager}
-use Rattle.host_trait.proofs.Moments.{goes_on, leads_as, leads_then, passes_as}
+use Rattle.host_trait.proofs.Moments.{goes_on}
 use Rattle.host_trait.proofs.Places.{at_same}
 use Rattle.host_trait.proofs.Seen.{clear_seen, other_of, seen_at, seen_with_leaf, stage_clear_seen}
 use Rattle.host_trait.proofs.Sound.{clear_insert, get_other}
@@ -23,9 +23,9 @@ use Rattle.owed_plan.specs.declared.duty.Duty.{Duty}
 use Rattle.switch_names.specs.Names.{Name}
 use Rattle.switch_engine.specs.declared.links.Links.{Links}
 use Rattle.switch_engine.specs.Acts.{CanPerform, IsPerforming, entry_of, performed, with_calls}
-use Rattle.switch_engine.specs.Steps.{CanLink, IsCalling, IsEntering, IsGiving, IsLinking, IsLoading, IsStopping, with_given, with_links, with_stops, with_system}
+use Rattle.switch_engine.specs.Steps.{CanLink, IsCalling, IsEntering, IsGiving, IsLinking, IsLoading, IsStopping, with_links, with_stops, with_system}
 use Rattle.switch_engine.specs.System.{current_place}
-use Rattle.switch_engine.proofs.CallLemmas.{entered, performed-append, same_loaded}
+use Rattle.switch_engine.proofs.CallLemmas.{entered, same_loaded}
 use Rattle.tree_put.specs.Put.{AreApart, CanPut, IsOldOrGone, IsOldOrNew}
 use Rattle.tree_put.proofs.PutLemmas.{apart_ne}
 
@@ -118,21 +118,6 @@ pub can_then : (calls more : List Duty) (manager : ManagerState) → CanPerform 
 can_then [] more manager can = can
 can_then (call ∷ calls) more manager can = can_then calls more (Rattle.host_trait.specs.Manager.acted call.act call.unit manager) can.1
 
--- a host on which these calls were made
-abbrev pub Performs : HostState → HostState → List Duty → Type 0
-Performs a b calls = Leads a b (λ w v. v.manager ≡ performed calls w.manager)
-
-module _ {a b c : HostState} (calls more : List Duty) where
-  pub way_then : Passes a b (IsCalling calls) → Performs a b calls → Passes b c (IsCalling more) → Passes a c (IsCalling (calls ++ more))
-  way_then first made second =
-      goes_on first made second (IsCalling (calls ++ more))
-      (λ w m is moment. calling_first calls more w m moment) (λ w v m is is_v done moment. calling_then calls more w v m done moment)
-
-  pub made_then : Performs a b calls → Performs b c more → Performs a c (calls ++ more)
-  made_then first second =
-      leads_then first second (λ w v. v.manager ≡ performed (calls ++ more) w.manager)
-      (λ w v u is is_v done then. then ∙ ap (performed more) done ∙ sym (performed-append calls more w.manager))
-
 pub manager_gone : (at : List ℕ) (w m : WorldState) → IsOldOrGone at w m → m.manager ≡ w.manager
 manager_gone at w m moment = ⊎_elim (λ old. ap (λ (x : WorldState). x.manager) old) (λ gone. ap (λ (x : WorldState). x.manager) gone) moment
 
@@ -166,10 +151,6 @@ given which calls w v m made moment =
       listed = inr manager;
       others = λ q other. gone_elsewhere at q v m other moment ∙ ap (λ (x : WorldState). get x.leaves q) made;
     }
-
--- calls without their list are these calls
-pub made_of : {a b : HostState} (which : Which) (calls : List Duty) → Becomes a b (with_given which calls) → Performs a b calls
-made_of which calls made = leads_as made (λ w v. v.manager ≡ performed calls w.manager) (λ w v is given. ap (λ (x : WorldState). x.manager) given)
 
 -- ---- the leaves alone
 

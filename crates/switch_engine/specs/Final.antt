@@ -64,8 +64,7 @@ pub record AreOutlived (system : Name) (owed : Owed) (w m : WorldState) : Type 0
   pub restart_list : StandsUntil restarts_place (leaf_of_list owed.restarts) (entries_by system owed w (reload_calls owed (state_of w.manager.states) ++ restart_calls owed)) w m
   pub start_list : StandsUntil starts_place (leaf_of_list owed.starts) (entries_of system owed w) w m
 
--- at a moment of a switch the first so many entries have been added to the journal, and lists outlive their calls
--- unless the manager is as it was
+-- at a moment of a switch its first so many entries have been added, and unless no unit has changed lists outlive their calls
 pub record IsSwitchMoment (system : Name) (owed : Owed) (w m : WorldState) : Type 0 where
   pub entering : IsEntering (entries_of system owed w) w m
   pub lists : (m.manager ≡ w.manager) ⊎ AreOutlived system owed w m
