@@ -52,5 +52,6 @@ plan_is system w known plan is by =
               (systems_same w.leaves (current_system w.leaves) system known.old.defs known.new is.old.defs is.new) states;
         },
       );
+      recorded = by.recorded;
       duties = by.duties ∙ ap (λ (states : UnitStates). calls_of plan.owed (state_of states)) is.units.states;
     }

@@ -1,5 +1,12 @@
 pub mod ActLemmas
 pub mod CallLemmas
+pub mod FailedLemmas
+pub mod FinalLemmas
+pub mod GiveLemmas
 pub mod KnownLemmas
+pub mod OutlivedLemmas
+pub mod PartLemmas
 pub mod PullLemmas
+pub mod StepLemmas
+pub mod SwitchLemmas
 pub mod TableLemmas

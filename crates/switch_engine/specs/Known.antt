@@ -11,6 +11,7 @@ use Rattle.switch_engine.specs.declared.known.Known.{Known}
 use Rattle.switch_engine.specs.declared.known.OldSystem.{OldSystem}
 use Rattle.switch_engine.specs.declared.known.UnitStates.{UnitStates}
 use Rattle.switch_engine.specs.declared.plan.Plan.{Plan}
+use Rattle.switch_engine.specs.Plan.{lists_of}
 use Rattle.switch_engine.specs.System.{current_system}
 
 -- this is the system in use, with its units
@@ -35,4 +36,5 @@ pub record IsPlanBy (system : List ℕ) (known : Known) (plan : Plan) : Type 0 w
   pub to : plan.to ≡ system
   pub defs : plan.defs ≡ known.new
   pub owed : IsPlan (systems_in known.old.defs known.new) (state_of known.units.states) known.units.lists plan.owed
+  pub recorded : plan.recorded ≡ lists_of plan.owed
   pub duties : plan.duties ≡ calls_of plan.owed (state_of known.units.states)

@@ -17,10 +17,15 @@ pub record IsOwedIn (w : WorldState) (system : List ℕ) (lists : Lists) (owed :
   pub listed : AreListsOf w.leaves lists
   pub planned : IsPlan (systems_at w.leaves (current_system w.leaves) system) (state_of w.manager.states) lists owed
 
+-- the lists that a switch records of what it owes
+abbrev pub lists_of : Owed → Lists
+lists_of owed = record { starts = owed.starts; restarts = owed.restarts; reloads = owed.reloads }
+
 -- the plan of a switch to a system: the units that it defines, what is owed, and the calls by which it is given
 pub record IsPlanOf (system : List ℕ) (w : WorldState) (plan : Plan) : Type 0 where
   pub from : plan.from ≡ current_system w.leaves
   pub to : plan.to ≡ system
   pub defs : AreDefsOf w.leaves system plan.defs
   pub owed : (lists : Lists) × IsOwedIn w system lists plan.owed
+  pub recorded : plan.recorded ≡ lists_of plan.owed
   pub duties : plan.duties ≡ calls_of plan.owed (state_of w.manager.states)

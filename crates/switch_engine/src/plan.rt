@@ -2,6 +2,7 @@
 ghost use Rattle.std.specs.Prelude.{◌≡◌};
 ghost use Rattle.std.specs.Option.{option_copied};
 
+use owed_lists::Lists;
 use owed_plan::{Duty, Owed};
 use switch_names::{Listed, SystemName, UnitName};
 use unit_defs::Defs;
@@ -13,6 +14,7 @@ pub struct Plan {
     to: SystemName,
     defs: Defs,
     owed: Owed,
+    recorded: Lists,
     duties: Listed<Duty>,
 }
 
@@ -23,15 +25,17 @@ impl Plan {
         to: SystemName,
         defs: Defs,
         owed: Owed,
+        recorded: Lists,
         duties: Listed<Duty>,
     ) -> Plan
-        ensures { result ≡ record { from = from; to = to; defs = defs; owed = owed; duties = duties } }
+        ensures { result ≡ record { from = from; to = to; defs = defs; owed = owed; recorded = recorded; duties = duties } }
     {
         Plan {
             from,
             to,
             defs,
             owed,
+            recorded,
             duties,
         }
     }
@@ -55,6 +59,20 @@ impl Plan {
         ensures { result.now ≡ self.now.defs }
     {
         &self.defs
+    }
+
+    /// What is owed.
+    pub(crate) fn owed(&self) -> &Owed
+        ensures { result.now ≡ self.now.owed }
+    {
+        &self.owed
+    }
+
+    /// The lists that are recorded.
+    pub(crate) fn recorded(&self) -> &Lists
+        ensures { result.now ≡ self.now.recorded }
+    {
+        &self.recorded
     }
 
     /// The calls on units, in their order.

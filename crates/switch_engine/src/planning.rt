@@ -9,7 +9,7 @@ ghost use Rattle.owed_plan.specs.Systems.{systems_in};
 ghost use Rattle.switch_engine.specs.declared.plan_fault.PlanFault.TheVariants.{Host, Refused};
 ghost use Rattle.switch_engine.specs.declared.refusal.Refusal.{Refusal};
 ghost use Rattle.switch_engine.specs.Known.{IsPlanBy};
-ghost use Rattle.switch_engine.specs.Plan.{IsPlanOf};
+ghost use Rattle.switch_engine.specs.Plan.{IsPlanOf, lists_of};
 ghost use Rattle.switch_engine.specs.System.{plan_refusal};
 
 use crate::known::{Known, read_known};
@@ -18,9 +18,10 @@ use crate::plan_fault::PlanFault;
 use crate::refusal::Refusal;
 use crate::system::has_version;
 use host_trait::Manager;
+use owed_lists::Lists;
 use owed_plan::{Owed, calls, plan};
 use std::alloc::{AllocError, Global};
-use switch_names::SystemName;
+use switch_names::{Listed, SystemName, UnitName};
 use unit_pull::{pull, roots};
 
 /// What a switch owes the units.
@@ -40,15 +41,38 @@ fn owed_by(alloc: Global, known: &Known) -> Result<Owed, AllocError>
     )
 }
 
+/// Equal names.
+fn copy_names(alloc: Global, names: &[UnitName]) -> Result<Listed<UnitName>, AllocError>
+    ensures { IfOk result (λ copied. copied ≡ names.now) }
+{
+    let mut copied = Listed::new(alloc);
+    for name in names {
+        copied.push(name.copy(alloc)?)?;
+    }
+    Ok(copied)
+}
+
+/// The lists that are recorded of what is owed.
+fn lists_of(alloc: Global, owed: &Owed) -> Result<Lists, AllocError>
+    ensures { IfOk result (λ lists. lists ≡ lists_of owed.now) }
+{
+    Ok(Lists {
+        starts: copy_names(alloc, owed.starts.as_slice())?,
+        restarts: copy_names(alloc, owed.restarts.as_slice())?,
+        reloads: copy_names(alloc, owed.reloads.as_slice())?,
+    })
+}
+
 /// The plan of a switch by what is known.
 fn plan_by(alloc: Global, system: &SystemName, known: Known) -> Result<Plan, AllocError>
     ensures { IfOk result (IsPlanBy system.now known) }
 {
     let owed = owed_by(alloc, &known)?;
+    let recorded = lists_of(alloc, &owed)?;
     let duties = calls(alloc, &owed, &known.units.states)?;
     let to = system.copy(alloc)?;
     let Known { old, new, units: _ } = known;
-    Ok(Plan::new(old.name, to, new, owed, duties))
+    Ok(Plan::new(old.name, to, new, owed, recorded, duties))
 }
 
 /// Plans what a switch to a system does to the units, and changes nothing.

@@ -35,7 +35,7 @@ pub fn has_version<T: Tree>(
 
 /// Where the link to the system in use stands.
 #[tactic(auto, unfolding(crate::specs::System::current_place))]
-fn current_path(alloc: Global) -> Result<Path, AllocError>
+pub fn current_path(alloc: Global) -> Result<Path, AllocError>
     ensures { IfOk result (λ path. path ≡ current_place) }
 {
     fixed_path(alloc, "run/current-system")

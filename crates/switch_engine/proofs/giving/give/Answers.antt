@@ -1,0 +1,28 @@
+use Rattle.std.proofs.Common.{◌≡◌, ap, ◌∙◌}
+use Rattle.host_trait.specs.World.{without_leaf}
+use Rattle.host_trait.proofs.Moments.{goes_on, leads_then, passes_as}
+use Rattle.owed_lists.specs.Lists.{place_of}
+use Rattle.switch_engine.specs.Steps.{IsGiving, with_given}
+use Rattle.switch_engine.proofs.StepLemmas.{given, giving}
+use Rattle.switch_engine.proofs.giving.give.Goals as goal
+
+pub returns-in_err-call_units-clause-moments : goal.returns-in_err-call_units-clause-moments
+returns-in_err-call_units-clause-moments g c =
+    passes_as c.call_units.ensures.moments (IsGiving c.args.which c.args.calls.now) (λ w m is moment. giving c.args.which c.args.calls.now w m moment)
+
+pub returns-in_err-clear-clause-moments : goal.returns-in_err-clear-clause-moments
+returns-in_err-clear-clause-moments g c =
+    goes_on c.call_units.ensures.moments c.in_ok-call_units.ensures.ok c.clear.ensures.moments (IsGiving c.args.which c.args.calls.now)
+    (λ w m is moment. giving c.args.which c.args.calls.now w m moment)
+    (λ w v m is is_v made moment. given c.args.which c.args.calls.now w v m made moment)
+
+pub returns-clause-ok : goal.returns-clause-ok
+returns-clause-ok g c =
+    leads_then c.in_ok-call_units.ensures.ok c.in_ok-clear.ensures.ok (λ w u. u ≡ with_given c.args.which c.args.calls.now w)
+    (λ w v u is is_v made gone. gone ∙ ap (without_leaf (place_of c.args.which)) made)
+
+pub returns-clause-moments : goal.returns-clause-moments
+returns-clause-moments g c =
+    goes_on c.call_units.ensures.moments c.in_ok-call_units.ensures.ok c.clear.ensures.moments (IsGiving c.args.which c.args.calls.now)
+    (λ w m is moment. giving c.args.which c.args.calls.now w m moment)
+    (λ w v m is is_v made moment. given c.args.which c.args.calls.now w v m made moment)

@@ -1,0 +1,29 @@
+use Rattle.std.proofs.Common.{◌≡◌}
+use Rattle.host_trait.specs.World.{seen}
+use Rattle.host_trait.proofs.Moments.{goes_on, leads_then, passes_as}
+use Rattle.switch_engine.specs.Steps.{IsStopping, with_stops}
+use Rattle.switch_engine.proofs.StepLemmas.{recording, stopped_world, stopping}
+use Rattle.switch_engine.proofs.giving.stop_units.Goals as goal
+
+pub returns-in_err-record-clause-moments : goal.returns-in_err-record-clause-moments
+returns-in_err-record-clause-moments g c =
+    let lists = c.args.lists.now in let stops = c.args.stops.now in
+    passes_as c.record.ensures.moments (IsStopping lists stops) (λ w m is moment. recording lists stops w m moment)
+
+pub returns-in_err-call_units-clause-moments : goal.returns-in_err-call_units-clause-moments
+returns-in_err-call_units-clause-moments g c =
+    let lists = c.args.lists.now in let stops = c.args.stops.now in
+    goes_on c.record.ensures.moments c.in_ok-record.ensures.ok c.call_units.ensures.moments (IsStopping lists stops)
+    (λ w m is moment. recording lists stops w m moment) (λ w v m is is_v came moment. stopping lists stops w v m came moment)
+
+pub returns-clause-ok : goal.returns-clause-ok
+returns-clause-ok g c =
+    let lists = c.args.lists.now in let stops = c.args.stops.now in
+    leads_then c.in_ok-record.ensures.ok c.in_ok-call_units.ensures.ok (λ w v. seen v ≡ seen (with_stops lists stops w))
+    (λ w v u is is_v came made. stopped_world lists stops w v u came made)
+
+pub returns-clause-moments : goal.returns-clause-moments
+returns-clause-moments g c =
+    let lists = c.args.lists.now in let stops = c.args.stops.now in
+    goes_on c.record.ensures.moments c.in_ok-record.ensures.ok c.call_units.ensures.moments (IsStopping lists stops)
+    (λ w m is moment. recording lists stops w m moment) (λ w v m is is_v came moment. stopping lists stops w v m came moment)

@@ -1,0 +1,44 @@
+//! How a switch that was carried out ended.
+ghost use Rattle.std.specs.Prelude.{◌≡◌, ◌↔◌, IsTrue};
+ghost use Rattle.std.specs.List.{list_any};
+ghost use Rattle.switch_engine.specs.Final.{HasFailed, is_failed, is_failed_of};
+
+use host_trait::{State, States, UnitState};
+use unit_defs::Defs;
+
+/// How a switch that was carried out ended.
+#[derive(Debug, Drop)]
+pub struct Outcome {
+    /// The units that aren't inactive, with their states.
+    pub states: States,
+    /// Whether a unit that the system defines has failed.
+    pub failed: bool,
+}
+
+/// Whether a unit has failed.
+fn is_failed(state: State) -> bool
+    ensures { result ≡ is_failed state }
+{
+    matches!(state, State::Failed)
+}
+
+/// Whether a unit has failed that the system defines.
+fn is_failed_of(defs: &Defs, one: &UnitState) -> bool
+    ensures { result ≡ is_failed_of defs.now one.now }
+{
+    is_failed(one.state) && defs.find(&one.unit).is_some()
+}
+
+/// Whether one of these units has failed that the system defines.
+fn any_failed(defs: &Defs, list: &[UnitState]) -> bool
+    ensures { result ≡ list_any (is_failed_of defs.now) list.now }
+{
+    list.iter().any(|one| is_failed_of(defs, one))
+}
+
+/// Whether a unit that the system defines has failed.
+pub fn has_failed(defs: &Defs, states: &States) -> bool
+    ensures { IsTrue result ↔ HasFailed defs.now states.now }
+{
+    any_failed(defs, states.list().as_slice())
+}
