@@ -6,4 +6,8 @@ mod defs_tests;
 #[cfg(test)]
 mod list_tests;
 #[cfg(test)]
-mod plan_tests;
+mod service_tests;
+#[cfg(test)]
+mod small_worlds;
+#[cfg(test)]
+mod target_tests;
