@@ -17,19 +17,10 @@
 #   leaf put      the most calls that put one leaf, without those on the folders to it
 # and then the growth and three bounds. It ends with 1 where a boot fails or a bound is passed.
 # It is no part of the gate.
-set -u
-export LC_ALL=C
-here=$(cd "$(dirname "$0")/.." && pwd)
-program=${1:-$here/crates/nixswitch/out/nixswitch}
+. "$(dirname "$0")/common.sh"
+find_program "$@"
 [ $# -eq 0 ] || shift
 [ $# -gt 0 ] || set -- 10 1000 10000
-if [ ! -x "$program" ]; then
-    echo "no program at $program" >&2
-    exit 1
-fi
-work=$(cd "$(mktemp -d)" && pwd -P)
-trap 'rm -rf "$work"' EXIT
-root=$work/root
 profiles=$root/tree/nix/var/nix/profiles
 failed=0
 

@@ -17,19 +17,10 @@
 # and then the growth. It ends with 1 where a dry run fails or changes something, where its report isn't
 # the one expected, where a unit file is opened more than once, or where 4,000 units take a second or
 # more. It is no part of the gate.
-set -u
-export LC_ALL=C
-here=$(cd "$(dirname "$0")/.." && pwd)
-program=${1:-$here/crates/nixswitch/out/nixswitch}
+. "$(dirname "$0")/common.sh"
+find_program "$@"
 [ $# -eq 0 ] || shift
 [ $# -gt 0 ] || set -- 500 4000 16000
-if [ ! -x "$program" ]; then
-    echo "no program at $program" >&2
-    exit 1
-fi
-work=$(cd "$(mktemp -d)" && pwd -P)
-trap 'rm -rf "$work"' EXIT
-root=$work/root
 failed=0
 
 # make_system NAME UNITS PROGRAM: a system whose every tenth unit runs this program.
@@ -78,33 +69,18 @@ make_root() {
     } >"$work/wanted"
 }
 
-# Plans the switch, by way of the words given.
+# Plans the switch, by way of the words given, and sets `status` to how that ended.
 dry_run() {
     "$@" "$program" "$root" dry-activate nix/store/new-sys >"$work/stdout" 2>"$work/stderr"
+    status=$?
 }
 
-# after STATUS UNITS: judges a dry run.
+# after UNITS: judges the last dry run.
 after() {
-    if [ "$1" != 0 ] || ! cmp -s "$work/stdout" "$work/wanted"; then
+    if [ "$status" != 0 ] || ! cmp -s "$work/stdout" "$work/wanted"; then
         failed=1
-        echo "a dry run of $2 units went wrong: status $1, $(cat "$work/stderr")"
+        echo "a dry run of $1 units went wrong: status $status, $(cat "$work/stderr")"
     fi
-}
-
-# Sets `micros` to the microseconds of the quickest of three dry runs.
-measure_time() {
-    local from spent status
-    micros=
-    for _ in 1 2 3; do
-        from=${EPOCHREALTIME/./}
-        dry_run
-        status=$?
-        spent=$((${EPOCHREALTIME/./} - from))
-        after $status "$1"
-        if [ -z "$micros" ] || [ "$spent" -lt "$micros" ]; then
-            micros=$spent
-        fi
-    done
 }
 
 cat >"$work/count.awk" <<'AWK'
@@ -147,7 +123,8 @@ last=''
 grown=''
 for count in "$@"; do
     make_root "$count"
-    measure_time "$count"
+    quickest 3 dry_run
+    after "$count"
     if [ "$count" = 4000 ] && [ "$micros" -ge 1000000 ]; then
         failed=1
         echo "4,000 units took a second or more"
@@ -155,13 +132,13 @@ for count in "$@"; do
     peak=-
     if [ -n "$timed" ]; then
         dry_run /usr/bin/time -f %M -o "$work/peak"
-        after $? "$count"
+        after "$count"
         peak=$(tail -n 1 "$work/peak")
     fi
     calls=- opens=- reads=- changes=-
     if [ -n "$traced" ]; then
         dry_run strace -f -y -s 0 -o "$work/calls"
-        after $? "$count"
+        after "$count"
         awk -v root="$root/" -f "$work/count.awk" "$work/calls" >"$work/counts"
         read -r calls opens reads changes <"$work/counts"
         if [ "$opens" -gt 1 ] || [ "$changes" -gt 0 ]; then

@@ -1,19 +1,16 @@
-#!/bin/sh
+#!/bin/bash
 # Runs the program on roots that no host wrote: symbolic links, special files, bad nodes and names.
 #
 # bench/hostile.sh [PROGRAM]
 #
-# Needs a shell, the coreutils and findutils. The rows on permissions need a user other than root.
+# Needs bash, the coreutils and findutils. The rows on permissions need a user other than root.
 # Where strace is there and may trace, it also looks at what is opened.
 #
 # For each root it prints whether the status is the wanted one, whether the run ended within ten
 # seconds, and whether all that lies outside the root stayed as it was and unopened. It ends with 1
 # where one row differs. It is no part of the gate.
-set -u
-here=$(cd "$(dirname "$0")/.." && pwd)
-program=${1:-$here/crates/nixswitch/out/nixswitch}
-work=$(cd "$(mktemp -d)" && pwd -P)
-trap 'chmod -R u+rwX "$work"; rm -rf "$work"' EXIT
+. "$(dirname "$0")/common.sh"
+find_program "$@"
 failed=0
 trace=
 if strace -o "$work/opened" true 2>"$work/stderr"; then
@@ -37,12 +34,14 @@ outside() {
     (cd "$work/outside" && find . -printf '%y %p %l %m\n' | sort && find . -type f -exec cksum {} + | sort)
 }
 
-# run NAME STATUS [ROOT]: boots the system in the root and judges the row.
+command=boot
+
+# run NAME STATUS [ROOT]: makes the command with the system in the root and judges the row.
 run() {
     before=$(outside)
     : >"$work/opened"
     # shellcheck disable=SC2086
-    timeout 10 $trace "$program" "${3-$work/root}" boot nix/store/a-sys >"$work/stdout" 2>"$work/stderr"
+    timeout 10 $trace "$program" "${3-$work/root}" "$command" nix/store/a-sys >"$work/stdout" 2>"$work/stderr"
     status=$?
     verdict=ok
     [ "$status" = "$2" ] || verdict="status $status, not $2"
@@ -124,6 +123,35 @@ fresh && mkdir -p "$profiles/system/a" && printf 'L x\n' >"$profiles/system/a/le
 run "a folder with a leaf where the profile is to stand" 2
 fresh && printf 'L x\n' >"$tree/nix/var"
 run "a leaf where a folder is to stand" 2
+
+command=dry-activate
+units=$tree/nix/store/a-sys/etc/systemd/system
+fresh
+run "a dry run of a plain root" 0
+fresh && ln -s "$work/outside/file" "$work/root/manager"
+run "the manager's file is a link" 3
+fresh && mkdir "$work/root/manager"
+run "the manager's file is a folder" 3
+fresh && mkfifo "$work/root/manager"
+run "the manager's file is a pipe" 3
+fresh && echo junk >"$work/root/manager"
+run "the manager's file is no state" 3
+fresh && truncate -s 20G "$work/root/manager"
+run "the manager's file has twenty gigabytes" 3
+fresh && ln -s "$work/outside/file" "$work/root/manager.new"
+run "a link where the next state is written" 0
+fresh && mkdir -p "$tree/nix/store/a-sys/etc" && ln -s "$work/outside" "$tree/nix/store/a-sys/etc/systemd"
+run "a folder on the way to the units is a link" 3
+fresh && mkdir -p "$units" && ln -s "$work/outside/file" "$units/a.service"
+run "a unit file is a link of the file system" 3
+fresh && mkdir -p "$units" && mkfifo "$units/a.service"
+run "a unit file is a pipe" 3
+fresh && mkdir -p "$units" && printf 'L /nix/store/../../../../outside/file\n' >"$units/a.service"
+run "a unit that leads out of the tree" 0
+fresh && mkdir -p "$units" && printf 'F 0644 0 0\nA=1\n' >"$units/a.service"
+run "a unit with an assignment before any section" 2
+fresh && mkdir -p "$tree/run" && printf 'L ../../outside\n' >"$tree/run/current-system"
+run "a system in use that is none" 0
 
 if [ "$(id -u)" != 0 ]; then
     fresh && chmod 000 "$tree/nix/store/a-sys/nixos-version"

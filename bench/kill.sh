@@ -16,21 +16,12 @@
 # folder but the stage is as the uncut boot leaves it. Each place is tried with one kill, and with a
 # second one at the same place of the run after it, where that run comes to it.
 # It ends with 1 where a row fails. It is no part of the gate.
-set -u
-export LC_ALL=C
-here=$(cd "$(dirname "$0")/.." && pwd)
-program=${1:-$here/crates/nixswitch/out/nixswitch}
-if [ ! -x "$program" ]; then
-    echo "no program at $program" >&2
-    exit 1
-fi
-work=$(cd "$(mktemp -d)" && pwd -P)
-trap 'rm -rf "$work"' EXIT
+. "$(dirname "$0")/common.sh"
+find_program "$@"
 if ! strace -o "$work/calls" true 2>"$work/stderr"; then
     echo "strace isn't there or may not trace" >&2
     exit 1
 fi
-root=$work/root
 tree=$root/tree
 profiles=$tree/nix/var/nix/profiles
 passed=0

@@ -14,19 +14,10 @@
 # of five runs that read and of five dry runs, in milliseconds, the difference, and what that is for each
 # unit in microseconds. It ends with 1 where a run fails, or where planning takes four times as long for
 # each unit of the largest root as of the smallest. It is no part of the gate.
-set -u
-export LC_ALL=C
-here=$(cd "$(dirname "$0")/.." && pwd)
-program=${1:-$here/crates/nixswitch/out/nixswitch}
+. "$(dirname "$0")/common.sh"
+find_program "$@"
 [ $# -eq 0 ] || shift
 [ $# -gt 0 ] || set -- 1000 4000 16000
-if [ ! -x "$program" ]; then
-    echo "no program at $program" >&2
-    exit 1
-fi
-work=$(cd "$(mktemp -d)" && pwd -P)
-trap 'rm -rf "$work"' EXIT
-root=$work/root
 
 # Builds the program that reads alone in a scratch copy of the crates.
 build() {
@@ -83,22 +74,13 @@ make_root() {
     } >"$root/manager"
 }
 
-# measure WORDS..: sets `micros` to the microseconds of the quickest of five runs.
-measure() {
-    local from spent
-    micros=
-    for _ in 1 2 3 4 5; do
-        from=${EPOCHREALTIME/./}
-        if ! "$@" >"$work/stdout" 2>"$work/stderr"; then
-            echo "a run failed: $*"
-            cat "$work/stderr"
-            exit 1
-        fi
-        spent=$((${EPOCHREALTIME/./} - from))
-        if [ -z "$micros" ] || [ "$spent" -lt "$micros" ]; then
-            micros=$spent
-        fi
-    done
+# run WORDS..: makes a run, and ends where it fails.
+run() {
+    if ! "$@" >"$work/stdout" 2>"$work/stderr"; then
+        echo "a run failed: $*"
+        cat "$work/stderr"
+        exit 1
+    fi
 }
 
 build <<'RATTLE' || exit 1
@@ -162,9 +144,9 @@ printf '%8s %12s %12s %12s %12s\n' units read 'dry run' planning 'each unit'
 first=''
 for count in "$@"; do
     make_root "$count"
-    measure "$reader" "$root"
+    quickest 5 run "$reader" "$root"
     plain=$micros
-    measure "$program" "$root" dry-activate nix/store/new-sys
+    quickest 5 run "$program" "$root" dry-activate nix/store/new-sys
     planning=$((micros - plain))
     awk -v n="$count" -v plain="$plain" -v whole="$micros" 'BEGIN {
         printf "%8d %12.1f %12.1f %12.1f %12.2f\n", n, plain / 1000, whole / 1000, (whole - plain) / 1000, (whole - plain) / n

@@ -10,17 +10,13 @@
 # It makes that many unit files of that many lines (10,000 of 60), and prints the least of five runs
 # that read each file, and of five that also parse it. It ends with 1 where a file isn't read whole.
 # It is no part of the gate.
-set -u
-export LC_ALL=C
-here=$(cd "$(dirname "$0")/.." && pwd)
+. "$(dirname "$0")/common.sh"
 files=${1:-10000}
 lines=${2:-60}
 if [ "$lines" -lt 8 ]; then
     echo "a unit file has 8 lines or more" >&2
     exit 1
 fi
-work=$(cd "$(mktemp -d)" && pwd -P)
-trap 'rm -rf "$work"' EXIT
 
 # Builds the program in a scratch copy of the crates.
 build() {
