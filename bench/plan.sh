@@ -11,9 +11,10 @@
 # Each root has two systems of that many units (1,000, 4,000 and 16,000): services that each want six
 # others, so that 16,000 have 96,000 wants, one in ten with another program in the new system, half of
 # them active, a target that wants the first, and a start list of a hundred. For each it prints the least
-# of five runs that read and of five dry runs, in milliseconds, the difference, and what that is for each
-# unit in microseconds. It ends with 1 where a run fails, or where planning takes four times as long for
-# each unit of the largest root as of the smallest. It is no part of the gate.
+# processor time, in milliseconds and without the system's share, of ten runs that read and of ten dry
+# runs, the difference, and what that is for each unit in microseconds. It ends with 1 where a run fails,
+# or where planning takes four times as long for each unit of the largest root as of the smallest. It is
+# no part of the gate.
 . "$(dirname "$0")/common.sh"
 find_program "$@"
 [ $# -eq 0 ] || shift
@@ -74,13 +75,15 @@ make_root() {
     } >"$root/manager"
 }
 
-# run WORDS..: makes a run, and ends where it fails.
-run() {
-    if ! "$@" >"$work/stdout" 2>"$work/stderr"; then
-        echo "a run failed: $*"
-        cat "$work/stderr"
-        exit 1
-    fi
+# least WORDS..: prints the least processor time of ten runs, in milliseconds.
+least() {
+    for _ in 1 2 3 4 5 6 7 8 9 10; do
+        if ! { time "$@" >"$work/stdout" 2>"$work/stderr"; } 2>&1; then
+            echo "a run failed: $*" >&2
+            cat "$work/stderr" >&2
+            exit 1
+        fi
+    done | awk '{ spent = int($1 * 1000 + 0.5); if (NR == 1 || spent < least) least = spent } END { print least }'
 }
 
 build <<'RATTLE' || exit 1
@@ -141,15 +144,15 @@ fn main(rt: HostRuntime) -> ExitCode {
 }
 RATTLE
 printf '%8s %12s %12s %12s %12s\n' units read 'dry run' planning 'each unit'
+TIMEFORMAT=%3U
 first=''
 for count in "$@"; do
     make_root "$count"
-    quickest 5 run "$reader" "$root"
-    plain=$micros
-    quickest 5 run "$program" "$root" dry-activate nix/store/new-sys
-    planning=$((micros - plain))
-    awk -v n="$count" -v plain="$plain" -v whole="$micros" 'BEGIN {
-        printf "%8d %12.1f %12.1f %12.1f %12.2f\n", n, plain / 1000, whole / 1000, (whole - plain) / 1000, (whole - plain) / n
+    plain=$(least "$reader" "$root")
+    whole=$(least "$program" "$root" dry-activate nix/store/new-sys)
+    planning=$((whole - plain))
+    awk -v n="$count" -v plain="$plain" -v whole="$whole" 'BEGIN {
+        printf "%8d %12d %12d %12d %12.2f\n", n, plain, whole, whole - plain, (whole - plain) * 1000 / n
     }'
     [ -n "$first" ] || first="$count $planning"
     last="$count $planning"
