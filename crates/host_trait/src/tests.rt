@@ -1,8 +1,11 @@
 //! What leaves and worlds answer.
+ghost use Rattle.std.specs.Prelude.{◌≡◌, codes};
 ghost use Rattle.host_trait.specs.Manager.{IsPlain};
+ghost use Rattle.host_trait.specs.World.{empty_world};
 
 use crate::{Bad, Leaf, LeafKind, ManagerState, State, States, World, WorldFault, stage_path};
 use std::alloc::{AllocError, Global};
+use std::process::Abort;
 use std::test::Fail;
 use switch_names::{Bytes, Path, Text, UnitName};
 
@@ -24,15 +27,14 @@ fn link_or_fault(alloc: Global, target: &str) -> Result<Text, AllocError> {
     }
 }
 
+/// The target of a link, and what is told of it.
+const LINKS: &[(&str, &str)] = &[("", "Empty"), ("../b", "../b"), ("a\nb", "Byte(1)")];
+
 #[test]
 fn a_link_leads_somewhere(rt: HostRuntime) -> Result<(), Fail> {
-    let rows = [("", "Empty"), ("../b", "../b"), ("a\nb", "Byte(1)")];
-    for (target, want) in rows {
-        assert_eq!(rt;
-            link_or_fault(rt.alloc(), target)?.as_str(),
-            want,
-            "{target}"
-        );
+    for (target, want) in LINKS {
+        let told = link_or_fault(rt.alloc(), target)?;
+        assert_eq!(rt; told.as_str(), *want, "{target}");
     }
     Ok(())
 }
@@ -43,39 +45,115 @@ fn the_stage_has_its_place(rt: HostRuntime) -> Result<(), Fail> {
     Ok(())
 }
 
+/// A file with a text.
+fn text_file(alloc: Global) -> Result<Leaf, AllocError> {
+    Ok(Leaf::file(Bytes::from_slice(alloc, b"text")?, 420, 0, 0))
+}
+
+/// Puts the file at a place, and answers the fault.
+fn put_file(alloc: Global, world: &mut World, at: &str) -> Result<Option<WorldFault>, Fail> {
+    let at = Path::parse(alloc, at)?;
+    let file = text_file(alloc)?;
+    Ok(world.set_leaf(at, file).err())
+}
+
+/// How many leaves stand at or below a place.
+fn count_at(alloc: Global, world: &World, at: &str) -> Result<usize, Fail> {
+    let at = Path::parse(alloc, at)?;
+    Ok(world.list(alloc, &at)?.as_slice().len())
+}
+
+/// Whether the file stands at a place.
+fn has_file(alloc: Global, world: &World, at: &str) -> Result<bool, Fail> {
+    let at = Path::parse(alloc, at)?;
+    let file = text_file(alloc)?;
+    Ok(world.leaf(&at).is_some_and(|leaf| leaf.same(&file)))
+}
+
+/// The faults of two puts, how many leaves then stand at the first place, and whether the file does.
+type Puts = (Option<WorldFault>, Option<WorldFault>, usize, bool);
+
+/// Puts the file at a place and then below it.
+fn put_below(alloc: Global, world: &mut World) -> Result<Puts, Fail> {
+    let first = put_file(alloc, world, "a")?;
+    let second = put_file(alloc, world, "a/b")?;
+    let count = count_at(alloc, world, "a")?;
+    Ok((first, second, count, has_file(alloc, world, "a")?))
+}
+
+/// Puts the file into an empty world at a place and then below it.
+fn new_puts(alloc: Global) -> Result<Puts, Fail> {
+    let mut world = World::new(alloc);
+    put_below(alloc, &mut world)
+}
+
 #[test]
 fn no_leaf_stands_below_another(rt: HostRuntime) -> Result<(), Fail> {
-    let above = Path::parse(rt.alloc(), "a")?;
-    let below = Path::parse(rt.alloc(), "a/b")?;
-    let file = Leaf::file(Bytes::from_slice(rt.alloc(), b"text")?, 420, 0, 0);
-    let mut world = World::new(rt.alloc());
-    world.set_leaf(above.copy(rt.alloc())?, file.copy(rt.alloc())?)?;
-    let refused = world.set_leaf(below, file.copy(rt.alloc())?);
-    assert!(rt; matches!(refused, Err(WorldFault::Blocked)));
-    assert_eq!(rt; world.list(rt.alloc(), &above)?.as_slice().len(), 1);
-    assert!(rt; world.leaf(&above).is_some_and(|stands| stands.same(&file)));
+    assert_eq!(rt;
+        new_puts(rt.alloc())?,
+        (None, Some(WorldFault::Blocked), 1, true)
+    );
     Ok(())
+}
+
+/// Puts a link to `b` at a place and moves it to another, and answers whether the places were free.
+fn put_and_move(
+    alloc: Global,
+    world: &mut World,
+    from: &Path,
+    to: &Path,
+) -> Result<(bool, bool), Fail>
+    requires empty { world.old ≡ empty_world }
+    requires from { from.now ≡ codes "x" }
+    requires to { to.now ≡ codes "y" }
+{
+    let was = world.set_leaf(from.copy(alloc)?, Leaf::link(alloc, "b")?)?;
+    let replaced = world.move_leaf(alloc, from, to)?;
+    Ok((was.is_none(), replaced.is_none()))
+}
+
+/// Where a leaf leads, and where its copy does.
+fn shown_twice(alloc: Global, leaf: &Leaf) -> Result<String, AllocError> {
+    let mut text = String::new(alloc);
+    text.push_str(shown(alloc, Some(leaf))?.as_str())?;
+    text.push(' ')?;
+    text.push_str(shown(alloc, Some(&leaf.copy(alloc)?))?.as_str())?;
+    Ok(text)
+}
+
+/// Takes a leaf out, and says where it leads, and where its copy does.
+fn take(alloc: Global, world: &mut World, at: &Path) -> Result<String, AllocError> {
+    match world.take_leaf(at) {
+        Some(leaf) => shown_twice(alloc, &leaf),
+        None => String::from_str(alloc, "none"),
+    }
+}
+
+/// Whether two places were free, what was then taken from the second one, and whether the first one is free.
+type Moved = ((bool, bool), String, bool);
+
+/// Moves a link in an empty world, and takes it out.
+fn move_and_take(alloc: Global, world: &mut World) -> Result<Moved, Fail>
+    requires { world.old ≡ empty_world }
+{
+    let from = Path::parse(alloc, "x")?;
+    let to = Path::parse(alloc, "y")?;
+    let were_free = put_and_move(alloc, world, &from, &to)?;
+    let taken = take(alloc, world, &to)?;
+    Ok((were_free, taken, world.leaf(&from).is_none()))
+}
+
+/// Moves a link in a new world, and takes it out.
+fn moved_link(alloc: Global) -> Result<Moved, Fail> {
+    let mut world = World::new(alloc);
+    move_and_take(alloc, &mut world)
 }
 
 #[test]
 fn a_moved_link_is_taken_where_it_stands(rt: HostRuntime) -> Result<(), Fail> {
-    let from = Path::parse(rt.alloc(), "x")?;
-    let to = Path::parse(rt.alloc(), "y")?;
-    let mut world = World::new(rt.alloc());
-    let was = world.set_leaf(from.copy(rt.alloc())?, Leaf::link(rt.alloc(), "b")?)?;
-    assert_eq!(rt; shown(rt.alloc(), was.as_ref())?.as_str(), "none");
-    let replaced = world.move_leaf(rt.alloc(), &from, &to)?;
-    assert_eq!(rt; shown(rt.alloc(), replaced.as_ref())?.as_str(), "none");
-    let taken = world.take_leaf(&to);
-    assert_eq!(rt; shown(rt.alloc(), taken.as_ref())?.as_str(), "b");
-    let Some(leaf) = taken else {
-        return Ok(());
-    };
-    assert_eq!(rt;
-        shown(rt.alloc(), Some(&leaf.copy(rt.alloc())?))?.as_str(),
-        "b"
-    );
-    assert!(rt; world.leaf(&from).is_none());
+    let (were_free, taken, is_free) = moved_link(rt.alloc())?;
+    let got = (were_free, taken.as_str(), is_free);
+    assert_eq!(rt; got, ((true, true), "b b", true));
     Ok(())
 }
 
@@ -103,97 +181,161 @@ fn set_and_write(
     Ok((states.of(&name), written(alloc, states)?))
 }
 
+/// A unit, the state to which it is brought, and the units that are listed then.
+const STATES: &[(&str, State, &str)] = &[
+    ("b.service", State::Active, "b.service Active "),
+    ("a.socket", State::Inactive, "b.service Active "),
+    (
+        "a.socket",
+        State::Failed,
+        "a.socket Failed b.service Active ",
+    ),
+    (
+        "c.mount",
+        State::Active,
+        "a.socket Failed b.service Active c.mount Active ",
+    ),
+    (
+        "b.service",
+        State::Failed,
+        "a.socket Failed b.service Failed c.mount Active ",
+    ),
+    (
+        "a.socket",
+        State::Inactive,
+        "b.service Failed c.mount Active ",
+    ),
+];
+
+/// Brings units to the states of these rows.
+fn set_rows(rt: &impl Abort, alloc: Global, states: &mut States) -> Result<(), Fail> {
+    for (unit, state, want) in STATES {
+        let (told, listed) = set_and_write(alloc, states, unit, *state)?;
+        assert_eq!(rt; (told, listed.as_str()), (*state, *want), "{unit}");
+    }
+    Ok(())
+}
+
 #[test]
 fn units_stand_in_order_with_their_last_states(rt: HostRuntime) -> Result<(), Fail> {
     let mut states = States::new(rt.alloc());
-    for (unit, state, want) in [
-        ("b.service", State::Active, "b.service Active "),
-        ("a.socket", State::Inactive, "b.service Active "),
-        (
-            "a.socket",
-            State::Failed,
-            "a.socket Failed b.service Active ",
-        ),
-        (
-            "c.mount",
-            State::Active,
-            "a.socket Failed b.service Active c.mount Active ",
-        ),
-        (
-            "b.service",
-            State::Failed,
-            "a.socket Failed b.service Failed c.mount Active ",
-        ),
-        (
-            "a.socket",
-            State::Inactive,
-            "b.service Failed c.mount Active ",
-        ),
-    ] {
-        let (told, listed) = set_and_write(rt.alloc(), &mut states, unit, state)?;
-        assert_eq!(rt; told, state, "{unit}");
-        assert_eq!(rt; listed.as_str(), want, "{unit}");
-    }
-    Ok(())
+    set_rows(&rt, rt.alloc(), &mut states)
+}
+
+/// Whether states in which a unit has failed are those of their copy, and those of none.
+fn are_copied(alloc: Global, states: &mut States) -> Result<(bool, bool), Fail> {
+    states.set(UnitName::parse(alloc, "a.service")?, State::Failed)?;
+    let is_same = states.copy(alloc)?.same(states);
+    Ok((is_same, states.same(&States::new(alloc))))
+}
+
+/// Whether new states in which a unit has failed are those of their copy, and those of none.
+fn copied_states(alloc: Global) -> Result<(bool, bool), Fail> {
+    let mut states = States::new(alloc);
+    are_copied(alloc, &mut states)
 }
 
 #[test]
 fn states_are_copied_whole(rt: HostRuntime) -> Result<(), Fail> {
-    let mut states = States::new(rt.alloc());
-    set_and_write(rt.alloc(), &mut states, "a.service", State::Failed)?;
-    assert!(rt; states.copy(rt.alloc())?.same(&states));
-    assert!(rt; !states.same(&States::new(rt.alloc())));
+    assert_eq!(rt; copied_states(rt.alloc())?, (true, false));
     Ok(())
 }
 
-/// A world with a leaf at a path, a unit in a state, and these definitions loaded.
-fn world_of(alloc: Global, at: &str, state: State, loaded: Text) -> Result<World, Fail>
+/// Puts a leaf at a path, and brings a unit to a state.
+fn fill(alloc: Global, world: &mut World, at: &str, state: State) -> Result<(), Fail> {
+    world.set_leaf(Path::parse(alloc, at)?, Leaf::link(alloc, "b")?)?;
+    world.set_state(UnitName::parse(alloc, "a.service")?, state)?;
+    Ok(())
+}
+
+/// Whether a world seems the same as an empty one, from either side.
+fn seem_same(alloc: Global, world: &World) -> (bool, bool) {
+    let empty = World::new(alloc);
+    (empty.same_seen(world), world.same_seen(&empty))
+}
+
+/// Whether a world with a leaf at a path, a unit in a state, and these definitions loaded seems the same
+/// as an empty one, from either side.
+fn seem_empty(alloc: Global, at: &str, state: State, loaded: Text) -> Result<(bool, bool), Fail>
     requires { IsPlain loaded }
 {
     let mut world = World::new(alloc);
-    world.set_leaf(Path::parse(alloc, at)?, Leaf::link(alloc, "b")?)?;
-    world.set_state(UnitName::parse(alloc, "a.service")?, state)?;
     world.set_loaded(loaded);
-    Ok(world)
+    fill(alloc, &mut world, at, state)?;
+    Ok(seem_same(alloc, &world))
 }
+
+const STAGE: &str = "nix/var/nixswitch.stage";
+
+/// A place with a leaf, the state of a unit, and whether the world seems to be an empty one.
+const SEEN: &[(&str, State, bool)] = &[
+    (STAGE, State::Inactive, true),
+    (STAGE, State::Active, false),
+    ("etc/a", State::Inactive, false),
+];
 
 #[test]
 fn the_stage_and_the_journal_are_not_seen(rt: HostRuntime) -> Result<(), Fail> {
     let alloc = rt.alloc();
-    let empty = World::new(alloc);
-    let stage = "nix/var/nixswitch.stage";
-    for (at, state, is_same) in [
-        (stage, State::Inactive, true),
-        (stage, State::Active, false),
-        ("etc/a", State::Inactive, false),
-    ] {
-        let other = world_of(alloc, at, state, Text::new(alloc))?;
-        assert_eq!(rt; empty.same_seen(&other), is_same, "{at} {state:?}");
-        assert_eq!(rt; other.same_seen(&empty), is_same, "{at} {state:?}");
+    for (at, state, want) in SEEN {
+        let got = seem_empty(alloc, at, *state, Text::new(alloc))?;
+        assert_eq!(rt; got, (*want, *want), "{at} {state:?}");
     }
-    let loaded = world_of(alloc, stage, State::Inactive, Text::from_str(alloc, "/a")?)?;
-    assert!(rt; !empty.same_seen(&loaded));
+    let loaded = Text::from_str(alloc, "/a")?;
+    let got = seem_empty(alloc, STAGE, State::Inactive, loaded)?;
+    assert_eq!(rt; got, (false, false));
     Ok(())
+}
+
+/// Loads `/a`, brings a unit to a state, and has another fail.
+fn fill_manager(alloc: Global, world: &mut World) -> Result<(), Fail> {
+    world.set_loaded(Text::from_str(alloc, "/a")?);
+    world.set_state(UnitName::parse(alloc, "a.service")?, State::Failed)?;
+    let loaded = Text::from_str(alloc, "/b")?;
+    let unit = UnitName::parse(alloc, "b.service")?;
+    world.add_bad(Bad { loaded, unit })?;
+    Ok(())
+}
+
+/// Whether a world has loaded nothing, how many of its units aren't inactive, and the length of its journal.
+fn counts(world: &World) -> (bool, usize, usize) {
+    (
+        world.loaded().as_str().is_empty(),
+        world.states().list().as_slice().len(),
+        world.journal().as_slice().len(),
+    )
+}
+
+/// What a world without its manager counts, whether the manager has loaded `/a`, and its bad units.
+type HandedOver = ((bool, usize, usize), bool, usize);
+
+/// Takes the manager out of a world, and puts it back.
+fn hand_over(alloc: Global, world: &mut World) -> HandedOver {
+    let manager = world.swap_manager(ManagerState::new(alloc));
+    let left = counts(world);
+    let is_loaded = manager.loaded.as_str() == "/a";
+    let bad = manager.bad.as_slice().len();
+    let _empty = world.swap_manager(manager);
+    (left, is_loaded, bad)
+}
+
+/// Takes a manager with a failed unit out and puts it back, and writes its units.
+fn fill_and_hand_over(alloc: Global, world: &mut World) -> Result<(HandedOver, String), Fail> {
+    fill_manager(alloc, world)?;
+    let handed = hand_over(alloc, world);
+    Ok((handed, written(alloc, world.states())?))
+}
+
+/// Hands the manager of a new world over.
+fn handed_over(alloc: Global) -> Result<(HandedOver, String), Fail> {
+    let mut world = World::new(alloc);
+    fill_and_hand_over(alloc, &mut world)
 }
 
 #[test]
 fn a_manager_is_handed_over_whole(rt: HostRuntime) -> Result<(), Fail> {
-    let alloc = rt.alloc();
-    let mut world = world_of(alloc, "a", State::Failed, Text::from_str(alloc, "/a")?)?;
-    world.add_bad(Bad {
-        loaded: Text::from_str(alloc, "/b")?,
-        unit: UnitName::parse(alloc, "b.service")?,
-    })?;
-    let manager = world.swap_manager(ManagerState::new(alloc));
-    assert_eq!(rt; world.loaded().as_str(), "");
-    assert_eq!(rt; world.states().list().as_slice().len(), 0);
-    assert_eq!(rt; world.journal().as_slice().len(), 0);
-    assert_eq!(rt; manager.loaded.as_str(), "/a");
-    assert_eq!(rt; manager.bad.as_slice().len(), 1);
-    let _empty = world.swap_manager(manager);
-    assert_eq!(rt;
-        written(alloc, world.states())?.as_str(),
-        "a.service Failed "
-    );
+    let (handed, units) = handed_over(rt.alloc())?;
+    let got = (handed, units.as_str());
+    assert_eq!(rt; got, (((true, 0, 0), true, 1), "a.service Failed "));
     Ok(())
 }
