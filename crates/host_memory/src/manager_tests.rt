@@ -15,18 +15,35 @@ fn unit_name(alloc: Global) -> Result<UnitName, Fail> {
     Ok(UnitName::parse(alloc, "a.service")?)
 }
 
+/// Has a unit fail under the definitions at `/old`.
+fn add_bad(alloc: Global, world: &mut World) -> Result<(), Fail> {
+    let unit = unit_name(alloc)?;
+    let loaded = Text::from_str(alloc, "/old")?;
+    world.add_bad(Bad { loaded, unit })?;
+    Ok(())
+}
+
+/// Loads `/old`, and puts `/new` there to be loaded.
+fn load_old(alloc: Global, world: &mut World) -> Result<(), Fail> {
+    world.set_leaf(definitions_path(alloc)?, Leaf::link(alloc, "/new")?)?;
+    world.set_loaded(Text::from_str(alloc, "/old")?);
+    Ok(())
+}
+
+/// Loads `/old`, puts `/new` there to be loaded, and may have a unit fail.
+fn fill(alloc: Global, world: &mut World, is_bad: bool) -> Result<(), Fail> {
+    load_old(alloc, world)?;
+    if is_bad {
+        add_bad(alloc, world)?;
+    }
+    Ok(())
+}
+
 /// A world whose manager has loaded `/old`, and in which `/new` is there to be loaded. A unit may be bad
 /// under the definitions that are loaded.
 fn world_to_load(alloc: Global, is_bad: bool) -> Result<World, Fail> {
     let mut world = World::new(alloc);
-    world.set_leaf(definitions_path(alloc)?, Leaf::link(alloc, "/new")?)?;
-    world.set_loaded(Text::from_str(alloc, "/old")?);
-    if is_bad {
-        world.add_bad(Bad {
-            loaded: Text::from_str(alloc, "/old")?,
-            unit: unit_name(alloc)?,
-        })?;
-    }
+    fill(alloc, &mut world, is_bad)?;
     Ok(world)
 }
 
@@ -34,8 +51,8 @@ fn world_to_load(alloc: Global, is_bad: bool) -> Result<World, Fail> {
 fn active_world(alloc: Global, is_bad: bool, unit: &UnitName) -> Result<World, Fail>
     ensures { IfOk result (λ world. state_of world.manager.states unit.now ≡ State.Active) }
 {
-    let mut world = world_to_load(alloc, is_bad)?;
     let name = unit.copy(alloc)?;
+    let mut world = world_to_load(alloc, is_bad)?;
     world.set_state(name, State::Active)?;
     Ok(world)
 }
@@ -67,22 +84,49 @@ fn arm_at(host: &mut MemoryHost, pick: Option<u64>)
     }
 }
 
-/// The units and their states, what is loaded, and the journal.
-fn written(alloc: Global, world: &World) -> Result<String, AllocError> {
-    let mut text = String::new(alloc);
+/// Appends the units and their states.
+fn push_states(alloc: Global, text: &mut String, world: &World) -> Result<(), AllocError> {
     for one in world.states().list().as_slice() {
         let unit = one.unit.as_str();
         let state = one.state;
         text.push_str(format!(in alloc; "{unit} {state:?} ")?.as_str())?;
     }
-    text.push_str(world.loaded().as_str())?;
+    Ok(())
+}
+
+/// Appends the journal.
+fn push_journal(alloc: Global, text: &mut String, world: &World) -> Result<(), AllocError> {
     for entry in world.journal().as_slice() {
         let unit = entry.unit.as_str();
         let act = entry.act;
         let loaded = entry.loaded.as_str();
         text.push_str(format!(in alloc; " {act:?} {unit} {loaded}")?.as_str())?;
     }
+    Ok(())
+}
+
+/// The units and their states, what is loaded, and the journal.
+fn written(alloc: Global, world: &World) -> Result<String, AllocError> {
+    let mut text = String::new(alloc);
+    push_states(alloc, &mut text, world)?;
+    text.push_str(world.loaded().as_str())?;
+    push_journal(alloc, &mut text, world)?;
     Ok(text)
+}
+
+/// What an act on an active unit of a host leaves, cut or whole, and whether it is whole.
+fn end_on(
+    alloc: Global,
+    host: &mut MemoryHost,
+    act: Option<Act>,
+    pick: Option<u64>,
+    unit: &UnitName,
+) -> Result<(bool, String), Fail>
+    requires { Told (host_of host.old) (λ w. state_of w.manager.states unit.now ≡ State.Active) }
+{
+    arm_at(host, pick);
+    let is_whole = do_act(alloc, host, act, unit).is_ok();
+    Ok((is_whole, written(alloc, host.world())?))
 }
 
 /// What an act on an active unit leaves, cut or whole, and whether it is whole.
@@ -95,9 +139,7 @@ fn end_of(
     let unit = unit_name(alloc)?;
     let world = active_world(alloc, is_bad, &unit)?;
     let mut host = MemoryHost::new(alloc, world);
-    arm_at(&mut host, pick);
-    let is_whole = do_act(alloc, &mut host, act, &unit).is_ok();
-    Ok((is_whole, written(alloc, host.world())?))
+    end_on(alloc, &mut host, act, pick, &unit)
 }
 
 /// What stands before an act.
@@ -185,16 +227,32 @@ fn an_act_on_an_active_unit_leaves_its_row_of_the_table(rt: HostRuntime) -> Resu
     Ok(())
 }
 
+/// The state that a host tells of a unit.
+fn state_told(alloc: Global, host: &mut MemoryHost, unit: &UnitName) -> Option<State> {
+    match host.units(alloc) {
+        Ok(states) => Some(states.of(unit)),
+        Err(_) => None,
+    }
+}
+
+/// Starts a unit, and answers its state as the host tells it.
+fn start(alloc: Global, host: &mut MemoryHost, unit: &UnitName) -> Option<State> {
+    let is_whole = host.start(alloc, unit).is_ok();
+    let state = state_told(alloc, host, unit);
+    if is_whole { state } else { None }
+}
+
+/// What a start on a host leaves, and the unit's state as the host tells it.
+fn started_on(alloc: Global, host: &mut MemoryHost) -> Result<(String, Option<State>), Fail> {
+    let unit = unit_name(alloc)?;
+    let state = start(alloc, host, &unit);
+    Ok((written(alloc, host.world())?, state))
+}
+
 /// What a start of a unit that isn't active leaves, and the same unit's state as the host tells it.
 fn started(alloc: Global, is_bad: bool) -> Result<(String, Option<State>), Fail> {
-    let unit = unit_name(alloc)?;
     let mut host = MemoryHost::new(alloc, world_to_load(alloc, is_bad)?);
-    let answer = host.start(alloc, &unit);
-    let state = match host.units(alloc) {
-        Ok(states) if answer.is_ok() => Some(states.of(&unit)),
-        _ => None,
-    };
-    Ok((written(alloc, host.world())?, state))
+    started_on(alloc, &mut host)
 }
 
 /// Whether the unit is bad, what a start leaves, and the unit's state.

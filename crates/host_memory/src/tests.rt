@@ -37,21 +37,26 @@ const LATER_PUTS: &[Put] = &[
 /// Puts the texts of these rows.
 fn put_rows(rt: &impl Abort, sink: &mut MemorySink, rows: &[Put]) {
     for (text, is_ok, bytes, faults) in rows {
-        assert_eq!(rt; put(sink, text), *is_ok, "at {text}");
-        assert_eq!(rt; sink.bytes(), bytes.as_bytes(), "at {text}");
-        assert_eq!(rt; sink.faults(), *faults, "at {text}");
+        let is_put = put(sink, text);
+        let got = (is_put, sink.bytes(), sink.faults());
+        assert_eq!(rt; got, (*is_ok, bytes.as_bytes(), *faults), "at {text}");
     }
+}
+
+/// Puts what fits, and then what a listed put and a small room leave out.
+fn put_in_turn(rt: &impl Abort, alloc: Global, sink: &mut MemorySink) -> Result<(), Fail> {
+    sink.room(8)?;
+    put_rows(rt, sink, FIRST_PUTS);
+    sink.room(2)?;
+    sink.fail(listed(alloc, &[1])?);
+    put_rows(rt, sink, LATER_PUTS);
+    Ok(())
 }
 
 #[test]
 fn a_put_appends_what_fits_and_a_listed_put_nothing(rt: HostRuntime) -> Result<(), Fail> {
     let mut sink = MemorySink::new(rt.alloc());
-    sink.room(8)?;
-    put_rows(&rt, &mut sink, FIRST_PUTS);
-    sink.room(2)?;
-    sink.fail(listed(rt.alloc(), &[1])?);
-    put_rows(&rt, &mut sink, LATER_PUTS);
-    Ok(())
+    put_in_turn(&rt, rt.alloc(), &mut sink)
 }
 
 /// Where a leaf is put in the tests.
@@ -129,11 +134,19 @@ fn revived(alloc: Global, host: &mut MemoryHost) -> Result<(Option<usize>, bool)
 /// What a host that is cut gives, and what it gives once it is revived.
 type Cut = ((End, bool, u64), (Option<usize>, bool));
 
+/// What a host without leaves gives, and what it gives once it is revived.
+fn cut_and_revived(alloc: Global, host: &mut MemoryHost) -> Result<Cut, AllocError>
+    requires { (host_of host.old).world ≡ Some empty_world }
+{
+    let cut = outcome(alloc, host)?;
+    Ok((cut, revived(alloc, host)?))
+}
+
 /// What a host gives whose call after so many is cut with this pick.
 fn cut_at(alloc: Global, after: u64, pick: u64) -> Result<Cut, AllocError> {
     let mut host = MemoryHost::new(alloc, World::new(alloc));
     host.arm(after, pick);
-    Ok((outcome(alloc, &mut host)?, revived(alloc, &mut host)?))
+    cut_and_revived(alloc, &mut host)
 }
 
 /// The calls before a cut and its pick, the modes at the stage and the place, and the leaves at the place.
@@ -162,8 +175,9 @@ fn a_cut_leaves_what_its_pick_gives(rt: HostRuntime) -> Result<(), Fail> {
 
 /// What a host gives whose call with this number fails.
 fn failing_at(alloc: Global, number: u64) -> Result<(End, bool, u64), AllocError> {
+    let failing = listed(alloc, &[number])?;
     let mut host = MemoryHost::new(alloc, World::new(alloc));
-    host.fail(listed(alloc, &[number])?);
+    host.fail(failing);
     outcome(alloc, &mut host)
 }
 
