@@ -74,13 +74,26 @@ impl Folders {
         if self.known.contains(parent) {
             return Ok(true);
         }
-        let mut folder = String::from_str(alloc, self.tree.as_str())?;
-        if !self.has_folder(rt, alloc, folder.as_str(), missing)? {
-            return Ok(false);
-        }
         let Some(below) = parent.strip_prefix(self.tree.as_str()) else {
             return Ok(false);
         };
+        let mut folder = String::from_str(alloc, self.tree.as_str())?;
+        self.lead_below(rt, alloc, &mut folder, below, missing)
+    }
+
+    /// Whether a folder and each one on the way below it stands, or was made. The folder's place grows
+    /// by the names on the way.
+    fn lead_below<R: Files>(
+        &mut self,
+        rt: &R,
+        alloc: Global,
+        folder: &mut String,
+        below: &str,
+        missing: Missing,
+    ) -> io::Result<bool> {
+        if !self.has_folder(rt, alloc, folder.as_str(), missing)? {
+            return Ok(false);
+        }
         for name in below.split('/').skip(1) {
             folder.push('/')?;
             folder.push_str(name)?;
