@@ -4,6 +4,8 @@
 #[cfg(test)]
 mod defs_tests;
 #[cfg(test)]
+mod leaves;
+#[cfg(test)]
 mod list_tests;
 #[cfg(test)]
 mod service_tests;
@@ -11,3 +13,5 @@ mod service_tests;
 mod small_worlds;
 #[cfg(test)]
 mod target_tests;
+#[cfg(test)]
+mod unit_names;

@@ -1,11 +1,13 @@
 //! Small worlds with two systems, and the report of a switch from one to the other.
+use crate::leaves::{put_leaf, put_units};
 use dry_report::report;
 use host_memory::MemoryHost;
-use host_trait::{Leaf, State, World};
-use std::alloc::Global;
+use host_trait::{State, World};
+use std::alloc::{AllocError, Global};
+use std::process::Abort;
 use std::test::Fail;
-use switch_engine::{PlanFault, Refusal, plan_units};
-use switch_names::{Bytes, Path, SystemName, UnitName};
+use switch_engine::{Plan, PlanFault, Refusal, plan_units};
+use switch_names::{SystemName, UnitName};
 
 /// The files of units: where one stands in the folder of units, and its text.
 pub type Files = &'static [(&'static str, &'static str)];
@@ -31,20 +33,6 @@ pub const NEW_WEB: (&str, &str) = ("web.service", "[Service]\nExecStart=/bin/b\n
 
 pub const OTHER: (&str, &str) = ("other.service", "[Service]\nExecStart=/bin/other\n");
 
-fn put_file(alloc: Global, world: &mut World, at: &str, text: &str) -> Result<(), Fail> {
-    let leaf = Leaf::file(Bytes::from_slice(alloc, text.as_bytes())?, 420, 0, 0);
-    world.set_leaf(Path::parse(alloc, at)?, leaf)?;
-    Ok(())
-}
-
-fn put_files(alloc: Global, world: &mut World, system: &str, files: Files) -> Result<(), Fail> {
-    for (name, text) in files {
-        let at = format!(in alloc; "nix/store/{system}/etc/systemd/system/{name}")?;
-        put_file(alloc, world, at.as_str(), text)?;
-    }
-    Ok(())
-}
-
 fn put_states(alloc: Global, world: &mut World, names: &str, state: State) -> Result<(), Fail> {
     for name in names.split(' ') {
         if !name.is_empty() {
@@ -54,62 +42,108 @@ fn put_states(alloc: Global, world: &mut World, names: &str, state: State) -> Re
     Ok(())
 }
 
-fn put_list(alloc: Global, world: &mut World, at: &str, names: &str) -> Result<(), Fail> {
-    if names.is_empty() {
-        return Ok(());
-    }
+/// The names, a line for each.
+fn list_text(alloc: Global, names: &str) -> Result<String, AllocError> {
     let mut text = String::new(alloc);
     for name in names.split(' ') {
         text.push_str(name)?;
         text.push('\n')?;
     }
-    put_file(alloc, world, at, text.as_str())
+    Ok(text)
 }
 
-fn world_of(alloc: Global, row: &Row) -> Result<World, Fail> {
-    let (_, both, old, new, words, _) = row;
-    let mut world = World::new(alloc);
-    for (system, files) in [("a-sys", *old), ("b-sys", *new)] {
-        let at = format!(in alloc; "nix/store/{system}/nixos-version")?;
-        put_file(alloc, &mut world, at.as_str(), "24.05\n")?;
-        put_files(alloc, &mut world, system, *both)?;
-        put_files(alloc, &mut world, system, files)?;
+fn put_list(alloc: Global, world: &mut World, at: &str, names: &str) -> Result<(), Fail> {
+    if names.is_empty() {
+        return Ok(());
     }
-    let current = Leaf::link(alloc, "/nix/store/a-sys")?;
-    world.set_leaf(Path::parse(alloc, "run/current-system")?, current)?;
-    put_states(alloc, &mut world, words[0], State::Active)?;
-    put_states(alloc, &mut world, words[1], State::Failed)?;
-    put_list(alloc, &mut world, "run/nixos/start-list", words[2])?;
-    put_list(alloc, &mut world, "run/nixos/restart-list", words[3])?;
-    put_list(alloc, &mut world, "run/nixos/reload-list", words[4])?;
-    Ok(world)
+    let text = list_text(alloc, names)?;
+    put_leaf(alloc, world, at, text.as_str())
+}
+
+/// Puts the two systems of a row.
+fn put_systems(alloc: Global, world: &mut World, row: &Row) -> Result<(), Fail> {
+    put_leaf(alloc, world, "nix/store/a-sys/nixos-version", "24.05\n")?;
+    put_units(alloc, world, "a-sys", row.1)?;
+    put_units(alloc, world, "a-sys", row.2)?;
+    put_leaf(alloc, world, "nix/store/b-sys/nixos-version", "24.05\n")?;
+    put_units(alloc, world, "b-sys", row.1)?;
+    put_units(alloc, world, "b-sys", row.3)?;
+    put_leaf(alloc, world, "run/current-system", "->/nix/store/a-sys")
+}
+
+/// Puts the states of units and the lists of a row.
+fn put_words(alloc: Global, world: &mut World, words: &[&str; 5]) -> Result<(), Fail> {
+    put_states(alloc, world, words[0], State::Active)?;
+    put_states(alloc, world, words[1], State::Failed)?;
+    put_list(alloc, world, "run/nixos/start-list", words[2])?;
+    put_list(alloc, world, "run/nixos/restart-list", words[3])?;
+    put_list(alloc, world, "run/nixos/reload-list", words[4])
+}
+
+fn fill(alloc: Global, world: &mut World, row: &Row) -> Result<(), Fail> {
+    put_systems(alloc, world, row)?;
+    put_words(alloc, world, &row.4)
+}
+
+/// A host with the world of a row.
+fn host_of(alloc: Global, row: &Row) -> Result<MemoryHost, Fail> {
+    let mut world = World::new(alloc);
+    fill(alloc, &mut world, row)?;
+    Ok(MemoryHost::new(alloc, world))
+}
+
+/// The plan of a switch to a system.
+fn planned(alloc: Global, host: &mut MemoryHost, system: &SystemName) -> Result<Plan, PlanFault> {
+    plan_units(alloc, host, system)
+}
+
+/// The report of a plan.
+fn plan_text(alloc: Global, plan: &Plan) -> Result<String, Fail> {
+    Ok(String::from_utf8(report(alloc, plan)?.into_vec())?)
+}
+
+/// The unit and the line of a fault.
+fn fault_text(alloc: Global, fault: &PlanFault) -> Result<String, AllocError> {
+    match fault {
+        PlanFault::Refused(Refusal::UnitText { unit, line }) => {
+            format!(in alloc; "{} {line}", unit.as_str())
+        }
+        fault => format!(in alloc; "{fault:?}"),
+    }
+}
+
+/// The report of a plan, or the fault where none is made.
+fn answer_text(alloc: Global, answer: &Result<Plan, PlanFault>) -> Result<String, Fail> {
+    match answer {
+        Ok(plan) => plan_text(alloc, plan),
+        Err(fault) => Ok(fault_text(alloc, fault)?),
+    }
+}
+
+/// The report of a switch of a host to the second system.
+fn report_on(alloc: Global, host: &mut MemoryHost) -> Result<String, Fail> {
+    let system = SystemName::parse(alloc, "nix/store/b-sys")?;
+    let answer = planned(alloc, host, &system);
+    answer_text(alloc, &answer)
 }
 
 /// The report of a switch from the first system to the second one.
 pub fn report_of(alloc: Global, row: &Row) -> Result<String, Fail> {
-    let mut host = MemoryHost::new(alloc, world_of(alloc, row)?);
-    let system = SystemName::parse(alloc, "nix/store/b-sys")?;
-    match plan_units(alloc, &mut host, &system) {
-        Ok(plan) => {
-            let text = report(alloc, &plan)?;
-            Ok(String::from_utf8(text.into_vec())?)
-        }
-        Err(PlanFault::Refused(Refusal::UnitText { unit, line })) => {
-            let unit = unit.as_str();
-            Ok(format!(in alloc; "{unit} {line}")?)
-        }
-        Err(fault) => Ok(format!(in alloc; "{fault:?}")?),
-    }
+    let mut host = host_of(alloc, row)?;
+    report_on(alloc, &mut host)
 }
 
-/// What is said of the first row whose report isn't the one written down, or nothing.
-pub fn first_wrong(alloc: Global, rows: &[Row]) -> Result<String, Fail> {
+/// A report with these calls.
+fn whole_report(alloc: Global, calls: &str) -> Result<String, AllocError> {
+    format!(in alloc; "from nix/store/a-sys\nto nix/store/b-sys\n{calls}")
+}
+
+/// Holds the reports of these rows to what is written down.
+pub fn try_rows(rt: &impl Abort, alloc: Global, rows: &[Row]) -> Result<(), Fail> {
     for row in rows {
+        let want = whole_report(alloc, row.5)?;
         let found = report_of(alloc, row)?;
-        let want = format!(in alloc; "from nix/store/a-sys\nto nix/store/b-sys\n{}", row.5)?;
-        if found.as_str() != want.as_str() {
-            return Ok(format!(in alloc; "{}: {}", row.0, found.as_str())?);
-        }
+        assert_eq!(rt; found.as_str(), want.as_str(), "{}", row.0);
     }
-    Ok(String::new(alloc))
+    Ok(())
 }
