@@ -1,8 +1,22 @@
 //! Room for a leaf where an empty folder stands.
 use crate::place::{Found, foreign, kind_of};
 use std::alloc::Global;
+use std::fs::DirEntry;
 use std::rt::Files;
 use std::{fs, io};
+
+/// Adds a folder to a list. An entry of anything else is a fault.
+fn push_folder<R: Files + AllocGlobal>(
+    alloc: Global,
+    folders: &mut Vec<String>,
+    entry: &DirEntry<R>,
+) -> io::Result<()> {
+    match kind_of(&entry.metadata()?)? {
+        Found::Folder => folders.push(String::from_str(alloc, entry.path().as_str())?)?,
+        _ => return Err(foreign()),
+    }
+    Ok(())
+}
 
 /// Adds the folders in a folder to a list. Anything else in it is a fault.
 fn push_folders<R: Files + AllocGlobal + Clone + Drop>(
@@ -12,11 +26,7 @@ fn push_folders<R: Files + AllocGlobal + Clone + Drop>(
     folder: &str,
 ) -> io::Result<()> {
     for entry in fs::read_dir(rt, folder)? {
-        let entry = entry?;
-        match kind_of(&entry.metadata()?)? {
-            Found::Folder => folders.push(String::from_str(alloc, entry.path().as_str())?)?,
-            _ => return Err(foreign()),
-        }
+        push_folder(alloc, folders, &entry?)?;
     }
     Ok(())
 }

@@ -3,6 +3,7 @@ use crate::folders::{Folders, Missing};
 use crate::place::{Found, foreign, kind_of, look};
 use host_trait::stage_path;
 use std::alloc::{AllocError, Global};
+use std::fs::DirEntry;
 use std::rt::Files;
 use std::{fs, io};
 use switch_names::{Listed, NameFault, Path};
@@ -16,6 +17,22 @@ fn path_in(alloc: Global, folder: &Path, name: &str) -> io::Result<Path> {
     }
 }
 
+/// Adds what an entry of a folder names to the folders or the leaves.
+fn push_entry<R: Files + AllocGlobal>(
+    alloc: Global,
+    folder: &Path,
+    entry: &DirEntry<R>,
+    folders: &mut Vec<Path>,
+    leaves: &mut Vec<Path>,
+) -> io::Result<()> {
+    let path = path_in(alloc, folder, entry.file_name())?;
+    match kind_of(&entry.metadata()?)? {
+        Found::Folder => folders.push(path)?,
+        _ => leaves.push(path)?,
+    }
+    Ok(())
+}
+
 /// Adds what stands in a folder to the folders and the leaves.
 fn push_entries<R: Files + AllocGlobal + Clone + Drop>(
     rt: &R,
@@ -26,12 +43,7 @@ fn push_entries<R: Files + AllocGlobal + Clone + Drop>(
     leaves: &mut Vec<Path>,
 ) -> io::Result<()> {
     for entry in fs::read_dir(rt, place)? {
-        let entry = entry?;
-        let path = path_in(alloc, folder, entry.file_name())?;
-        match kind_of(&entry.metadata()?)? {
-            Found::Folder => folders.push(path)?,
-            _ => leaves.push(path)?,
-        }
+        push_entry(alloc, folder, &entry?, folders, leaves)?;
     }
     Ok(())
 }
