@@ -1,7 +1,8 @@
-# `make run` builds the program, boots the example system and shows what a switch would do; `make test`
-# runs all tests.
+# `make run` builds the program, boots the example system, shows what a switch would do and switches;
+# `make test` runs all tests.
 PROGRAM := crates/nixswitch/out/nixswitch
 SCRATCH ?= $(or $(TMPDIR),/tmp)/nixswitch-example
+MACHINE := $(SCRATCH)-machine
 SOURCES := crates.txt $(shell find crates \( -name '*.rt' -o -name '*.antt' \) -not -path '*/out/*')
 
 .PHONY: run test
@@ -20,8 +21,18 @@ run: $(PROGRAM)
 	@echo "the profile's link, $(SCRATCH)/tree/nix/var/nix/profiles/system:"
 	@cat $(SCRATCH)/tree/nix/var/nix/profiles/system
 	@echo
-	@echo "what a switch would do on crates/nixswitch/data/example:"
-	$(PROGRAM) crates/nixswitch/data/example dry-activate nix/store/web-24.11
+	@rm -rf $(MACHINE) && cp -r crates/nixswitch/data/example $(MACHINE)
+	@echo "what a switch would do on a copy of crates/nixswitch/data/example:"
+	$(PROGRAM) $(MACHINE) dry-activate nix/store/web-24.11
+	@echo
+	@echo "the switch, on which one unit fails:"
+	@echo "$(PROGRAM) $(MACHINE) test nix/store/web-24.11"
+	@$(PROGRAM) $(MACHINE) test nix/store/web-24.11; status=$$?; echo "exit status $$status"; [ $$status = 4 ]
+	@echo
+	@echo "the system in use, $(MACHINE)/tree/run/current-system:"
+	@cat $(MACHINE)/tree/run/current-system
+	@echo "the state of the service manager, $(MACHINE)/manager:"
+	@cat $(MACHINE)/manager
 
 test:
 	.ci/run

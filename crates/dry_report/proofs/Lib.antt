@@ -1,1 +1,4 @@
+pub mod CloseLemmas
+pub mod LeftLemmas
+pub mod PutLemmas
 pub mod ReportLemmas

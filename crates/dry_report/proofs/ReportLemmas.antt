@@ -32,7 +32,7 @@ same_lists leaves one other is also = λ i. record {
   reloads = same_list _ one.reloads other.reloads is.reloads also.reloads i;
 }
 
-same_owed : (w : WorldState) (system : Name) (lists others : Lists) (one other : Owed) → IsOwedIn w system lists one → IsOwedIn w system others other → one ≡ other
+pub same_owed : (w : WorldState) (system : Name) (lists others : Lists) (one other : Owed) → IsOwedIn w system lists one → IsOwedIn w system others other → one ≡ other
 same_owed w system lists others one other is also =
     one_owed (systems_at w.leaves (current_system w.leaves) system) (state_of w.manager.states) lists one other is.planned
     (subst (λ (l : Lists). IsPlan (systems_at w.leaves (current_system w.leaves) system) (state_of w.manager.states) l other)

@@ -1,5 +1,5 @@
 -- What a switch says before it changes anything: the lines of switch-to-configuration, NixOS manual, "Unit handling".
-use Rattle.std.specs.Prelude.{◌≡◌, ℕ, ◌++◌, Bool, true, false, List, [], ◌∷◌, Option, None, Some, codes, filter, not}
+use Rattle.std.specs.Prelude.{◌≡◌, ℕ, ◌++◌, List, [], ◌∷◌, Option, None, Some, codes, filter, not}
 use Rattle.std.specs.List.{flat_map}
 use Rattle.host_trait.specs.declared.entry.Act.{Act}
 use Rattle.host_trait.specs.declared.entry.Act.TheVariants.{Stop, Reload, Restart, Start}
@@ -9,6 +9,7 @@ use Rattle.owed_lists.specs.declared.lists.Lists.{Lists}
 use Rattle.owed_plan.specs.declared.duty.Duty.{Duty}
 use Rattle.owed_plan.specs.declared.owed.Owed.{Owed}
 use Rattle.owed_plan.specs.Calls.{calls_of}
+use Rattle.switch_engine.specs.Owes.{is_stop}
 use Rattle.switch_engine.specs.Plan.{IsOwedIn}
 use Rattle.switch_engine.specs.System.{current_system}
 use Rattle.switch_names.specs.Names.{Name}
@@ -32,11 +33,6 @@ act_word Start = codes "start"
 -- the line of a call
 abbrev pub duty_line : Duty → List ℕ
 duty_line duty = line (act_word duty.act) duty.unit
-
--- a call that stops a unit
-abbrev pub is_stop : Act → Bool
-is_stop Stop = true
-is_stop act = false
 
 -- the lines of the stops
 abbrev pub stop_lines : List Duty → List ℕ

@@ -2,7 +2,8 @@
 ghost use Rattle.std.specs.Prelude.{◌≡◌, ◌++◌, ◌∷◌, [], codes, IfOk, OnOk};
 ghost use Rattle.std.specs.List.{flat_map};
 ghost use Rattle.std.specs.Option.{option_copied};
-ghost use Rattle.dry_report.specs.Report.{act_word, is_stop, line, other_lines, report_of, stop_lines, system_text};
+ghost use Rattle.switch_engine.specs.Owes.{is_stop};
+ghost use Rattle.dry_report.specs.Report.{act_word, line, other_lines, report_of, stop_lines, system_text};
 
 use host_trait::Act;
 use owed_plan::Duty;

@@ -37,6 +37,22 @@ pub struct FolderHost<R: Files + AllocGlobal + Clone + Drop> {
     ghost plain: { ForSome manager HasPlainTexts } by { Prim.hlevel (props, bad_is_plain_once, entry_is_plain_once) },
 }
 
+/// The leaf at a place of the tree.
+fn leaf_in<R: Files>(
+    rt: &R,
+    alloc: Global,
+    tree: &mut Folders,
+    place: &str,
+) -> io::Result<Option<Leaf>> {
+    if !tree.lead_to(rt, alloc, place, Missing::Stays)? {
+        return Ok(None);
+    }
+    match look(rt, place)? {
+        Found::File(len) => Ok(Some(read_leaf(rt, alloc, place, len)?)),
+        _ => Ok(None),
+    }
+}
+
 /// The leaf at a path.
 fn leaf_at<R: Files>(
     rt: &R,
@@ -45,25 +61,24 @@ fn leaf_at<R: Files>(
     at: &Path,
 ) -> io::Result<Option<Leaf>> {
     let place = tree.place(alloc, at)?;
-    if !tree.lead_to(rt, alloc, place.as_str(), Missing::Stays)? {
-        return Ok(None);
+    leaf_in(rt, alloc, tree, place.as_str())
+}
+
+/// Removes the leaf at a place of the tree.
+fn remove_in<R: Files>(rt: &R, alloc: Global, tree: &mut Folders, place: &str) -> io::Result<()> {
+    if !tree.lead_to(rt, alloc, place, Missing::Stays)? {
+        return Ok(());
     }
-    match look(rt, place.as_str())? {
-        Found::File(len) => Ok(Some(read_leaf(rt, alloc, place.as_str(), len)?)),
-        _ => Ok(None),
+    match look(rt, place)? {
+        Found::File(_) => fs::remove_file(rt, place),
+        _ => Ok(()),
     }
 }
 
 /// Removes the leaf at a path.
 fn remove_at<R: Files>(rt: &R, alloc: Global, tree: &mut Folders, at: &Path) -> io::Result<()> {
     let place = tree.place(alloc, at)?;
-    if !tree.lead_to(rt, alloc, place.as_str(), Missing::Stays)? {
-        return Ok(());
-    }
-    match look(rt, place.as_str())? {
-        Found::File(_) => fs::remove_file(rt, place.as_str()),
-        _ => Ok(()),
-    }
+    remove_in(rt, alloc, tree, place.as_str())
 }
 
 impl<R: Files + AllocGlobal + Clone + Drop> FolderHost<R> {
@@ -110,13 +125,23 @@ impl<R: Files + AllocGlobal + Clone + Drop> FolderHost<R> {
         Ok(states)
     }
 
+    /// Makes a call on the manager whose state this is.
+    fn step(&self, alloc: Global, state: &mut ManagerState, call: &Call) -> io::Result<()>
+        requires plain { HasPlainTexts state.old }
+        requires text { IsPlainCall call.now }
+        ensures { HasPlainTexts state.new }
+    {
+        let root = self.tree.root()?;
+        step_manager(&self.rt, alloc, root, state, call)
+    }
+
     /// Makes a call on the manager. Its state is read again after one that has failed.
     fn make(&mut self, alloc: Global, call: &Call) -> io::Result<()>
         requires { IsPlainCall call.now }
         ensures { self.new.faults ≡ self.old.faults }
     {
         let mut state = self.take_manager(alloc)?;
-        step_manager(&self.rt, alloc, self.tree.root()?, &mut state, call)?;
+        self.step(alloc, &mut state, call)?;
         self.manager = Some(state);
         Ok(())
     }
@@ -129,14 +154,30 @@ impl<R: Files + AllocGlobal + Clone + Drop> FolderHost<R> {
         self.make(alloc, &call)
     }
 
+    /// The leaf at the place of the definitions.
+    fn definitions(&mut self, alloc: Global) -> io::Result<Option<Leaf>>
+        ensures { self.new.faults ≡ self.old.faults }
+    {
+        let at = definitions_path(alloc)?;
+        leaf_at(&self.rt, alloc, &mut self.tree, &at)
+    }
+
+    /// The call that loads the definitions to which the link at their place leads.
+    fn load_call(&mut self, alloc: Global) -> io::Result<Call>
+        ensures plain { IfOk result IsPlainCall }
+        ensures faults { self.new.faults ≡ self.old.faults }
+    {
+        let leaf = self.definitions(alloc)?;
+        let text = loaded_text(alloc, leaf.as_ref())?;
+        Ok(Call::DaemonReload(text))
+    }
+
     /// Loads the definitions to which the link at their place leads.
     fn load(&mut self, alloc: Global) -> io::Result<()>
         ensures { self.new.faults ≡ self.old.faults }
     {
-        let place = definitions_path(alloc)?;
-        let leaf = leaf_at(&self.rt, alloc, &mut self.tree, &place)?;
-        let text = loaded_text(alloc, leaf.as_ref())?;
-        self.make(alloc, &Call::DaemonReload(text))
+        let call = self.load_call(alloc)?;
+        self.make(alloc, &call)
     }
 
     /// The answer of a call, counted where it is a fault of the device.

@@ -15,6 +15,3 @@ mod place;
 mod stage;
 
 pub use host::FolderHost;
-
-#[cfg(test)]
-mod tests;

@@ -48,35 +48,60 @@ fn push_entries<R: Files + AllocGlobal + Clone + Drop>(
     Ok(())
 }
 
-/// The leaves below a folder of the tree.
-fn leaves_below<R: Files + AllocGlobal + Clone + Drop>(
+/// Adds what stands in a folder of the tree to the folders and the leaves.
+fn push_folder<R: Files + AllocGlobal + Clone + Drop>(
+    rt: &R,
+    alloc: Global,
+    tree: &mut Folders,
+    folder: &Path,
+    folders: &mut Vec<Path>,
+    leaves: &mut Vec<Path>,
+) -> io::Result<()> {
+    let place = tree.place(alloc, folder)?;
+    tree.remember(alloc, place.as_str())?;
+    push_entries(rt, alloc, place.as_str(), folder, folders, leaves)
+}
+
+/// Adds the leaves below a folder of the tree.
+fn push_below<R: Files + AllocGlobal + Clone + Drop>(
     rt: &R,
     alloc: Global,
     tree: &mut Folders,
     under: &Path,
-) -> io::Result<Vec<Path>> {
-    let mut leaves = Vec::new(alloc);
+    leaves: &mut Vec<Path>,
+) -> io::Result<()> {
     let mut folders = Vec::new(alloc);
     folders.push(under.copy(alloc)?)?;
     for _ in 0..u64::MAX {
         let Some(folder) = folders.pop() else {
             break;
         };
-        let place = tree.place(alloc, &folder)?;
-        tree.remember(alloc, place.as_str())?;
-        push_entries(
-            rt,
-            alloc,
-            place.as_str(),
-            &folder,
-            &mut folders,
-            &mut leaves,
-        )?;
+        push_folder(rt, alloc, tree, &folder, &mut folders, leaves)?;
     }
-    Ok(leaves)
+    Ok(())
 }
 
-/// The leaf at a place alone, or those below it.
+/// Adds the leaf at a place alone, or those below it.
+fn push_under<R: Files + AllocGlobal + Clone + Drop>(
+    rt: &R,
+    alloc: Global,
+    tree: &mut Folders,
+    under: &Path,
+    place: &str,
+    leaves: &mut Vec<Path>,
+) -> io::Result<()> {
+    if !tree.lead_to(rt, alloc, place, Missing::Stays)? {
+        return Ok(());
+    }
+    match look(rt, place)? {
+        Found::Nothing => {}
+        Found::File(_) => leaves.push(under.copy(alloc)?)?,
+        Found::Folder => push_below(rt, alloc, tree, under, leaves)?,
+    }
+    Ok(())
+}
+
+/// The leaf at a path alone, or those below it.
 fn leaves_under<R: Files + AllocGlobal + Clone + Drop>(
     rt: &R,
     alloc: Global,
@@ -85,14 +110,7 @@ fn leaves_under<R: Files + AllocGlobal + Clone + Drop>(
 ) -> io::Result<Vec<Path>> {
     let place = tree.place(alloc, under)?;
     let mut leaves = Vec::new(alloc);
-    if !tree.lead_to(rt, alloc, place.as_str(), Missing::Stays)? {
-        return Ok(leaves);
-    }
-    match look(rt, place.as_str())? {
-        Found::Nothing => {}
-        Found::File(_) => leaves.push(under.copy(alloc)?)?,
-        Found::Folder => leaves = leaves_below(rt, alloc, tree, under)?,
-    }
+    push_under(rt, alloc, tree, under, place.as_str(), &mut leaves)?;
     Ok(leaves)
 }
 

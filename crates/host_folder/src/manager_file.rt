@@ -63,6 +63,19 @@ fn write_anew<R: Files>(rt: &R, place: &str, bytes: &[u8]) -> io::Result<()> {
     }
 }
 
+/// Replaces a file below a root, by way of a draft beside it.
+fn replace_file<R: Files>(
+    rt: &R,
+    root: &str,
+    draft: &str,
+    place: &str,
+    bytes: &[u8],
+) -> io::Result<()> {
+    fs::create_dir_all(rt, root)?;
+    write_anew(rt, draft, bytes)?;
+    fs::rename(rt, draft, place)
+}
+
 /// Replaces the manager's state below a root, in one step.
 fn write_manager<R: Files>(
     rt: &R,
@@ -75,9 +88,7 @@ fn write_manager<R: Files>(
     let text = write_state(alloc, state)?;
     let draft = format!(in alloc; "{root}/manager.new")?;
     let place = format!(in alloc; "{root}/manager")?;
-    fs::create_dir_all(rt, root)?;
-    write_anew(rt, draft.as_str(), text.as_slice())?;
-    fs::rename(rt, draft.as_str(), place.as_str())
+    replace_file(rt, root, draft.as_str(), place.as_str(), text.as_slice())
 }
 
 /// Makes a call on the manager whose state this is, and writes its new state.

@@ -21,6 +21,12 @@ pub enum Stage {
     Written,
 }
 
+/// The place of the stage.
+fn stage_place(alloc: Global, tree: &Folders) -> io::Result<String> {
+    let at = stage_path(alloc)?;
+    tree.place(alloc, &at)
+}
+
 /// Takes away what stands where a new file is to be written.
 fn make_room<R: Files + AllocGlobal + Clone + Drop>(
     rt: &R,
@@ -38,6 +44,25 @@ fn make_room<R: Files + AllocGlobal + Clone + Drop>(
     }
 }
 
+/// Writes a text at the stage's place, as a new file.
+fn write_at<R: Files + AllocGlobal + Clone + Drop>(
+    rt: &R,
+    alloc: Global,
+    tree: &mut Folders,
+    stage: &mut Stage,
+    place: &str,
+    text: &[u8],
+) -> io::Result<()> {
+    tree.lead_to(rt, alloc, place, Missing::IsMade)?;
+    if !matches!(stage, Stage::Empty) {
+        make_room(rt, alloc, tree, place)?;
+    }
+    *stage = Stage::Unseen;
+    write_new(rt, place, text)?;
+    *stage = Stage::Written;
+    Ok(())
+}
+
 /// Writes a leaf at the stage, as a new file.
 pub fn write_leaf<R: Files + AllocGlobal + Clone + Drop>(
     rt: &R,
@@ -47,15 +72,8 @@ pub fn write_leaf<R: Files + AllocGlobal + Clone + Drop>(
     leaf: &Leaf,
 ) -> io::Result<()> {
     let text = write_node(alloc, leaf)?;
-    let place = tree.place(alloc, &stage_path(alloc)?)?;
-    tree.lead_to(rt, alloc, place.as_str(), Missing::IsMade)?;
-    if !matches!(stage, Stage::Empty) {
-        make_room(rt, alloc, tree, place.as_str())?;
-    }
-    *stage = Stage::Unseen;
-    write_new(rt, place.as_str(), text.as_slice())?;
-    *stage = Stage::Written;
-    Ok(())
+    let place = stage_place(alloc, tree)?;
+    write_at(rt, alloc, tree, stage, place.as_str(), text.as_slice())
 }
 
 /// Whether a regular file stands at the stage, in folders that are no links.
@@ -75,7 +93,41 @@ fn is_staged<R: Files>(
     }
 }
 
-/// Moves the stage's file to a place in one step.
+/// Leads to the place of a file that is moved there, and takes away a folder that stands there.
+fn make_way<R: Files + AllocGlobal + Clone + Drop>(
+    rt: &R,
+    alloc: Global,
+    tree: &mut Folders,
+    place: &str,
+) -> io::Result<()> {
+    tree.lead_to(rt, alloc, place, Missing::IsMade)?;
+    if let Found::Folder = look(rt, place)? {
+        tree.forget();
+        clear_folder(rt, alloc, place)?;
+    }
+    Ok(())
+}
+
+/// Moves the stage's file from its place to another in one step.
+fn move_file<R: Files + AllocGlobal + Clone + Drop>(
+    rt: &R,
+    alloc: Global,
+    tree: &mut Folders,
+    stage: &mut Stage,
+    from: &str,
+    place: &str,
+) -> io::Result<()> {
+    if !is_staged(rt, alloc, tree, *stage, from)? {
+        return Err(foreign());
+    }
+    make_way(rt, alloc, tree, place)?;
+    *stage = Stage::Unseen;
+    fs::rename(rt, from, place)?;
+    *stage = Stage::Empty;
+    Ok(())
+}
+
+/// Moves the stage's file to a path in one step.
 pub fn move_leaf<R: Files + AllocGlobal + Clone + Drop>(
     rt: &R,
     alloc: Global,
@@ -83,18 +135,7 @@ pub fn move_leaf<R: Files + AllocGlobal + Clone + Drop>(
     stage: &mut Stage,
     to: &Path,
 ) -> io::Result<()> {
-    let from = tree.place(alloc, &stage_path(alloc)?)?;
+    let from = stage_place(alloc, tree)?;
     let place = tree.place(alloc, to)?;
-    if !is_staged(rt, alloc, tree, *stage, from.as_str())? {
-        return Err(foreign());
-    }
-    tree.lead_to(rt, alloc, place.as_str(), Missing::IsMade)?;
-    if let Found::Folder = look(rt, place.as_str())? {
-        tree.forget();
-        clear_folder(rt, alloc, place.as_str())?;
-    }
-    *stage = Stage::Unseen;
-    fs::rename(rt, from.as_str(), place.as_str())?;
-    *stage = Stage::Empty;
-    Ok(())
+    move_file(rt, alloc, tree, stage, from.as_str(), place.as_str())
 }

@@ -11,8 +11,3 @@ mod troubles;
 
 pub use memory_host::MemoryHost;
 pub use memory_sink::MemorySink;
-
-#[cfg(test)]
-mod manager_tests;
-#[cfg(test)]
-mod tests;

@@ -11,8 +11,6 @@ mod manager_state;
 mod reading;
 mod sink;
 mod states;
-#[cfg(test)]
-mod tests;
 mod tree;
 mod unit_state;
 mod world;

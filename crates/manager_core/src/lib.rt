@@ -7,8 +7,6 @@ mod placing;
 mod reading;
 mod state_fault;
 mod stepping;
-#[cfg(test)]
-mod tests;
 mod writing;
 
 pub use call::Call;

@@ -1,14 +1,19 @@
 -- The report of a plan, and what a dry run puts out.
-use Rattle.std.proofs.Common.{◌≡◌, ℕ, List, [], Result, Err, refl, sym, ap, subst, ◌∙◌}
+use Rattle.std.proofs.Common.{◌≡◌, ℕ, List, [], ◌++◌, Result, Err, refl, sym, ap, subst, ◌∙◌}
+use Rattle.std.proofs.lemmas.List.{append-nil}
 use Rattle.host_trait.specs.Sink.{IsPrefixOf}
-use Rattle.host_trait.specs.World.{WorldState}
+use Rattle.host_trait.specs.States.{state_of}
+use Rattle.host_trait.specs.World.{WorldState, seen}
+use Rattle.owed_plan.specs.Calls.{calls_of}
+use Rattle.switch_engine.specs.declared.command.Command.TheVariants.{Test, DryActivate}
 use Rattle.switch_engine.specs.declared.plan.Plan.{Plan}
 use Rattle.switch_engine.specs.Plan.{IsPlanOf}
 use Rattle.switch_engine.specs.System.{current_system}
 use Rattle.dry_report.specs.Report.{IsReport, report_of}
+use Rattle.dry_report.proofs.ReportLemmas.{one_report}
 use Rattle.nixswitch.specs.declared.run_fault.RunFault.{RunFault}
 use Rattle.nixswitch.specs.declared.run_fault.RunFault.TheVariants as fault
-use Rattle.nixswitch.specs.Outcomes.{IsDryOutput}
+use Rattle.nixswitch.specs.Outcomes.{IsDryOutput, IsEndOf, IsPutFirst, IsWhole}
 
 -- the text of a plan is a report of its switch
 pub report_is : (w : WorldState) (system text : List ℕ) (plan : Plan) → IsPlanOf system w plan → text ≡ report_of plan.from plan.to plan.duties plan.owed.left → IsReport w system text
@@ -35,3 +40,20 @@ nothing_dry result y w system is other = subst (λ r. IsDryOutput r w system [])
 pub sink_dry : (result : Result (Unit {0}) RunFault) (y : RunFault) (w : WorldState) (system text more : List ℕ) → result ≡ Err y → y ≡ fault.Sink → IsReport w system text → IsPrefixOf text more → IsDryOutput result w system more
 sink_dry result y w system text more is sink report prefix =
     subst (λ r. IsDryOutput r w system more) (sym (is ∙ ap (λ f. Err f) sink)) (text, report, prefix)
+
+-- a world that hasn't changed is the end of a dry run
+pub dry_end : (system : List ℕ) (w v : WorldState) → v ≡ w → IsEndOf (DryActivate system) w v
+dry_end system w v same = record {
+  final = ap seen same;
+  entries = [];
+  are_entered = refl;
+  journal = ap (λ (x : WorldState). x.manager.journal) same ∙ sym (append-nil w.manager.journal);
+}
+
+-- all that a dry run puts is what a switch puts first
+pub put_first : (w : WorldState) (system more : List ℕ) → IsWhole w (DryActivate system) more → IsPutFirst w (Test system) more
+put_first w system more dry =
+    let all : more ≡ dry.report = dry.is_all ∙ ap (λ close. dry.report ++ close) dry.is_close ∙ append-nil dry.report in (
+      subst (IsReport w system) (sym all) dry.is_report,
+      λ whole is. (is.close, is.is_all ∙ ap (λ report. report ++ is.close) (one_report w system is.report dry.report is.is_report dry.is_report ∙ sym all)),
+    )

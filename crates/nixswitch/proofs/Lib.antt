@@ -1,8 +1,10 @@
 pub mod DryLemmas
+pub mod LawLemmas
 pub mod OutputLemmas
 pub mod PlanLemmas
 pub mod PutTestLemmas
 pub mod ResultLemmas
 pub mod RunLemmas
 pub mod StatusLemmas
+pub mod SwitchLemmas
 pub mod UnderwayLemmas

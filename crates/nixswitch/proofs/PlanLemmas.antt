@@ -20,7 +20,7 @@ use Rattle.switch_engine.specs.System.{version_path}
 use Rattle.nixswitch.specs.Boot.{IsPlanOf, boot_places, boot_report, new_link, set_refusal}
 use Rattle.nixswitch.specs.BootPlaces.{AreApartFromStage, new_link_in, places_in}
 use Rattle.nixswitch.specs.Outcomes.{refusal}
-use Rattle.nixswitch.specs.declared.command.Command.TheVariants.{Boot}
+use Rattle.switch_engine.specs.declared.command.Command.TheVariants.{Boot}
 use Rattle.switch_engine.specs.declared.refusal.Refusal.TheVariants.{NoSystem, InTheWay, GenerationsFull}
 
 pub system_is : (text word system : List ℕ) → text ≡ word → system ≡ system_path text → system_fault text ≡ None → Some system ≡ system_of word

@@ -5,19 +5,19 @@ use Rattle.switch_names.specs.SystemName.{NamesSystem, system_fault, system_path
 use Rattle.switch_names.proofs.StorePaths.{IsSystemPath-from_named, NamesSystem-with_slash}
 use Rattle.host_trait.specs.Host.{HasCauseOf, HostState, Leads, Told}
 use Rattle.host_trait.specs.Sink.{Puts, SinkState}
-use Rattle.host_trait.specs.World.{WorldState, seen}
+use Rattle.host_trait.specs.World.{WorldState}
 use Rattle.host_trait.proofs.Moments.{passes_as, started}
 use Rattle.generations.specs.Places.{system_of}
-use Rattle.nixswitch.specs.declared.command.Command.{Command}
-use Rattle.nixswitch.specs.declared.command.Command.TheVariants.{Boot, DryActivate}
+use Rattle.switch_engine.specs.declared.command.Command.{Command}
+use Rattle.switch_engine.specs.declared.command.Command.TheVariants.{Test, Boot, DryActivate}
 use Rattle.switch_engine.specs.declared.refusal.Refusal.{Refusal}
 use Rattle.nixswitch.specs.declared.status.Status.{Status}
 use Rattle.nixswitch.specs.declared.status.Status.TheVariants.{Usage, HostFault, NoMemory}
 use Rattle.nixswitch.specs.Commands.{command_for, command_of}
-use Rattle.nixswitch.specs.Outcomes.{IsBrokenOutput, IsOutputOf, final, refusal}
-use Rattle.nixswitch.specs.Run.{IsAnswerTo, IsCommandMoment, IsMomentOf, IsUnchangedOrAt, Runs, RunsCommand}
+use Rattle.nixswitch.specs.Outcomes.{IsBrokenOutput, IsEndOf, IsOutputOf, IsVerdict, refusal}
+use Rattle.nixswitch.specs.Run.{Answers, IsAnswerTo, IsCommandMoment, IsMomentOf, IsUnchangedOrAt, Runs, RunsCommand}
 use Rattle.nixswitch.proofs.OutputLemmas.{puts_nothing}
-use Rattle.nixswitch.proofs.UnderwayLemmas.{boot_begins, dry_begins}
+use Rattle.nixswitch.proofs.UnderwayLemmas.{boot_begins, dry_begins, test_begins}
 
 none_some : {X : Type 0} (o : Option X) (x : X) → o ≡ None → o ≡ Some x → ⊥
 none_some o x none some = cc
@@ -35,12 +35,13 @@ named_by word s is = either (system_fault word) refl is
 
 -- the word `boot` gives the boot of the system alone, and no other word does
 boot_system : (verb t s : List ℕ) → command_for verb t ≡ Some (Boot s) → t ≡ s
-boot_system verb t s is = either (pointwise nat_eq verb (codes "boot")) (pointwise nat_eq verb (codes "dry-activate")) is
+boot_system verb t s is = either (pointwise nat_eq verb (codes "test")) (pointwise nat_eq verb (codes "boot")) (pointwise nat_eq verb (codes "dry-activate")) is
   where
-    either : (boot dry : Bool) → cond boot (Some (Boot t)) (cond dry (Some (DryActivate t)) None) ≡ Some (Boot s) → t ≡ s
-    either true dry some = cc
-    either false true some = absurd (cc)
-    either false false some = absurd (cc)
+    either : (test boot dry : Bool) → cond test (Some (Test t)) (cond boot (Some (Boot t)) (cond dry (Some (DryActivate t)) None)) ≡ Some (Boot s) → t ≡ s
+    either true boot dry some = absurd (cc)
+    either false true dry some = cc
+    either false false true some = absurd (cc)
+    either false false false some = absurd (cc)
 
 boot_names : (verb word s : List ℕ) → option_and_then (command_for verb) (system_of word) ≡ Some (Boot s) → NamesSystem s s
 boot_names verb word s is = either (system_of word) refl is
@@ -56,6 +57,7 @@ command_names (verb ∷ word ∷ []) s is = boot_names verb word s is
 command_names (verb ∷ word ∷ more ∷ rest) s is = absurd (cc)
 
 command_begins : (words : List (List ℕ)) (command : Command) (w : WorldState) → command_of words ≡ Some command → IsCommandMoment command w w
+command_begins words (Test s) w is = test_begins s w
 command_begins words (DryActivate s) w is = dry_begins s w
 command_begins words (Boot s) w is = let names = command_names words s is in boot_begins s w names (NamesSystem-with_slash s names)
 
@@ -72,12 +74,13 @@ moment_of words command w m is moment = record {
 }
 
 nothing_broken : (w : WorldState) (command : Command) → IsBrokenOutput w command []
+nothing_broken w (Test system) = inl refl
 nothing_broken w (Boot system) = inl refl
 nothing_broken w (DryActivate system) = refl
 
-without_memory : (o : Option Refusal) → IsAnswerTo o NoMemory
-without_memory None = inr refl
-without_memory (Some why) = inr refl
+without_memory : (o : Option Refusal) (command : Command) (w : WorldState) → IsAnswerTo o command w NoMemory
+without_memory None command w = inr refl
+without_memory (Some why) command w = inr refl
 
 module _ {host after : HostState} {sink put : SinkState} where
   pub runs_of_command : (words : List (List ℕ)) (command : Command) (status : Status) → command_of words ≡ Some command → RunsCommand host after sink put command status → Runs host after sink put words status
@@ -87,14 +90,15 @@ module _ {host after : HostState} {sink put : SinkState} where
     usage_output = λ none. absurd (none_some _ _ none is);
     refused = λ why s other named. subst (λ (c : Command). Told host (λ w. refusal w c ≡ Some why)) (one_of _ _ _ is named) (runs.refused why s);
     refused_output = runs.refused_output;
-    done = λ s other named. subst (λ (c : Command). Leads host after (λ w v. seen v ≡ final w c)) (one_of _ _ _ is named) (runs.done s);
-    done_not_refused = λ s other named. subst (λ (c : Command). Told host (λ w. refusal w c ≡ None)) (one_of _ _ _ is named) (runs.done_not_refused s);
+    ended = λ s other named. subst (λ (c : Command). Leads host after (IsEndOf c)) (one_of _ _ _ is named) (runs.ended s);
+    verdict = λ s other named. subst (λ (c : Command). Told host (λ w. IsVerdict c w status)) (one_of _ _ _ is named) (runs.verdict s);
+    ended_not_refused = λ s other named. subst (λ (c : Command). Told host (λ w. refusal w c ≡ None)) (one_of _ _ _ is named) (runs.ended_not_refused s);
     output = λ other named. subst (λ (c : Command). Told host (λ w. Puts sink put (IsOutputOf status w c))) (one_of _ _ _ is named) runs.output;
     cause = runs.cause;
     sink_cause = runs.sink_cause;
     sink_not_refused = λ s other named. subst (λ (c : Command). Told host (λ w. refusal w c ≡ None)) (one_of _ _ _ is named) (runs.sink_not_refused s);
-    sink_world = λ s other named. subst (λ (c : Command). IsUnchangedOrAt host after (λ w. final w c)) (one_of _ _ _ is named) (runs.sink_world s);
-    completes = λ no_host no_sink other named. subst (λ (c : Command). Told host (λ w. IsAnswerTo (refusal w c) status)) (one_of _ _ _ is named) (runs.completes no_host no_sink);
+    sink_world = λ s other named. subst (λ (c : Command). IsUnchangedOrAt host after (IsEndOf c)) (one_of _ _ _ is named) (runs.sink_world s);
+    completes = λ no_host no_sink other named. subst (λ (c : Command). Told host (λ w. Answers c w status)) (one_of _ _ _ is named) (runs.completes no_host no_sink);
     begins = record { has = λ w told. begins words w };
     moments = passes_as runs.moments (IsMomentOf words) (λ w m told moment. moment_of words command w m is moment);
   }
@@ -117,8 +121,9 @@ module _ {host : HostState} {sink : SinkState} where
     usage_output = λ is. puts_nothing sink (λ more. more ≡ []) refl;
     refused = λ why s. absurd (cc);
     refused_output = λ why s. absurd (cc);
-    done = λ s. absurd (cc);
-    done_not_refused = λ s. absurd (cc);
+    ended = λ never. absurd never;
+    verdict = λ never. absurd never;
+    ended_not_refused = λ never. absurd never;
     output = λ command named. absurd (none_some _ _ none named);
     cause = no_cause Usage (λ s. cc);
     sink_cause = record { later = omega arith; rose = λ s. absurd (cc) };
@@ -136,14 +141,15 @@ module _ {host : HostState} {sink : SinkState} where
     usage_output = λ is. puts_nothing sink (λ more. more ≡ []) refl;
     refused = λ why s. absurd (cc);
     refused_output = λ why s. absurd (cc);
-    done = λ s. absurd (cc);
-    done_not_refused = λ s. absurd (cc);
+    ended = λ never. absurd never;
+    verdict = λ never. absurd never;
+    ended_not_refused = λ never. absurd never;
     output = λ command named. record { has = λ w told. puts_nothing sink (IsOutputOf NoMemory w command) (nothing_broken w command) };
     cause = no_cause NoMemory (λ s. cc);
     sink_cause = record { later = omega arith; rose = λ s. absurd (cc) };
     sink_not_refused = λ s. absurd (cc);
     sink_world = λ s. absurd (cc);
-    completes = λ no_host no_sink command named. record { has = λ w told. without_memory (refusal w command) };
+    completes = λ no_host no_sink command named. record { has = λ w told. without_memory (refusal w command) command w };
     begins = record { has = λ w told. begins words w };
     moments = started (IsMomentOf words) (λ w told. begins words w);
   }

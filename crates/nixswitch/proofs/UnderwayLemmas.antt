@@ -2,6 +2,7 @@
 use Rattle.std.proofs.Common.{◌≡◌, ◌≢◌, ℕ, ◌^◌, Bool, true, false, cond, ◌&&◌, nat_lt, nat_eq, codes, List, [], ◌∷◌, ◌++◌, ◌-◌, length, drop, append_assoc, Option, None, Some, is_none, option_map, refl, sym, ap, subst, ◌∙◌, inl, inr, ⊎_elim}
 use Rattle.std.proofs.lemmas.Bool.{both_ways, cases_Bool}
 use Rattle.std.proofs.lemmas.Bool.Decides.{Decides-eqb}
+use Rattle.std.proofs.lemmas.List.{append-nil}
 use Rattle.std.proofs.lemmas.Slice.Eq.{starts_is}
 use Rattle.std.specs.Cmp.Lexicographic.{nat_list_eq_equiv}
 use Rattle.std.specs.FinMap.{get}
@@ -14,24 +15,27 @@ use Rattle.switch_names.proofs.StorePaths.{store_path_is}
 use Rattle.switch_names.specs.SystemName.{NamesSystem, store_folder, store_name, store_name_fault, system_path}
 use Rattle.host_trait.specs.declared.leaf.LeafKind.{LeafKind}
 use Rattle.host_trait.specs.declared.leaf.LeafKind.TheVariants.{File, Link}
-use Rattle.host_trait.specs.World.{IsClear, Leaves, file_bytes, is_path, WorldState, content_of, file_at, is_in_line, leaf_content, stage, store_place, with_leaf}
+use Rattle.host_trait.specs.declared.manager_state.ManagerState.{ManagerState}
+use Rattle.host_trait.specs.States.{state_of}
+use Rattle.host_trait.specs.World.{IsClear, Leaves, file_bytes, is_path, WorldState, content_of, file_at, is_in_line, leaf_content, seen, stage, store_place, with_leaf}
 use Rattle.host_trait.proofs.Seen.{clear_seen, other_of, seen_at}
 use Rattle.host_trait.proofs.Sound.{clear_insert, get_other, in_line_either, not_in_line}
 use Rattle.tree_put.specs.Put.{is_blocked}
 use Rattle.tree_put.proofs.BlockedLemmas.{free_of_clear}
-use Rattle.generations.specs.Places.{generation_at, highest, is_of, link_name, link_path, link_target, number_after, profile, with_generation, with_profile}
+use Rattle.generations.specs.Places.{generation_at, highest, is_of, link_name, link_path, link_target, number_after, profile, set_end, with_generation, with_profile}
 use Rattle.generations.specs.Set.{CanSet, IsSetMoment}
 use Rattle.generations.proofs.Apart.{link_apart, link_profile, profile_apart}
 use Rattle.generations.proofs.NamesLaws.{moment_names}
 use Rattle.generations.proofs.SetLaws.{KeepsSet, generation_seen, highest_of_same, moment_keeps, number_is}
 use Rattle.generations.proofs.SetLemmas.{clear_with_generation}
-use Rattle.nixswitch.specs.declared.command.Command.TheVariants.{Boot, DryActivate}
+use Rattle.switch_engine.specs.declared.command.Command.TheVariants.{Test, Boot, DryActivate}
 use Rattle.switch_engine.specs.declared.refusal.Refusal.{Refusal}
 use Rattle.switch_engine.specs.declared.refusal.Refusal.TheVariants.{NoSystem, InTheWay, GenerationsFull}
 use Rattle.switch_engine.specs.System.{version_path}
 use Rattle.nixswitch.specs.Boot.{boot_places, boot_report, new_link, set_refusal}
-use Rattle.nixswitch.specs.Outcomes.{refusal}
+use Rattle.nixswitch.specs.Outcomes.{IsEndOf, refusal}
 use Rattle.nixswitch.specs.Run.{IsCommandMoment}
+use Rattle.nixswitch.proofs.LawLemmas.{begins_underway}
 use Rattle.nixswitch.proofs.PlanLemmas.{can_set, not_refused}
 
 ne_of : (p q : List ℕ) → is_path p q ≡ false → p ≢ q
@@ -189,19 +193,58 @@ again system w m names keeps moment free =
     (free_of_can m system (can_again system w m (can_set w system free.places free.further) keeps moment))
     (ap (λ n. nat_lt n (2 ^ 32)) keeps.number ∙ free.further)
 
+-- a set leaves the manager as it is
+linked_manager : (system : List ℕ) (n : ℕ) (w : WorldState) → (with_generation system n w).manager ≡ w.manager
+linked_manager system n w =
+    elim (is_of (generation_at w.leaves (highest w.leaves)) system) as (λ b. (cond b w (with_leaf (link_path n) (Link (link_target system)) w)).manager ≡ w.manager) [
+      | true ↦ refl
+      | false ↦ refl
+    ]
+
+end_manager : (system : List ℕ) (w v : WorldState) → seen v ≡ set_end system w → v.manager ≡ w.manager
+end_manager system w v is = ap (λ (x : WorldState). x.manager) is ∙ linked_manager system (number_after w.leaves system) w
+
+set_manager : (system : List ℕ) (w m : WorldState) → IsSetMoment system w m → m.manager ≡ w.manager
+set_manager system w m moment =
+    ⊎_elim
+    (λ same. ap (λ (x : WorldState). x.manager) same)
+    (λ later. ⊎_elim
+    (λ link. ap (λ (x : WorldState). x.manager) link ∙ linked_manager system (number_after w.leaves system) w)
+    (λ both. end_manager system w m both)
+    later)
+    moment
+
+-- the end of a set is that of a boot
+pub boot_end : (system : List ℕ) (w v : WorldState) → seen v ≡ set_end system w → IsEndOf (Boot system) w v
+boot_end system w v is = record {
+  final = is;
+  entries = [];
+  are_entered = refl;
+  journal = ap (λ (k : ManagerState). k.journal) (end_manager system w v is) ∙ sym (append-nil w.manager.journal);
+}
+
 -- each moment of a set is one of a boot that isn't refused
 pub boot_moment : (system : List ℕ) (w m : WorldState) → NamesSystem system system → NamesSystem (slash ∷ system) system → refusal w (Boot system) ≡ None → IsSetMoment system w m → IsCommandMoment (Boot system) w m
 boot_moment system w m names link none moment =
     let free = free_of system w none in
     let number = number_is w.leaves system free.further in
     let keeps = moment_keeps system w m number link moment in
+    let manager = set_manager system w m moment in
     record {
-      underway = λ again_none. record {
-        same_end = keeps.same_end;
+      underway = λ again_none steady resumable. record {
+        same_end = λ v. (λ is. is ∙ keeps.same_end, λ is. is ∙ sym keeps.same_end);
         same_report = λ text. let same : boot_report system (number_after m.leaves system) ≡ boot_report system (number_after w.leaves system) = ap (boot_report system) keeps.number in (λ is. is ∙ same, λ is. is ∙ sym same);
+        entered = [];
+        journal = ap (λ (k : ManagerState). k.journal) manager ∙ sym (append-nil w.manager.journal);
+        owed_alone = tt;
+        paid_or_owed = λ act unit owed. absurd owed;
+        no_more_owed = λ unit owed. absurd owed.1;
+        others = λ unit other. ap (λ (k : ManagerState). state_of k.states unit) manager;
         not_refused = again system w m names keeps moment free;
+        steady = tt;
       };
       named = λ again_none. moment_names system w m number link moment;
+      calls = manager;
       refused = λ why is. absurd (none_or_why (refusal w (Boot system)) why none is);
       query = λ never. absurd never;
     }
@@ -214,6 +257,7 @@ pub boot_begins : (system : List ℕ) (w : WorldState) → NamesSystem system sy
 boot_begins system w names link = record {
   underway = λ none. (boot_moment system w w names link none (inl refl)).underway none;
   named = λ none. (boot_moment system w w names link none (inl refl)).named none;
+  calls = refl;
   refused = λ why is. refl;
   query = λ never. absurd never;
 }
@@ -221,8 +265,19 @@ boot_begins system w names link = record {
 -- each moment of a dry run is the world at the beginning
 pub dry_begins : (system : List ℕ) (w : WorldState) → IsCommandMoment (DryActivate system) w w
 dry_begins system w = record {
-  underway = λ none. record { same_end = refl; same_report = λ text. (λ is. is, λ is. is); not_refused = none };
+  underway = λ none steady resumable. begins_underway w (DryActivate system) none steady;
   named = λ none other. (λ is. is, λ is. is);
+  calls = refl;
   refused = λ why is. refl;
   query = λ is. refl;
+}
+
+-- the world at the beginning of a switch of the units is a moment of it
+pub test_begins : (system : List ℕ) (w : WorldState) → IsCommandMoment (Test system) w w
+test_begins system w = record {
+  underway = λ none steady never. absurd never;
+  named = λ none. tt;
+  calls = inl refl;
+  refused = λ why is. refl;
+  query = λ never. absurd never;
 }

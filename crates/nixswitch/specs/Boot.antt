@@ -32,10 +32,6 @@ set_refusal leaves system =
 abbrev pub boot_report : List ℕ → ℕ → List ℕ
 boot_report system number = codes "to " ++ (system ++ (10 ∷ codes "generation " ++ (decimal number ++ 10 ∷ [])))
 
--- what a boot reports at its end
-abbrev pub closing : List ℕ
-closing = codes "done" ++ 10 ∷ []
-
 -- what is planned for the boot of a system
 pub record IsPlanOf (system : List ℕ) (w : WorldState) (list : Gens) (words : List ℕ) : Type 0 where
   pub gens : IsGensOf w.leaves list

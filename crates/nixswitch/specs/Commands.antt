@@ -2,13 +2,14 @@
 use Rattle.std.specs.Prelude.{ℕ, List, [], ◌∷◌, codes, nat_eq, Option, None, Some, option_and_then, if◌then◌else◌}
 use Rattle.std.specs.Cmp.Lexicographic.{pointwise}
 use Rattle.generations.specs.Places.{system_of}
-use Rattle.nixswitch.specs.declared.command.Command.{Command}
-use Rattle.nixswitch.specs.declared.command.Command.TheVariants.{Boot, DryActivate}
+use Rattle.switch_engine.specs.declared.command.Command.{Command}
+use Rattle.switch_engine.specs.declared.command.Command.TheVariants.{Test, Boot, DryActivate}
 
 -- the command that a word gives for a system, or none
 abbrev pub command_for : List ℕ → List ℕ → Option Command
 command_for verb system =
-    if pointwise nat_eq verb (codes "boot") then Some (Boot system)
+    if pointwise nat_eq verb (codes "test") then Some (Test system)
+    else if pointwise nat_eq verb (codes "boot") then Some (Boot system)
     else if pointwise nat_eq verb (codes "dry-activate") then Some (DryActivate system)
     else None
 

@@ -4,7 +4,7 @@ use Rattle.std.specs.Fmt.{decimal}
 use Rattle.switch_engine.specs.declared.refusal.Refusal.{Refusal}
 use Rattle.switch_engine.specs.declared.refusal.Refusal.TheVariants.{NoSystem, InTheWay, UnitText, GenerationsFull}
 use Rattle.nixswitch.specs.declared.status.Status.{Status}
-use Rattle.nixswitch.specs.declared.status.Status.TheVariants.{Done, Usage, Refused, HostFault, SinkFault, NoMemory}
+use Rattle.nixswitch.specs.declared.status.Status.TheVariants.{Done, Usage, Refused, HostFault, SinkFault, UnitsFailed, NoMemory}
 
 -- the exit status
 abbrev pub status_number : Status → ℕ
@@ -13,6 +13,7 @@ status_number Usage = 1
 status_number (Refused refusal) = 2
 status_number HostFault = 3
 status_number SinkFault = 6
+status_number UnitsFailed = 4
 status_number NoMemory = 5
 
 -- why a command was refused, in words
@@ -29,4 +30,5 @@ status_text Usage = codes "usage: nixswitch ROOT switch|test|boot|dry-activate S
 status_text (Refused refusal) = codes "refused: " ++ refusal_text refusal
 status_text HostFault = codes "fault: host"
 status_text SinkFault = codes "fault: output"
+status_text UnitsFailed = codes "units failed"
 status_text NoMemory = codes "no memory"

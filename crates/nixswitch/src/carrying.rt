@@ -16,14 +16,12 @@ ghost use Rattle.nixswitch.specs.Run.{IsHostFault, IsSinkCaused, IsUnchangedOrAt
 
 use crate::planning::Plan;
 use crate::run_fault::RunFault;
+use dry_report::CLOSING;
 use generations::{SetFault, set};
 use host_trait::{Sink, SinkFault, Tree};
 use std::alloc::Global;
 use switch_engine::Refusal;
 use switch_names::SystemName;
-
-/// The last line of a run that is done.
-const CLOSING: &str = "done\n";
 
 /// Puts a text out.
 fn put_text<S: Sink>(out: &mut S, text: &str) -> Result<(), RunFault>
@@ -72,7 +70,7 @@ pub fn carry_out<T: Tree, S: Sink>(
     ensures ok { OnOk result (Leads (T.host host.old) (T.host host.new) (λ w v. seen v ≡ set_end system.now w)) }
     ensures output { Puts (S.sink out.old) (S.sink out.new) (IsBootOutput result plan.now.report) }
     ensures not_refused { (why : Refusal) → IsErrOf result (Refused why) → ⊥ }
-    ensures sink_world { IsErrOf result Sink → IsUnchangedOrAt (T.host host.old) (T.host host.new) (set_end system.now) }
+    ensures sink_world { IsErrOf result Sink → IsUnchangedOrAt (T.host host.old) (T.host host.new) (λ w v. seen v ≡ set_end system.now w) }
     ensures moments { Passes (T.host host.old) (T.host host.new) (IsSetMoment system.now) }
     ensures cause { HasCauseOf (T.host host.old) (T.host host.new) (IsErrOf result (Host Device)) }
     ensures sink_cause { IsSinkCaused (S.sink out.old) (S.sink out.new) (IsErrOf result Sink) }

@@ -1,13 +1,14 @@
 //! The two laws by which the promise for one cut becomes that for any number of cuts.
 ghost use Rattle.std.specs.Prelude.{◌≡◌, None};
 ghost use Rattle.host_trait.specs.World.{WorldState};
-ghost use Rattle.nixswitch.specs.declared.command.Command.{Command};
+ghost use Rattle.switch_engine.specs.declared.command.Command.{Command};
 ghost use Rattle.nixswitch.specs.Outcomes.{refusal};
+ghost use Rattle.nixswitch.specs.Owing.{IsSteadyFor};
 ghost use Rattle.nixswitch.specs.Run.{IsUnderway};
 
-/// A run that isn't refused is underway in the world where it begins.
+/// A run that isn't refused is underway in the world where it begins, where that is steady.
 pub fn a_run_begins_underway()
-    ensures { (first : WorldState) (command : Command) → refusal first command ≡ None → IsUnderway first command first }
+    ensures { (first : WorldState) (command : Command) → refusal first command ≡ None → IsSteadyFor command first → IsUnderway first command first }
 {}
 
 /// A run that is underway in a world, from which one is underway in another, is underway there.

@@ -3,22 +3,34 @@
 
 mod booting;
 mod carrying;
-mod command;
 mod dry_run;
 #[cfg(test)]
 mod dry_tests;
 #[cfg(test)]
+mod folder_tests;
+#[cfg(test)]
 mod generation_tests;
 mod laws;
+#[cfg(test)]
+mod machine;
 mod out_sink;
+#[cfg(test)]
+mod outcome;
 mod planning;
 #[cfg(test)]
 mod put_tests;
+#[cfg(test)]
+mod refused_tests;
+mod reporting;
 mod run_fault;
 mod status;
 #[cfg(test)]
+mod switch_tests;
+mod switching;
+#[cfg(test)]
 mod tests;
 mod top_call;
+mod words;
 
 use crate::out_sink::OutSink;
 use crate::status::Status;
@@ -35,18 +47,19 @@ use switch_names::Text;
 const HELP: &str = "\
 nixswitch makes a built NixOS system the one of a root folder.
 
-usage: nixswitch ROOT boot|dry-activate SYSTEM
+usage: nixswitch ROOT test|boot|dry-activate SYSTEM
        nixswitch --help | --version
 
 ROOT is a folder with the file tree below ROOT/tree, one node file for each file or link.
 SYSTEM is a built system: nix/store/NAME, with or without a slash before it.
 
+test SYSTEM          switches the units to the system, and leaves the profile as it is
 boot SYSTEM          makes a generation for the system and points the profile to it, for the next boot
 dry-activate SYSTEM  says what a switch to the system would do to the units, and changes nothing
 
 The line that stands for a wrong usage also names commands that are still to come.
 
-exit status: 0 done, 1 usage, 2 refused, 3 fault of the host, 5 no memory, 6 fault of the output
+exit status: 0 done, 1 usage, 2 refused, 3 fault of the host, 4 units failed, 5 no memory, 6 fault of the output
 ";
 
 /// What `--version` prints.

@@ -9,7 +9,7 @@ ghost use Rattle.tree_put.specs.Put.{is_blocked};
 ghost use Rattle.generations.specs.Gens.{IsGensOf, number_for_in};
 ghost use Rattle.switch_engine.specs.declared.refusal.Refusal.{Refusal};
 ghost use Rattle.nixswitch.specs.declared.run_fault.RunFault.TheVariants.{Refused, Host, Sink};
-ghost use Rattle.nixswitch.specs.declared.command.Command.TheVariants.{Boot};
+ghost use Rattle.switch_engine.specs.declared.command.Command.TheVariants.{Boot};
 ghost use Rattle.switch_engine.specs.System.{version_path};
 ghost use Rattle.nixswitch.specs.Boot.{IsPlanOf, boot_report, set_refusal};
 ghost use Rattle.nixswitch.specs.Outcomes.{refusal};

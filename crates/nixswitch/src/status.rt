@@ -1,6 +1,6 @@
 //! How a run ends.
 ghost use Rattle.std.specs.Prelude.{◌≡◌, IfOk, string_bytes};
-ghost use Rattle.nixswitch.specs.Run.{status_of};
+ghost use Rattle.nixswitch.specs.Run.{fault_status, status_of, switch_status};
 ghost use Rattle.nixswitch.specs.StatusTexts.{refusal_text, status_number, status_text};
 
 use crate::run_fault::RunFault;
@@ -22,8 +22,22 @@ pub enum Status {
     HostFault,
     /// The output failed.
     SinkFault,
+    /// The command was carried out, and a unit that the system defines has failed.
+    UnitsFailed,
     /// There was no memory.
     NoMemory,
+}
+
+/// How a command that broke off so ends the run.
+fn fault_status(fault: RunFault) -> Status
+    ensures { result ≡ fault_status fault }
+{
+    match fault {
+        RunFault::Refused(why) => Status::Refused(why),
+        RunFault::Host(HostFault::Memory) => Status::NoMemory,
+        RunFault::Host(HostFault::Device) => Status::HostFault,
+        RunFault::Sink => Status::SinkFault,
+    }
 }
 
 /// How a command that ended so ends the run.
@@ -32,10 +46,18 @@ pub fn status_of(ended: Result<(), RunFault>) -> Status
 {
     match ended {
         Ok(()) => Status::Done,
-        Err(RunFault::Refused(why)) => Status::Refused(why),
-        Err(RunFault::Host(HostFault::Memory)) => Status::NoMemory,
-        Err(RunFault::Host(HostFault::Device)) => Status::HostFault,
-        Err(RunFault::Sink) => Status::SinkFault,
+        Err(fault) => fault_status(fault),
+    }
+}
+
+/// How a switch that ended so, with a unit failed or none, ends the run.
+pub fn switch_status(ended: Result<bool, RunFault>) -> Status
+    ensures { result ≡ switch_status ended }
+{
+    match ended {
+        Ok(true) => Status::UnitsFailed,
+        Ok(false) => Status::Done,
+        Err(fault) => fault_status(fault),
     }
 }
 
@@ -62,6 +84,7 @@ impl Status {
             Status::Refused(_) => 2,
             Status::HostFault => 3,
             Status::SinkFault => 6,
+            Status::UnitsFailed => 4,
             Status::NoMemory => 5,
         }
     }
@@ -83,6 +106,7 @@ impl Status {
             }
             Status::HostFault => Text::from_str(alloc, "fault: host"),
             Status::SinkFault => Text::from_str(alloc, "fault: output"),
+            Status::UnitsFailed => Text::from_str(alloc, "units failed"),
             Status::NoMemory => Text::from_str(alloc, "no memory"),
         }
     }

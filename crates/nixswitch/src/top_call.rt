@@ -3,20 +3,22 @@ ghost use Rattle.std.specs.Prelude.{◌≡◌, ◌⊎◌, [], ℕ, List, None, S
 ghost use Rattle.host_trait.specs.Change.{IsSame};
 ghost use Rattle.host_trait.specs.Host.{EachMoment, Told, Leads, Passes, Rose};
 ghost use Rattle.host_trait.specs.Sink.{Puts};
-ghost use Rattle.host_trait.specs.World.{seen};
-ghost use Rattle.nixswitch.specs.declared.command.Command.{Command};
-ghost use Rattle.nixswitch.specs.declared.command.Command.TheVariants.{Boot, DryActivate};
+ghost use Rattle.switch_engine.specs.declared.command.Command.{Command};
+ghost use Rattle.switch_engine.specs.declared.command.Command.TheVariants.{Test, Boot, DryActivate};
 ghost use Rattle.switch_engine.specs.declared.refusal.Refusal.{Refusal};
+ghost use Rattle.switch_engine.specs.Commands.{PlansUnits, named_system};
 ghost use Rattle.nixswitch.specs.Commands.{command_of};
-ghost use Rattle.nixswitch.specs.Outcomes.{IsOutputOf, final, refusal};
-ghost use Rattle.nixswitch.specs.Run.{IsAnswerTo, IsMomentOf, IsUnchangedOrAt, Runs, RunsCommand};
+ghost use Rattle.nixswitch.specs.Outcomes.{IsEndOf, IsEnded, IsOutputOf, IsPutFirst, IsVerdict, refusal};
+ghost use Rattle.nixswitch.specs.Run.{Answers, IsMomentOf, IsUnchangedOrAt, Runs, RunsCommand};
 
 use crate::booting::boot;
-use crate::command::{Command, read_words};
 use crate::dry_run::dry_run;
-use crate::status::{Status, status_of};
+use crate::status::{Status, status_of, switch_status};
+use crate::switching::test_system;
+use crate::words::read_words;
 use host_trait::{Manager, Sink, Tree};
 use std::alloc::Global;
+use switch_engine::Command;
 use switch_names::{SystemName, Text};
 
 /// Boots a system, and says how that ended.
@@ -37,12 +39,27 @@ fn dry_status<H: Manager, S: Sink>(
     alloc: Global,
     host: &mut H,
     out: &mut S,
-    system: &SystemName,
+    command: &Command,
 ) -> Status
-    ensures { RunsCommand (H.host host.old) (H.host host.new) (S.sink out.old) (S.sink out.new) (DryActivate system.now) result }
+    requires { PlansUnits command.now }
+    ensures { RunsCommand (H.host host.old) (H.host host.new) (S.sink out.old) (S.sink out.new) (DryActivate (named_system command.now)) result }
 {
-    let ended = dry_run(alloc, host, out, system);
+    let ended = dry_run(alloc, host, out, command);
     status_of(ended)
+}
+
+/// Switches the units to a system, and says how that ended.
+fn test_status<H: Manager, S: Sink>(
+    alloc: Global,
+    host: &mut H,
+    out: &mut S,
+    command: &Command,
+) -> Status
+    requires { PlansUnits command.now }
+    ensures { RunsCommand (H.host host.old) (H.host host.new) (S.sink out.old) (S.sink out.new) (Test (named_system command.now)) result }
+{
+    let ended = test_system(alloc, host, out, command);
+    switch_status(ended)
 }
 
 /// Carries a command out, and says how that ended.
@@ -55,8 +72,9 @@ fn command_status<H: Manager, S: Sink>(
     ensures { RunsCommand (H.host host.old) (H.host host.new) (S.sink out.old) (S.sink out.new) command.now result }
 {
     match command {
+        Command::Test(_) => test_status(alloc, host, out, command),
         Command::Boot(system) => boot_status(alloc, host, out, system),
-        Command::DryActivate(system) => dry_status(alloc, host, out, system),
+        Command::DryActivate(_) => dry_status(alloc, host, out, command),
     }
 }
 
@@ -73,10 +91,10 @@ fn answer<H: Manager, S: Sink>(alloc: Global, words: &[Text], host: &mut H, out:
 
 /// Does all that the program does with its words, on a host and an output.
 ///
-/// A run that is cut at any moment, however often, and then made again to its end leaves what one
+/// A `boot` that is cut at any moment, however often, and then made again to its end leaves what one
 /// that wasn't cut leaves: see `each_moment`, where `IsUnderway` says so of each world that a cut
 /// may leave. At each of them the profile names the system that it named before or the one of the
-/// command.
+/// command. At each moment of a `test` the journal has grown by the first so many of its entries.
 pub fn run<H: Manager, S: Sink>(alloc: Global, words: &[Text], host: &mut H, out: &mut S) -> Status
     // Words that give no command.
     ensures usage { result ≡ Status.Usage → command_of words.now ≡ None }
@@ -87,10 +105,15 @@ pub fn run<H: Manager, S: Sink>(alloc: Global, words: &[Text], host: &mut H, out
     ensures refused { (why : Refusal) → result ≡ Status.Refused why → (command : Command) → command_of words.now ≡ Some command → Told (H.host host.old) (λ w. refusal w command ≡ Some why) }
     ensures refused_output { (why : Refusal) → result ≡ Status.Refused why → Puts (S.sink out.old) (S.sink out.new) (λ more. more ≡ []) }
 
-    // A run that is done has left the final world.
-    ensures done { result ≡ Status.Done → (command : Command) → command_of words.now ≡ Some command → Leads (H.host host.old) (H.host host.new) (λ w v. seen v ≡ final w command) }
-    ensures done_not_refused { result ≡ Status.Done → (command : Command) → command_of words.now ≡ Some command → Told (H.host host.old) (λ w. refusal w command ≡ None) }
+    // A run that came to its end has left the final world, has entered exactly what was owed, and
+    // says whether a unit failed that the system defines.
+    ensures ended { IsEnded result → (command : Command) → command_of words.now ≡ Some command → Leads (H.host host.old) (H.host host.new) (IsEndOf command) }
+    ensures verdict { IsEnded result → (command : Command) → command_of words.now ≡ Some command → Told (H.host host.old) (λ w. IsVerdict command w result) }
+    ensures ended_not_refused { IsEnded result → (command : Command) → command_of words.now ≡ Some command → Told (H.host host.old) (λ w. refusal w command ≡ None) }
     ensures output { (command : Command) → command_of words.now ≡ Some command → Told (H.host host.old) (λ w. Puts (S.sink out.old) (S.sink out.new) (IsOutputOf result w command)) }
+
+    // What a dry run puts is what a switch puts first.
+    ensures put_first { (system : List ℕ) → command_of words.now ≡ Some (DryActivate system) → result ≡ Status.Done → Told (H.host host.old) (λ w. Puts (S.sink out.old) (S.sink out.new) (IsPutFirst w (Test system))) }
 
     // A query changes nothing.
     ensures queries { (system : List ℕ) → command_of words.now ≡ Some (DryActivate system) → Passes (H.host host.old) (H.host host.new) IsSame }
@@ -102,10 +125,10 @@ pub fn run<H: Manager, S: Sink>(alloc: Global, words: &[Text], host: &mut H, out
     ensures same_last { (H.host host.new).last ≡ (H.host host.old).last }
     ensures sink_fault { result ≡ Status.SinkFault → Rose (S.sink out.old).faults (S.sink out.new).faults }
     ensures sink_not_refused { result ≡ Status.SinkFault → (command : Command) → command_of words.now ≡ Some command → Told (H.host host.old) (λ w. refusal w command ≡ None) }
-    ensures sink_world { result ≡ Status.SinkFault → (command : Command) → command_of words.now ≡ Some command → IsUnchangedOrAt (H.host host.old) (H.host host.new) (λ w. final w command) }
+    ensures sink_world { result ≡ Status.SinkFault → (command : Command) → command_of words.now ≡ Some command → IsUnchangedOrAt (H.host host.old) (H.host host.new) (IsEndOf command) }
 
     // Without a fault the answer is the world's.
-    ensures completes { ¬ Rose (H.host host.old).faults (H.host host.new).faults → ¬ Rose (S.sink out.old).faults (S.sink out.new).faults → (command : Command) → command_of words.now ≡ Some command → Told (H.host host.old) (λ w. IsAnswerTo (refusal w command) result) }
+    ensures completes { ¬ Rose (H.host host.old).faults (H.host host.new).faults → ¬ Rose (S.sink out.old).faults (S.sink out.new).faults → (command : Command) → command_of words.now ≡ Some command → Told (H.host host.old) (λ w. Answers command w result) }
 
     // Whatever cuts it, the same run ends as if it hadn't been cut.
     ensures each_moment { EachMoment (H.host host.old) (H.host host.new) (IsMomentOf words.now) }

@@ -9,6 +9,3 @@ mod writing;
 pub use fault::NodeFault;
 pub use reading::read_node;
 pub use writing::write_node;
-
-#[cfg(test)]
-mod tests;

@@ -6,10 +6,8 @@ mod clearing;
 mod lists;
 mod loading;
 mod recording;
-#[cfg(test)]
-mod tests;
 
 pub use clearing::clear;
-pub use lists::{Lists, Which};
+pub use lists::{Lists, Which, list_path};
 pub use loading::load;
 pub use recording::record;

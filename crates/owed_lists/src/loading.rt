@@ -97,7 +97,7 @@ fn set_of(alloc: Global, content: Option<Bytes>) -> Result<BTreeSet<UnitName>, A
 }
 
 /// The list that a content says.
-pub fn list_of(alloc: Global, content: Option<Bytes>) -> Result<Listed<UnitName>, AllocError>
+fn list_of(alloc: Global, content: Option<Bytes>) -> Result<Listed<UnitName>, AllocError>
     ensures { IfOk result (IsListOf content) }
 {
     let set = set_of(alloc, content)?;

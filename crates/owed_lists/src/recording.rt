@@ -35,7 +35,7 @@ fn write_names(out: &mut Vec<u8>, names: &[UnitName]) -> Result<(), AllocError>
 }
 
 /// The leaf of a list.
-pub fn list_leaf(alloc: Global, names: &[UnitName]) -> Result<Leaf, AllocError>
+fn list_leaf(alloc: Global, names: &[UnitName]) -> Result<Leaf, AllocError>
     ensures { IfOk result (λ leaf. leaf ≡ list_leaf names.now) }
 {
     let mut out = Vec::new(alloc);

@@ -1,17 +1,11 @@
 -- Systems are sound, and those that are kept are those that stand in the leaves.
-use Rattle.std.proofs.Common.{◌≡◌, ◌&&◌, Bool, true, false, List, [], Option, None, Some, is_none, is_some, option_and_then, if◌then◌else◌, refl, sym, ap, subst, ◌∙◌}
-use Rattle.std.specs.Cmp.Lexicographic.{slice_cmp}
-use Rattle.std.specs.List.Sorted.{IsStrictlySortedBy}
+use Rattle.std.proofs.Common.{◌≡◌, ◌&&◌, Bool, true, false, List, [], Option, None, Some, is_none, is_some, option_and_then, if◌then◌else◌, refl, ap, ◌∙◌}
 use Rattle.std.specs.Option.{option_map_or}
-use Rattle.std.specs.Ordering.{nat_cmp}
-use Rattle.host_trait.specs.declared.unit_state.State.{State}
 use Rattle.host_trait.specs.World.{Leaves}
-use Rattle.owed_lists.specs.declared.lists.Lists.{Lists}
 use Rattle.owed_plan.specs.Law.{IsSound}
-use Rattle.owed_plan.specs.Pull.{IsRoot, Pulled}
-use Rattle.owed_plan.specs.Systems.{AreOldDefs, IsDefined, systems_at, systems_in, systems_of, text_at}
+use Rattle.owed_plan.specs.Systems.{AreOldDefs, systems_at, systems_in, systems_of, text_at}
 use Rattle.switch_names.specs.declared.unit_kind.UnitKind.TheVariants.{Socket}
-use Rattle.switch_names.specs.Names.{IsListOf, Name, has}
+use Rattle.switch_names.specs.Names.{Name, has}
 use Rattle.switch_names.specs.UnitName.{IsUnitName, template_of, unit_fault}
 use Rattle.unit_decide.specs.Facts.{facts_of, unit_kind}
 use Rattle.unit_decide.specs.Sockets.{sockets_of}
@@ -20,7 +14,6 @@ use Rattle.unit_defs.specs.declared.unit.Unit.{Unit}
 use Rattle.unit_defs.specs.Defs.{AreDefsOf, found_in, names_in, own_in, wanted_in}
 use Rattle.unit_defs.specs.Files.{wants_of}
 use Rattle.unit_defs.specs.Place.{is_unit}
-use Rattle.unit_defs.specs.Pull.{Reached}
 use Rattle.unit_defs.specs.Units.{find_text, own_text, text_of, wanted_of}
 use Rattle.unit_defs.proofs.OrderLemmas.{wanted_each}
 use Rattle.unit_text.specs.declared.assignment.Assignment.{Assignment}
@@ -104,32 +97,3 @@ systems_same leaves old new olds news are_old are =
       sockets = λ unit. option_map_or (λ text. sockets_of text unit) (same_text (own_in news) (own_text leaves new) unit (are.found unit) i) [];
       wanted = λ unit. same_named [] unit (wanted_in news unit) (wanted_of leaves new unit) (are.wanted unit) i;
     }
-
--- ---- without units nothing is pulled
-
-none_sorted : IsStrictlySortedBy (slice_cmp nat_cmp) []
-unfolding IsStrictlySortedBy
-none_sorted = tt
-
-module _ (states : Name → State) (lists : Lists) where
-  undefined : (unit : Name) → IsDefined (systems_in [] []) unit → ⊥
-  undefined unit defined = cc (sym (ap (λ (o : Option (List Assignment)). is_some o) (none_kept unit)) ∙ defined)
-
-  no_root : (unit : Name) → IsRoot (systems_in [] []) states lists unit → ⊥
-  no_root unit (IsRoot.Running defined target active may_start) = undefined unit defined
-  no_root unit (IsRoot.Pending defined target listed) = undefined unit defined
-
-  no_pull : (unit : Name) → Pulled (systems_in [] []) states lists unit → ⊥
-  no_pull unit (Reached.FromRoot at root) = no_root unit root
-  no_pull unit (Reached.FromWant at by pulled wants) = no_pull by pulled
-
-  no_list : IsListOf [] (Pulled (systems_in [] []) states lists)
-  no_list = record {
-    sorted = none_sorted;
-    exact = λ unit. (λ found. absurd (none_found unit found), λ pulled. absurd (no_pull unit pulled));
-  }
-
-  pub none_pulled : (units : List Unit) (names : List Name) → units ≡ [] → names ≡ [] → IsListOf names (Pulled (systems_in units units) states lists)
-  none_pulled units names none empty =
-      subst (λ (us : List Unit). IsListOf names (Pulled (systems_in us us) states lists)) (sym none)
-      (subst (λ (ns : List Name). IsListOf ns (Pulled (systems_in [] []) states lists)) (sym empty) no_list)

@@ -9,8 +9,6 @@ mod known;
 pub mod laws;
 mod owed;
 mod planning;
-#[cfg(test)]
-mod tests;
 
 pub use duty::{Duty, calls};
 pub use owed::Owed;

@@ -2,10 +2,10 @@
 ghost use Rattle.std.specs.Prelude.{◌≡◌, ◌||◌, List, ℕ, IfOk, OnOk, filter};
 ghost use Rattle.std.specs.List.{list_any};
 ghost use Rattle.host_trait.specs.States.{state_of};
-ghost use Rattle.owed_plan.specs.Collected.{IsCollected, comes_up, defined};
+ghost use Rattle.owed_plan.specs.Collected.{IsCollected, IsListBy, comes_up, defined};
 ghost use Rattle.owed_plan.specs.Owed.{IsPlan};
 ghost use Rattle.owed_plan.specs.Pull.{Pulled};
-ghost use Rattle.owed_plan.specs.Decisions.{reloads, restarts, situation_of, starts};
+ghost use Rattle.owed_plan.specs.Decisions.{leaves, reloads, restarts, situation_of, starts};
 ghost use Rattle.owed_plan.specs.Systems.{systems_in};
 ghost use Rattle.switch_names.specs.Names.{IsListOf, has};
 
@@ -108,6 +108,31 @@ fn own_starts(
     Ok(set)
 }
 
+/// The units that are started, given those that are handled otherwise.
+fn started(
+    alloc: Global,
+    known: Known<'_>,
+    decisions: &[UnitDecision],
+    lists: &Lists,
+    handled: Handled<'_>,
+    pulled: &[UnitName],
+) -> Result<Listed<UnitName>, AllocError>
+    ensures { IfOk result (λ names. IsListBy names (λ unit. (list_any (starts unit) decisions.now || has (defined (situation_of known.entry) lists.now.starts) unit)
+        || has (filter (comes_up (situation_of known.entry) handled.entry.stops.now.keys handled.entry.reloads.now.keys handled.entry.restarts.now.keys) pulled.now) unit)) }
+{
+    let mut set = own_starts(alloc, known, decisions, lists)?;
+    add_pulled(alloc, known, handled, &mut set, pulled)?;
+    listed(alloc, set)
+}
+
+/// The names of the changed units that get nothing.
+fn left_names(alloc: Global, decisions: &[UnitDecision]) -> Result<Listed<UnitName>, AllocError>
+    ensures { IfOk result (λ names. IsListBy names (λ unit. list_any (leaves unit) decisions.now)) }
+{
+    let set = left(alloc, decisions)?;
+    listed(alloc, set)
+}
+
 /// What is owed by what is decided on each Active unit, the lists and the pull.
 fn collect(
     alloc: Global,
@@ -121,20 +146,19 @@ fn collect(
     let stops = stops(alloc, known, decisions)?;
     let reloads = all_reloads(alloc, known, decisions, lists)?;
     let restarts = all_restarts(alloc, known, decisions, lists)?;
-    let mut starts = own_starts(alloc, known, decisions, lists)?;
     let handled = Handled {
         stops: &stops,
         reloads: &reloads,
         restarts: &restarts,
     };
-    add_pulled(alloc, known, handled, &mut starts, pulled)?;
-    let left = left(alloc, decisions)?;
+    let starts = started(alloc, known, decisions, lists, handled, pulled)?;
+    let left = left_names(alloc, decisions)?;
     Ok(Owed {
         stops: listed(alloc, stops)?,
         reloads: listed(alloc, reloads)?,
         restarts: listed(alloc, restarts)?,
-        starts: listed(alloc, starts)?,
-        left: listed(alloc, left)?,
+        starts,
+        left,
     })
 }
 

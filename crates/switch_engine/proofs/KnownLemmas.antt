@@ -1,6 +1,7 @@
 -- What is read of a world by several calls, one after the other, is of one world, and so is the plan that is made by it.
 use Rattle.std.proofs.Common.{◌≡◌, List, ℕ, true, false, cond, Option, None, Some, Err, IsErrOf, is_none, is_some, refl, sym, ap, subst, ◌∙◌}
 use Rattle.std.proofs.lemmas.Bool.{both_ways}
+use Rattle.std.specs.Option.{option_or}
 use Rattle.host_trait.specs.Change.{IsSame}
 use Rattle.host_trait.specs.Host.{HostState, Passes}
 use Rattle.host_trait.specs.States.{UnitStates, state_of}
@@ -15,10 +16,13 @@ use Rattle.unit_defs.specs.Defs.{AreDefsOf}
 use Rattle.switch_engine.specs.declared.known.Known.{Known}
 use Rattle.switch_engine.specs.declared.plan.Plan.{Plan}
 use Rattle.switch_engine.specs.declared.plan_fault.PlanFault.{PlanFault}
+use Rattle.switch_engine.specs.declared.refusal.Refusal.{Refusal}
 use Rattle.switch_engine.specs.declared.refusal.Refusal.TheVariants.{NoSystem}
 use Rattle.switch_engine.specs.Known.{IsKnownOf, IsPlanBy}
 use Rattle.switch_engine.specs.Plan.{IsPlanOf}
-use Rattle.switch_engine.specs.System.{current_system, plan_refusal, unit_refusal, version_path}
+use Rattle.switch_engine.specs.Places.{way_refusal}
+use Rattle.switch_engine.specs.Refusals.{switch_refusal}
+use Rattle.switch_engine.specs.System.{current_system, unit_refusal, version_path}
 
 -- nothing changes in two stretches in each of which nothing does
 pub same_on : {a b c : HostState} → Passes a b IsSame → Passes b c IsSame → Passes a c IsSame
@@ -31,9 +35,16 @@ some_is : {T : Type 0} (o : Option T) → is_some o ≡ true → is_none o ≡ f
 some_is None e = absurd (both_ways false refl e)
 some_is (Some x) e = refl
 
--- a system with its file is refused for its units alone
-pub has_system : (leaves : Leaves) (system : List ℕ) → is_some (content_of leaves (version_path system)) ≡ true → plan_refusal leaves system ≡ unit_refusal leaves system
-has_system leaves system is = ap (λ b. cond b (Some NoSystem) (unit_refusal leaves system)) (some_is (content_of leaves (version_path system)) is)
+-- a system with its file is refused for what stands in the way, and then for its units
+has_system : (leaves : Leaves) (system : List ℕ) → is_some (content_of leaves (version_path system)) ≡ true → switch_refusal leaves system ≡ option_or (way_refusal leaves) (unit_refusal leaves system)
+has_system leaves system is = ap (λ b. cond b (Some NoSystem) (option_or (way_refusal leaves) (unit_refusal leaves system))) (some_is (content_of leaves (version_path system)) is)
+
+pub way_refused : (leaves : Leaves) (system : List ℕ) (why : Refusal) → is_some (content_of leaves (version_path system)) ≡ true → way_refusal leaves ≡ Some why → switch_refusal leaves system ≡ Some why
+way_refused leaves system why is way = has_system leaves system is ∙ ap (λ o. option_or o (unit_refusal leaves system)) way
+
+pub units_refused : (leaves : Leaves) (system : List ℕ) (why : Option Refusal) → is_some (content_of leaves (version_path system)) ≡ true → way_refusal leaves ≡ None → unit_refusal leaves system ≡ why →
+    switch_refusal leaves system ≡ why
+units_refused leaves system why is free units = has_system leaves system is ∙ ap (λ o. option_or o (unit_refusal leaves system)) free ∙ units
 
 -- the plan by what is known of a world is the plan of that world
 pub plan_is : (system : List ℕ) (w : WorldState) (known : Known) (plan : Plan) → IsKnownOf system w known → IsPlanBy system known plan → IsPlanOf system w plan

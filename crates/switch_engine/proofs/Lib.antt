@@ -1,11 +1,13 @@
 pub mod ActLemmas
 pub mod CallLemmas
+pub mod DefinedLemmas
 pub mod FailedLemmas
 pub mod FinalLemmas
 pub mod GiveLemmas
 pub mod KnownLemmas
 pub mod OutlivedLemmas
 pub mod PartLemmas
+pub mod PlaceLemmas
 pub mod PullLemmas
 pub mod StepLemmas
 pub mod SwitchLemmas

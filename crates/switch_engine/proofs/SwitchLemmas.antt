@@ -22,7 +22,7 @@ use Rattle.owed_plan.specs.Calls.{reload_calls, restart_calls, start_calls, stop
 use Rattle.switch_names.specs.Names.{Name}
 use Rattle.switch_engine.specs.declared.links.Links.{Links}
 use Rattle.switch_engine.specs.Acts.{CanPerform, entry_of, performed}
-use Rattle.switch_engine.specs.Final.{AreOutlived, CanSwitch, IsFinal, IsSwitchMoment, definitions_of, entries_of, links_to}
+use Rattle.switch_engine.specs.Final.{AreOutlived, CanSwitch, IsSwitchMoment, IsSwitched, definitions_of, entries_of, links_to}
 use Rattle.switch_engine.specs.Plan.{lists_of}
 use Rattle.switch_engine.specs.Steps.{AreCallsOf, CanLink, IsCalling, IsEntering, IsGivingAll, IsLoading, IsStopping, StandsUntil, leaf_of_list, with_all_given, with_links, with_stops, with_system}
 use Rattle.switch_engine.specs.System.{current_place}
@@ -126,17 +126,19 @@ module _ (system : Name) (owed : Owed) (lists : Lists) (w : WorldState) where
         (subst (λ calls. CanPerform calls (ready owed (definitions_of system) w.manager)) (λ i. sym reload i ++ sym restart i ++ sym start i)
         (can_rest owed (definitions_of system) w.manager))
 
-    pub final_world : (x : WorldState) → x ≡ with_all_given reloads restarts starts u → IsFinal system owed w x
+    pub final_world : (x : WorldState) → x ≡ with_all_given reloads restarts starts u → IsSwitched system owed w x
     final_world x made =
         let text = definitions_of system in
         let manager : x.manager ≡ started_all owed text w.manager =
         ap (λ (y : WorldState). y.manager) made ∙ (λ i. performed (start i) (performed (restart i) (performed (reload i) (is.manager i)))) in
         let whole = manager ∙ in_one owed text w.manager in
         record {
-          leaves = ap (λ (y : WorldState). remove y.leaves stage) made ∙ all_leaves system lists w u.leaves is.leaves;
-          states = λ unit. ap (λ (m : ManagerState). state_of m.states unit) manager ∙ final_states owed text w.manager unit;
-          loaded = ap (λ (m : ManagerState). m.loaded) whole ∙ same_loaded rest (ready owed text w.manager);
-          bad = ap (λ (m : ManagerState). m.bad) whole ∙ same_bad rest (ready owed text w.manager) ∙ same_bad (stop_calls owed) w.manager;
+          final = record {
+            leaves = ap (λ (y : WorldState). remove y.leaves stage) made ∙ all_leaves system lists w u.leaves is.leaves;
+            states = λ unit. ap (λ (m : ManagerState). state_of m.states unit) manager ∙ final_states owed text w.manager unit;
+            loaded = ap (λ (m : ManagerState). m.loaded) whole ∙ same_loaded rest (ready owed text w.manager);
+            bad = ap (λ (m : ManagerState). m.bad) whole ∙ same_bad rest (ready owed text w.manager) ∙ same_bad (stop_calls owed) w.manager;
+          };
           journal = ap (λ (m : ManagerState). m.journal) manager ∙ all_entered owed text w.manager;
         }
 
@@ -231,8 +233,8 @@ module _ (system : Name) (owed : Owed) (lists : Lists) (links : Links) (to : lin
           (λ w u m is is_u at moment. let are = calls.has w is in
           last_moment system owed lists w u at reloads restarts starts are.are_reloads are.are_restarts are.are_starts m (recorded.has w is) moment)
 
-      pub ends : {d : HostState} → Becomes c d (with_all_given reloads restarts starts) → Leads a d (IsFinal system owed)
+      pub ends : {d : HostState} → Becomes c d (with_all_given reloads restarts starts) → Leads a d (IsSwitched system owed)
       ends given =
-          leads_then gets_ready given (IsFinal system owed)
+          leads_then gets_ready given (IsSwitched system owed)
           (λ w u x is is_u at made. let are = calls.has w is in
           final_world system owed lists w u at reloads restarts starts are.are_reloads are.are_restarts are.are_starts x made)

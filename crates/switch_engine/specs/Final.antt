@@ -23,6 +23,7 @@ use Rattle.switch_engine.specs.System.{current_place}
 use Rattle.switch_names.specs.Names.{Name}
 use Rattle.unit_defs.specs.declared.unit.Unit.{Unit}
 use Rattle.unit_defs.specs.Defs.{found_in}
+use Rattle.unit_defs.specs.Units.{text_of}
 
 -- the link to a system
 abbrev pub system_leaf : Name → LeafKind
@@ -50,13 +51,26 @@ entries_by system owed w calls = map (entry_of w.manager.loaded) (stop_calls owe
 abbrev pub entries_of : Name → Owed → WorldState → List Entry
 entries_of system owed w = entries_by system owed w (reload_calls owed (state_of w.manager.states) ++ restart_calls owed ++ start_calls owed)
 
--- the world that a switch leaves
+-- the state that a switch leaves a unit in
+abbrev pub state_after : Name → Owed → WorldState → Name → State
+state_after system owed w unit = final_state owed (definitions_of system) w.manager.bad (state_of w.manager.states) unit
+
+-- the world that a switch leaves, but for its journal
 pub record IsFinal (system : Name) (owed : Owed) (w v : WorldState) : Type 0 where
   pub leaves : remove v.leaves stage ≡ final_leaves system w.leaves
-  pub states : (unit : Name) → state_of v.manager.states unit ≡ final_state owed (definitions_of system) w.manager.bad (state_of w.manager.states) unit
+  pub states : (unit : Name) → state_of v.manager.states unit ≡ state_after system owed w unit
   pub loaded : v.manager.loaded ≡ definitions_of system
   pub bad : v.manager.bad ≡ w.manager.bad
+
+-- the world that a switch leaves, whose journal has grown by exactly what it enters
+pub record IsSwitched (system : Name) (owed : Owed) (w v : WorldState) : Type 0 where
+  pub final : IsFinal system owed w v
   pub journal : v.manager.journal ≡ w.manager.journal ++ entries_of system owed w
+
+-- a switch leaves a unit failed that the system defines
+pub record IsLeftFailed (system : Name) (owed : Owed) (w : WorldState) (unit : Name) : Type 0 where
+  pub failed : state_after system owed w unit ≡ Failed
+  pub defined : IsSome (text_of w.leaves system unit)
 
 -- at a moment each list stands, until its calls have been entered
 pub record AreOutlived (system : Name) (owed : Owed) (w m : WorldState) : Type 0 where

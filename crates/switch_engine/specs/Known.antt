@@ -11,6 +11,7 @@ use Rattle.switch_engine.specs.declared.known.Known.{Known}
 use Rattle.switch_engine.specs.declared.known.OldSystem.{OldSystem}
 use Rattle.switch_engine.specs.declared.known.UnitStates.{UnitStates}
 use Rattle.switch_engine.specs.declared.plan.Plan.{Plan}
+use Rattle.switch_engine.specs.declared.planning.OwedCalls.{OwedCalls}
 use Rattle.switch_engine.specs.Plan.{lists_of}
 use Rattle.switch_engine.specs.System.{current_system}
 
@@ -29,6 +30,12 @@ pub record IsKnownOf (system : List ℕ) (w : WorldState) (known : Known) : Type
   pub old : IsOldOf w.leaves known.old
   pub new : AreDefsOf w.leaves system known.new
   pub units : AreStatesOf w known.units
+
+-- what is owed by what is known, with the lists that are recorded of it and its calls
+pub record AreOwedCalls (known : Known) (calls : OwedCalls) : Type 0 where
+  pub owed : IsPlan (systems_in known.old.defs known.new) (state_of known.units.states) known.units.lists calls.owed
+  pub recorded : calls.recorded ≡ lists_of calls.owed
+  pub duties : calls.duties ≡ calls_of calls.owed (state_of known.units.states)
 
 -- the plan of a switch to a system by what is known
 pub record IsPlanBy (system : List ℕ) (known : Known) (plan : Plan) : Type 0 where

@@ -1,6 +1,11 @@
 pub mod Acts
+pub mod Commands
 pub mod Final
 pub mod Known
+pub mod Owes
+pub mod Places
 pub mod Plan
+pub mod Reach
+pub mod Refusals
 pub mod Steps
 pub mod System

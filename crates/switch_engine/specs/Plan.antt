@@ -17,6 +17,10 @@ pub record IsOwedIn (w : WorldState) (system : List ℕ) (lists : Lists) (owed :
   pub listed : AreListsOf w.leaves lists
   pub planned : IsPlan (systems_at w.leaves (current_system w.leaves) system) (state_of w.manager.states) lists owed
 
+-- what a switch to a system owes the units of a world
+abbrev pub IsOwedBy : WorldState → List ℕ → Owed → Type 0
+IsOwedBy w system owed = (lists : Lists) × IsOwedIn w system lists owed
+
 -- the lists that a switch records of what it owes
 abbrev pub lists_of : Owed → Lists
 lists_of owed = record { starts = owed.starts; restarts = owed.restarts; reloads = owed.reloads }
@@ -26,6 +30,6 @@ pub record IsPlanOf (system : List ℕ) (w : WorldState) (plan : Plan) : Type 0 
   pub from : plan.from ≡ current_system w.leaves
   pub to : plan.to ≡ system
   pub defs : AreDefsOf w.leaves system plan.defs
-  pub owed : (lists : Lists) × IsOwedIn w system lists plan.owed
+  pub owed : IsOwedBy w system plan.owed
   pub recorded : plan.recorded ≡ lists_of plan.owed
   pub duties : plan.duties ≡ calls_of plan.owed (state_of w.manager.states)

@@ -1,11 +1,11 @@
 -- The system that a command names, and the one that is in use: NixOS manual, "What happens during a system switch?".
-use Rattle.std.specs.Prelude.{ℕ, ◌++◌, List, Option, Some, codes, is_none, option_and_then, option_map, if◌then◌else◌}
+use Rattle.std.specs.Prelude.{ℕ, ◌++◌, List, Option, codes, option_and_then, option_map}
 use Rattle.std.specs.FinMap.{get}
-use Rattle.host_trait.specs.World.{Leaves, content_of}
+use Rattle.host_trait.specs.World.{Leaves}
 use Rattle.generations.specs.Places.{target_of}
 use Rattle.unit_defs.specs.Units.{first_fault_of}
 use Rattle.switch_engine.specs.declared.refusal.Refusal.{Refusal}
-use Rattle.switch_engine.specs.declared.refusal.Refusal.TheVariants.{NoSystem, UnitText}
+use Rattle.switch_engine.specs.declared.refusal.Refusal.TheVariants.{UnitText}
 
 -- the file that each built system has
 abbrev pub version_path : List ℕ → List ℕ
@@ -22,7 +22,3 @@ current_system leaves = option_and_then target_of (get leaves current_place)
 -- why the units of a system can't be read, or nothing: the first faulty file
 abbrev pub unit_refusal : Leaves → List ℕ → Option Refusal
 unit_refusal leaves system = option_map (λ fault. UnitText fault.0 fault.1) (first_fault_of leaves system)
-
--- why the units of a system can't be planned, or nothing: the system isn't there, or a unit file can't be read
-abbrev pub plan_refusal : Leaves → List ℕ → Option Refusal
-plan_refusal leaves system = if is_none (content_of leaves (version_path system)) then Some NoSystem else unit_refusal leaves system

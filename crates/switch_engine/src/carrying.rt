@@ -1,7 +1,8 @@
 //! Carries a planned switch out.
 ghost use Rattle.std.specs.Prelude.{◌≡◌, ◌↔◌, IfOk, IsTrue, OnOk};
 ghost use Rattle.host_trait.specs.Host.{Told, Leads, Passes, HasCause};
-ghost use Rattle.switch_engine.specs.Final.{CanSwitch, HasFailed, IsFinal, IsSwitchMoment, links_to};
+ghost use Rattle.switch_engine.specs.Final.{CanSwitch, HasFailed, IsLeftFailed, IsSwitched, IsSwitchMoment, links_to};
+ghost use Rattle.switch_names.specs.Names.{Name};
 ghost use Rattle.switch_engine.specs.Plan.{IsPlanOf};
 
 use crate::giving::{give_all, stop_units};
@@ -23,7 +24,7 @@ fn switch_units<H: Manager>(
     requires planned { Told (H.host host.old) (λ w. IsPlanOf plan.now.to w plan.now) }
     requires can { Told (H.host host.old) CanSwitch }
     requires links { links.now ≡ links_to plan.now.to }
-    ensures ok { OnOk result (Leads (H.host host.old) (H.host host.new) (IsFinal plan.now.to plan.now.owed)) }
+    ensures ok { OnOk result (Leads (H.host host.old) (H.host host.new) (IsSwitched plan.now.to plan.now.owed)) }
     ensures moments { Passes (H.host host.old) (H.host host.new) (IsSwitchMoment plan.now.to plan.now.owed) }
     ensures cause { HasCause (H.host host.old) (H.host host.new) result }
 {
@@ -42,9 +43,10 @@ fn switch_units<H: Manager>(
 pub fn carry_out<H: Manager>(alloc: Global, host: &mut H, plan: &Plan) -> Result<Outcome, HostFault>
     requires planned { Told (H.host host.old) (λ w. IsPlanOf plan.now.to w plan.now) }
     requires can { Told (H.host host.old) CanSwitch }
-    ensures ok { OnOk result (Leads (H.host host.old) (H.host host.new) (IsFinal plan.now.to plan.now.owed)) }
+    ensures ok { OnOk result (Leads (H.host host.old) (H.host host.new) (IsSwitched plan.now.to plan.now.owed)) }
     ensures states { IfOk result (λ outcome. Told (H.host host.new) (λ v. outcome.states ≡ v.manager.states)) }
     ensures failed { IfOk result (λ outcome. IsTrue outcome.failed ↔ HasFailed plan.now.defs outcome.states) }
+    ensures verdict { IfOk result (λ outcome. Told (H.host host.old) (λ w. IsTrue outcome.failed ↔ ((unit : Name) × IsLeftFailed plan.now.to plan.now.owed w unit))) }
     ensures moments { Passes (H.host host.old) (H.host host.new) (IsSwitchMoment plan.now.to plan.now.owed) }
     ensures cause { HasCause (H.host host.old) (H.host host.new) result }
 {

@@ -22,8 +22,8 @@ fn is_failed(state: State) -> bool
     matches!(state, State::Failed)
 }
 
-/// Whether a unit has failed that the system defines.
-fn is_failed_of(defs: &Defs, one: &UnitState) -> bool
+/// Whether this unit has failed, and the system defines it.
+pub fn is_failed_of(defs: &Defs, one: &UnitState) -> bool
     ensures { result ≡ is_failed_of defs.now one.now }
 {
     is_failed(one.state) && defs.find(&one.unit).is_some()

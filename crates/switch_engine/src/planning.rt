@@ -8,21 +8,35 @@ ghost use Rattle.owed_plan.specs.Owed.{IsPlan};
 ghost use Rattle.owed_plan.specs.Systems.{systems_in};
 ghost use Rattle.switch_engine.specs.declared.plan_fault.PlanFault.TheVariants.{Host, Refused};
 ghost use Rattle.switch_engine.specs.declared.refusal.Refusal.{Refusal};
-ghost use Rattle.switch_engine.specs.Known.{IsPlanBy};
+ghost use Rattle.switch_engine.specs.Commands.{PlansUnits, named_system};
+ghost use Rattle.switch_engine.specs.Final.{CanSwitch};
+ghost use Rattle.switch_engine.specs.Known.{AreOwedCalls, IsPlanBy};
 ghost use Rattle.switch_engine.specs.Plan.{IsPlanOf, lists_of};
-ghost use Rattle.switch_engine.specs.System.{plan_refusal};
+ghost use Rattle.switch_engine.specs.Refusals.{switch_refusal};
 
+use crate::command::Command;
 use crate::known::{Known, read_known};
+use crate::places::check_way;
 use crate::plan::Plan;
 use crate::plan_fault::PlanFault;
 use crate::refusal::Refusal;
 use crate::system::has_version;
 use host_trait::Manager;
 use owed_lists::Lists;
-use owed_plan::{Owed, calls, plan};
+use owed_plan::{Duty, Owed, calls, plan};
 use std::alloc::{AllocError, Global};
 use switch_names::{Listed, SystemName, UnitName};
 use unit_pull::{pull, roots};
+
+/// The system that comes into use, and what is owed, with the lists that are recorded of it and its
+/// calls.
+#[derive(Drop)]
+struct OwedCalls {
+    to: SystemName,
+    owed: Owed,
+    recorded: Lists,
+    duties: Listed<Duty>,
+}
 
 /// What a switch owes the units.
 fn owed_by(alloc: Global, known: &Known) -> Result<Owed, AllocError>
@@ -63,36 +77,85 @@ fn lists_of(alloc: Global, owed: &Owed) -> Result<Lists, AllocError>
     })
 }
 
+/// What a switch to a system owes by what is known, as it is recorded and called for.
+fn owed_calls(alloc: Global, system: &SystemName, known: &Known) -> Result<OwedCalls, AllocError>
+    ensures to { IfOk result (λ calls. calls.to ≡ system.now) }
+    ensures owed { IfOk result (AreOwedCalls known.now) }
+{
+    let to = system.copy(alloc)?;
+    let owed = owed_by(alloc, known)?;
+    let recorded = lists_of(alloc, &owed)?;
+    let duties = calls(alloc, &owed, &known.units.states)?;
+    Ok(OwedCalls {
+        to,
+        owed,
+        recorded,
+        duties,
+    })
+}
+
+/// The plan of a switch of these parts.
+fn plan_of(known: Known, calls: OwedCalls) -> Plan
+    requires { AreOwedCalls known calls }
+    ensures { IsPlanBy calls.to known result }
+{
+    let Known { old, new, units: _ } = known;
+    Plan::new(
+        old.name,
+        calls.to,
+        new,
+        calls.owed,
+        calls.recorded,
+        calls.duties,
+    )
+}
+
 /// The plan of a switch by what is known.
 fn plan_by(alloc: Global, system: &SystemName, known: Known) -> Result<Plan, AllocError>
     ensures { IfOk result (IsPlanBy system.now known) }
 {
-    let owed = owed_by(alloc, &known)?;
-    let recorded = lists_of(alloc, &owed)?;
-    let duties = calls(alloc, &owed, &known.units.states)?;
-    let to = system.copy(alloc)?;
-    let Known { old, new, units: _ } = known;
-    Ok(Plan::new(old.name, to, new, owed, recorded, duties))
+    let calls = owed_calls(alloc, system, &known)?;
+    Ok(plan_of(known, calls))
 }
 
-/// Plans what a switch to a system does to the units, and changes nothing.
-///
-/// The refusals are sought in this order: `NoSystem`, `UnitText`.
-pub fn plan_units<H: Manager>(
+/// Plans a switch to a system.
+fn plan_switch<H: Manager>(
     alloc: Global,
     host: &mut H,
     system: &SystemName,
 ) -> Result<Plan, PlanFault>
     ensures plan { IfOk result (λ plan. Told (H.host host.old) (λ w. IsPlanOf system.now w plan)) }
-    ensures not_refused { OnOk result (Told (H.host host.old) (λ w. plan_refusal w.leaves system.now ≡ None)) }
-    ensures refused { (why : Refusal) → IsErrOf result (Refused why) → Told (H.host host.old) (λ w. plan_refusal w.leaves system.now ≡ Some why) }
+    ensures can { OnOk result (Told (H.host host.old) CanSwitch) }
+    ensures not_refused { OnOk result (Told (H.host host.old) (λ w. switch_refusal w.leaves system.now ≡ None)) }
+    ensures refused { (why : Refusal) → IsErrOf result (Refused why) → Told (H.host host.old) (λ w. switch_refusal w.leaves system.now ≡ Some why) }
     ensures moments { Passes (H.host host.old) (H.host host.new) IsSame }
     ensures cause { HasCauseOf (H.host host.old) (H.host host.new) (IsErrOf result (Host Device)) }
 {
     if !has_version(alloc, host, system)? {
         return Err(PlanFault::Refused(Refusal::NoSystem));
     }
+    check_way(alloc, host)?;
     let known = read_known(alloc, host, system)?;
     let plan = plan_by(alloc, system, known)?;
     Ok(plan)
+}
+
+/// Plans what a command does to the units, before anything is put or changed, and changes nothing.
+///
+/// The refusals are sought in this order: `NoSystem`, `InTheWay`, `UnitText`.
+/// Source: NixOS manual, "What happens during a system switch?".
+pub fn plan_all<H: Manager>(
+    alloc: Global,
+    host: &mut H,
+    command: &Command,
+) -> Result<Plan, PlanFault>
+    requires { PlansUnits command.now }
+    ensures plan { IfOk result (λ plan. Told (H.host host.old) (λ w. IsPlanOf (named_system command.now) w plan)) }
+    ensures can { OnOk result (Told (H.host host.old) CanSwitch) }
+    ensures not_refused { OnOk result (Told (H.host host.old) (λ w. switch_refusal w.leaves (named_system command.now) ≡ None)) }
+    ensures refused { (why : Refusal) → IsErrOf result (Refused why) → Told (H.host host.old) (λ w. switch_refusal w.leaves (named_system command.now) ≡ Some why) }
+    ensures moments { Passes (H.host host.old) (H.host host.new) IsSame }
+    ensures cause { HasCauseOf (H.host host.old) (H.host host.new) (IsErrOf result (Host Device)) }
+{
+    plan_switch(alloc, host, command.system())
 }

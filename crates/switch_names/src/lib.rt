@@ -6,8 +6,6 @@ mod listed;
 mod name_fault;
 mod path;
 mod system_name;
-#[cfg(test)]
-mod tests;
 mod text;
 mod unit_kind;
 mod unit_name;

@@ -3,8 +3,6 @@
 
 mod comparison;
 mod keys;
-#[cfg(test)]
-mod tests;
 mod walk;
 
 pub use comparison::Comparison;

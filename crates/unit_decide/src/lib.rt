@@ -7,10 +7,6 @@ mod flags;
 mod kinds;
 pub mod laws;
 mod pairing;
-#[cfg(test)]
-mod pairing_tests;
-#[cfg(test)]
-mod tests;
 
 pub use decision::{Decision, decide, decide_by};
 pub use facts::Facts;

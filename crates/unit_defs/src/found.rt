@@ -116,20 +116,9 @@ impl Found {
         let Some(part) = part else {
             return Ok(());
         };
-        let UnitFiles {
-            file,
-            mut drop_ins,
-            wants,
-        } = self.take(alloc, &unit);
-        insert_new(&mut drop_ins, name, part)?;
-        self.put(
-            unit,
-            UnitFiles {
-                file,
-                drop_ins,
-                wants,
-            },
-        )?;
+        let mut files = self.take(alloc, &unit);
+        insert_new(&mut files.drop_ins, name, part)?;
+        self.put(unit, files)?;
         Ok(())
     }
 
@@ -142,20 +131,9 @@ impl Found {
     ) -> Result<(), AllocError>
         ensures { OnOk result ((part : Option Part) → Takes (Some (Want unit name)) part self.old self.new) }
     {
-        let UnitFiles {
-            file,
-            drop_ins,
-            mut wants,
-        } = self.take(alloc, &unit);
-        wants.push(name)?;
-        self.put(
-            unit,
-            UnitFiles {
-                file,
-                drop_ins,
-                wants,
-            },
-        )?;
+        let mut files = self.take(alloc, &unit);
+        files.wants.push(name)?;
+        self.put(unit, files)?;
         Ok(())
     }
 

@@ -1,10 +1,11 @@
 //! Reads the folder of a system's units.
-ghost use Rattle.std.specs.Prelude.{◌≡◌, [], ◌∷◌, ◌++◌, IfOk, OnOk, option_map};
+ghost use Rattle.std.specs.Prelude.{◌≡◌, [], ◌∷◌, ◌++◌, Some, IfOk, OnOk, option_map};
 ghost use Rattle.host_trait.specs.Change.{IsSame};
 ghost use Rattle.host_trait.specs.Host.{Told, Passes, HasCause};
-ghost use Rattle.host_trait.specs.World.{content_of};
+ghost use Rattle.host_trait.specs.World.{content_of, listed};
+ghost use Rattle.unit_defs.specs.declared.place.Place.TheVariants.{File, DropIn};
 ghost use Rattle.unit_defs.specs.Defs.{AreSorted, AreUnitsOf};
-ghost use Rattle.unit_defs.specs.Found.{AreFilesAt, AreFilesOf, TakesPath};
+ghost use Rattle.unit_defs.specs.Found.{AreFilesAt, AreFilesOf, Takes, TakesPath};
 ghost use Rattle.unit_defs.specs.Part.{part_of};
 ghost use Rattle.unit_defs.specs.Place.{unit_folder};
 ghost use Rattle.switch_names.specs.Path.{slash};
@@ -15,7 +16,7 @@ use crate::place::{Place, place_after};
 use crate::unit::{Unit, units_of};
 use host_trait::{HostFault, Tree, content};
 use std::alloc::{AllocError, Global};
-use switch_names::{NameFault, Path, SystemName, Text};
+use switch_names::{NameFault, Path, SystemName, Text, UnitName};
 
 /// What the file at a path says.
 fn read_part<T: Tree>(alloc: Global, host: &mut T, path: &Path) -> Result<Option<Part>, HostFault>
@@ -27,6 +28,39 @@ fn read_part<T: Tree>(alloc: Global, host: &mut T, path: &Path) -> Result<Option
         return Ok(None);
     };
     Ok(Some(Part::read(alloc, bytes.as_slice())?))
+}
+
+/// Reads the leaf at a path as the file of a unit.
+fn read_file<T: Tree>(
+    alloc: Global,
+    host: &mut T,
+    path: &Path,
+    unit: UnitName,
+    found: &mut Found,
+) -> Result<(), HostFault>
+    ensures found { OnOk result (Told (T.host host.old) (λ w. Takes (Some (File unit)) (option_map part_of (content_of w.leaves path.now)) found.old found.new)) }
+    ensures moments { Passes (T.host host.old) (T.host host.new) IsSame }
+    ensures cause { HasCause (T.host host.old) (T.host host.new) result }
+{
+    let part = read_part(alloc, host, path)?;
+    Ok(found.add_file(alloc, unit, part)?)
+}
+
+/// Reads the leaf at a path as a drop-in of a unit.
+fn read_drop_in<T: Tree>(
+    alloc: Global,
+    host: &mut T,
+    path: &Path,
+    unit: UnitName,
+    name: Text,
+    found: &mut Found,
+) -> Result<(), HostFault>
+    ensures found { OnOk result (Told (T.host host.old) (λ w. Takes (Some (DropIn unit name)) (option_map part_of (content_of w.leaves path.now)) found.old found.new)) }
+    ensures moments { Passes (T.host host.old) (T.host host.new) IsSame }
+    ensures cause { HasCause (T.host host.old) (T.host host.new) result }
+{
+    let part = read_part(alloc, host, path)?;
+    Ok(found.add_drop_in(alloc, unit, name, part)?)
 }
 
 /// Reads what stands at a path, where the folder of units and a slash are its front.
@@ -43,14 +77,8 @@ fn read_path<T: Tree>(
 {
     match place_after(alloc, front, path)? {
         None => Ok(()),
-        Some(Place::File(unit)) => {
-            let part = read_part(alloc, host, path)?;
-            Ok(found.add_file(alloc, unit, part)?)
-        }
-        Some(Place::DropIn(unit, name)) => {
-            let part = read_part(alloc, host, path)?;
-            Ok(found.add_drop_in(alloc, unit, name, part)?)
-        }
+        Some(Place::File(unit)) => read_file(alloc, host, path, unit, found),
+        Some(Place::DropIn(unit, name)) => read_drop_in(alloc, host, path, unit, name, found),
         Some(Place::Want(unit, name)) => Ok(found.add_want(alloc, unit, name)?),
     }
 }
@@ -93,6 +121,21 @@ fn with_slash(alloc: Global, text: &str) -> Result<Text, AllocError>
     Ok(Text::from_string(made))
 }
 
+/// Reads what stands in a folder of units, where the folder and a slash are its front.
+fn read_below<T: Tree>(
+    alloc: Global,
+    host: &mut T,
+    front: &str,
+    folder: &Path,
+) -> Result<Found, HostFault>
+    ensures found { IfOk result (λ found. Told (T.host host.old) (λ w. AreFilesAt w.leaves front.now (listed folder.now w.leaves) found)) }
+    ensures moments { Passes (T.host host.old) (T.host host.new) IsSame }
+    ensures cause { HasCause (T.host host.old) (T.host host.new) result }
+{
+    let paths = host.list(alloc, folder)?;
+    read_paths(alloc, host, front, paths.as_slice())
+}
+
 /// Reads what stands in the folder of a system's units.
 fn read_folder<T: Tree>(
     alloc: Global,
@@ -105,9 +148,7 @@ fn read_folder<T: Tree>(
 {
     let folder = unit_folder(alloc, system)?;
     let front = with_slash(alloc, folder.as_str())?;
-    let paths = host.list(alloc, &folder)?;
-    let found = read_paths(alloc, host, front.as_str(), paths.as_slice())?;
-    Ok(found)
+    read_below(alloc, host, front.as_str(), &folder)
 }
 
 /// The units of a system, in byte order.

@@ -3,6 +3,7 @@ ghost use Rattle.std.specs.Prelude.{◌≡◌, [], IfOk, OnOk, map, option_map, 
 ghost use Rattle.std.specs.BTreeMap.{keys};
 ghost use Rattle.std.specs.List.Sorted.{IsStrictlySortedBy};
 ghost use Rattle.std.specs.Option.{option_copied, option_map_or};
+ghost use Rattle.switch_names.specs.UnitName.{template_of};
 ghost use Rattle.host_trait.specs.World.{bytes_cmp};
 ghost use Rattle.unit_defs.specs.Files.{base_of};
 ghost use Rattle.unit_defs.specs.Found.{drop_ins_in, file_in, own_part_in, unit_of};
@@ -74,18 +75,44 @@ fn add_inherited(
     }
 }
 
+/// Applies the drop-ins of a unit, after those of its template.
+fn add_both(
+    alloc: Global,
+    found: &Found,
+    unit: &UnitName,
+    template: Option<&UnitName>,
+    part: &mut Part,
+) -> Result<(), AllocError>
+    ensures { OnOk result (part.new ≡ added (added part.old (option_map_or (drop_ins_in found.now) (option_copied template.entry) [])) (drop_ins_in found.now unit.now)) }
+{
+    add_inherited(alloc, found, template, part)?;
+    found.add_drop_ins(alloc, unit, part)
+}
+
+/// What the files of a unit say, which has this template.
+fn part_over(
+    alloc: Global,
+    found: &Found,
+    unit: &UnitName,
+    template: Option<&UnitName>,
+) -> Result<Option<Part>, AllocError>
+    requires { option_copied template ≡ template_of unit.now }
+    ensures { IfOk result (λ part. part ≡ own_part_in found.now unit.now) }
+{
+    let Some(base) = base(found, unit, template) else {
+        return Ok(None);
+    };
+    let mut part = base.copy(alloc)?;
+    add_both(alloc, found, unit, template, &mut part)?;
+    Ok(Some(part))
+}
+
 /// What the files of a unit say, where it has a text of its own.
 fn own_part(alloc: Global, found: &Found, unit: &UnitName) -> Result<Option<Part>, AllocError>
     ensures { IfOk result (λ part. part ≡ own_part_in found.now unit.now) }
 {
     let template = unit.template(alloc)?;
-    let Some(base) = base(found, unit, template.as_ref()) else {
-        return Ok(None);
-    };
-    let mut part = base.copy(alloc)?;
-    add_inherited(alloc, found, template.as_ref(), &mut part)?;
-    found.add_drop_ins(alloc, unit, &mut part)?;
-    Ok(Some(part))
+    part_over(alloc, found, unit, template.as_ref())
 }
 
 /// Copies of names.

@@ -4,8 +4,6 @@
 mod pulling;
 mod sets;
 mod targets;
-#[cfg(test)]
-mod tests;
 
 pub use pulling::pull;
 pub use targets::roots;

@@ -7,8 +7,6 @@ mod index;
 mod lines;
 mod reader;
 mod statement;
-#[cfg(test)]
-mod tests;
 mod text_fault;
 mod unit_key;
 mod unit_text;

@@ -1,4 +1,5 @@
 //! Which units a system defines, by the rules of systemd.unit(5), and which each wants.
+use crate::key_values::push_values;
 use crate::leaves::{put_leaf, put_units};
 use crate::unit_names::push_names;
 use host_memory::MemoryHost;
@@ -6,7 +7,7 @@ use host_trait::World;
 use std::alloc::{AllocError, Global};
 use std::process::Abort;
 use std::test::Fail;
-use switch_names::{SystemName, Text, UnitName};
+use switch_names::{SystemName, UnitName};
 use unit_defs::{Defs, DefsFault};
 
 /// What a row shows, the leaves in the folder of units of a system, and what is answered.
@@ -27,15 +28,6 @@ fn host_of(alloc: Global, leaves: &[(&str, &str)]) -> Result<MemoryHost, Fail> {
     let mut world = World::new(alloc);
     fill(alloc, &mut world, leaves)?;
     Ok(MemoryHost::new(alloc, world))
-}
-
-/// Appends values with a bar after each.
-fn push_values(out: &mut String, values: &[Text]) -> Result<(), AllocError> {
-    for value in values {
-        out.push_str(value.as_str())?;
-        out.push('|')?;
-    }
-    Ok(())
 }
 
 /// Appends the values of `K` in the section `S` of a unit's text, where it has one.

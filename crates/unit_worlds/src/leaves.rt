@@ -20,6 +20,14 @@ pub fn put_leaf(alloc: Global, world: &mut World, at: &str, text: &str) -> Resul
     Ok(())
 }
 
+/// Puts a file with these bytes at a place.
+pub fn put_file(alloc: Global, world: &mut World, at: &str, bytes: &[u8]) -> Result<(), Fail> {
+    let at = Path::parse(alloc, at)?;
+    let file = Leaf::file(Bytes::from_slice(alloc, bytes)?, 420, 0, 0);
+    world.set_leaf(at, file)?;
+    Ok(())
+}
+
 /// Puts leaves into the folder of units of a system.
 pub fn put_units(
     alloc: Global,

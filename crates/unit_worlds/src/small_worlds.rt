@@ -6,7 +6,7 @@ use host_trait::{State, World};
 use std::alloc::{AllocError, Global};
 use std::process::Abort;
 use std::test::Fail;
-use switch_engine::{Plan, PlanFault, Refusal, plan_units};
+use switch_engine::{Command, Plan, PlanFault, Refusal, plan_all};
 use switch_names::{SystemName, UnitName};
 
 /// The files of units: where one stands in the folder of units, and its text.
@@ -93,8 +93,9 @@ fn host_of(alloc: Global, row: &Row) -> Result<MemoryHost, Fail> {
 }
 
 /// The plan of a switch to a system.
-fn planned(alloc: Global, host: &mut MemoryHost, system: &SystemName) -> Result<Plan, PlanFault> {
-    plan_units(alloc, host, system)
+fn planned(alloc: Global, host: &mut MemoryHost, system: SystemName) -> Result<Plan, PlanFault> {
+    let command = Command::DryActivate(system);
+    plan_all(alloc, host, &command)
 }
 
 /// The report of a plan.
@@ -123,7 +124,7 @@ fn answer_text(alloc: Global, answer: &Result<Plan, PlanFault>) -> Result<String
 /// The report of a switch of a host to the second system.
 fn report_on(alloc: Global, host: &mut MemoryHost) -> Result<String, Fail> {
     let system = SystemName::parse(alloc, "nix/store/b-sys")?;
-    let answer = planned(alloc, host, &system);
+    let answer = planned(alloc, host, system);
     answer_text(alloc, &answer)
 }
 

@@ -22,3 +22,10 @@ pub fn push_names(text: &mut String, names: &[UnitName]) -> Result<(), AllocErro
     }
     Ok(())
 }
+
+/// The names with a blank after each.
+pub fn row_of(alloc: Global, names: &[UnitName]) -> Result<String, AllocError> {
+    let mut row = String::new(alloc);
+    push_names(&mut row, names)?;
+    Ok(row)
+}

@@ -5,17 +5,17 @@ use Rattle.switch_names.proofs.StorePaths.{NamesSystem-with_slash}
 use Rattle.host_trait.specs.Change.{IsSame}
 use Rattle.host_trait.specs.Host.{Told, Leads}
 use Rattle.host_trait.specs.Sink.{Puts}
-use Rattle.host_trait.specs.World.{WorldState, seen}
-use Rattle.generations.specs.Places.{number_after}
+use Rattle.host_trait.specs.World.{WorldState}
+use Rattle.generations.specs.Places.{number_after, set_end}
 use Rattle.host_trait.proofs.Moments.{leads_then, same_as, same_then, told_after, told_as}
-use Rattle.nixswitch.specs.declared.command.Command.TheVariants.{Boot}
+use Rattle.switch_engine.specs.declared.command.Command.TheVariants.{Boot}
 use Rattle.nixswitch.specs.declared.run_fault.RunFault.TheVariants.{Refused, Sink}
 use Rattle.nixswitch.specs.Boot.{IsPlanOf, boot_report}
-use Rattle.nixswitch.specs.Outcomes.{IsBootOutput, final, refusal}
+use Rattle.nixswitch.specs.Outcomes.{IsBootOutput, IsEndOf, refusal}
 use Rattle.nixswitch.specs.Run.{IsCommandMoment}
 use Rattle.nixswitch.proofs.OutputLemmas.{nothing_output, puts_as, puts_nothing, same_fault}
 use Rattle.nixswitch.proofs.ResultLemmas.{on_ok_always, on_ok_as}
-use Rattle.nixswitch.proofs.UnderwayLemmas.{boot_begins, boot_moment}
+use Rattle.nixswitch.proofs.UnderwayLemmas.{boot_begins, boot_end, boot_moment}
 use Rattle.nixswitch.proofs.booting.boot.Goals as goal
 
 pub returns-in_err-plan-clause-refused_output : goal.returns-in_err-plan-clause-refused_output
@@ -62,9 +62,9 @@ carry_out-requires-clause-plan g c =
     (λ w v is same. subst (λ (x : WorldState). IsPlanOf c.args.system.now x c.in_ok-plan.plan.gens c.in_ok-plan.plan.report) (sym same) (c.in_ok-plan.ensures.plan.has w is))
 
 pub returns-clause-ok : goal.returns-clause-ok
-returns-clause-ok g c = on_ok_as c.carry_out.result c.carry_out.ensures.ok (Leads (g.T.Tree.host c.args.host.now) (g.T.Tree.host c.carry_out.new.host) (λ w v. seen v ≡ final w (Boot c.args.system.now)))
-    (λ led. leads_then c.plan_boot.ensures.moments.tells led (λ w v. seen v ≡ final w (Boot c.args.system.now))
-    (λ w v u is is_v same came. came ∙ ap (λ x. final x (Boot c.args.system.now)) same))
+returns-clause-ok g c = on_ok_as c.carry_out.result c.carry_out.ensures.ok (Leads (g.T.Tree.host c.args.host.now) (g.T.Tree.host c.carry_out.new.host) (IsEndOf (Boot c.args.system.now)))
+    (λ led. leads_then c.plan_boot.ensures.moments.tells led (IsEndOf (Boot c.args.system.now))
+    (λ w v u is is_v same came. boot_end c.args.system.now w u (came ∙ ap (set_end c.args.system.now) same)))
 
 pub returns-clause-ok_not_refused : goal.returns-clause-ok_not_refused
 returns-clause-ok_not_refused g c = on_ok_always c.carry_out.result (Told (g.T.Tree.host c.args.host.now) (λ w. refusal w (Boot c.args.system.now) ≡ None)) c.in_ok-plan.ensures.not_refused
@@ -81,8 +81,8 @@ returns-clause-sink_not_refused g c e = c.in_ok-plan.ensures.not_refused
 pub returns-clause-sink_world : goal.returns-clause-sink_world
 returns-clause-sink_world g c e = ⊎_elim
     (λ still. inl (same_then c.plan_boot.ensures.moments still IsSame (λ w is. refl) (λ w m is same. same)))
-    (λ set. inr (leads_then c.plan_boot.ensures.moments.tells set (λ w v. seen v ≡ final w (Boot c.args.system.now))
-    (λ w v u is is_v same came. came ∙ ap (λ x. final x (Boot c.args.system.now)) same)))
+    (λ set. inr (leads_then c.plan_boot.ensures.moments.tells set (IsEndOf (Boot c.args.system.now))
+    (λ w v u is is_v same came. boot_end c.args.system.now w u (came ∙ ap (set_end c.args.system.now) same))))
     (c.carry_out.ensures.sink_world e)
 
 pub returns-clause-output : goal.returns-clause-output

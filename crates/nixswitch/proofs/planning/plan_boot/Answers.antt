@@ -4,7 +4,7 @@ use Rattle.host_trait.specs.Host.{Told}
 use Rattle.host_trait.proofs.Moments.{same_then, told_as, told_before}
 use Rattle.nixswitch.specs.Boot.{IsPlanOf}
 use Rattle.nixswitch.specs.Outcomes.{refusal}
-use Rattle.nixswitch.specs.declared.command.Command.TheVariants.{Boot}
+use Rattle.switch_engine.specs.declared.command.Command.TheVariants.{Boot}
 use Rattle.nixswitch.proofs.PlanLemmas.{has_system}
 use Rattle.nixswitch.proofs.ResultLemmas.{if_ok_as, on_ok_from}
 use Rattle.nixswitch.proofs.planning.plan_boot.Goals as goal

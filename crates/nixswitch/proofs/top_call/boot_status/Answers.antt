@@ -1,10 +1,10 @@
 use Rattle.std.proofs.Common.{sym, subst}
-use Rattle.nixswitch.specs.declared.command.Command.TheVariants.{Boot}
+use Rattle.switch_engine.specs.declared.command.Command.TheVariants.{Boot}
 use Rattle.nixswitch.specs.declared.status.Status.{Status}
 use Rattle.nixswitch.specs.Outcomes.{IsOutputOf, refusal}
 use Rattle.nixswitch.specs.Run.{RunsCommand, status_of}
 use Rattle.nixswitch.proofs.OutputLemmas.{puts_as}
-use Rattle.nixswitch.proofs.StatusLemmas.{answer_of, done_of, host_of, boot_output, no_usage, on_ok_told, refused_of, sink_of}
+use Rattle.nixswitch.proofs.StatusLemmas.{answer_of, boot_output, ended_of, host_of, no_usage, on_ok_told, refused_of, sink_of, verdict_of}
 use Rattle.nixswitch.proofs.top_call.boot_status.Goals as goal
 
 pub returns : goal.returns
@@ -12,8 +12,9 @@ returns g c =
     let r = c.boot-ended.result in
     let e = c.boot-ended.ensures in
     let runs : RunsCommand (g.T.Tree.host c.args.host.now) (g.T.Tree.host c.boot-ended.new.host) (g.S.Sink.sink c.args.out.now) (g.S.Sink.sink c.boot-ended.new.out) (Boot c.args.system.now) (status_of r) = record {
-      done = λ is. done_of r e.ok is;
-      done_not_refused = λ is. done_of r e.ok_not_refused is;
+      ended = λ is. ended_of r e.ok is;
+      verdict = λ is. record { has = λ w told. verdict_of r (Boot c.args.system.now) w (λ left. left) is };
+      ended_not_refused = λ is. ended_of r e.ok_not_refused is;
       refused = λ why is. e.refused why (refused_of r why is);
       refused_output = λ why is. e.refused_output why (refused_of r why is);
       not_usage = λ is. no_usage r is;
@@ -22,7 +23,7 @@ returns g c =
       output = record { has = λ w told. puts_as (e.output.has w told) (IsOutputOf (status_of r) w (Boot c.args.system.now)) (λ more put. boot_output r w c.args.system.now more put) };
       completes = λ no_host no_sink. record {
         has = λ w told.
-            answer_of r (refusal w (Boot c.args.system.now)) (on_ok_told r e.ok_not_refused (λ t. t.has w told)) (λ why is. (e.refused why is).has w told)
+            answer_of r (refusal w (Boot c.args.system.now)) (Boot c.args.system.now) w (λ left. left) (on_ok_told r e.ok_not_refused (λ t. t.has w told)) (λ why is. (e.refused why is).has w told)
             (λ is. no_host (e.cause.rose is)) (λ is. no_sink (e.sink_cause.rose is));
       };
       begins = e.begins;

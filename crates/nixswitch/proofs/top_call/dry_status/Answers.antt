@@ -1,12 +1,13 @@
-use Rattle.std.proofs.Common.{◌≡◌, ap, inl, sym, subst}
-use Rattle.host_trait.specs.World.{seen}
+use Rattle.std.proofs.Common.{inl, sym, subst}
 use Rattle.host_trait.proofs.Moments.{leads_as, same_as}
-use Rattle.nixswitch.specs.declared.command.Command.TheVariants.{DryActivate}
+use Rattle.switch_engine.specs.declared.command.Command.TheVariants.{DryActivate}
+use Rattle.switch_engine.specs.Commands.{named_system}
 use Rattle.nixswitch.specs.declared.status.Status.{Status}
-use Rattle.nixswitch.specs.Outcomes.{IsOutputOf, refusal}
+use Rattle.nixswitch.specs.Outcomes.{IsEndOf, IsOutputOf, refusal}
 use Rattle.nixswitch.specs.Run.{IsCommandMoment, RunsCommand, status_of}
+use Rattle.nixswitch.proofs.DryLemmas.{dry_end}
 use Rattle.nixswitch.proofs.OutputLemmas.{puts_as}
-use Rattle.nixswitch.proofs.StatusLemmas.{answer_of, done_of, dry_output, host_of, no_usage, on_ok_told, refused_of, sink_of}
+use Rattle.nixswitch.proofs.StatusLemmas.{answer_of, dry_output, ended_of, host_of, no_usage, on_ok_told, refused_of, sink_of, verdict_of}
 use Rattle.nixswitch.proofs.UnderwayLemmas.{dry_begins}
 use Rattle.nixswitch.proofs.top_call.dry_status.Goals as goal
 
@@ -14,10 +15,11 @@ pub returns : goal.returns
 returns g c =
     let r = c.dry_run-ended.result in
     let e = c.dry_run-ended.ensures in
-    let system = c.args.system.now in
+    let system = named_system c.args.command.now in
     let runs : RunsCommand (g.H.Tree.host c.args.host.now) (g.H.Tree.host c.dry_run-ended.new.host) (g.S.Sink.sink c.args.out.now) (g.S.Sink.sink c.dry_run-ended.new.out) (DryActivate system) (status_of r) = record {
-      done = λ is. leads_as e.moments.tells (λ w v. seen v ≡ seen w) (λ w v told same. ap seen same);
-      done_not_refused = λ is. done_of r e.ok_not_refused is;
+      ended = λ is. leads_as e.moments.tells (IsEndOf (DryActivate system)) (λ w v told same. dry_end system w v same);
+      verdict = λ is. record { has = λ w told. verdict_of r (DryActivate system) w (λ left. left) is };
+      ended_not_refused = λ is. ended_of r e.ok_not_refused is;
       refused = λ why is. e.refused why (refused_of r why is);
       refused_output = λ why is. e.refused_output why (refused_of r why is);
       not_usage = λ is. no_usage r is;
@@ -26,7 +28,7 @@ returns g c =
       output = record { has = λ w told. puts_as (e.output.has w told) (IsOutputOf (status_of r) w (DryActivate system)) (λ more put. dry_output r w system more put) };
       completes = λ no_host no_sink. record {
         has = λ w told.
-            answer_of r (refusal w (DryActivate system)) (on_ok_told r e.ok_not_refused (λ t. t.has w told)) (λ why is. (e.refused why is).has w told)
+            answer_of r (refusal w (DryActivate system)) (DryActivate system) w (λ left. left) (on_ok_told r e.ok_not_refused (λ t. t.has w told)) (λ why is. (e.refused why is).has w told)
             (λ is. no_host (e.cause.rose is)) (λ is. no_sink (e.sink_cause.rose is));
       };
       begins = record { has = λ w told. dry_begins system w };

@@ -1,0 +1,31 @@
+-- What a switch says at its end: the lines of switch-to-configuration, NixOS manual, "What happens during a system switch?".
+use Rattle.std.specs.Prelude.{◌≡◌, ℕ, ◌++◌, List, [], ◌∷◌, codes, filter, map}
+use Rattle.std.specs.List.{flat_map}
+use Rattle.host_trait.specs.States.{UnitStates, listed_states}
+use Rattle.host_trait.specs.World.{WorldState}
+use Rattle.owed_plan.specs.declared.owed.Owed.{Owed}
+use Rattle.switch_engine.specs.Final.{IsLeftFailed, is_failed_of}
+use Rattle.switch_engine.specs.Plan.{IsOwedBy}
+use Rattle.switch_names.specs.Names.{IsListOf, Name}
+use Rattle.unit_defs.specs.declared.unit.Unit.{Unit}
+use Rattle.dry_report.specs.Report.{line}
+
+-- the last line
+abbrev pub closing : List ℕ
+closing = codes "done" ++ 10 ∷ []
+
+-- a line for each unit that has failed, and the last line
+abbrev pub close_of : List Name → List ℕ
+close_of failed = flat_map (line (codes "failed")) failed ++ closing
+
+-- the units that have failed and that a system defines, in byte order
+abbrev pub failed_in : List Unit → UnitStates → List Name
+failed_in defs states = map (λ one. one.unit) (filter (is_failed_of defs) (listed_states states))
+
+-- the closing text of a switch to a system, from a world
+pub record IsClosing (w : WorldState) (system : Name) (text : List ℕ) : Type 0 where
+  pub owed : Owed
+  pub is_owed : IsOwedBy w system owed
+  pub failed : List Name
+  pub are_failed : IsListOf failed (IsLeftFailed system owed w)
+  pub is_text : text ≡ close_of failed

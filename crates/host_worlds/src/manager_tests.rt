@@ -1,0 +1,202 @@
+//! What a manager's state comes to, and how its text reads.
+ghost use Rattle.host_trait.specs.Manager.{HasPlainTexts};
+
+use crate::texts::push_entries;
+use host_trait::{Entry, ManagerState, State};
+use manager_core::{Call, StateFault, read_state, step, write_state};
+use std::alloc::{AllocError, Global};
+use std::test::Fail;
+use switch_names::{Bytes, Text, UnitName};
+
+/// Starts a unit and stops it, and answers its state after each.
+fn start_and_stop(
+    alloc: Global,
+    state: &mut ManagerState,
+    unit: &UnitName,
+) -> Result<(State, State), AllocError>
+    requires { HasPlainTexts state.old }
+{
+    step(alloc, state, &Call::Start(unit.copy(alloc)?))?;
+    let started = state.states.of(unit);
+    step(alloc, state, &Call::Stop(unit.copy(alloc)?))?;
+    Ok((started, state.states.of(unit)))
+}
+
+/// Appends the copies of entries.
+fn push_copies(alloc: Global, text: &mut String, entries: &[Entry]) -> Result<(), AllocError> {
+    for entry in entries {
+        let copy = entry.copy(alloc)?;
+        push_entries(alloc, text, &[copy])?;
+    }
+    Ok(())
+}
+
+/// The states of a unit that is started and stopped, and the journal then.
+fn stopped(alloc: Global, unit: &UnitName) -> Result<((State, State), String), AllocError> {
+    let mut state = ManagerState::new(alloc);
+    let states = start_and_stop(alloc, &mut state, unit)?;
+    let mut text = String::new(alloc);
+    push_copies(alloc, &mut text, state.journal.as_slice())?;
+    Ok((states, text))
+}
+
+#[test]
+fn a_stop_is_entered(rt: HostRuntime) -> Result<(), Fail> {
+    let unit = UnitName::parse(rt.alloc(), "web.service")?;
+    let (states, entries) = stopped(rt.alloc(), &unit)?;
+    assert_eq!(rt; states, (State::Active, State::Inactive));
+    assert_eq!(rt; entries.as_str(), " Start web.service  Stop web.service ");
+    Ok(())
+}
+
+/// Starts a unit and reloads it.
+fn start_and_reload(
+    alloc: Global,
+    state: &mut ManagerState,
+    unit: &UnitName,
+) -> Result<(), AllocError>
+    requires { HasPlainTexts state.old }
+    ensures { HasPlainTexts state.new }
+{
+    step(alloc, state, &Call::Start(unit.copy(alloc)?))?;
+    step(alloc, state, &Call::Reload(unit.copy(alloc)?))
+}
+
+/// Loads other definitions, and restarts a unit by half and then wholly.
+fn load_and_restart(
+    alloc: Global,
+    state: &mut ManagerState,
+    unit: &UnitName,
+) -> Result<(), AllocError>
+    requires { HasPlainTexts state.old }
+    ensures { HasPlainTexts state.new }
+{
+    let moved = Call::DaemonReload(Text::from_str(alloc, "/b")?);
+    step(alloc, state, &moved)?;
+    step(alloc, state, &Call::Start(unit.copy(alloc)?))?;
+    step(alloc, state, &Call::Halt(unit.copy(alloc)?))?;
+    step(alloc, state, &Call::Restart(unit.copy(alloc)?))
+}
+
+/// Acts on a unit in turn, and writes the state.
+fn act_and_write(
+    alloc: Global,
+    state: &mut ManagerState,
+    unit: &UnitName,
+) -> Result<Bytes, AllocError>
+    requires { HasPlainTexts state.old }
+{
+    start_and_reload(alloc, state, unit)?;
+    load_and_restart(alloc, state, unit)?;
+    write_state(alloc, state)
+}
+
+/// The text of the state that acts in turn make of one.
+fn acted(alloc: Global, text: &[u8]) -> Result<Bytes, Fail> {
+    let unit = UnitName::parse(alloc, "web.service")?;
+    let mut state = read_state(alloc, text)?;
+    Ok(act_and_write(alloc, &mut state, &unit)?)
+}
+
+const ACTED: &str = "loaded /b\nfailed web.service\nbad web.service /b\n\
+    start web.service /a\nreload web.service /a\nstart web.service /b\n\
+    restart web.service /b\n";
+
+#[test]
+fn each_act_leaves_its_line(rt: HostRuntime) -> Result<(), Fail> {
+    let text = acted(rt.alloc(), b"loaded /a\nbad web.service /b\n")?;
+    assert_eq!(rt; text.as_slice(), ACTED.as_bytes());
+    Ok(())
+}
+
+#[test]
+fn the_empty_state_is_one_line(rt: HostRuntime) -> Result<(), Fail> {
+    let state = ManagerState::new(rt.alloc());
+    let text = write_state(rt.alloc(), &state)?;
+    assert_eq!(rt; text.as_slice(), b"loaded \n".as_slice());
+    Ok(())
+}
+
+/// The line out of place in a text, or 0.
+fn faulty_line(alloc: Global, text: &[u8]) -> u32 {
+    match read_state(alloc, text) {
+        Err(StateFault::Line(line)) => line,
+        Ok(_) | Err(StateFault::Memory) => 0,
+    }
+}
+
+/// A text, and its first line that is out of place.
+const FAULTS: &[(&[u8], u32)] = &[
+    (b"", 1),
+    (b"x", 1),
+    (b"\n", 1),
+    (b"loaded\n", 1),
+    (b"loaded /a", 1),
+    (b" loaded \n", 1),
+    (b"loaded a\0b\n", 1),
+    (b"loaded \xff\n", 1),
+    (b"active a.service\n", 1),
+    (b"loaded \n\n", 2),
+    (b"loaded \nx", 2),
+    (b"loaded \nloaded \n", 2),
+    (b"loaded \nactive a\n", 2),
+    (b"loaded \nactive  a.service\n", 2),
+    (b"loaded \nactive a.service \n", 2),
+    (b"loaded \ninactive a.service\n", 2),
+    (b"loaded \nbad a.service\n", 2),
+    (b"loaded \nstop a.service\nx\n", 2),
+    (b"loaded \nactive a.service\nactive a.service\n", 3),
+    (b"loaded \nactive a.service\nfailed a.service\n", 3),
+    (b"loaded \nfailed b.service\nactive a.service\n", 3),
+    (b"loaded \nbad a.service \nactive a.service\n", 3),
+    (b"loaded \nstop a.service \nactive a.service\n", 3),
+    (b"loaded \nstop a.service \nbad a.service \n", 3),
+    (b"loaded \nstart a.service /a\nrestart a.service /a", 3),
+    (b"loaded \nactive a.service\nbad a.service \nloaded \n", 4),
+];
+
+#[test]
+fn the_first_line_out_of_place_is_named(rt: HostRuntime) {
+    for (text, line) in FAULTS {
+        assert_eq!(rt; faulty_line(rt.alloc(), text), *line, "{text:?}");
+    }
+}
+
+/// A text of so many units and as many acts.
+fn long_text(alloc: Global, count: u32) -> Result<String, AllocError> {
+    let mut text = String::from_str(alloc, "loaded /nix/store/a-sys/etc é\n")?;
+    for number in 0..count {
+        let state = if number % 3 == 0 { "failed" } else { "active" };
+        text.push_str(format!(in alloc; "{state} u@{number:04}.service\n")?.as_str())?;
+    }
+    text.push_str("bad b.mount x y\nbad a.mount \nbad b.mount x y\n")?;
+    for number in 0..count {
+        let act = if number % 2 == 0 { "stop" } else { "restart" };
+        text.push_str(format!(in alloc; "{act} u@{number:04}.service /{number}\n")?.as_str())?;
+    }
+    Ok(text)
+}
+
+/// How many units, bad ones and entries a state has.
+fn counts(state: &ManagerState) -> (usize, usize, usize) {
+    (
+        state.states.list().as_slice().len(),
+        state.bad.as_slice().len(),
+        state.journal.as_slice().len(),
+    )
+}
+
+/// How many units, bad ones and entries are read from a text, and whether it is written again.
+fn read_and_written(alloc: Global, text: &[u8]) -> Result<((usize, usize, usize), bool), Fail> {
+    let state = read_state(alloc, text)?;
+    let written = write_state(alloc, &state)?;
+    Ok((counts(&state), written.as_slice() == text))
+}
+
+#[test]
+fn a_long_text_is_written_as_it_was_read(rt: HostRuntime) -> Result<(), Fail> {
+    let text = long_text(rt.alloc(), 2000)?;
+    let got = read_and_written(rt.alloc(), text.as_bytes())?;
+    assert_eq!(rt; got, ((2000, 3, 2000), true));
+    Ok(())
+}

@@ -1,0 +1,57 @@
+-- Without units nothing is pulled.
+use Rattle.std.proofs.Common.{◌≡◌, Bool, true, false, List, [], Option, None, Some, is_some, option_and_then, refl, sym, ap, subst, ◌∙◌}
+use Rattle.std.specs.Cmp.Lexicographic.{slice_cmp}
+use Rattle.std.specs.List.Sorted.{IsStrictlySortedBy}
+use Rattle.std.specs.Ordering.{nat_cmp}
+use Rattle.host_trait.specs.declared.unit_state.State.{State}
+use Rattle.owed_lists.specs.declared.lists.Lists.{Lists}
+use Rattle.owed_plan.specs.Pull.{IsRoot, Pulled}
+use Rattle.owed_plan.specs.Systems.{IsDefined, systems_in}
+use Rattle.switch_names.specs.Names.{IsListOf, Name, has}
+use Rattle.switch_names.specs.UnitName.{template_of}
+use Rattle.unit_defs.specs.declared.unit.Unit.{Unit}
+use Rattle.unit_defs.specs.Defs.{found_in, own_in}
+use Rattle.unit_defs.specs.Place.{is_unit}
+use Rattle.unit_defs.specs.Pull.{Reached}
+use Rattle.unit_text.specs.declared.assignment.Assignment.{Assignment}
+
+none_found : (unit : Name) → has [] unit ≡ true → ⊥
+none_found unit found = cc
+
+no_text : (o : Option Name) → option_and_then (own_in []) o ≡ None
+no_text None = refl
+no_text (Some name) = refl
+
+none_kept : (unit : Name) → found_in [] unit ≡ None
+none_kept unit = by (is_unit unit) refl
+  where
+    by : (b : Bool) → is_unit unit ≡ b → found_in [] unit ≡ None
+    by true is = rw (is, no_text (template_of unit))
+    by false is = rw is
+
+none_sorted : IsStrictlySortedBy (slice_cmp nat_cmp) []
+unfolding IsStrictlySortedBy
+none_sorted = tt
+
+module _ (states : Name → State) (lists : Lists) where
+  undefined : (unit : Name) → IsDefined (systems_in [] []) unit → ⊥
+  undefined unit defined = cc (sym (ap (λ (o : Option (List Assignment)). is_some o) (none_kept unit)) ∙ defined)
+
+  no_root : (unit : Name) → IsRoot (systems_in [] []) states lists unit → ⊥
+  no_root unit (IsRoot.Running defined target active may_start) = undefined unit defined
+  no_root unit (IsRoot.Pending defined target listed) = undefined unit defined
+
+  no_pull : (unit : Name) → Pulled (systems_in [] []) states lists unit → ⊥
+  no_pull unit (Reached.FromRoot at root) = no_root unit root
+  no_pull unit (Reached.FromWant at by pulled wants) = no_pull by pulled
+
+  no_list : IsListOf [] (Pulled (systems_in [] []) states lists)
+  no_list = record {
+    sorted = none_sorted;
+    exact = λ unit. (λ found. absurd (none_found unit found), λ pulled. absurd (no_pull unit pulled));
+  }
+
+  pub none_pulled : (units : List Unit) (names : List Name) → units ≡ [] → names ≡ [] → IsListOf names (Pulled (systems_in units units) states lists)
+  none_pulled units names none empty =
+      subst (λ (us : List Unit). IsListOf names (Pulled (systems_in us us) states lists)) (sym none)
+      (subst (λ (ns : List Name). IsListOf ns (Pulled (systems_in [] []) states lists)) (sym empty) no_list)
