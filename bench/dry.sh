@@ -23,52 +23,6 @@ find_program "$@"
 [ $# -gt 0 ] || set -- 500 4000 16000
 failed=0
 
-# make_system NAME UNITS PROGRAM: a system whose every tenth unit runs this program.
-make_system() {
-    local folder=$root/tree/nix/store/$1/etc/systemd/system
-    mkdir -p "$folder"
-    printf 'F 0644 0 0\n%s\n' "$1" >"$root/tree/nix/store/$1/nixos-version"
-    awk -v folder="$folder" -v last="$2" -v program="$3" 'BEGIN {
-        target = folder "/multi-user.target"
-        printf "F 0644 0 0\n[Unit]\nDescription=Multi-User System\n" >target
-        for (number = 1; number < last; number++) {
-            name = "unit-" number ".service"
-            printf "Wants=%s\n", name >target
-            file = folder "/" name
-            print "F 0644 0 0\n[Unit]\nDescription=Unit " number "\nAfter=network.target" >file
-            print "[Service]\nExecStart=" (number % 10 ? "/bin/unit" : program) " --number " number >file
-            print "Environment=PATH=/run/current-system/sw/bin\nRestart=on-failure" >file
-            print "[Install]\nWantedBy=multi-user.target" >file
-            close(file)
-        }
-    }'
-}
-
-# Makes a root with two systems of this many units, of which the first is in use.
-make_root() {
-    rm -rf "$root"
-    make_system old-sys "$1" /bin/old
-    make_system new-sys "$1" /bin/new
-    mkdir -p "$root/tree/run"
-    printf 'L /nix/store/old-sys\n' >"$root/tree/run/current-system"
-    {
-        echo "loaded /nix/store/old-sys/etc"
-        {
-            echo "active multi-user.target"
-            awk -v last="$1" 'BEGIN { for (number = 1; number < last; number++) print "active unit-" number ".service" }'
-        } | sort
-    } >"$root/manager"
-    {
-        echo "from nix/store/old-sys"
-        echo "to nix/store/new-sys"
-        awk -v last="$1" 'BEGIN { for (number = 10; number < last; number += 10) print "stop unit-" number ".service" }' | sort
-        {
-            echo "start multi-user.target"
-            awk -v last="$1" 'BEGIN { for (number = 10; number < last; number += 10) print "start unit-" number ".service" }'
-        } | sort
-    } >"$work/wanted"
-}
-
 # Plans the switch, by way of the words given, and sets `status` to how that ended.
 dry_run() {
     "$@" "$program" "$root" dry-activate nix/store/new-sys >"$work/stdout" 2>"$work/stderr"
@@ -83,46 +37,17 @@ after() {
     fi
 }
 
-cat >"$work/count.awk" <<'AWK'
-{ sub(/^[0-9]+ +/, "") }
-!/^[a-z_0-9]+\(/ { next }
-{
-    calls++
-    kind = $0
-    sub(/\(.*/, "", kind)
-    file = ""
-    if (match($0, /<[^>]*>/))
-        file = substr($0, RSTART + 1, RLENGTH - 2)
-    if (kind ~ /^open/ && match($0, /= [0-9]+<[^>]*>/)) {
-        file = substr($0, RSTART, RLENGTH - 1)
-        sub(/^[^<]*</, "", file)
-    }
-    below = index($0, root) > 0
-    if (below && (kind ~ /^(p?write|creat|f?truncate|mk|rename|link|symlink|unlink|rmdir|[fl]?ch(mod|own))/ || $0 ~ /O_(WRONLY|RDWR|CREAT|TRUNC)/))
-        changes++
-    if (file !~ /\.service$/)
-        next
-    if (kind ~ /^open/ && ++opened[file] > opens)
-        opens = opened[file]
-    if (kind == "read" && ++taken[file] > reads)
-        reads = taken[file]
-}
+cat >>"$work/count.awk" <<'AWK'
+index($0, root) > 0 && (kind ~ /^(p?write|creat|f?truncate|mk|rename|link|symlink|unlink|rmdir|[fl]?ch(mod|own))/ || $0 ~ /O_(WRONLY|RDWR|CREAT|TRUNC)/) { changes++ }
 END { print calls + 0, opens + 0, reads + 0, changes + 0 }
 AWK
 
-timed=
-[ ! -x /usr/bin/time ] || timed=yes
-traced=
-if strace -o "$work/calls" true 2>"$work/stderr"; then
-    traced=yes
-fi
+find_tools
 form='%8s %12s %9s %9s %6s %6s %8s\n'
 # shellcheck disable=SC2059
 printf "$form" units milliseconds 'peak KiB' calls opens reads changes
-last=''
-grown=''
 for count in "$@"; do
-    make_root "$count"
+    make_machine "$root" "$count"
     quickest 3 dry_run
     after "$count"
     if [ "$count" = 4000 ] && [ "$micros" -ge 1000000 ]; then
@@ -148,12 +73,7 @@ for count in "$@"; do
     fi
     # shellcheck disable=SC2059
     printf "$form" "$count" "$(printf '%d.%03d' $((micros / 1000)) $((micros % 1000)))" "$peak" "$calls" "$opens" "$reads" "$changes"
-    [ -z "$last" ] || grown+=$(awk -v a="$last" -v b="$count $micros" 'BEGIN {
-        split(a, from, " ")
-        split(b, to, " ")
-        printf "%d to %d units, x%.1f: time x%.1f", from[1], to[1], to[1] / from[1], to[2] / from[2]
-    }')$'\n'
-    last="$count $micros"
+    grow "$count" "$micros"
 done
 printf '%s' "$grown"
 exit $failed

@@ -153,6 +153,32 @@ run "a unit with an assignment before any section" 2
 fresh && mkdir -p "$tree/run" && printf 'L ../../outside\n' >"$tree/run/current-system"
 run "a system in use that is none" 0
 
+command=test
+lists=$tree/run/nixos
+fresh
+run "a switch on a plain root" 0
+run "the same switch again" 0
+fresh && ln -s "$work/outside/var" "$tree/etc"
+run "a folder on the way to the definitions is a link" 3
+fresh && ln -s "$work/outside/var" "$tree/run"
+run "a folder on the way to the lists is a link" 3
+fresh && mkdir -p "$tree/etc" && ln -s "$work/outside/file" "$tree/etc/static"
+run "the definitions are a link of the file system" 3
+fresh && mkdir -p "$lists" && mkfifo "$lists/start-list"
+run "a list is a pipe" 3
+fresh && mkdir -p "$lists" && printf 'L ../../outside/file\n' >"$lists/start-list"
+run "a list that leads out of the tree" 2
+fresh && mkdir -p "$lists/restart-list/a/b"
+run "empty folders where a list is to stand" 0
+fresh && mkdir -p "$lists/reload-list" && printf 'L x\n' >"$lists/reload-list/leaf"
+run "a folder with a leaf where a list is to stand" 2
+fresh && ln -s "$work/outside/file" "$work/root/manager.new"
+run "the manager's next state is a link" 0
+fresh && mkfifo "$work/root/manager.new"
+run "the manager's next state is a pipe" 0
+fresh && mkdir -p "$work/root/manager.new/a"
+run "the manager's next state is a folder" 3
+
 if [ "$(id -u)" != 0 ]; then
     fresh && chmod 000 "$tree/nix/store/a-sys/nixos-version"
     run "a leaf without leave to read" 3
