@@ -1,5 +1,6 @@
 //! What a manager's state comes to, and how its text reads.
 ghost use Rattle.host_trait.specs.Manager.{HasPlainTexts};
+ghost use Rattle.manager_core.specs.Call.{IsPlainCall};
 
 use crate::texts::push_entries;
 use host_trait::{Entry, ManagerState, State};
@@ -7,6 +8,15 @@ use manager_core::{Call, StateFault, read_state, step, write_state};
 use std::alloc::{AllocError, Global};
 use std::test::Fail;
 use switch_names::{Bytes, Text, UnitName};
+
+/// Makes a call that is handed over.
+fn make(alloc: Global, state: &mut ManagerState, call: Call) -> Result<(), AllocError>
+    requires plain { HasPlainTexts state.old }
+    requires text { IsPlainCall call }
+    ensures { HasPlainTexts state.new }
+{
+    step(alloc, state, &call)
+}
 
 /// Starts a unit and stops it, and answers its state after each.
 fn start_and_stop(
@@ -16,9 +26,9 @@ fn start_and_stop(
 ) -> Result<(State, State), AllocError>
     requires { HasPlainTexts state.old }
 {
-    step(alloc, state, &Call::Start(unit.copy(alloc)?))?;
+    make(alloc, state, Call::Start(unit.copy(alloc)?))?;
     let started = state.states.of(unit);
-    step(alloc, state, &Call::Stop(unit.copy(alloc)?))?;
+    make(alloc, state, Call::Stop(unit.copy(alloc)?))?;
     Ok((started, state.states.of(unit)))
 }
 
@@ -71,11 +81,14 @@ fn load_and_restart(
     requires { HasPlainTexts state.old }
     ensures { HasPlainTexts state.new }
 {
-    let moved = Call::DaemonReload(Text::from_str(alloc, "/b")?);
-    step(alloc, state, &moved)?;
-    step(alloc, state, &Call::Start(unit.copy(alloc)?))?;
-    step(alloc, state, &Call::Halt(unit.copy(alloc)?))?;
-    step(alloc, state, &Call::Restart(unit.copy(alloc)?))
+    make(
+        alloc,
+        state,
+        Call::DaemonReload(Text::from_str(alloc, "/b")?),
+    )?;
+    make(alloc, state, Call::Start(unit.copy(alloc)?))?;
+    make(alloc, state, Call::Halt(unit.copy(alloc)?))?;
+    make(alloc, state, Call::Restart(unit.copy(alloc)?))
 }
 
 /// Acts on a unit in turn, and writes the state.

@@ -4,7 +4,7 @@ use crate::tests::{ample_sink, numbers, words_of};
 use crate::top_call::run;
 use host_memory::{MemoryHost, MemorySink};
 use host_trait::{Leaf, State, World, stage_path};
-use std::alloc::Global;
+use std::alloc::{AllocError, Global};
 use std::test::Fail;
 use switch_names::{Bytes, Path, Text, UnitName};
 
@@ -79,25 +79,50 @@ const ROWS: &[Row] = &[
     },
 ];
 
+/// A place in the store.
+fn store_path(alloc: Global, at: &str) -> Result<Path, Fail> {
+    let text = format!(in alloc; "nix/store/{at}")?;
+    Ok(Path::parse(alloc, text.as_str())?)
+}
+
+/// A file with this text.
+fn file_of(alloc: Global, text: &str) -> Result<Leaf, AllocError> {
+    let bytes = Bytes::from_slice(alloc, text.as_bytes())?;
+    Ok(Leaf::file(bytes, 0o644, 0, 0))
+}
+
 /// Puts a file at a place in the store of a world.
 fn set_file(alloc: Global, world: &mut World, at: &str, text: &str) -> Result<(), Fail> {
-    let path = format!(in alloc; "nix/store/{at}")?;
-    let file = Leaf::file(Bytes::from_slice(alloc, text.as_bytes())?, 0o644, 0, 0);
-    world.set_leaf(Path::parse(alloc, path.as_str())?, file)?;
+    let file = file_of(alloc, text)?;
+    let path = store_path(alloc, at)?;
+    world.set_leaf(path, file)?;
+    Ok(())
+}
+
+/// Puts a link to the first system, which is in use.
+fn set_current(alloc: Global, world: &mut World) -> Result<(), Fail> {
+    let current = Leaf::link(alloc, "/nix/store/a-sys")?;
+    let path = Path::parse(alloc, "run/current-system")?;
+    world.set_leaf(path, current)?;
+    Ok(())
+}
+
+/// Puts two systems with these unit files, of which the first is in use, and its service runs.
+fn fill(alloc: Global, world: &mut World, units: &[(&str, &str)]) -> Result<(), Fail> {
+    set_file(alloc, world, "a-sys/nixos-version", "24.05\n")?;
+    set_file(alloc, world, "b-sys/nixos-version", "24.05\n")?;
+    for (at, text) in units {
+        set_file(alloc, world, at, text)?;
+    }
+    set_current(alloc, world)?;
+    world.set_state(UnitName::parse(alloc, "web.service")?, State::Active)?;
     Ok(())
 }
 
 /// A world with two systems and these unit files, where the first system is in use and its service runs.
 fn world_of(alloc: Global, units: &[(&str, &str)]) -> Result<World, Fail> {
     let mut world = World::new(alloc);
-    set_file(alloc, &mut world, "a-sys/nixos-version", "24.05\n")?;
-    set_file(alloc, &mut world, "b-sys/nixos-version", "24.05\n")?;
-    for (at, text) in units {
-        set_file(alloc, &mut world, at, text)?;
-    }
-    let current = Leaf::link(alloc, "/nix/store/a-sys")?;
-    world.set_leaf(Path::parse(alloc, "run/current-system")?, current)?;
-    world.set_state(UnitName::parse(alloc, "web.service")?, State::Active)?;
+    fill(alloc, &mut world, units)?;
     Ok(world)
 }
 
@@ -144,22 +169,41 @@ fn a_dry_run_says_what_a_switch_does_to_the_units(rt: HostRuntime) -> Result<(),
     Ok(())
 }
 
-/// The number of the status of a dry run whose call with this number fails, the sink, and whether the host is unchanged.
-fn failing_run(alloc: Global, call: u64) -> Result<(u8, MemorySink, bool), Fail> {
-    let mut host = MemoryHost::new(alloc, world_of(alloc, &[OLD, NEW])?);
+/// The number of the status of a dry run on a host.
+fn dry_number(alloc: Global, host: &mut MemoryHost, out: &mut MemorySink) -> Result<u8, Fail> {
+    let status = dry_run(alloc, host, out, "nix/store/b-sys")?;
+    Ok(status.number())
+}
+
+/// The number of the status of a dry run on a host, and whether nothing was put.
+fn dry_numbers(alloc: Global, host: &mut MemoryHost) -> Result<(u8, bool), Fail> {
     let mut out = ample_sink(alloc)?;
+    let number = dry_number(alloc, host, &mut out)?;
+    Ok((number, out.bytes().is_empty()))
+}
+
+/// The number of the status of a dry run on a host whose call with this number fails, whether nothing was put, and
+/// whether the host is unchanged.
+fn fail_on(alloc: Global, host: &mut MemoryHost, call: u64) -> Result<(u8, bool, bool), Fail> {
     host.fail(numbers(alloc, &[call])?);
-    let status = dry_run(alloc, &mut host, &mut out, "nix/store/b-sys")?;
-    let is_same = is_unchanged(alloc, &host, &[OLD, NEW])?;
-    Ok((status.number(), out, is_same))
+    let (number, is_silent) = dry_numbers(alloc, host)?;
+    let is_same = is_unchanged(alloc, host, &[OLD, NEW])?;
+    Ok((number, is_silent, is_same))
+}
+
+/// The same over a new host.
+fn failing_run(alloc: Global, call: u64) -> Result<(u8, bool, bool), Fail> {
+    let world = world_of(alloc, &[OLD, NEW])?;
+    let mut host = MemoryHost::new(alloc, world);
+    fail_on(alloc, &mut host, call)
 }
 
 #[test]
 fn a_dry_run_that_fails_changes_nothing(rt: HostRuntime) -> Result<(), Fail> {
     let mut failed = 0;
     for call in 0..40 {
-        let (status, out, is_same) = failing_run(rt.alloc(), call)?;
-        let is_failed = status == 3 && out.bytes().is_empty();
+        let (status, is_silent, is_same) = failing_run(rt.alloc(), call)?;
+        let is_failed = status == 3 && is_silent;
         if is_failed {
             failed = call + 1;
         }

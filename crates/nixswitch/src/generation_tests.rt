@@ -6,13 +6,32 @@ use std::alloc::{AllocError, Global};
 use std::test::Fail;
 use switch_names::{Path, SystemName};
 
+/// A place in the profiles' folder.
+fn profile_place(alloc: Global, name: &str) -> Result<Path, Fail> {
+    let text = format!(in alloc; "nix/var/nix/profiles/{name}")?;
+    Ok(Path::parse(alloc, text.as_str())?)
+}
+
+/// Puts a link with this name and target into the profiles' folder.
+fn set_link(alloc: Global, world: &mut World, name: &str, target: &str) -> Result<(), Fail> {
+    let leaf = Leaf::link(alloc, target)?;
+    let place = profile_place(alloc, name)?;
+    world.set_leaf(place, leaf)?;
+    Ok(())
+}
+
+/// Puts links with these names and targets into the profiles' folder.
+fn set_links(alloc: Global, world: &mut World, links: &[(&str, &str)]) -> Result<(), Fail> {
+    for (name, target) in links {
+        set_link(alloc, world, name, target)?;
+    }
+    Ok(())
+}
+
 /// A host whose profiles' folder has links with these names and targets.
 fn host_of(alloc: Global, links: &[(&str, &str)]) -> Result<MemoryHost, Fail> {
     let mut world = World::new(alloc);
-    for (name, target) in links {
-        let at = format!(in alloc; "nix/var/nix/profiles/{name}")?;
-        world.set_leaf(Path::parse(alloc, at.as_str())?, Leaf::link(alloc, target)?)?;
-    }
+    set_links(alloc, &mut world, links)?;
     Ok(MemoryHost::new(alloc, world))
 }
 
