@@ -8,12 +8,20 @@ use std::rt::Files;
 use std::{fs, io};
 use switch_names::{Listed, NameFault, Path};
 
+/// The error of a name that no path has, or of want of memory.
+fn error_of(fault: &NameFault) -> io::Error {
+    if matches!(fault, NameFault::Memory) {
+        io::Error::from(AllocError)
+    } else {
+        foreign()
+    }
+}
+
 /// The path of a name in a folder of the tree. A name that is none of a path is a fault.
 fn path_in(alloc: Global, folder: &Path, name: &str) -> io::Result<Path> {
     match folder.join(alloc, name) {
         Ok(path) => Ok(path),
-        Err(NameFault::Memory) => Err(io::Error::from(AllocError)),
-        Err(_) => Err(foreign()),
+        Err(fault) => Err(error_of(&fault)),
     }
 }
 

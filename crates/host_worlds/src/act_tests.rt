@@ -4,56 +4,37 @@ ghost use Rattle.host_memory.specs.MemoryHost.{host_of};
 ghost use Rattle.host_trait.specs.Host.{Told};
 ghost use Rattle.host_trait.specs.States.{state_of};
 
-use crate::texts::{push_entries, push_states, state_told};
+use crate::told::state_told;
 use host_memory::MemoryHost;
-use host_trait::{Act, Bad, HostFault, Leaf, Manager, State, World, definitions_path};
+use host_trait::{Act, HostFault, Manager, State, World};
 use std::alloc::{AllocError, Global};
 use std::test::Fail;
-use switch_names::{Text, UnitName};
+use switch_names::UnitName;
+use world_text::{Root, push_journal, push_states, read_world};
+
+/// A manager that has loaded `/old`, where `/new` is there to be loaded.
+const GOOD: Root = &[
+    ("tree/etc/static", "L /new\n"),
+    ("manager", "loaded /old\n"),
+];
+
+/// The same, under whose definitions a unit fails.
+const BAD: Root = &[
+    ("tree/etc/static", "L /new\n"),
+    ("manager", "loaded /old\nbad a.service /old\n"),
+];
 
 /// The name of the unit in these tests.
 fn unit_name(alloc: Global) -> Result<UnitName, Fail> {
     Ok(UnitName::parse(alloc, "a.service")?)
 }
 
-/// Has a unit fail under the definitions at `/old`.
-fn add_bad(alloc: Global, world: &mut World) -> Result<(), Fail> {
-    let unit = unit_name(alloc)?;
-    let loaded = Text::from_str(alloc, "/old")?;
-    world.add_bad(Bad { loaded, unit })?;
-    Ok(())
-}
-
-/// Loads `/old`, and puts `/new` there to be loaded.
-fn load_old(alloc: Global, world: &mut World) -> Result<(), Fail> {
-    world.set_leaf(definitions_path(alloc)?, Leaf::link(alloc, "/new")?)?;
-    world.set_loaded(Text::from_str(alloc, "/old")?);
-    Ok(())
-}
-
-/// Loads `/old`, puts `/new` there to be loaded, and may have a unit fail.
-fn fill(alloc: Global, world: &mut World, is_bad: bool) -> Result<(), Fail> {
-    load_old(alloc, world)?;
-    if is_bad {
-        add_bad(alloc, world)?;
-    }
-    Ok(())
-}
-
-/// A world whose manager has loaded `/old`, and in which `/new` is there to be loaded. A unit may be bad
-/// under the definitions that are loaded.
-fn world_to_load(alloc: Global, is_bad: bool) -> Result<World, Fail> {
-    let mut world = World::new(alloc);
-    fill(alloc, &mut world, is_bad)?;
-    Ok(world)
-}
-
-/// The same world, in which a unit is active.
-fn active_world(alloc: Global, is_bad: bool, unit: &UnitName) -> Result<World, Fail>
+/// The world of a root, in which a unit is active.
+fn active_world(alloc: Global, root: Root, unit: &UnitName) -> Result<World, Fail>
     ensures { IfOk result (λ world. state_of world.manager.states unit.now ≡ State.Active) }
 {
     let name = unit.copy(alloc)?;
-    let mut world = world_to_load(alloc, is_bad)?;
+    let mut world = read_world(alloc, root)?;
     world.set_state(name, State::Active)?;
     Ok(world)
 }
@@ -76,133 +57,130 @@ fn do_act<M: Manager>(
     }
 }
 
-/// Cuts the next call of a host, where there is a pick.
-fn arm_at(host: &mut MemoryHost, pick: Option<u64>)
-    ensures { (host_of host.new).world ≡ (host_of host.old).world }
-{
-    if let Some(pick) = pick {
-        host.arm(0, pick);
-    }
-}
-
 /// The units and their states, what is loaded, and the journal.
 fn written(alloc: Global, world: &World) -> Result<String, AllocError> {
     let mut text = String::new(alloc);
-    push_states(alloc, &mut text, world.states())?;
-    text.push_str(world.loaded().as_str())?;
-    push_entries(alloc, &mut text, world.journal().as_slice())?;
+    push_states(&mut text, world)?;
+    push_journal(&mut text, world)?;
     Ok(text)
 }
 
-/// What an act on an active unit of a host leaves, cut or whole, and whether it is whole.
+/// What an act on an active unit of a host leaves, and whether it is whole.
 fn end_on(
     alloc: Global,
     host: &mut MemoryHost,
     act: Option<Act>,
-    pick: Option<u64>,
     unit: &UnitName,
 ) -> Result<(bool, String), Fail>
     requires { Told (host_of host.old) (λ w. state_of w.manager.states unit.now ≡ State.Active) }
 {
-    arm_at(host, pick);
     let is_whole = do_act(alloc, host, act, unit).is_ok();
     Ok((is_whole, written(alloc, host.world())?))
 }
 
-/// What an act on an active unit leaves, cut or whole, and whether it is whole.
-fn end_of(
-    alloc: Global,
-    act: Option<Act>,
-    is_bad: bool,
-    pick: Option<u64>,
-) -> Result<(bool, String), Fail> {
+/// A cut: how many calls come before it, and its pick.
+type Cut = (u64, u64);
+
+/// No call of these tests is cut.
+const WHOLE: Cut = (1, 0);
+
+/// What an act on an active unit leaves, and whether it is whole.
+fn end_of(alloc: Global, root: Root, act: Option<Act>, cut: Cut) -> Result<(bool, String), Fail> {
     let unit = unit_name(alloc)?;
-    let world = active_world(alloc, is_bad, &unit)?;
+    let world = active_world(alloc, root, &unit)?;
     let mut host = MemoryHost::new(alloc, world);
-    end_on(alloc, &mut host, act, pick, &unit)
+    host.arm(cut.0, cut.1);
+    end_on(alloc, &mut host, act, &unit)
 }
 
 /// What stands before an act.
-const BEFORE: &str = "a.service Active /old";
+const BEFORE: &str = "loaded /old\nactive a.service\n";
 
-/// An act, or none where definitions are loaded; whether the unit is bad; the pick of a cut; and what is left.
-const ROWS: &[(Option<Act>, bool, Option<u64>, &str)] = &[
-    (Some(Act::Stop), false, Some(0), BEFORE),
-    (Some(Act::Stop), false, Some(1), "/old Stop a.service /old"),
-    (Some(Act::Stop), false, Some(2), BEFORE),
-    (Some(Act::Stop), false, None, "/old Stop a.service /old"),
-    (Some(Act::Reload), true, Some(0), BEFORE),
+/// An act, or none where definitions are loaded; the root; the cut; and what is left.
+const ROWS: &[(Option<Act>, Root, Cut, &str)] = &[
+    (Some(Act::Stop), GOOD, (0, 0), BEFORE),
+    (
+        Some(Act::Stop),
+        GOOD,
+        (0, 1),
+        "loaded /old\nstop a.service /old\n",
+    ),
+    (Some(Act::Stop), GOOD, (0, 2), BEFORE),
+    (
+        Some(Act::Stop),
+        GOOD,
+        WHOLE,
+        "loaded /old\nstop a.service /old\n",
+    ),
+    (Some(Act::Reload), BAD, (0, 0), BEFORE),
     (
         Some(Act::Reload),
-        true,
-        Some(1),
-        "a.service Active /old Reload a.service /old",
+        BAD,
+        (0, 1),
+        "loaded /old\nactive a.service\nreload a.service /old\n",
     ),
-    (Some(Act::Reload), true, Some(2), BEFORE),
+    (Some(Act::Reload), BAD, (0, 2), BEFORE),
     (
         Some(Act::Reload),
-        true,
-        None,
-        "a.service Active /old Reload a.service /old",
+        BAD,
+        WHOLE,
+        "loaded /old\nactive a.service\nreload a.service /old\n",
     ),
-    (Some(Act::Restart), false, Some(0), BEFORE),
-    (Some(Act::Restart), false, Some(1), "/old"),
+    (Some(Act::Restart), GOOD, (0, 0), BEFORE),
+    (Some(Act::Restart), GOOD, (0, 1), "loaded /old\n"),
     (
         Some(Act::Restart),
-        false,
-        Some(2),
-        "a.service Active /old Restart a.service /old",
-    ),
-    (
-        Some(Act::Restart),
-        false,
-        None,
-        "a.service Active /old Restart a.service /old",
-    ),
-    (Some(Act::Restart), true, Some(0), BEFORE),
-    (Some(Act::Restart), true, Some(1), "/old"),
-    (
-        Some(Act::Restart),
-        true,
-        Some(2),
-        "a.service Failed /old Restart a.service /old",
+        GOOD,
+        (0, 2),
+        "loaded /old\nactive a.service\nrestart a.service /old\n",
     ),
     (
         Some(Act::Restart),
-        true,
-        None,
-        "a.service Failed /old Restart a.service /old",
+        GOOD,
+        WHOLE,
+        "loaded /old\nactive a.service\nrestart a.service /old\n",
     ),
-    (Some(Act::Start), true, Some(0), BEFORE),
+    (Some(Act::Restart), BAD, (0, 0), BEFORE),
+    (Some(Act::Restart), BAD, (0, 1), "loaded /old\n"),
+    (
+        Some(Act::Restart),
+        BAD,
+        (0, 2),
+        "loaded /old\nfailed a.service\nrestart a.service /old\n",
+    ),
+    (
+        Some(Act::Restart),
+        BAD,
+        WHOLE,
+        "loaded /old\nfailed a.service\nrestart a.service /old\n",
+    ),
+    (Some(Act::Start), BAD, (0, 0), BEFORE),
     (
         Some(Act::Start),
-        true,
-        Some(1),
-        "a.service Active /old Start a.service /old",
+        BAD,
+        (0, 1),
+        "loaded /old\nactive a.service\nstart a.service /old\n",
     ),
-    (Some(Act::Start), true, Some(2), BEFORE),
+    (Some(Act::Start), BAD, (0, 2), BEFORE),
     (
         Some(Act::Start),
-        true,
-        None,
-        "a.service Active /old Start a.service /old",
+        BAD,
+        WHOLE,
+        "loaded /old\nactive a.service\nstart a.service /old\n",
     ),
-    (None, false, Some(0), BEFORE),
-    (None, false, Some(1), "a.service Active /new"),
-    (None, false, Some(2), BEFORE),
-    (None, false, None, "a.service Active /new"),
+    (None, GOOD, (0, 0), BEFORE),
+    (None, GOOD, (0, 1), "loaded /new\nactive a.service\n"),
+    (None, GOOD, (0, 2), BEFORE),
+    (None, GOOD, WHOLE, "loaded /new\nactive a.service\n"),
 ];
 
 #[test]
 fn an_act_on_an_active_unit_leaves_its_row_of_the_table(rt: HostRuntime) -> Result<(), Fail> {
-    for (act, is_bad, pick, want) in ROWS {
-        let (is_whole, left) = end_of(rt.alloc(), *act, *is_bad, *pick)?;
+    for (act, root, cut, want) in ROWS {
+        let (is_whole, left) = end_of(rt.alloc(), root, *act, *cut)?;
         let got = (left.as_str(), is_whole);
-        assert_eq!(rt;
-            got,
-            (*want, pick.is_none()),
-            "{act:?} at {pick:?}, bad: {is_bad}"
-        );
+        let whole = *cut == WHOLE;
+        assert_eq!(rt; got, (*want, whole), "{act:?} cut at {cut:?}: {root:?}");
     }
     Ok(())
 }
@@ -222,34 +200,31 @@ fn started_on(alloc: Global, host: &mut MemoryHost) -> Result<(String, Option<St
 }
 
 /// What a start of a unit that isn't active leaves, and the same unit's state as the host tells it.
-fn started(alloc: Global, is_bad: bool) -> Result<(String, Option<State>), Fail> {
-    let mut host = MemoryHost::new(alloc, world_to_load(alloc, is_bad)?);
+fn started(alloc: Global, root: Root) -> Result<(String, Option<State>), Fail> {
+    let mut host = MemoryHost::new(alloc, read_world(alloc, root)?);
     started_on(alloc, &mut host)
 }
 
-/// Whether the unit is bad, what a start leaves, and the unit's state.
-const STARTS: &[(bool, &str, State)] = &[
+/// The root, what a start leaves, and the unit's state.
+const STARTS: &[(Root, &str, State)] = &[
     (
-        false,
-        "a.service Active /old Start a.service /old",
+        GOOD,
+        "loaded /old\nactive a.service\nstart a.service /old\n",
         State::Active,
     ),
     (
-        true,
-        "a.service Failed /old Start a.service /old",
+        BAD,
+        "loaded /old\nfailed a.service\nstart a.service /old\n",
         State::Failed,
     ),
 ];
 
 #[test]
 fn a_start_fails_where_the_unit_is_bad(rt: HostRuntime) -> Result<(), Fail> {
-    for (is_bad, want, state) in STARTS {
-        let (left, told) = started(rt.alloc(), *is_bad)?;
-        assert_eq!(rt;
-            (left.as_str(), told),
-            (*want, Some(*state)),
-            "bad: {is_bad}"
-        );
+    for (root, want, state) in STARTS {
+        let (left, told) = started(rt.alloc(), root)?;
+        let got = (left.as_str(), told);
+        assert_eq!(rt; got, (*want, Some(*state)), "{root:?}");
     }
     Ok(())
 }

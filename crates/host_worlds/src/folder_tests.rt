@@ -1,5 +1,5 @@
 //! What a folder's host reads, and what another one's acts have left.
-use crate::texts::state_told;
+use crate::told::state_told;
 use host_folder::FolderHost;
 use host_trait::{HostFault, Manager, State};
 use std::alloc::Global;

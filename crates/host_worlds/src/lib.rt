@@ -6,6 +6,8 @@ mod act_tests;
 #[cfg(test)]
 mod folder_tests;
 #[cfg(test)]
+mod generation_tests;
+#[cfg(test)]
 mod manager_tests;
 #[cfg(test)]
 mod memory_tests;
@@ -14,10 +16,12 @@ mod name_tests;
 #[cfg(test)]
 mod node_tests;
 #[cfg(test)]
+mod put_tests;
+#[cfg(test)]
 mod sink_tests;
 #[cfg(test)]
 mod state_tests;
 #[cfg(test)]
-mod texts;
+mod told;
 #[cfg(test)]
 mod world_tests;

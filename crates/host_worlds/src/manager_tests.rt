@@ -2,8 +2,7 @@
 ghost use Rattle.host_trait.specs.Manager.{HasPlainTexts};
 ghost use Rattle.manager_core.specs.Call.{IsPlainCall};
 
-use crate::texts::push_entries;
-use host_trait::{Entry, ManagerState, State};
+use host_trait::{Entry, ManagerState};
 use manager_core::{Call, StateFault, read_state, step, write_state};
 use std::alloc::{AllocError, Global};
 use std::test::Fail;
@@ -18,49 +17,31 @@ fn make(alloc: Global, state: &mut ManagerState, call: Call) -> Result<(), Alloc
     step(alloc, state, &call)
 }
 
-/// Starts a unit and stops it, and answers its state after each.
-fn start_and_stop(
+/// Starts a unit, reloads it, and stops it.
+fn start_reload_and_stop(
     alloc: Global,
     state: &mut ManagerState,
     unit: &UnitName,
-) -> Result<(State, State), AllocError>
+) -> Result<(), AllocError>
     requires { HasPlainTexts state.old }
+    ensures { HasPlainTexts state.new }
 {
     make(alloc, state, Call::Start(unit.copy(alloc)?))?;
-    let started = state.states.of(unit);
-    make(alloc, state, Call::Stop(unit.copy(alloc)?))?;
-    Ok((started, state.states.of(unit)))
+    make(alloc, state, Call::Reload(unit.copy(alloc)?))?;
+    make(alloc, state, Call::Stop(unit.copy(alloc)?))
 }
 
-/// Appends the copies of entries.
-fn push_copies(alloc: Global, text: &mut String, entries: &[Entry]) -> Result<(), AllocError> {
-    for entry in entries {
-        let copy = entry.copy(alloc)?;
-        push_entries(alloc, text, &[copy])?;
-    }
-    Ok(())
+/// Loads other definitions.
+fn load(alloc: Global, state: &mut ManagerState) -> Result<(), AllocError>
+    requires { HasPlainTexts state.old }
+    ensures { HasPlainTexts state.new }
+{
+    let text = Text::from_str(alloc, "/b")?;
+    make(alloc, state, Call::DaemonReload(text))
 }
 
-/// The states of a unit that is started and stopped, and the journal then.
-fn stopped(alloc: Global, unit: &UnitName) -> Result<((State, State), String), AllocError> {
-    let mut state = ManagerState::new(alloc);
-    let states = start_and_stop(alloc, &mut state, unit)?;
-    let mut text = String::new(alloc);
-    push_copies(alloc, &mut text, state.journal.as_slice())?;
-    Ok((states, text))
-}
-
-#[test]
-fn a_stop_is_entered(rt: HostRuntime) -> Result<(), Fail> {
-    let unit = UnitName::parse(rt.alloc(), "web.service")?;
-    let (states, entries) = stopped(rt.alloc(), &unit)?;
-    assert_eq!(rt; states, (State::Active, State::Inactive));
-    assert_eq!(rt; entries.as_str(), " Start web.service  Stop web.service ");
-    Ok(())
-}
-
-/// Starts a unit and reloads it.
-fn start_and_reload(
+/// Starts a unit, and restarts it by half and then wholly.
+fn start_and_restart(
     alloc: Global,
     state: &mut ManagerState,
     unit: &UnitName,
@@ -68,24 +49,6 @@ fn start_and_reload(
     requires { HasPlainTexts state.old }
     ensures { HasPlainTexts state.new }
 {
-    step(alloc, state, &Call::Start(unit.copy(alloc)?))?;
-    step(alloc, state, &Call::Reload(unit.copy(alloc)?))
-}
-
-/// Loads other definitions, and restarts a unit by half and then wholly.
-fn load_and_restart(
-    alloc: Global,
-    state: &mut ManagerState,
-    unit: &UnitName,
-) -> Result<(), AllocError>
-    requires { HasPlainTexts state.old }
-    ensures { HasPlainTexts state.new }
-{
-    make(
-        alloc,
-        state,
-        Call::DaemonReload(Text::from_str(alloc, "/b")?),
-    )?;
     make(alloc, state, Call::Start(unit.copy(alloc)?))?;
     make(alloc, state, Call::Halt(unit.copy(alloc)?))?;
     make(alloc, state, Call::Restart(unit.copy(alloc)?))
@@ -99,8 +62,9 @@ fn act_and_write(
 ) -> Result<Bytes, AllocError>
     requires { HasPlainTexts state.old }
 {
-    start_and_reload(alloc, state, unit)?;
-    load_and_restart(alloc, state, unit)?;
+    start_reload_and_stop(alloc, state, unit)?;
+    load(alloc, state)?;
+    start_and_restart(alloc, state, unit)?;
     write_state(alloc, state)
 }
 
@@ -112,13 +76,32 @@ fn acted(alloc: Global, text: &[u8]) -> Result<Bytes, Fail> {
 }
 
 const ACTED: &str = "loaded /b\nfailed web.service\nbad web.service /b\n\
-    start web.service /a\nreload web.service /a\nstart web.service /b\n\
+    start web.service /a\nreload web.service /a\nstop web.service /a\nstart web.service /b\n\
     restart web.service /b\n";
 
 #[test]
 fn each_act_leaves_its_line(rt: HostRuntime) -> Result<(), Fail> {
     let text = acted(rt.alloc(), b"loaded /a\nbad web.service /b\n")?;
     assert_eq!(rt; text.as_slice(), ACTED.as_bytes());
+    Ok(())
+}
+
+/// Copies of entries, a line each.
+fn copied(alloc: Global, entries: &[Entry]) -> Result<String, AllocError> {
+    let mut text = String::new(alloc);
+    for entry in entries {
+        let copy = entry.copy(alloc)?;
+        let (act, unit, loaded) = (copy.act, copy.unit.as_str(), copy.loaded.as_str());
+        text.push_str(format!(in alloc; "{act:?} {unit} {loaded}\n")?.as_str())?;
+    }
+    Ok(text)
+}
+
+#[test]
+fn an_entry_is_copied_whole(rt: HostRuntime) -> Result<(), Fail> {
+    let state = read_state(rt.alloc(), b"loaded /b\nstop web.service /a\n")?;
+    let text = copied(rt.alloc(), state.journal.as_slice())?;
+    assert_eq!(rt; text.as_str(), "Stop web.service /a\n");
     Ok(())
 }
 

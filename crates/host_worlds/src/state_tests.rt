@@ -1,15 +1,19 @@
 //! What the states of units and a manager's state answer.
-use crate::texts::push_states;
-use host_trait::{Bad, ManagerState, State, States, World};
+use host_trait::{ManagerState, State, States, World};
 use std::alloc::{AllocError, Global};
 use std::process::Abort;
 use std::test::Fail;
-use switch_names::{Text, UnitName};
+use switch_names::UnitName;
+use world_text::{Root, read_world};
 
 /// The units that aren't inactive with their states, in their order.
 fn written(alloc: Global, states: &States) -> Result<String, AllocError> {
     let mut text = String::new(alloc);
-    push_states(alloc, &mut text, states)?;
+    for one in states.list().as_slice() {
+        let unit = one.unit.as_str();
+        let state = one.state;
+        text.push_str(format!(in alloc; "{unit} {state:?} ")?.as_str())?;
+    }
     Ok(text)
 }
 
@@ -86,15 +90,8 @@ fn states_are_copied_whole(rt: HostRuntime) -> Result<(), Fail> {
     Ok(())
 }
 
-/// Loads `/a`, brings a unit to a state, and has another fail.
-fn fill_manager(alloc: Global, world: &mut World) -> Result<(), Fail> {
-    world.set_loaded(Text::from_str(alloc, "/a")?);
-    world.set_state(UnitName::parse(alloc, "a.service")?, State::Failed)?;
-    let loaded = Text::from_str(alloc, "/b")?;
-    let unit = UnitName::parse(alloc, "b.service")?;
-    world.add_bad(Bad { loaded, unit })?;
-    Ok(())
-}
+/// A manager with a failed unit, and another that fails when it is started.
+const MANAGER: Root = &[("manager", "loaded /a\nfailed a.service\nbad b.service /b\n")];
 
 /// Whether a world has loaded nothing, how many of its units aren't inactive, and the length of its journal.
 fn counts(world: &World) -> (bool, usize, usize) {
@@ -118,17 +115,11 @@ fn hand_over(alloc: Global, world: &mut World) -> HandedOver {
     (left, is_loaded, bad)
 }
 
-/// Takes a manager with a failed unit out and puts it back, and writes its units.
-fn fill_and_hand_over(alloc: Global, world: &mut World) -> Result<(HandedOver, String), Fail> {
-    fill_manager(alloc, world)?;
-    let handed = hand_over(alloc, world);
-    Ok((handed, written(alloc, world.states())?))
-}
-
-/// Hands the manager of a new world over.
+/// Hands the manager of a world over, and writes its units.
 fn handed_over(alloc: Global) -> Result<(HandedOver, String), Fail> {
-    let mut world = World::new(alloc);
-    fill_and_hand_over(alloc, &mut world)
+    let mut world = read_world(alloc, MANAGER)?;
+    let handed = hand_over(alloc, &mut world);
+    Ok((handed, written(alloc, world.states())?))
 }
 
 #[test]

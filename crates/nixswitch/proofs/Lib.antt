@@ -2,7 +2,6 @@ pub mod DryLemmas
 pub mod LawLemmas
 pub mod OutputLemmas
 pub mod PlanLemmas
-pub mod PutTestLemmas
 pub mod ResultLemmas
 pub mod RunLemmas
 pub mod StatusLemmas

@@ -1,5 +1,5 @@
 //! Switches over a root folder, and all that its files say then.
-use crate::tests::{ample_sink, words_of};
+use crate::runs::{sink_of, words_of};
 use crate::top_call::run;
 use host_folder::FolderHost;
 use host_memory::MemorySink;
@@ -152,7 +152,7 @@ fn push_switch<R: Files + AllocGlobal + Clone + Drop>(
     out: &mut String,
     root: &str,
 ) -> Result<(), Fail> {
-    let mut sink = ample_sink(rt.alloc())?;
+    let mut sink = sink_of(rt.alloc(), &[])?;
     let number = switch_over(rt, root, &mut sink)?;
     let line = format!(in rt.alloc(); "{number}\n")?;
     out.push_str(line.as_str())?;

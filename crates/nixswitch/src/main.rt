@@ -5,31 +5,25 @@ mod booting;
 mod carrying;
 mod dry_run;
 #[cfg(test)]
-mod dry_tests;
-#[cfg(test)]
 mod folder_tests;
-#[cfg(test)]
-mod generation_tests;
 mod laws;
-#[cfg(test)]
-mod machine;
 mod out_sink;
-#[cfg(test)]
-mod outcome;
 mod planning;
-#[cfg(test)]
-mod put_tests;
-#[cfg(test)]
-mod refused_tests;
 mod reporting;
 mod run_fault;
+#[cfg(test)]
+mod run_tests;
+#[cfg(test)]
+mod runs;
 mod status;
+#[cfg(test)]
+mod status_tests;
 #[cfg(test)]
 mod switch_tests;
 mod switching;
-#[cfg(test)]
-mod tests;
 mod top_call;
+#[cfg(test)]
+mod trouble_tests;
 mod words;
 
 use crate::out_sink::OutSink;

@@ -1,8 +1,8 @@
 use Rattle.std.proofs.Common.{List, ℕ, sym, subst}
 use Rattle.host_trait.specs.World.{stage}
 use Rattle.tree_put.specs.Put.{AreApart}
-use Rattle.nixswitch.proofs.PutTestLemmas.{can_put, place_apart}
-use Rattle.nixswitch.proofs.put_tests.after_put.Goals as goal
+use Rattle.host_worlds.proofs.PutTestLemmas.{can_put, place_apart}
+use Rattle.host_worlds.proofs.put_tests.after_put.Goals as goal
 
 pub put-requires-clause-apart : goal.put-requires-clause-apart
 put-requires-clause-apart c = subst (λ p. AreApart p stage) (sym c.in_ok-at.ensures) place_apart

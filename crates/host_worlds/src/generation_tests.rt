@@ -1,39 +1,10 @@
 //! Which generations are found in the profiles' folder, and the numbers that they give.
 use generations::{Gens, all, number_for, number_of_name, number_of_path, previous};
 use host_memory::MemoryHost;
-use host_trait::{Leaf, World};
 use std::alloc::{AllocError, Global};
 use std::test::Fail;
-use switch_names::{Path, SystemName};
-
-/// A place in the profiles' folder.
-fn profile_place(alloc: Global, name: &str) -> Result<Path, Fail> {
-    let text = format!(in alloc; "nix/var/nix/profiles/{name}")?;
-    Ok(Path::parse(alloc, text.as_str())?)
-}
-
-/// Puts a link with this name and target into the profiles' folder.
-fn set_link(alloc: Global, world: &mut World, name: &str, target: &str) -> Result<(), Fail> {
-    let leaf = Leaf::link(alloc, target)?;
-    let place = profile_place(alloc, name)?;
-    world.set_leaf(place, leaf)?;
-    Ok(())
-}
-
-/// Puts links with these names and targets into the profiles' folder.
-fn set_links(alloc: Global, world: &mut World, links: &[(&str, &str)]) -> Result<(), Fail> {
-    for (name, target) in links {
-        set_link(alloc, world, name, target)?;
-    }
-    Ok(())
-}
-
-/// A host whose profiles' folder has links with these names and targets.
-fn host_of(alloc: Global, links: &[(&str, &str)]) -> Result<MemoryHost, Fail> {
-    let mut world = World::new(alloc);
-    set_links(alloc, &mut world, links)?;
-    Ok(MemoryHost::new(alloc, world))
-}
+use switch_names::SystemName;
+use world_text::{Root, read_world};
 
 /// The generations with their systems, the current and the previous one, and the next number.
 fn written(alloc: Global, gens: &Gens, system: &SystemName) -> Result<String, AllocError> {
@@ -53,51 +24,75 @@ fn written(alloc: Global, gens: &Gens, system: &SystemName) -> Result<String, Al
     Ok(text)
 }
 
-/// What a row shows, the links, and the generations.
-const GENERATIONS: &[(&str, &[(&str, &str)], &str)] = &[
+/// What a row shows, the files of the links, and the generations.
+const GENERATIONS: &[(&str, Root, &str)] = &[
     ("no links", &[], "None None Some(1)"),
     (
         "the numbers ascend, and other names are passed over",
         &[
-            ("system", "system-2-link"),
-            ("system-0-link", "/nix/store/a"),
-            ("system-01-link", "/nix/store/a"),
-            ("system-1-link", "/nix/store/a"),
-            ("system-10-link", "/home/a"),
-            ("system-2-link", "nix/store/b"),
-            ("system-3-link.tmp", "/nix/store/a"),
-            ("system-4294967296-link", "/nix/store/a"),
-            ("user-3-link", "/nix/store/a"),
+            ("tree/nix/var/nix/profiles/system", "L system-2-link\n"),
+            (
+                "tree/nix/var/nix/profiles/system-0-link",
+                "L /nix/store/a\n",
+            ),
+            (
+                "tree/nix/var/nix/profiles/system-01-link",
+                "L /nix/store/a\n",
+            ),
+            (
+                "tree/nix/var/nix/profiles/system-1-link",
+                "L /nix/store/a\n",
+            ),
+            ("tree/nix/var/nix/profiles/system-10-link", "L /home/a\n"),
+            ("tree/nix/var/nix/profiles/system-2-link", "L nix/store/b\n"),
+            (
+                "tree/nix/var/nix/profiles/system-3-link.tmp",
+                "L /nix/store/a\n",
+            ),
+            (
+                "tree/nix/var/nix/profiles/system-4294967296-link",
+                "L /nix/store/a\n",
+            ),
+            ("tree/nix/var/nix/profiles/user-3-link", "L /nix/store/a\n"),
         ],
         "1 nix/store/a, 2 nix/store/b, 10 nothing, Some(2) Some(1) Some(11)",
     ),
     (
         "the current one has to stand",
         &[
-            ("system", "system-3-link"),
-            ("system-1-link", "/nix/store/a"),
+            ("tree/nix/var/nix/profiles/system", "L system-3-link\n"),
+            (
+                "tree/nix/var/nix/profiles/system-1-link",
+                "L /nix/store/a\n",
+            ),
         ],
         "1 nix/store/a, None None Some(2)",
     ),
     (
         "the highest keeps its number for its system",
         &[
-            ("system", "system-7-link"),
-            ("system-7-link", "/nix/store/b"),
+            ("tree/nix/var/nix/profiles/system", "L system-7-link\n"),
+            (
+                "tree/nix/var/nix/profiles/system-7-link",
+                "L /nix/store/b\n",
+            ),
         ],
         "7 nix/store/b, Some(7) None Some(7)",
     ),
     (
         "none follows the last number",
-        &[("system-4294967295-link", "/nix/store/a")],
+        &[(
+            "tree/nix/var/nix/profiles/system-4294967295-link",
+            "L /nix/store/a\n",
+        )],
         "4294967295 nix/store/a, None None None",
     ),
 ];
 
 /// What is found among these links, for a system.
-fn found(alloc: Global, links: &[(&str, &str)]) -> Result<String, Fail> {
+fn found(alloc: Global, links: Root) -> Result<String, Fail> {
     let system = SystemName::parse(alloc, "nix/store/b")?;
-    let mut host = host_of(alloc, links)?;
+    let mut host = MemoryHost::new(alloc, read_world(alloc, links)?);
     let gens = all(alloc, &mut host)?;
     Ok(written(alloc, &gens, &system)?)
 }

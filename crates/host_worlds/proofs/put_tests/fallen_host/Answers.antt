@@ -1,8 +1,8 @@
 use Rattle.std.proofs.Common.{Some, ap, ◌∙◌}
 use Rattle.host_memory.specs.MemoryHost.{host_of}
 use Rattle.host_trait.specs.World.{WorldState}
-use Rattle.nixswitch.proofs.PutTestLemmas.{none_after}
-use Rattle.nixswitch.proofs.put_tests.fallen_host.Goals as goal
+use Rattle.host_worlds.proofs.PutTestLemmas.{none_after}
+use Rattle.host_worlds.proofs.put_tests.fallen_host.Goals as goal
 
 pub returns : goal.returns
 returns c =
