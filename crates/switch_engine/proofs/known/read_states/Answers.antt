@@ -1,3 +1,4 @@
+use Rattle.std.proofs.Common.{rules}
 use Rattle.switch_engine.proofs.KnownLemmas.{same_on}
 use Rattle.switch_engine.proofs.known.read_states.Goals as goal
 
@@ -6,3 +7,6 @@ returns-in_err-lists-clause-moments g c = same_on c.units.ensures.moments c.load
 
 pub returns-clause-moments : goal.returns-clause-moments
 returns-clause-moments g c = same_on c.units.ensures.moments c.load.ensures.moments
+
+pub returns-clause-states : goal.returns-clause-states
+returns-clause-states g c = search rules

@@ -1,4 +1,4 @@
-use Rattle.std.proofs.Common.{◌≡◌, refl, sym, ap, subst, ◌∙◌, inl}
+use Rattle.std.proofs.Common.{◌≡◌, refl, sym, ap, subst, ◌∙◌, inl, rules}
 use Rattle.host_trait.specs.World.{seen, with_leaf}
 use Rattle.host_trait.proofs.Moments.{same_as, same_then, leads_as, leads_then}
 use Rattle.host_trait.proofs.Seen.{same_leaf}
@@ -28,3 +28,6 @@ returns-clause-ok g c =
 pub returns-clause-moments : goal.returns-clause-moments
 returns-clause-moments g c =
     same_then c.read.ensures.moments c.put.ensures.moments (IsOldOrNew c.args.at.now c.args.leaf.now) (λ w is. inl refl) (λ w m is moment. moment)
+
+pub returns-then-is_leaf-clause-put : goal.returns-then-is_leaf-clause-put
+returns-then-is_leaf-clause-put g c = search rules

@@ -1,4 +1,4 @@
-use Rattle.std.proofs.Common.{ℕ, Option, IfSome, ◌<◌, ◌++◌, ap, ◌∙◌, sym, subst, map, arith}
+use Rattle.std.proofs.Common.{ℕ, Option, IfSome, ◌<◌, ◌++◌, ap, ◌∙◌, sym, subst, map, arith, rules}
 use Rattle.std.specs.Option.{option_or}
 use Rattle.unit_text.specs.Lines.{without_line_feed, joined, first_bad}
 use Rattle.unit_text.specs.TextFault.{first_fault}
@@ -17,3 +17,12 @@ loop-line-init c =
       fault = λ i. first_fault (new.section i) (option_or (new.bad i) (first_bad 1 (left i))) (with_part (new.part i) (joined 1 (left i)));
       all = λ i. new.assignments i ++ assignments_in (new.section i) (with_part (new.part i) (joined 1 (left i)));
     }
+
+pub take-requires : goal.take-requires
+take-requires c = search rules
+
+pub loop-line-preserved : goal.loop-line-preserved
+loop-line-preserved c = search rules
+
+pub returns-in_err-take-clause-fault : goal.returns-in_err-take-clause-fault
+returns-in_err-take-clause-fault c = search rules

@@ -1,4 +1,4 @@
-use Rattle.std.proofs.Common.{◌≡◌, ℕ, List, ◌++◌, take, drop, Some, None, sym, ap, ◌∙◌}
+use Rattle.std.proofs.Common.{◌≡◌, ℕ, List, ◌++◌, take, drop, Some, None, sym, ap, ◌∙◌, rules}
 use Rattle.std.proofs.lemmas.List.{take-append-drop}
 use Rattle.host_memory.specs.MemorySink.{MemorySinkState}
 use Rattle.host_memory.proofs.memory_sink.MemorySinkSink.put.Goals as goal
@@ -18,3 +18,6 @@ returns-then-fits-bytes-clause-prefix c =
     part_put _ _ c.self.inside.put.items _ c.min-fits.result
     (ap (λ (s : MemorySinkState). Some s.bytes) (sym c.self.view_is))
     (ap (λ (s : MemorySinkState). Some s.bytes) c.fault-then-fits-bytes.ensures ∙ ap (λ (s : MemorySinkState). Some s.bytes) c.append.ensures)
+
+pub returns-clause-fails : goal.returns-clause-fails
+returns-clause-fails c = search rules

@@ -1,0 +1,5 @@
+use Rattle.std.proofs.Common.{rules}
+use Rattle.dry_report.proofs.reporting.report.Goals as goal
+
+pub returns : goal.returns
+returns c = search rules

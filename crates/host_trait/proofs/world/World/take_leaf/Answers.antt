@@ -1,0 +1,8 @@
+use Rattle.std.proofs.Common.{rules}
+use Rattle.host_trait.proofs.world.World.take_leaf.Goals as goal
+
+pub returns-clause-was : goal.returns-clause-was
+returns-clause-was c = search rules
+
+pub returns-clause-taken : goal.returns-clause-taken
+returns-clause-taken c = search rules

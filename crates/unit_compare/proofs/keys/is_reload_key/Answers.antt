@@ -1,0 +1,11 @@
+use Rattle.std.proofs.Common.{rules}
+use Rattle.unit_compare.proofs.keys.is_reload_key.Goals as goal
+
+pub returns-then-is_named : goal.returns-then-is_named
+returns-then-is_named c = search rules
+
+pub returns-then-is_mount : goal.returns-then-is_mount
+returns-then-is_mount c = search rules
+
+pub returns-else-is_mount : goal.returns-else-is_mount
+returns-else-is_mount c = search rules
