@@ -1,32 +1,50 @@
 //! Which generations are found in the profiles' folder, and the numbers that they give.
-use generations::{Gens, all, number_for, number_of_name, number_of_path, previous};
+use generations::{Gen, Gens, all, number_for, number_of_name, number_of_path, previous};
 use host_memory::MemoryHost;
 use std::alloc::{AllocError, Global};
 use std::test::Fail;
 use switch_names::SystemName;
 use world_text::{Root, read_world};
 
+/// Appends a generation with its system.
+fn push_generation(alloc: Global, text: &mut String, generation: &Gen) -> Result<(), AllocError> {
+    let target = match &generation.target {
+        Some(target) => target.as_str(),
+        None => "nothing",
+    };
+    let number = generation.number;
+    text.push_str(format!(in alloc; "{number} {target}, ")?.as_str())
+}
+
+/// The number of a generation, or 0 for none.
+fn or_0(number: Option<u32>) -> u32 {
+    match number {
+        Some(number) => number,
+        None => 0,
+    }
+}
+
+/// The current generation and the previous one, and the next number.
+fn numbers_in(alloc: Global, gens: &Gens, system: &SystemName) -> Result<String, AllocError> {
+    let current = or_0(gens.current);
+    let previous = or_0(previous(gens));
+    let next = or_0(number_for(gens, system));
+    format!(in alloc; "{current} {previous} {next}")
+}
+
 /// The generations with their systems, the current and the previous one, and the next number.
 fn written(alloc: Global, gens: &Gens, system: &SystemName) -> Result<String, AllocError> {
     let mut text = String::new(alloc);
     for generation in gens.list.as_slice() {
-        let target = match &generation.target {
-            Some(target) => target.as_str(),
-            None => "nothing",
-        };
-        let number = generation.number;
-        text.push_str(format!(in alloc; "{number} {target}, ")?.as_str())?;
+        push_generation(alloc, &mut text, generation)?;
     }
-    let current = gens.current;
-    let previous = previous(gens);
-    let next = number_for(gens, system);
-    text.push_str(format!(in alloc; "{current:?} {previous:?} {next:?}")?.as_str())?;
+    text.push_str(numbers_in(alloc, gens, system)?.as_str())?;
     Ok(text)
 }
 
 /// What a row shows, the files of the links, and the generations.
 const GENERATIONS: &[(&str, Root, &str)] = &[
-    ("no links", &[], "None None Some(1)"),
+    ("no links", &[], "0 0 1"),
     (
         "the numbers ascend, and other names are passed over",
         &[
@@ -55,7 +73,7 @@ const GENERATIONS: &[(&str, Root, &str)] = &[
             ),
             ("tree/nix/var/nix/profiles/user-3-link", "L /nix/store/a\n"),
         ],
-        "1 nix/store/a, 2 nix/store/b, 10 nothing, Some(2) Some(1) Some(11)",
+        "1 nix/store/a, 2 nix/store/b, 10 nothing, 2 1 11",
     ),
     (
         "the current one has to stand",
@@ -66,7 +84,7 @@ const GENERATIONS: &[(&str, Root, &str)] = &[
                 "L /nix/store/a\n",
             ),
         ],
-        "1 nix/store/a, None None Some(2)",
+        "1 nix/store/a, 0 0 2",
     ),
     (
         "the highest keeps its number for its system",
@@ -77,7 +95,7 @@ const GENERATIONS: &[(&str, Root, &str)] = &[
                 "L /nix/store/b\n",
             ),
         ],
-        "7 nix/store/b, Some(7) None Some(7)",
+        "7 nix/store/b, 7 0 7",
     ),
     (
         "none follows the last number",
@@ -85,7 +103,7 @@ const GENERATIONS: &[(&str, Root, &str)] = &[
             "tree/nix/var/nix/profiles/system-4294967295-link",
             "L /nix/store/a\n",
         )],
-        "4294967295 nix/store/a, None None None",
+        "4294967295 nix/store/a, 0 0 0",
     ),
 ];
 

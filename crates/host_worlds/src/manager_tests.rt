@@ -2,7 +2,7 @@
 ghost use Rattle.host_trait.specs.Manager.{HasPlainTexts};
 ghost use Rattle.manager_core.specs.Call.{IsPlainCall};
 
-use host_trait::{Entry, ManagerState};
+use host_trait::ManagerState;
 use manager_core::{Call, StateFault, read_state, step, write_state};
 use std::alloc::{AllocError, Global};
 use std::test::Fail;
@@ -86,25 +86,6 @@ fn each_act_leaves_its_line(rt: HostRuntime) -> Result<(), Fail> {
     Ok(())
 }
 
-/// Copies of entries, a line each.
-fn copied(alloc: Global, entries: &[Entry]) -> Result<String, AllocError> {
-    let mut text = String::new(alloc);
-    for entry in entries {
-        let copy = entry.copy(alloc)?;
-        let (act, unit, loaded) = (copy.act, copy.unit.as_str(), copy.loaded.as_str());
-        text.push_str(format!(in alloc; "{act:?} {unit} {loaded}\n")?.as_str())?;
-    }
-    Ok(text)
-}
-
-#[test]
-fn an_entry_is_copied_whole(rt: HostRuntime) -> Result<(), Fail> {
-    let state = read_state(rt.alloc(), b"loaded /b\nstop web.service /a\n")?;
-    let text = copied(rt.alloc(), state.journal.as_slice())?;
-    assert_eq!(rt; text.as_str(), "Stop web.service /a\n");
-    Ok(())
-}
-
 #[test]
 fn the_empty_state_is_one_line(rt: HostRuntime) -> Result<(), Fail> {
     let state = ManagerState::new(rt.alloc());
@@ -156,43 +137,4 @@ fn the_first_line_out_of_place_is_named(rt: HostRuntime) {
     for (text, line) in FAULTS {
         assert_eq!(rt; faulty_line(rt.alloc(), text), *line, "{text:?}");
     }
-}
-
-/// A text of so many units and as many acts.
-fn long_text(alloc: Global, count: u32) -> Result<String, AllocError> {
-    let mut text = String::from_str(alloc, "loaded /nix/store/a-sys/etc é\n")?;
-    for number in 0..count {
-        let state = if number % 3 == 0 { "failed" } else { "active" };
-        text.push_str(format!(in alloc; "{state} u@{number:04}.service\n")?.as_str())?;
-    }
-    text.push_str("bad b.mount x y\nbad a.mount \nbad b.mount x y\n")?;
-    for number in 0..count {
-        let act = if number % 2 == 0 { "stop" } else { "restart" };
-        text.push_str(format!(in alloc; "{act} u@{number:04}.service /{number}\n")?.as_str())?;
-    }
-    Ok(text)
-}
-
-/// How many units, bad ones and entries a state has.
-fn counts(state: &ManagerState) -> (usize, usize, usize) {
-    (
-        state.states.list().as_slice().len(),
-        state.bad.as_slice().len(),
-        state.journal.as_slice().len(),
-    )
-}
-
-/// How many units, bad ones and entries are read from a text, and whether it is written again.
-fn read_and_written(alloc: Global, text: &[u8]) -> Result<((usize, usize, usize), bool), Fail> {
-    let state = read_state(alloc, text)?;
-    let written = write_state(alloc, &state)?;
-    Ok((counts(&state), written.as_slice() == text))
-}
-
-#[test]
-fn a_long_text_is_written_as_it_was_read(rt: HostRuntime) -> Result<(), Fail> {
-    let text = long_text(rt.alloc(), 2000)?;
-    let got = read_and_written(rt.alloc(), text.as_bytes())?;
-    assert_eq!(rt; got, ((2000, 3, 2000), true));
-    Ok(())
 }

@@ -1,5 +1,5 @@
 //! The texts of leaves, and the faults of others.
-use host_trait::{Leaf, LeafKind};
+use host_trait::Leaf;
 use node_text::{NodeFault, read_node, write_node};
 use std::alloc::Global;
 use std::test::Fail;
@@ -21,27 +21,6 @@ fn a_link_is_one_line(rt: HostRuntime) -> Result<(), Fail> {
     let (text, is_same) = written(rt.alloc(), &link)?;
     let got = (text.as_slice(), is_same);
     assert_eq!(rt; got, (b"L system-1-link\n".as_slice(), true));
-    Ok(())
-}
-
-#[test]
-fn a_header_stands_before_the_bytes_of_a_file(rt: HostRuntime) -> Result<(), Fail> {
-    let text = b"F 0644 0 4294967295\nhi\n";
-    let read = read_node(rt.alloc(), text.as_slice()).ok().ok_or("a leaf")?;
-    match read.kind() {
-        LeafKind::File {
-            bytes,
-            mode,
-            uid,
-            gid,
-        } => {
-            let got = (bytes.as_slice(), *mode, *uid, *gid);
-            assert_eq!(rt; got, (b"hi\n".as_slice(), 420, 0, 4_294_967_295));
-        }
-        LeafKind::Link { .. } => return Err(Fail::from("a file")),
-    }
-    let again = write_node(rt.alloc(), &read)?;
-    assert_eq!(rt; again.as_slice(), text.as_slice());
     Ok(())
 }
 

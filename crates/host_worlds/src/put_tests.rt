@@ -9,7 +9,7 @@ use host_trait::{HostFault, Leaf, Manager, World, content, fixed_path};
 use std::alloc::{AllocError, Global};
 use std::test::Fail;
 use switch_names::Path;
-use tree_put::{drop_leaf, put, put_if_other};
+use tree_put::{drop_leaf, put};
 
 /// Where a leaf is put in these tests.
 fn place(alloc: Global) -> Result<Path, AllocError>
@@ -35,13 +35,6 @@ fn after_put(alloc: Global, leaf: &Leaf) -> Result<Result<(), HostFault>, AllocE
     Ok(put(alloc, &mut host, &at, leaf))
 }
 
-/// What a put of another leaf answers there.
-fn after_put_if_other(alloc: Global, leaf: &Leaf) -> Result<Result<bool, HostFault>, AllocError> {
-    let at = place(alloc)?;
-    let mut host = fallen_host(alloc);
-    Ok(put_if_other(alloc, &mut host, &at, leaf))
-}
-
 /// What a removal answers on such a host, whether a read fails there, and the faults then.
 fn after_drop(alloc: Global) -> Result<(Option<HostFault>, bool, u64), AllocError> {
     let at = place(alloc)?;
@@ -58,7 +51,6 @@ fn every_call_fails_once_a_cut_has_fallen(rt: HostRuntime) -> Result<(), Fail> {
     let leaf = Leaf::link(alloc, "b")?;
     let device = Some(HostFault::Device);
     assert_eq!(rt; after_put(alloc, &leaf)?.err(), device);
-    assert_eq!(rt; after_put_if_other(alloc, &leaf)?.err(), device);
     assert_eq!(rt; after_drop(alloc)?, (device, true, 3));
     Ok(())
 }

@@ -71,25 +71,6 @@ fn units_stand_in_order_with_their_last_states(rt: HostRuntime) -> Result<(), Fa
     set_rows(&rt, rt.alloc(), &mut states)
 }
 
-/// Whether states in which a unit has failed are those of their copy, and those of none.
-fn are_copied(alloc: Global, states: &mut States) -> Result<(bool, bool), Fail> {
-    states.set(UnitName::parse(alloc, "a.service")?, State::Failed)?;
-    let is_same = states.copy(alloc)?.same(states);
-    Ok((is_same, states.same(&States::new(alloc))))
-}
-
-/// Whether new states in which a unit has failed are those of their copy, and those of none.
-fn copied_states(alloc: Global) -> Result<(bool, bool), Fail> {
-    let mut states = States::new(alloc);
-    are_copied(alloc, &mut states)
-}
-
-#[test]
-fn states_are_copied_whole(rt: HostRuntime) -> Result<(), Fail> {
-    assert_eq!(rt; copied_states(rt.alloc())?, (true, false));
-    Ok(())
-}
-
 /// A manager with a failed unit, and another that fails when it is started.
 const MANAGER: Root = &[("manager", "loaded /a\nfailed a.service\nbad b.service /b\n")];
 

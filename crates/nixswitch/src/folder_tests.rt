@@ -7,12 +7,10 @@ use std::fs;
 use std::fs::DirEntry;
 use std::rt::Files;
 use std::test::Fail;
-
-/// Files below a root, each with its text.
-type Written = &'static [(&'static str, &'static str)];
+use world_text::Root;
 
 /// A machine that is settled on the first of two systems, with another web server in the second.
-const SETTLED: Written = &[
+const SETTLED: Root = &[
     ("tree/etc/static", "L /nix/store/a-sys/etc\n"),
     ("tree/run/current-system", "L /nix/store/a-sys\n"),
     ("tree/nix/store/a-sys/nixos-version", "F 0644 0 0\n24.05\n"),
@@ -27,10 +25,19 @@ const SETTLED: Written = &[
     ),
 ];
 
-/// Makes the folder of a file.
-fn make_folder<R: Files + AllocGlobal>(rt: &R, place: &str) -> Result<(), Fail> {
-    if let Some((folder, _)) = place.rsplit_once('/') {
-        fs::create_dir_all(rt, folder)?;
+/// The folders of these files.
+const FOLDERS: &[&str] = &[
+    "tree/etc",
+    "tree/run",
+    "tree/nix/store/a-sys/etc/systemd/system",
+    "tree/nix/store/b-sys/etc/systemd/system",
+];
+
+/// Makes the folders of a machine below a root.
+fn make_folders<R: Files + AllocGlobal>(rt: &R, root: &str) -> Result<(), Fail> {
+    for folder in FOLDERS {
+        let place = format!(in rt.alloc(); "{root}/{folder}")?;
+        fs::create_dir_all(rt, place.as_str())?;
     }
     Ok(())
 }
@@ -43,13 +50,13 @@ fn write_file<R: Files + AllocGlobal>(
     text: &str,
 ) -> Result<(), Fail> {
     let place = format!(in rt.alloc(); "{root}/{at}")?;
-    make_folder(rt, place.as_str())?;
     fs::write(rt, place.as_str(), text)?;
     Ok(())
 }
 
 /// Writes a settled machine below a root, with this text of its manager.
 fn write_root<R: Files + AllocGlobal>(rt: &R, root: &str, manager: &str) -> Result<(), Fail> {
+    make_folders(rt, root)?;
     for (at, text) in SETTLED {
         write_file(rt, root, at, text)?;
     }
