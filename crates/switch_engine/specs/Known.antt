@@ -34,8 +34,8 @@ pub record IsKnownOf (system : List ℕ) (w : WorldState) (known : Known) : Type
 -- what is owed by what is known, with the lists that are recorded of it and its calls
 pub record AreOwedCalls (known : Known) (calls : OwedCalls) : Type 0 where
   pub owed : IsPlan (systems_in known.old.defs known.new) (state_of known.units.states) known.units.lists calls.owed
-  pub recorded : calls.recorded ≡ lists_of calls.owed
-  pub duties : calls.duties ≡ calls_of calls.owed (state_of known.units.states)
+  pub recorded : calls.listed.recorded ≡ lists_of calls.owed
+  pub duties : calls.listed.duties ≡ calls_of calls.owed (state_of known.units.states)
 
 -- the plan of a switch to a system by what is known
 pub record IsPlanBy (system : List ℕ) (known : Known) (plan : Plan) : Type 0 where

@@ -21,21 +21,21 @@ use switch_names::SystemName;
 use unit_defs::{Defs, DefsFault};
 
 /// The system in use, where there is one, with the units that it defines.
-#[derive(Debug, Drop)]
+#[derive(Drop)]
 pub struct OldSystem {
     pub name: Option<SystemName>,
     pub defs: Defs,
 }
 
 /// The states of the units, and the lists that a switch which was cut has left.
-#[derive(Debug, Drop)]
+#[derive(Drop)]
 pub struct UnitStates {
     pub states: States,
     pub lists: Lists,
 }
 
 /// All that a switch is planned by.
-#[derive(Debug, Drop)]
+#[derive(Drop)]
 pub struct Known {
     pub old: OldSystem,
     pub new: Defs,

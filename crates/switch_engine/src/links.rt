@@ -8,7 +8,7 @@ use std::alloc::{AllocError, Global};
 use switch_names::{NameFault, SystemName};
 
 /// The links to a system and to its definitions.
-#[derive(Debug, Drop)]
+#[derive(Drop)]
 pub struct Links {
     /// The link to its definitions.
     pub definitions: Leaf,

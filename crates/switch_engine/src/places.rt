@@ -1,5 +1,5 @@
 //! The places that a switch writes, and the first that something stands in the way of.
-ghost use Rattle.std.specs.Prelude.{◌≡◌, None, Some, IfOk, IsErrOf, OnOk};
+ghost use Rattle.std.specs.Prelude.{◌≡◌, [], None, Some, IfOk, IsErrOf, OnOk};
 ghost use Rattle.std.specs.List.{find};
 ghost use Rattle.std.specs.Prelude.{option_map};
 ghost use Rattle.host_trait.specs.declared.tree.HostFault.TheVariants.{Device};
@@ -20,13 +20,13 @@ use owed_lists::{Which, list_path};
 use std::alloc::{AllocError, Global};
 use switch_names::{Listed, Path};
 
-/// The places that a switch writes, in byte order: both links, the stage, and the lists, which are
-/// read.
+/// Adds the places that a switch writes, in byte order: both links, the stage, and the lists, which
+/// are read.
 #[tactic(auto, unfolding(crate::specs::Places::switch_places))]
-fn switch_places(alloc: Global) -> Result<Listed<WrittenPlace>, AllocError>
-    ensures { IfOk result (λ places. places ≡ switch_places) }
+fn add_places(alloc: Global, places: &mut Listed<WrittenPlace>) -> Result<(), AllocError>
+    requires { places.old ≡ [] }
+    ensures { OnOk result (places.new ≡ switch_places) }
 {
-    let mut places = Listed::new(alloc);
     places.push(WrittenPlace {
         at: definitions_path(alloc)?,
         is_read: false,
@@ -51,6 +51,15 @@ fn switch_places(alloc: Global) -> Result<Listed<WrittenPlace>, AllocError>
         at: list_path(alloc, Which::Starts)?,
         is_read: true,
     })?;
+    Ok(())
+}
+
+/// The places that a switch writes, in byte order.
+fn switch_places(alloc: Global) -> Result<Listed<WrittenPlace>, AllocError>
+    ensures { IfOk result (λ places. places ≡ switch_places) }
+{
+    let mut places = Listed::new(alloc);
+    add_places(alloc, &mut places)?;
     Ok(places)
 }
 

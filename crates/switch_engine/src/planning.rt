@@ -4,6 +4,7 @@ ghost use Rattle.host_trait.specs.declared.tree.HostFault.TheVariants.{Device};
 ghost use Rattle.host_trait.specs.Change.{IsSame};
 ghost use Rattle.host_trait.specs.Host.{Told, Passes, HasCauseOf};
 ghost use Rattle.host_trait.specs.States.{state_of};
+ghost use Rattle.owed_plan.specs.Calls.{calls_of};
 ghost use Rattle.owed_plan.specs.Owed.{IsPlan};
 ghost use Rattle.owed_plan.specs.Systems.{systems_in};
 ghost use Rattle.switch_engine.specs.declared.plan_fault.PlanFault.TheVariants.{Host, Refused};
@@ -21,21 +22,26 @@ use crate::plan::Plan;
 use crate::plan_fault::PlanFault;
 use crate::refusal::Refusal;
 use crate::system::has_version;
-use host_trait::Manager;
+use host_trait::{Manager, States};
 use owed_lists::Lists;
 use owed_plan::{Duty, Owed, calls, plan};
 use std::alloc::{AllocError, Global};
 use switch_names::{Listed, SystemName, UnitName};
 use unit_pull::{pull, roots};
 
-/// The system that comes into use, and what is owed, with the lists that are recorded of it and its
-/// calls.
+/// The lists that are recorded of what is owed, and its calls.
+#[derive(Drop)]
+struct ListedCalls {
+    recorded: Lists,
+    duties: Listed<Duty>,
+}
+
+/// The system that comes into use, and what is owed, with its lists and its calls.
 #[derive(Drop)]
 struct OwedCalls {
     to: SystemName,
     owed: Owed,
-    recorded: Lists,
-    duties: Listed<Duty>,
+    listed: ListedCalls,
 }
 
 /// What a switch owes the units.
@@ -77,6 +83,16 @@ fn lists_of(alloc: Global, owed: &Owed) -> Result<Lists, AllocError>
     })
 }
 
+/// What is owed, as it is recorded and called for.
+fn listed_calls(alloc: Global, owed: &Owed, states: &States) -> Result<ListedCalls, AllocError>
+    ensures recorded { IfOk result (λ listed. listed.recorded ≡ lists_of owed.now) }
+    ensures duties { IfOk result (λ listed. listed.duties ≡ calls_of owed.now (state_of states.now)) }
+{
+    let recorded = lists_of(alloc, owed)?;
+    let duties = calls(alloc, owed, states)?;
+    Ok(ListedCalls { recorded, duties })
+}
+
 /// What a switch to a system owes by what is known, as it is recorded and called for.
 fn owed_calls(alloc: Global, system: &SystemName, known: &Known) -> Result<OwedCalls, AllocError>
     ensures to { IfOk result (λ calls. calls.to ≡ system.now) }
@@ -84,14 +100,8 @@ fn owed_calls(alloc: Global, system: &SystemName, known: &Known) -> Result<OwedC
 {
     let to = system.copy(alloc)?;
     let owed = owed_by(alloc, known)?;
-    let recorded = lists_of(alloc, &owed)?;
-    let duties = calls(alloc, &owed, &known.units.states)?;
-    Ok(OwedCalls {
-        to,
-        owed,
-        recorded,
-        duties,
-    })
+    let listed = listed_calls(alloc, &owed, &known.units.states)?;
+    Ok(OwedCalls { to, owed, listed })
 }
 
 /// The plan of a switch of these parts.
@@ -105,8 +115,8 @@ fn plan_of(known: Known, calls: OwedCalls) -> Plan
         calls.to,
         new,
         calls.owed,
-        calls.recorded,
-        calls.duties,
+        calls.listed.recorded,
+        calls.listed.duties,
     )
 }
 
@@ -114,8 +124,10 @@ fn plan_of(known: Known, calls: OwedCalls) -> Plan
 fn plan_by(alloc: Global, system: &SystemName, known: Known) -> Result<Plan, AllocError>
     ensures { IfOk result (IsPlanBy system.now known) }
 {
-    let calls = owed_calls(alloc, system, &known)?;
-    Ok(plan_of(known, calls))
+    match owed_calls(alloc, system, &known) {
+        Ok(calls) => Ok(plan_of(known, calls)),
+        Err(fault) => Err(fault),
+    }
 }
 
 /// Plans a switch to a system.

@@ -1,12 +1,14 @@
 //! The system that a command names, and the one that is in use.
-ghost use Rattle.std.specs.Prelude.{◌≡◌, IfOk, is_some};
+ghost use Rattle.std.specs.Prelude.{◌≡◌, IfOk, is_some, option_and_then};
+ghost use Rattle.std.specs.Option.{option_copied};
+ghost use Rattle.generations.specs.Places.{target_of};
 ghost use Rattle.host_trait.specs.Change.{IsSame};
 ghost use Rattle.host_trait.specs.Host.{Told, Passes, HasCause};
 ghost use Rattle.host_trait.specs.World.{content_of};
 ghost use Rattle.switch_engine.specs.System.{current_place, current_system, version_path};
 
 use generations::target_of;
-use host_trait::{HostFault, Tree, content, fixed_path};
+use host_trait::{HostFault, Leaf, Tree, content, fixed_path};
 use std::alloc::{AllocError, Global};
 use switch_names::{NameFault, Path, SystemName};
 
@@ -41,6 +43,16 @@ pub fn current_path(alloc: Global) -> Result<Path, AllocError>
     fixed_path(alloc, "run/current-system")
 }
 
+/// The system that a leaf names, where it stands.
+fn named_system(alloc: Global, leaf: Option<&Leaf>) -> Result<Option<SystemName>, AllocError>
+    ensures { IfOk result (λ system. system ≡ option_and_then target_of (option_copied leaf.entry)) }
+{
+    match leaf {
+        Some(leaf) => target_of(alloc, leaf),
+        None => Ok(None),
+    }
+}
+
 /// The system in use, where a link names one.
 pub fn current_system<T: Tree>(alloc: Global, host: &mut T) -> Result<Option<SystemName>, HostFault>
     ensures system { IfOk result (λ system. Told (T.host host.old) (λ w. system ≡ current_system w.leaves)) }
@@ -48,8 +60,7 @@ pub fn current_system<T: Tree>(alloc: Global, host: &mut T) -> Result<Option<Sys
     ensures cause { HasCause (T.host host.old) (T.host host.new) result }
 {
     let at = current_path(alloc)?;
-    let Some(leaf) = host.read(alloc, &at)? else {
-        return Ok(None);
-    };
-    Ok(target_of(alloc, &leaf)?)
+    let leaf = host.read(alloc, &at)?;
+    let system = named_system(alloc, leaf.as_ref())?;
+    Ok(system)
 }

@@ -11,7 +11,7 @@ use switch_names::Path;
 use tree_put::is_blocked;
 
 /// A place that a command writes.
-#[derive(Debug, Drop)]
+#[derive(Drop)]
 pub struct WrittenPlace {
     pub at: Path,
     /// Whether its content is read before.
