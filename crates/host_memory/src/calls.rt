@@ -44,14 +44,14 @@ pub(crate) fn load_of(alloc: Global, world: &World) -> Result<Call, AllocError>
 }
 
 /// Makes a call on the manager of a world.
-pub(crate) fn step_world(world: &mut World, alloc: Global, call: &Call) -> Result<(), AllocError>
-    requires { IsPlainCall call.now }
-    ensures ok { OnOk result (world.new ≡ with_manager (done call.now world.old.manager) world.old) }
+pub(crate) fn step_world(world: &mut World, alloc: Global, call: Call) -> Result<(), AllocError>
+    requires { IsPlainCall call }
+    ensures ok { OnOk result (world.new ≡ with_manager (done call world.old.manager) world.old) }
     ensures err { OnErr result (world.new ≡ world.old) }
     ensures plain { HasPlainTexts world.new.manager }
 {
     let mut manager = world.swap_manager(ManagerState::new(alloc));
-    let answer = step(alloc, &mut manager, call);
+    let answer = step(alloc, &mut manager, &call);
     let _empty = world.swap_manager(manager);
     answer
 }

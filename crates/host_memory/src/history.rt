@@ -142,7 +142,7 @@ impl History {
         let name = unit.copy(alloc)?;
         let call = call_of(alloc, act, unit)?;
         let was = state_in(&self.world, unit);
-        step_world(&mut self.world, alloc, &call)?;
+        step_world(&mut self.world, alloc, call)?;
         self.calls.push_reserved(DoneCall::Performed(name, was));
         Ok(())
     }
@@ -158,7 +158,7 @@ impl History {
         let name = unit.copy(alloc)?;
         let call = halt_of(alloc, unit)?;
         let was = state_in(&self.world, unit);
-        step_world(&mut self.world, alloc, &call)?;
+        step_world(&mut self.world, alloc, call)?;
         self.calls.push_reserved(DoneCall::Halted(name, was));
         Ok(())
     }
@@ -171,9 +171,9 @@ impl History {
         ensures err { OnErr result ((self.new.world ≡ self.old.world) × (self.new.calls.items ≡ self.old.calls.items)) }
     {
         self.calls.reserve(1)?;
-        let call = load_of(alloc, &self.world)?;
         let was = self.world.loaded().copy(alloc)?;
-        step_world(&mut self.world, alloc, &call)?;
+        let call = load_of(alloc, &self.world)?;
+        step_world(&mut self.world, alloc, call)?;
         self.calls.push_reserved(DoneCall::Loaded(was));
         Ok(())
     }
