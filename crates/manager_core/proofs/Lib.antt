@@ -8,3 +8,4 @@ pub mod Order
 pub mod Parts
 pub mod Readable
 pub mod Splitting
+pub mod Written

@@ -9,7 +9,7 @@ use std::alloc::{AllocError, Global};
 use switch_names::{NameFault, Text, UnitName};
 
 /// What a line says.
-#[derive(Debug, Drop)]
+#[derive(Drop)]
 pub enum Line {
     /// Where the definitions lie that are loaded.
     Loaded(Text),
@@ -22,7 +22,7 @@ pub enum Line {
 }
 
 /// The first word of a line, which says what the rest is.
-#[derive(Clone, Copy, Debug, PartialEq, Eq)]
+#[derive(Clone, Copy)]
 pub enum Word {
     /// `loaded`
     Loaded,
