@@ -16,7 +16,7 @@ use std::alloc::Global;
 use switch_names::Text;
 
 /// The assignments so far, and the section that stands.
-#[derive(Debug, Drop)]
+#[derive(Drop)]
 pub struct Body {
     section: Option<Text>,
     assignments: Vec<Assignment>,
@@ -70,7 +70,7 @@ impl Body {
 }
 
 /// What was read of a joined line that goes on.
-#[derive(Debug, Drop)]
+#[derive(Drop)]
 pub struct Part {
     first: u64,
     last: u64,
@@ -78,7 +78,7 @@ pub struct Part {
 }
 
 /// What was read of a file.
-#[derive(Debug, Drop)]
+#[derive(Drop)]
 pub struct Reader {
     /// The first line that isn't UTF-8.
     bad: Option<u64>,

@@ -84,12 +84,10 @@ impl UnitText {
         ensures ok { OnOk result (self.new ≡ self.old ++ assignment ∷ []) }
         ensures err { OnErr result (self.new ≡ self.old) }
     {
+        self.assignments.reserve(1)?;
         let copied = assignment.copy(alloc)?;
-        self.assignments.push(assignment)?;
-        if let Err(fault) = self.index.apply(alloc, copied) {
-            self.assignments.pop();
-            return Err(fault);
-        }
+        self.index.apply(alloc, copied)?;
+        self.assignments.push_reserved(assignment);
         Ok(())
     }
 
