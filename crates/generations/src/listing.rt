@@ -104,8 +104,7 @@ fn read_targets<T: Tree>(alloc: Global, host: &mut T) -> Result<Targets, HostFau
 {
     let folder = fixed_path(alloc, "nix/var/nix/profiles")?;
     let paths = host.list(alloc, &folder)?;
-    let targets = read_links(alloc, host, paths.as_slice())?;
-    Ok(targets)
+    read_links(alloc, host, paths.as_slice())
 }
 
 /// The number of the generation to which the profile's leaf is a link.

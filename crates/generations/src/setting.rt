@@ -87,8 +87,7 @@ pub fn point<T: Tree>(alloc: Global, host: &mut T, number: u32) -> Result<(), Ho
 {
     let at = profile_path(alloc)?;
     let link = profile_link(alloc, number)?;
-    put(alloc, host, &at, &link)?;
-    Ok(())
+    put(alloc, host, &at, &link)
 }
 
 /// Puts the link of the generation that a set gives a system, where that is new.
@@ -111,8 +110,7 @@ fn put_generation<T: Tree>(
     }
     let at = generation_path(alloc, number)?;
     let link = system_link(alloc, system)?;
-    put(alloc, host, &at, &link)?;
-    Ok(())
+    put(alloc, host, &at, &link)
 }
 
 /// Puts both links of a set: first the generation's, then the profile's.

@@ -1,4 +1,5 @@
 use Rattle.std.proofs.Common.{◌≡◌, refl, sym, ap, subst, ◌∙◌, inl}
+use Rattle.std.proofs.lemmas.Result.{on_ok_weaker}
 use Rattle.host_trait.specs.declared.leaf.LeafKind.TheVariants.{Link}
 use Rattle.host_trait.specs.World.{seen, stage, with_leaf}
 use Rattle.host_trait.proofs.Moments.{started, leads_as}
@@ -18,5 +19,5 @@ put-requires-clause-apart g c = subst (λ p. AreApart p stage) (sym c.in_ok-at.e
 
 pub returns-clause-ok : goal.returns-clause-ok
 returns-clause-ok g c =
-    leads_as c.in_ok-put.ensures.ok (λ w v. seen v ≡ seen (with_profile c.args.number w))
-    (λ w v is new. new ∙ ap (λ p. seen (with_leaf p c.in_ok-link.link w)) c.in_ok-at.ensures ∙ ap (λ l. seen (with_leaf profile l w)) c.in_ok-link.ensures)
+    on_ok_weaker c.put.result (λ ok. leads_as ok (λ w v. seen v ≡ seen (with_profile c.args.number w))
+    (λ w v is new. new ∙ ap (λ p. seen (with_leaf p c.in_ok-link.link w)) c.in_ok-at.ensures ∙ ap (λ l. seen (with_leaf profile l w)) c.in_ok-link.ensures)) c.put.ensures.ok

@@ -1,4 +1,5 @@
 use Rattle.std.proofs.Common.{◌≡◌, refl, sym, ap, subst, ◌∙◌, inl}
+use Rattle.std.proofs.lemmas.Result.{on_ok_weaker}
 use Rattle.host_trait.specs.World.{seen, stage}
 use Rattle.host_trait.proofs.Moments.{started, passes_as, leads_as, told_as}
 use Rattle.tree_put.specs.Put.{AreApart, CanPut}
@@ -32,17 +33,11 @@ put-requires-clause-can g c = told_as c.requires.can (CanPut c.in_ok-at.at) (λ 
     (number_of_world w.leaves c.args.gens.now c.args.system.now c.args.number (c.requires.gens.has w is) c.requires.number)
     (sym (highest_of_world w.leaves c.args.gens.now c.args.system.now (c.requires.gens.has w is)) ∙ sym c.is_highest_of.ensures ∙ c.if-is_highest_of.false) can)
 
-pub returns-in_err-put-clause-moments : goal.returns-in_err-put-clause-moments
-returns-in_err-put-clause-moments g c = passes_as c.put.ensures.moments (IsLinkMoment c.args.system.now) (λ w m is moment.
-    link_moment c.args.system.now c.args.number c.in_ok-at.at c.in_ok-link.link w m c.in_ok-at.ensures c.in_ok-link.ensures
-    (number_of_world w.leaves c.args.gens.now c.args.system.now c.args.number (c.requires.gens.has w is) c.requires.number)
-    (sym (highest_of_world w.leaves c.args.gens.now c.args.system.now (c.requires.gens.has w is)) ∙ sym c.is_highest_of.ensures ∙ c.if-is_highest_of.false) moment)
-
 pub returns-clause-ok : goal.returns-clause-ok
-returns-clause-ok g c = leads_as c.in_ok-put.ensures.ok (λ w v. seen v ≡ link_end c.args.system.now w) (λ w v is new.
+returns-clause-ok g c = on_ok_weaker c.put.result (λ ok. leads_as ok (λ w v. seen v ≡ link_end c.args.system.now w) (λ w v is new.
     link_world c.args.system.now c.args.number c.in_ok-at.at c.in_ok-link.link w v c.in_ok-at.ensures c.in_ok-link.ensures
     (number_of_world w.leaves c.args.gens.now c.args.system.now c.args.number (c.requires.gens.has w is) c.requires.number)
-    (sym (highest_of_world w.leaves c.args.gens.now c.args.system.now (c.requires.gens.has w is)) ∙ sym c.is_highest_of.ensures ∙ c.if-is_highest_of.false) new)
+    (sym (highest_of_world w.leaves c.args.gens.now c.args.system.now (c.requires.gens.has w is)) ∙ sym c.is_highest_of.ensures ∙ c.if-is_highest_of.false) new)) c.put.ensures.ok
 
 pub returns-clause-moments : goal.returns-clause-moments
 returns-clause-moments g c = passes_as c.put.ensures.moments (IsLinkMoment c.args.system.now) (λ w m is moment.
