@@ -21,8 +21,7 @@ fn put_definitions<T: Tree>(alloc: Global, host: &mut T, leaf: &Leaf) -> Result<
     ensures cause { HasCause (T.host host.old) (T.host host.new) result }
 {
     let at = definitions_path(alloc)?;
-    put(alloc, host, &at, leaf)?;
-    Ok(())
+    put(alloc, host, &at, leaf)
 }
 
 /// Puts the link to a system.
@@ -33,8 +32,7 @@ fn put_current<T: Tree>(alloc: Global, host: &mut T, leaf: &Leaf) -> Result<(), 
     ensures cause { HasCause (T.host host.old) (T.host host.new) result }
 {
     let at = current_path(alloc)?;
-    put(alloc, host, &at, leaf)?;
-    Ok(())
+    put(alloc, host, &at, leaf)
 }
 
 /// Puts both links to a system: first that to its definitions.

@@ -124,10 +124,8 @@ fn plan_of(known: Known, calls: OwedCalls) -> Plan
 fn plan_by(alloc: Global, system: &SystemName, known: Known) -> Result<Plan, AllocError>
     ensures { IfOk result (IsPlanBy system.now known) }
 {
-    match owed_calls(alloc, system, &known) {
-        Ok(calls) => Ok(plan_of(known, calls)),
-        Err(fault) => Err(fault),
-    }
+    let calls = owed_calls(alloc, system, &known)?;
+    Ok(plan_of(known, calls))
 }
 
 /// Plans a switch to a system.
