@@ -2,6 +2,7 @@ pub mod ActiveLemmas
 pub mod CoreLemmas
 pub mod DecisionLemmas
 pub mod ListLemmas
+pub mod LoopLemmas
 pub mod NameLemmas
 pub mod PartLemmas
 pub mod PlanLemmas

@@ -8,7 +8,7 @@ use switch_names::{Listed, UnitName};
 use unit_decide::{Decision, Facts, decide_by, is_same, is_target};
 
 /// What is decided on an Active unit.
-#[derive(Debug, Drop)]
+#[derive(Drop)]
 pub struct UnitDecision {
     pub unit: UnitName,
     pub decision: Decision,

@@ -12,7 +12,7 @@ use unit_decide::{Facts, is_service, sockets};
 use unit_defs::Defs;
 
 /// What is read to plan a switch: both systems, the states, and the units that wait for a start.
-#[derive(Clone, Copy, Debug)]
+#[derive(Clone, Copy)]
 pub struct Known<'a> {
     pub old: &'a Defs,
     pub new: &'a Defs,

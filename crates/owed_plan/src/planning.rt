@@ -1,7 +1,9 @@
 //! Plans what a switch owes the units.
 ghost use Rattle.std.specs.Prelude.{◌≡◌, ◌||◌, List, ℕ, IfOk, OnOk, filter};
 ghost use Rattle.std.specs.List.{list_any};
+ghost use Rattle.std.specs.List.Sorted.{IsStrictlySortedBy};
 ghost use Rattle.host_trait.specs.States.{state_of};
+ghost use Rattle.host_trait.specs.World.{bytes_cmp};
 ghost use Rattle.owed_plan.specs.Collected.{IsCollected, IsListBy, comes_up, defined};
 ghost use Rattle.owed_plan.specs.Owed.{IsPlan};
 ghost use Rattle.owed_plan.specs.Pull.{Pulled};
@@ -23,11 +25,19 @@ use switch_names::{Listed, UnitName};
 use unit_defs::Defs;
 
 /// The units that are stopped, reloaded and restarted.
-#[derive(Clone, Copy, Debug)]
+#[derive(Clone, Copy)]
 struct Handled<'a> {
     stops: &'a BTreeSet<UnitName>,
     reloads: &'a BTreeSet<UnitName>,
     restarts: &'a BTreeSet<UnitName>,
+}
+
+/// Their names, each list in byte order.
+#[derive(Drop)]
+struct HandledNames {
+    stops: Listed<UnitName>,
+    reloads: Listed<UnitName>,
+    restarts: Listed<UnitName>,
 }
 
 /// Whether a pulled unit is to be started: it neither stays up nor comes up otherwise.
@@ -133,6 +143,27 @@ fn left_names(alloc: Global, decisions: &[UnitDecision]) -> Result<Listed<UnitNa
     listed(alloc, set)
 }
 
+/// The names of the units that are stopped, reloaded and restarted.
+fn handled_names(
+    alloc: Global,
+    stops: BTreeSet<UnitName>,
+    reloads: BTreeSet<UnitName>,
+    restarts: BTreeSet<UnitName>,
+) -> Result<HandledNames, AllocError>
+    ensures stops { IfOk result (λ names. names.stops ≡ stops.keys) }
+    ensures reloads { IfOk result (λ names. names.reloads ≡ reloads.keys) }
+    ensures restarts { IfOk result (λ names. names.restarts ≡ restarts.keys) }
+    ensures sorted_stops { OnOk result (IsStrictlySortedBy bytes_cmp stops.keys) }
+    ensures sorted_reloads { OnOk result (IsStrictlySortedBy bytes_cmp reloads.keys) }
+    ensures sorted_restarts { OnOk result (IsStrictlySortedBy bytes_cmp restarts.keys) }
+{
+    Ok(HandledNames {
+        stops: listed(alloc, stops)?,
+        reloads: listed(alloc, reloads)?,
+        restarts: listed(alloc, restarts)?,
+    })
+}
+
 /// What is owed by what is decided on each Active unit, the lists and the pull.
 fn collect(
     alloc: Global,
@@ -152,11 +183,12 @@ fn collect(
         restarts: &restarts,
     };
     let starts = started(alloc, known, decisions, lists, handled, pulled)?;
+    let names = handled_names(alloc, stops, reloads, restarts)?;
     let left = left_names(alloc, decisions)?;
     Ok(Owed {
-        stops: listed(alloc, stops)?,
-        reloads: listed(alloc, reloads)?,
-        restarts: listed(alloc, restarts)?,
+        stops: names.stops,
+        reloads: names.reloads,
+        restarts: names.restarts,
         starts,
         left,
     })
