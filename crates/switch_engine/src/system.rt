@@ -44,7 +44,7 @@ pub fn current_path(alloc: Global) -> Result<Path, AllocError>
 }
 
 /// The system that a leaf names, where it stands.
-fn named_system(alloc: Global, leaf: Option<&Leaf>) -> Result<Option<SystemName>, AllocError>
+fn linked_system(alloc: Global, leaf: Option<&Leaf>) -> Result<Option<SystemName>, AllocError>
     ensures { IfOk result (λ system. system ≡ option_and_then target_of (option_copied leaf.entry)) }
 {
     match leaf {
@@ -61,6 +61,6 @@ pub fn current_system<T: Tree>(alloc: Global, host: &mut T) -> Result<Option<Sys
 {
     let at = current_path(alloc)?;
     let leaf = host.read(alloc, &at)?;
-    let system = named_system(alloc, leaf.as_ref())?;
+    let system = linked_system(alloc, leaf.as_ref())?;
     Ok(system)
 }
