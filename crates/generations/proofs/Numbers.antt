@@ -1,10 +1,11 @@
 -- The highest generation of a world, and the last of a list that rises.
 use Rattle.std.proofs.Common.{◌≡◌, ℕ, zero, suc, ◌+◌, ◌-◌, ◌^◌, ◌<◌, Bool, true, false, cond, ◌==◌, nat_lt, List, [], ◌∷◌, length, map, Option, None, Some, IsSome, is_some, option_map, refl, sym, ap, subst, ◌∙◌, inl, inr, arith}
 use Rattle.std.proofs.lemmas.Bool.{cases_Bool, cases_order, both_ways, eq-eqb, ne_eqb, lt-ltb}
+use Rattle.std.specs.BTreeMap.{is_at}
 use Rattle.std.specs.Cmp.{nat_cmp_is}
 use Rattle.std.specs.List.{find, slice_get, AllByRecursion}
 use Rattle.std.specs.List.Sorted.{IsStrictlySortedBy}
-use Rattle.std.specs.Ordering.{nat_cmp}
+use Rattle.std.specs.Ordering.{is_eq, nat_cmp}
 use Rattle.std.specs.declared.cmp.Ordering.TheVariants.{Less, Equal, Greater}
 use Rattle.host_trait.specs.World.{Leaves}
 use Rattle.generations.specs.declared.gens.Gen.{Gen}
@@ -24,6 +25,17 @@ less_of x y e = elim (cases_order x y) [
   | inl same ↦ absurd (not_less_equal (sym e ∙ sym (nat_cmp_is x y Equal same)))
   | inr (inl less) ↦ less
   | inr (inr more) ↦ absurd (not_less_greater (sym e ∙ sym (nat_cmp_is x y Greater more)))
+]
+
+apart : (x y : ℕ) → x < y → x ≡ y → ⊥
+apart x y less same = absurd (omega arith)
+
+-- a number is found at itself alone
+pub found_at : (x y : ℕ) → is_at (nat_cmp x) y ≡ (x == y)
+found_at x y = elim (cases_order x y) [
+  | inl same ↦ ap is_eq (sym (nat_cmp_is x y Equal same)) ∙ sym (eq-eqb x y same)
+  | inr (inl less) ↦ ap is_eq (sym (nat_cmp_is x y Less less)) ∙ sym (ne_eqb x y (apart x y less))
+  | inr (inr more) ↦ ap is_eq (sym (nat_cmp_is x y Greater more)) ∙ sym (ne_eqb x y (λ same. apart y x more (sym same)))
 ]
 
 -- the greatest number below a bound that passes a test
