@@ -1,7 +1,7 @@
 -- What a loop that writes one line after the other has written, and what is left.
-use Rattle.std.proofs.Common.{◌≡◌, ℕ, ◌<◌, ◌+◌, List, [], ◌∷◌, ◌++◌, map, drop, take, length, get_or, sym, ap, subst, ◌∙◌, append_assoc}
+use Rattle.std.proofs.Common.{◌≡◌, ℕ, zero, suc, ◌<◌, ◌≤◌, ◌+◌, List, [], ◌∷◌, ◌++◌, map, drop, take, length, get_or, sym, ap, subst, ◌∙◌, append_assoc}
 use Rattle.std.specs.List.{AllByRecursion}
-use Rattle.std.proofs.lemmas.List.{drop_more, map_more}
+use Rattle.std.proofs.lemmas.List.{append-nil, drop_all, drop_more, map_more, take_all}
 use Rattle.std.proofs.lemmas.List.Concat.{flat_map-append}
 use Rattle.manager_core.specs.declared.line.Line.{Line}
 use Rattle.manager_core.specs.StateText.{IsLine, line_text, lines_text}
@@ -26,3 +26,25 @@ pub one_line_more :
 one_line_more f xs i x inside is line lines =
     subst (AllByRecursion IsLine) (ap (λ y. map f (take i xs) ++ f y ∷ []) is ∙ sym (map_more f xs i x inside))
     (join_all IsLine (map f (take i xs)) (f x ∷ []) lines (line, tt))
+
+-- what is left of items that are all so is so
+all_left : {X : Type 0} (P : X → Type 0) (xs : List X) (i : ℕ) → AllByRecursion P xs → AllByRecursion P (drop i xs)
+all_left P xs zero all = all
+all_left P [] (suc i) all = tt
+all_left P (x ∷ xs) (suc i) all = all_left P xs i all.1
+
+-- one of some items that are all so
+pub item_is : {X : Type 0} (P : X → Type 0) (xs : List X) (i : ℕ) (x : X) → i < length xs → x ≡ get_or xs i x → AllByRecursion P xs → P x
+item_is P xs i x inside is all = subst P (sym is) (subst (AllByRecursion P) (drop_more xs i x inside) (all_left P xs i all)).0
+
+-- at the end nothing is left to write
+pub all_written :
+    {X : Type 0} (f : X → Line) (xs : List X) (i : ℕ) (out whole : List ℕ) →
+    length xs ≤ i → out ++ lines_text (map f (drop i xs)) ≡ whole → out ≡ whole
+all_written f xs i out whole past is = sym (append-nil out) ∙ ap (λ ys. out ++ lines_text (map f ys)) (sym (drop_all i xs past)) ∙ is
+
+-- and each line is one
+pub all_lines :
+    {X : Type 0} (f : X → Line) (xs : List X) (i : ℕ) →
+    length xs ≤ i → AllByRecursion IsLine (map f (take i xs)) → AllByRecursion IsLine (map f xs)
+all_lines f xs i past lines = subst (λ ys. AllByRecursion IsLine (map f ys)) (take_all i xs past) lines

@@ -1,5 +1,7 @@
+use Rattle.host_trait.specs.Manager.{IsPlain}
+use Rattle.host_trait.specs.declared.entry.Entry.{Entry}
 use Rattle.manager_core.specs.declared.line.Line.TheVariants as line
-use Rattle.manager_core.proofs.Written.{one_line_more, one_written}
+use Rattle.manager_core.proofs.Written.{all_lines, all_written, item_is, one_line_more, one_written}
 use Rattle.manager_core.proofs.writing.write_journal.Goals as goal
 
 pub loop-one-preserved : goal.loop-one-preserved
@@ -7,3 +9,12 @@ loop-one-preserved c = record {
   text = one_written line.Entry c.args.journal.now c.loop-one.one-index c.one-item.result _ _ _ c.loop-one-test.true c.one-item.is c.in_ok-write_entry.ensures.text c.loop-one.invariant.text;
   lines = one_line_more line.Entry c.args.journal.now c.loop-one.one-index c.one-item.result c.loop-one-test.true c.one-item.is c.in_ok-write_entry.ensures.line c.loop-one.invariant.lines;
 }
+
+pub write_entry-requires : goal.write_entry-requires
+write_entry-requires c = item_is (λ (one : Entry). IsPlain one.loaded) c.args.journal.now c.loop-one.one-index c.one-item.result c.loop-one-test.true c.one-item.is c.requires
+
+pub returns-clause-text : goal.returns-clause-text
+returns-clause-text c = all_written line.Entry c.args.journal.now c.loop-one.one-index _ _ c.loop-one-test.false c.loop-one.invariant.text
+
+pub returns-clause-lines : goal.returns-clause-lines
+returns-clause-lines c = all_lines line.Entry c.args.journal.now c.loop-one.one-index c.loop-one-test.false c.loop-one.invariant.lines
