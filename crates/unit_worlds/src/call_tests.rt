@@ -1,33 +1,14 @@
 //! The calls by which what is owed is given, worked out by hand.
-use crate::unit_names::names_of;
-use host_trait::{Act, State, States};
+use crate::rows::hold;
+use crate::unit_names::{add_names, push_names, set_both};
+use host_trait::{Act, States};
 use owed_lists::Lists;
 use owed_plan::{Duty, Owed, calls, plan};
 use std::alloc::{AllocError, Global};
+use std::process::Abort;
 use std::test::Fail;
 use switch_names::Listed;
 use unit_defs::Defs;
-
-/// Puts the units that a row names into a state.
-fn set_states(alloc: Global, states: &mut States, row: &str, state: State) -> Result<(), Fail> {
-    for unit in names_of(alloc, row)?.into_vec() {
-        states.set(unit, state)?;
-    }
-    Ok(())
-}
-
-/// Puts these units into the state active, and those into failed.
-fn set_both(alloc: Global, states: &mut States, active: &str, failed: &str) -> Result<(), Fail> {
-    set_states(alloc, states, active, State::Active)?;
-    set_states(alloc, states, failed, State::Failed)
-}
-
-/// The states in which these units are active and those have failed.
-fn states_of(alloc: Global, active: &str, failed: &str) -> Result<States, Fail> {
-    let mut states = States::new(alloc);
-    set_both(alloc, &mut states, active, failed)?;
-    Ok(states)
-}
 
 fn word_of(act: Act) -> &'static str {
     match act {
@@ -39,7 +20,7 @@ fn word_of(act: Act) -> &'static str {
 }
 
 /// Appends calls in their order, with a semicolon and a blank after each.
-fn push_calls(out: &mut String, duties: &[Duty]) -> Result<(), AllocError> {
+fn push_duties(out: &mut String, duties: &[Duty]) -> Result<(), AllocError> {
     for duty in duties {
         out.push_str(word_of(duty.act))?;
         out.push(' ')?;
@@ -49,11 +30,15 @@ fn push_calls(out: &mut String, duties: &[Duty]) -> Result<(), AllocError> {
     Ok(())
 }
 
-/// The calls in their order.
-fn shown(alloc: Global, duties: &[Duty]) -> Result<String, AllocError> {
-    let mut out = String::new(alloc);
-    push_calls(&mut out, duties)?;
-    Ok(out)
+/// Appends the calls in some states.
+fn push_calls(
+    alloc: Global,
+    out: &mut String,
+    owed: &Owed,
+    states: &States,
+) -> Result<(), AllocError> {
+    let duties = calls(alloc, owed, states)?;
+    push_duties(out, duties.as_slice())
 }
 
 /// What is owed, and the units that are active or have failed.
@@ -78,7 +63,9 @@ const NOTHING: Given = Given {
 };
 
 /// What a row shows, what is given, and the calls.
-const ROWS: &[(&str, Given, &str)] = &[
+type Row = (&'static str, Given, &'static str);
+
+const ROWS: &[Row] = &[
     ("nothing is owed", NOTHING, ""),
     (
         "sockets are stopped first",
@@ -192,51 +179,39 @@ const ROWS: &[(&str, Given, &str)] = &[
     ),
 ];
 
-/// What a row gives.
-fn owed_of(alloc: Global, given: &Given) -> Result<Owed, Fail> {
-    Ok(Owed {
-        stops: names_of(alloc, given.stops)?,
-        reloads: names_of(alloc, given.reloads)?,
-        restarts: names_of(alloc, given.restarts)?,
-        starts: names_of(alloc, given.starts)?,
-        left: names_of(alloc, given.left)?,
-    })
+/// Adds what a row gives to what is owed.
+fn add_given(alloc: Global, owed: &mut Owed, given: &Given) -> Result<(), Fail> {
+    add_names(alloc, &mut owed.stops, given.stops)?;
+    add_names(alloc, &mut owed.reloads, given.reloads)?;
+    add_names(alloc, &mut owed.restarts, given.restarts)?;
+    add_names(alloc, &mut owed.starts, given.starts)?;
+    add_names(alloc, &mut owed.left, given.left)
 }
 
-/// The calls in some states.
-fn call_row(alloc: Global, owed: &Owed, states: &States) -> Result<String, AllocError> {
-    let duties = calls(alloc, owed, states)?;
-    shown(alloc, duties.as_slice())
+/// Appends the calls of a row, where nothing is owed yet and all units are inactive.
+fn push_given(
+    alloc: Global,
+    out: &mut String,
+    owed: &mut Owed,
+    states: &mut States,
+    given: &Given,
+) -> Result<(), Fail> {
+    add_given(alloc, owed, given)?;
+    set_both(alloc, states, given.active, given.failed)?;
+    Ok(push_calls(alloc, out, owed, states)?)
 }
 
-/// The calls where these units are active and those have failed.
-fn calls_where(alloc: Global, owed: &Owed, active: &str, failed: &str) -> Result<String, Fail> {
-    let states = states_of(alloc, active, failed)?;
-    Ok(call_row(alloc, owed, &states)?)
-}
-
-/// The calls of a row.
-fn calls_by(alloc: Global, given: &Given) -> Result<String, Fail> {
-    let owed = owed_of(alloc, given)?;
-    calls_where(alloc, &owed, given.active, given.failed)
-}
-
-#[test]
-fn what_is_owed_is_given_by_these_calls(rt: HostRuntime) -> Result<(), Fail> {
-    for (name, given, want) in ROWS {
-        let found = calls_by(rt.alloc(), given)?;
-        assert_eq!(rt; found.as_str(), *want, "{name}");
-    }
-    Ok(())
-}
-
-/// Three lists of units that no system defines.
-fn undefined_lists(alloc: Global) -> Result<Lists, Fail> {
-    Ok(Lists {
-        starts: names_of(alloc, "c.service d.target")?,
-        restarts: names_of(alloc, "a.service")?,
-        reloads: names_of(alloc, "b.service")?,
-    })
+/// Appends the calls of a row.
+fn push_row(alloc: Global, out: &mut String, given: &Given) -> Result<(), Fail> {
+    let mut owed = Owed {
+        stops: Listed::new(alloc),
+        reloads: Listed::new(alloc),
+        restarts: Listed::new(alloc),
+        starts: Listed::new(alloc),
+        left: Listed::new(alloc),
+    };
+    let mut states = States::new(alloc);
+    push_given(alloc, out, &mut owed, &mut states, given)
 }
 
 /// What is owed between two systems without units.
@@ -245,26 +220,72 @@ fn owed_without_units(alloc: Global, states: &States, lists: &Lists) -> Result<O
     plan(alloc, &none, &none, states, lists, &Listed::new(alloc))
 }
 
-/// How many units are left, and the calls.
-fn left_and_calls(
+/// Appends the units that are left, and the calls.
+fn push_left_and_calls(
     alloc: Global,
+    out: &mut String,
+    owed: &Owed,
     states: &States,
-    lists: &Lists,
-) -> Result<(usize, String), AllocError> {
-    let owed = owed_without_units(alloc, states, lists)?;
-    Ok((owed.left.as_slice().len(), call_row(alloc, &owed, states)?))
+) -> Result<(), AllocError> {
+    push_names(out, owed.left.as_slice())?;
+    push_calls(alloc, out, owed, states)
 }
 
-/// The same in the states in which some units are active and others have failed.
-fn given_without_units(alloc: Global, lists: &Lists) -> Result<(usize, String), Fail> {
-    let states = states_of(alloc, "a.service multi-user.target", "b.service")?;
-    Ok(left_and_calls(alloc, &states, lists)?)
+/// Appends the units that are left between two systems without units, and the calls.
+fn push_owed_without_units(
+    alloc: Global,
+    out: &mut String,
+    states: &States,
+    lists: &Lists,
+) -> Result<(), AllocError> {
+    let owed = owed_without_units(alloc, states, lists)?;
+    push_left_and_calls(alloc, out, &owed, states)
+}
+
+/// The same where units are active, have failed or are listed that no system defines.
+fn push_undefined(
+    alloc: Global,
+    out: &mut String,
+    states: &mut States,
+    lists: &mut Lists,
+) -> Result<(), Fail> {
+    set_both(alloc, states, "a.service multi-user.target", "b.service")?;
+    add_names(alloc, &mut lists.starts, "c.service d.target")?;
+    add_names(alloc, &mut lists.restarts, "a.service")?;
+    add_names(alloc, &mut lists.reloads, "b.service")?;
+    Ok(push_owed_without_units(alloc, out, states, lists)?)
+}
+
+/// The same from states and lists of its own.
+fn push_undefined_anew(alloc: Global, out: &mut String) -> Result<(), Fail> {
+    let mut states = States::new(alloc);
+    let mut lists = Lists {
+        starts: Listed::new(alloc),
+        restarts: Listed::new(alloc),
+        reloads: Listed::new(alloc),
+    };
+    push_undefined(alloc, out, &mut states, &mut lists)
 }
 
 #[test]
 fn nothing_is_owed_between_systems_without_units(rt: HostRuntime) -> Result<(), Fail> {
-    let lists = undefined_lists(rt.alloc())?;
-    let (left, row) = given_without_units(rt.alloc(), &lists)?;
-    assert_eq!(rt; (left, row.as_str()), (0, ""));
+    let mut found = String::new(rt.alloc());
+    push_undefined_anew(rt.alloc(), &mut found)?;
+    hold(&rt, "units that are undefined", found.as_str(), "");
     Ok(())
+}
+
+/// Holds the calls of these rows to what is written down.
+fn try_rows(rt: &impl Abort, alloc: Global, rows: &[Row]) -> Result<(), Fail> {
+    for (name, given, want) in rows {
+        let mut found = String::new(alloc);
+        push_row(alloc, &mut found, given)?;
+        hold(rt, name, found.as_str(), want);
+    }
+    Ok(())
+}
+
+#[test]
+fn what_is_owed_is_given_by_these_calls(rt: HostRuntime) -> Result<(), Fail> {
+    try_rows(&rt, rt.alloc(), ROWS)
 }

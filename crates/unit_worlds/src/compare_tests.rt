@@ -23,35 +23,6 @@ fn compared(alloc: Global, kind: UnitKind, old: &str, new: &str) -> Result<Compa
     compared_to(alloc, kind, &old, new)
 }
 
-/// Compares two files both ways.
-fn try_row(
-    rt: &impl Abort,
-    alloc: Global,
-    kind: UnitKind,
-    (name, old, new): (&str, &str, &str),
-    want: Comparison,
-) -> Result<(), Fail> {
-    let found = compared(alloc, kind, old, new)?;
-    assert_eq!(rt; found, want, "{name}");
-    let back = compared(alloc, kind, new, old)?;
-    assert_eq!(rt; back, want, "{name}, the other way round");
-    Ok(())
-}
-
-/// Compares a service with what comes in its place.
-fn try_services(
-    rt: &impl Abort,
-    alloc: Global,
-    old: &str,
-    rows: &[(&str, &str)],
-    want: Comparison,
-) -> Result<(), Fail> {
-    for (name, new) in rows {
-        try_row(rt, alloc, UnitKind::Service, (name, old, new), want)?;
-    }
-    Ok(())
-}
-
 const SERVER: &str = "[Unit]
 Description=Web server
 After=network.target
@@ -63,11 +34,33 @@ ExecStart=/bin/web
 WantedBy=multi-user.target
 ";
 
-/// What a row shows, and the text that comes in the place of the server's.
-const SAME: &[(&str, &str)] = &[
-    ("an equal text", SERVER),
+const WEB: &str = "[Service]\nExecStart=/bin/web\nEnvironment=A\nEnvironment=B\n";
+
+const TRIGGERED: &str = "[Unit]\nX-Reload-Triggers=/a\n[Service]\nExecStart=/bin/a\n";
+
+const MOUNT: &str = "[Mount]\nWhat=/dev/a\nOptions=noatime\n";
+
+/// What a row shows, the kind of a unit, both texts, and what their comparison gives.
+type Row = (
+    &'static str,
+    UnitKind,
+    &'static str,
+    &'static str,
+    Comparison,
+);
+
+const SAME: &[Row] = &[
+    (
+        "an equal text",
+        UnitKind::Service,
+        SERVER,
+        SERVER,
+        Comparison::Same,
+    ),
     (
         "other descriptions, and none to install",
+        UnitKind::Service,
+        SERVER,
         "[Unit]
 Description=A server for the web
 Documentation=https://example.org
@@ -77,9 +70,12 @@ Environment=A=1
 Environment=B=2
 ExecStart=/bin/web
 ",
+        Comparison::Same,
     ),
     (
         "another order of keys and sections",
+        UnitKind::Service,
+        SERVER,
         "[Service]
 # the server
 Environment=A=1
@@ -89,9 +85,12 @@ After = network.target
 [Service]
 Environment=B=2
 ",
+        Comparison::Same,
     ),
     (
         "cleared keys",
+        UnitKind::Service,
+        SERVER,
         "[Unit]
 After=network.target
 [Service]
@@ -104,53 +103,63 @@ ExecReload=/bin/reload
 ExecReload=
 ExecStart=/bin/web
 ",
+        Comparison::Same,
     ),
 ];
 
-#[test]
-fn a_service_stays_the_same(rt: HostRuntime) -> Result<(), Fail> {
-    try_services(&rt, rt.alloc(), SERVER, SAME, Comparison::Same)
-}
-
-const WEB: &str = "[Service]\nExecStart=/bin/web\nEnvironment=A\nEnvironment=B\n";
-
-/// What a row shows, and the text that comes in the place of the other.
-const CHANGED: &[(&str, &str)] = &[
+const CHANGED: &[Row] = &[
     (
         "another command",
+        UnitKind::Service,
+        WEB,
         "[Service]\nExecStart=/bin/b\nEnvironment=A\nEnvironment=B\n",
+        Comparison::Changed,
     ),
     (
         "another order of values",
+        UnitKind::Service,
+        WEB,
         "[Service]\nExecStart=/bin/web\nEnvironment=B\nEnvironment=A\n",
+        Comparison::Changed,
     ),
     (
         "a value twice",
+        UnitKind::Service,
+        WEB,
         "[Service]\nExecStart=/bin/web\nEnvironment=A\nEnvironment=B\nEnvironment=B\n",
+        Comparison::Changed,
     ),
     (
         "one key more",
+        UnitKind::Service,
+        WEB,
         "[Service]\nExecStart=/bin/web\nEnvironment=A\nEnvironment=B\nUser=web\n",
+        Comparison::Changed,
     ),
-    ("one key less", "[Service]\nEnvironment=A\nEnvironment=B\n"),
+    (
+        "one key less",
+        UnitKind::Service,
+        WEB,
+        "[Service]\nEnvironment=A\nEnvironment=B\n",
+        Comparison::Changed,
+    ),
     (
         "a cleared key",
+        UnitKind::Service,
+        WEB,
         "[Service]\nExecStart=/bin/web\nEnvironment=A\nEnvironment=B\nEnvironment=\n",
+        Comparison::Changed,
     ),
-    ("an empty text", ""),
+    (
+        "an empty text",
+        UnitKind::Service,
+        WEB,
+        "",
+        Comparison::Changed,
+    ),
 ];
 
-#[test]
-fn a_service_changes_by_one_key(rt: HostRuntime) -> Result<(), Fail> {
-    try_services(&rt, rt.alloc(), WEB, CHANGED, Comparison::Changed)
-}
-
-const TRIGGERED: &str = "[Unit]\nX-Reload-Triggers=/a\n[Service]\nExecStart=/bin/a\n";
-
-const MOUNT: &str = "[Mount]\nWhat=/dev/a\nOptions=noatime\n";
-
-/// What a row shows, the kind of a unit, both texts, and what their comparison gives.
-const RELOADS: &[(&str, UnitKind, &str, &str, Comparison)] = &[
+const RELOADS: &[Row] = &[
     (
         "other triggers",
         UnitKind::Service,
@@ -202,14 +211,16 @@ const RELOADS: &[(&str, UnitKind, &str, &str, Comparison)] = &[
     ),
 ];
 
-#[test]
-fn some_keys_are_taken_up_by_a_reload(rt: HostRuntime) -> Result<(), Fail> {
-    for (name, kind, old, new, want) in RELOADS {
-        try_row(&rt, rt.alloc(), *kind, (name, old, new), *want)?;
-    }
+/// Compares the texts of a row both ways.
+fn try_row(rt: &impl Abort, alloc: Global, row: &Row) -> Result<(), TextFault> {
+    let (name, kind, old, new, want) = *row;
+    let there = compared(alloc, kind, old, new)?;
+    let back = compared(alloc, kind, new, old)?;
+    assert_eq!(rt; (there, back), (want, want), "{name}, both ways");
     Ok(())
 }
 
+/// Twelve keys of a unit that say nothing of a running one.
 const KEYS: &[&str] = &[
     "Description",
     "Documentation",
@@ -230,25 +241,49 @@ fn text_with(alloc: Global, section: &str, key: &str, value: &str) -> Result<Str
     format!(in alloc; "[{section}]\n{key}={value}\n")
 }
 
-/// The comparison of a file with the same service where a key has the value `b`.
-fn compared_with(alloc: Global, section: &str, key: &str, old: &str) -> Result<Comparison, Fail> {
-    let new = text_with(alloc, section, key, "b")?;
-    Ok(compared(alloc, UnitKind::Service, old, new.as_str())?)
-}
-
 /// The comparison of two services of which a key has the values `a` and `b`.
 fn compared_by_key(alloc: Global, section: &str, key: &str) -> Result<Comparison, Fail> {
     let old = text_with(alloc, section, key, "a")?;
-    compared_with(alloc, section, key, old.as_str())
+    let new = text_with(alloc, section, key, "b")?;
+    Ok(compared(alloc, UnitKind::Service, old.as_str(), new.as_str())?)
+}
+
+/// Holds a key to saying nothing of a running unit in the section of units, and something in another.
+fn try_key(rt: &impl Abort, alloc: Global, key: &str) -> Result<(), Fail> {
+    let of_unit = compared_by_key(alloc, "Unit", key)?;
+    let of_service = compared_by_key(alloc, "Service", key)?;
+    let want = (Comparison::Same, Comparison::Changed);
+    assert_eq!(rt; (of_unit, of_service), want, "{key} of Unit and of Service");
+    Ok(())
+}
+
+/// Compares the texts of these rows.
+fn try_rows(rt: &impl Abort, alloc: Global, rows: &[Row]) -> Result<(), TextFault> {
+    for row in rows {
+        try_row(rt, alloc, row)?;
+    }
+    Ok(())
+}
+
+#[test]
+fn a_service_stays_the_same(rt: HostRuntime) -> Result<(), Fail> {
+    Ok(try_rows(&rt, rt.alloc(), SAME)?)
+}
+
+#[test]
+fn a_service_changes_by_one_key(rt: HostRuntime) -> Result<(), Fail> {
+    Ok(try_rows(&rt, rt.alloc(), CHANGED)?)
+}
+
+#[test]
+fn some_keys_are_taken_up_by_a_reload(rt: HostRuntime) -> Result<(), Fail> {
+    Ok(try_rows(&rt, rt.alloc(), RELOADS)?)
 }
 
 #[test]
 fn twelve_keys_of_a_unit_say_nothing_of_a_running_one(rt: HostRuntime) -> Result<(), Fail> {
     for key in KEYS {
-        let of_unit = compared_by_key(rt.alloc(), "Unit", key)?;
-        assert_eq!(rt; of_unit, Comparison::Same, "{key} of Unit");
-        let of_service = compared_by_key(rt.alloc(), "Service", key)?;
-        assert_eq!(rt; of_service, Comparison::Changed, "{key} of Service");
+        try_key(&rt, rt.alloc(), key)?;
     }
     Ok(())
 }

@@ -1,8 +1,11 @@
-//! Decisions by the texts that users write.
-use std::alloc::Global;
+//! Decisions and the sockets of services, by the texts that users write.
+use crate::rows::hold;
+use crate::unit_names::push_names;
+use std::alloc::{AllocError, Global};
+use std::process::Abort;
 use std::test::Fail;
 use switch_names::UnitName;
-use unit_decide::{Decision, decide, may_start};
+use unit_decide::{Decision, decide, may_start, sockets};
 use unit_text::{TextFault, UnitText, parse};
 
 /// The text of a unit, where a system defines it.
@@ -13,26 +16,16 @@ fn parsed(alloc: Global, text: Option<&str>) -> Result<Option<UnitText>, TextFau
     }
 }
 
-/// The decision on an Active unit with these texts.
-fn decided_between(
-    alloc: Global,
-    old: Option<&UnitText>,
-    new: Option<&UnitText>,
-    (unit, live): (&str, bool),
-) -> Result<Decision, Fail> {
-    let unit = UnitName::parse(alloc, unit)?;
-    Ok(decide(old, new, &unit, live))
-}
-
 /// The decision on an Active unit with this text, which the new system defines by another.
 fn decided_from(
     alloc: Global,
     old: Option<&UnitText>,
     new: Option<&str>,
-    unit: (&str, bool),
+    (unit, live): (&str, bool),
 ) -> Result<Decision, Fail> {
+    let unit = UnitName::parse(alloc, unit)?;
     let new = parsed(alloc, new)?;
-    decided_between(alloc, old, new.as_ref(), unit)
+    Ok(decide(old, new.as_ref(), &unit, live))
 }
 
 /// The decision on an Active unit that two systems define by these texts.
@@ -356,15 +349,6 @@ const ROWS: &[Row] = &[
     ),
 ];
 
-#[test]
-fn the_first_row_that_fits_decides(rt: HostRuntime) -> Result<(), Fail> {
-    for (name, old, new, unit, live, want) in ROWS {
-        let found = decided(rt.alloc(), *old, *new, (*unit, *live))?;
-        assert_eq!(rt; found, *want, "{name}");
-    }
-    Ok(())
-}
-
 /// The text of a unit, and whether it may start.
 const MAY_START: &[(&str, bool)] = &[
     ("", true),
@@ -378,16 +362,139 @@ const MAY_START: &[(&str, bool)] = &[
     ("[Service]\nRefuseManualStart=true\n", true),
 ];
 
-/// Whether a unit with this text may start.
-fn is_startable(alloc: Global, text: &str) -> Result<bool, TextFault> {
+/// What a row shows, the text of a unit, the unit, and the sockets that it is paired with.
+const PAIRS: &[(&str, &str, &str, &str)] = &[
+    (
+        "no key",
+        "[Service]\nExecStart=/bin/a\n",
+        "a.service",
+        "a.socket ",
+    ),
+    (
+        "an instance",
+        "[Service]\nExecStart=/bin/a\n",
+        "a@b.service",
+        "a@b.socket ",
+    ),
+    (
+        "a cleared key",
+        "[Service]\nSockets=b.socket\nSockets=\n",
+        "a.service",
+        "a.socket ",
+    ),
+    (
+        "two words and a tab",
+        "[Service]\nSockets=b.socket\tc.socket\n",
+        "a.service",
+        "b.socket c.socket ",
+    ),
+    (
+        "words on two lines",
+        "[Service]\nSockets=c.socket  b.socket\nSockets=c.socket\n",
+        "a.service",
+        "c.socket b.socket c.socket ",
+    ),
+    (
+        "other kinds and no names",
+        "[Service]\nSockets=b.service b.socket % ü.socket .socket\n",
+        "a.service",
+        "b.socket ",
+    ),
+    (
+        "nothing but other words",
+        "[Service]\nSockets=none\n",
+        "a.service",
+        "",
+    ),
+    (
+        "no socket starts it",
+        "[Service]\nSockets=b.socket\nX-NotSocketActivated=true\n",
+        "a.service",
+        "",
+    ),
+    (
+        "another section",
+        "[Unit]\nSockets=b.socket\n",
+        "a.service",
+        "a.socket ",
+    ),
+    (
+        "another kind",
+        "[Service]\nSockets=b.socket\n",
+        "a.target",
+        "",
+    ),
+];
+
+/// Appends the sockets of a unit, with a blank after each.
+fn push_sockets(
+    alloc: Global,
+    out: &mut String,
+    text: &UnitText,
+    unit: &UnitName,
+) -> Result<(), AllocError> {
+    let names = sockets(alloc, text, unit)?;
+    push_names(out, names.as_slice())
+}
+
+/// Appends the sockets of the unit of this name.
+fn push_sockets_of(
+    alloc: Global,
+    out: &mut String,
+    text: &UnitText,
+    unit: &str,
+) -> Result<(), Fail> {
+    let unit = UnitName::parse(alloc, unit)?;
+    Ok(push_sockets(alloc, out, text, &unit)?)
+}
+
+/// Appends the sockets of a unit by its text.
+fn push_paired(alloc: Global, out: &mut String, text: &str, unit: &str) -> Result<(), Fail> {
     let text = parse(alloc, text.as_bytes())?;
-    Ok(may_start(&text))
+    push_sockets_of(alloc, out, &text, unit)
+}
+
+/// Holds the decision of a row to what is written down.
+fn try_row(rt: &impl Abort, alloc: Global, row: &Row) -> Result<(), Fail> {
+    let found = decided(alloc, row.1, row.2, (row.3, row.4))?;
+    assert_eq!(rt; found, row.5, "{}", row.0);
+    Ok(())
+}
+
+/// Holds a unit with this text to being startable, or not.
+fn try_start(rt: &impl Abort, alloc: Global, text: &str, want: bool) -> Result<(), TextFault> {
+    let unit = parse(alloc, text.as_bytes())?;
+    assert_eq!(rt; may_start(&unit), want, "{text}");
+    Ok(())
+}
+
+/// Holds the decisions of these rows to what is written down.
+fn try_rows(rt: &impl Abort, alloc: Global, rows: &[Row]) -> Result<(), Fail> {
+    for row in rows {
+        try_row(rt, alloc, row)?;
+    }
+    Ok(())
+}
+
+#[test]
+fn the_first_row_that_fits_decides(rt: HostRuntime) -> Result<(), Fail> {
+    try_rows(&rt, rt.alloc(), ROWS)
 }
 
 #[test]
 fn a_unit_may_start_where_neither_flag_forbids_it(rt: HostRuntime) -> Result<(), Fail> {
     for (text, want) in MAY_START {
-        assert_eq!(rt; is_startable(rt.alloc(), text)?, *want, "{text}");
+        try_start(&rt, rt.alloc(), text, *want)?;
+    }
+    Ok(())
+}
+
+#[test]
+fn a_service_is_paired_with_the_sockets_that_it_names(rt: HostRuntime) -> Result<(), Fail> {
+    for (name, text, unit, want) in PAIRS {
+        let mut found = String::new(rt.alloc());
+        push_paired(rt.alloc(), &mut found, text, unit)?;
+        hold(&rt, name, found.as_str(), want);
     }
     Ok(())
 }

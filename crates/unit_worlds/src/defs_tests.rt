@@ -1,9 +1,9 @@
 //! Which units a system defines, by the rules of systemd.unit(5), and which each wants.
 use crate::key_values::push_values;
-use crate::leaves::{put_leaf, put_units};
+use crate::leaves::system_host;
+use crate::rows::hold;
 use crate::unit_names::push_names;
 use host_memory::MemoryHost;
-use host_trait::World;
 use std::alloc::{AllocError, Global};
 use std::process::Abort;
 use std::test::Fail;
@@ -16,60 +16,6 @@ type Row = (
     &'static [(&'static str, &'static str)],
     &'static str,
 );
-
-/// Puts leaves into the folder of units of a system, and a unit elsewhere into the store.
-fn fill(alloc: Global, world: &mut World, leaves: &[(&str, &str)]) -> Result<(), Fail> {
-    put_units(alloc, world, "a-sys", leaves)?;
-    put_leaf(alloc, world, "nix/store/kept/unit", "[S]\nK=kept\n")
-}
-
-/// A host with a system whose folder of units has these leaves.
-fn host_of(alloc: Global, leaves: &[(&str, &str)]) -> Result<MemoryHost, Fail> {
-    let mut world = World::new(alloc);
-    fill(alloc, &mut world, leaves)?;
-    Ok(MemoryHost::new(alloc, world))
-}
-
-/// Appends the values of `K` in the section `S` of a unit's text, where it has one.
-fn push_found(alloc: Global, out: &mut String, defs: &Defs, unit: &str) -> Result<(), Fail> {
-    let unit = UnitName::parse(alloc, unit)?;
-    match defs.find(&unit) {
-        Some(text) => push_values(out, text.values("S", "K"))?,
-        None => out.push_str("none")?,
-    }
-    Ok(())
-}
-
-/// The names that are defined, and what is found of one unit.
-fn shown(alloc: Global, defs: &Defs, unit: &str) -> Result<String, Fail> {
-    let mut text = String::new(alloc);
-    push_names(&mut text, defs.names().as_slice())?;
-    text.push_str(": ")?;
-    push_found(alloc, &mut text, defs, unit)?;
-    Ok(text)
-}
-
-/// What the system of a host defines, and what is found of one unit.
-fn found_on(alloc: Global, host: &mut MemoryHost, unit: &str) -> Result<String, Fail> {
-    let system = SystemName::parse(alloc, "nix/store/a-sys")?;
-    let defs = Defs::read_old(alloc, host, &system)?;
-    shown(alloc, &defs, unit)
-}
-
-/// What a system with these leaves defines, and what is found of one unit.
-fn found(alloc: Global, leaves: &[(&str, &str)], unit: &str) -> Result<String, Fail> {
-    let mut host = host_of(alloc, leaves)?;
-    found_on(alloc, &mut host, unit)
-}
-
-/// Seeks a unit in the systems of these rows.
-fn find_in_rows(rt: &impl Abort, alloc: Global, rows: &[Row], unit: &str) -> Result<(), Fail> {
-    for (row, leaves, want) in rows {
-        let text = found(alloc, leaves, unit)?;
-        assert_eq!(rt; text.as_str(), *want, "{row}");
-    }
-    Ok(())
-}
 
 const UNITS: &[Row] = &[
     (
@@ -117,12 +63,16 @@ const UNITS: &[Row] = &[
         &[("a.txt", "[S]\nK=1\n"), ("x/a.service", "[S]\nK=1\n")],
         ": none",
     ),
+    (
+        "an old file that can't be read counts as empty",
+        &[
+            ("a.service", "[S]\nK=1\n["),
+            ("a.service.d/x.conf", "[S]\nK=2\n"),
+            ("a.service.d/y.conf", "["),
+        ],
+        "a.service : 2|",
+    ),
 ];
-
-#[test]
-fn a_unit_is_its_file_with_its_drop_ins(rt: HostRuntime) -> Result<(), Fail> {
-    find_in_rows(&rt, rt.alloc(), UNITS, "a.service")
-}
 
 const INSTANCES: &[Row] = &[
     (
@@ -178,33 +128,6 @@ const INSTANCES: &[Row] = &[
     ),
 ];
 
-#[test]
-fn an_instance_is_made_from_its_template(rt: HostRuntime) -> Result<(), Fail> {
-    find_in_rows(&rt, rt.alloc(), INSTANCES, "a@b.service")
-}
-
-/// The unit and the line of a fault, or that there is none.
-fn answer_text(alloc: Global, answer: &Result<Defs, DefsFault>) -> Result<String, AllocError> {
-    match answer {
-        Ok(_) => String::from_str(alloc, "none"),
-        Err(DefsFault::Text { unit, line }) => format!(in alloc; "{} {line}", unit.as_str()),
-        Err(DefsFault::Host(fault)) => format!(in alloc; "{fault:?}"),
-    }
-}
-
-/// What reading the system of a host answers: the fault, or none.
-fn fault_on(alloc: Global, host: &mut MemoryHost) -> Result<String, Fail> {
-    let system = SystemName::parse(alloc, "nix/store/a-sys")?;
-    let answer = Defs::read(alloc, host, &system);
-    Ok(answer_text(alloc, &answer)?)
-}
-
-/// What reading a system with these leaves answers: the fault, or none.
-fn fault_of(alloc: Global, leaves: &[(&str, &str)]) -> Result<String, Fail> {
-    let mut host = host_of(alloc, leaves)?;
-    fault_on(alloc, &mut host)
-}
-
 const FAULTS: &[Row] = &[
     ("a file", &[("a.service", "[")], "a.service 1"),
     (
@@ -238,31 +161,9 @@ const FAULTS: &[Row] = &[
     (
         "drop-ins of an undefined unit aren't sought",
         &[("a.service.d/x.conf", "[")],
-        "none",
+        "",
     ),
 ];
-
-#[test]
-fn the_first_faulty_unit_is_named(rt: HostRuntime) -> Result<(), Fail> {
-    for (row, leaves, want) in FAULTS {
-        let text = fault_of(rt.alloc(), leaves)?;
-        assert_eq!(rt; text.as_str(), *want, "{row}");
-    }
-    Ok(())
-}
-
-const FAULTY: &[(&str, &str)] = &[
-    ("a.service", "[S]\nK=1\n["),
-    ("a.service.d/x.conf", "[S]\nK=2\n"),
-    ("a.service.d/y.conf", "["),
-];
-
-#[test]
-fn an_old_file_that_cannot_be_read_counts_as_empty(rt: HostRuntime) -> Result<(), Fail> {
-    let text = found(rt.alloc(), FAULTY, "a.service")?;
-    assert_eq!(rt; text.as_str(), "a.service : 2|");
-    Ok(())
-}
 
 const WANTING: &[(&str, &str)] = &[
     ("a.service", "[S]\n"),
@@ -281,28 +182,7 @@ const WANTING: &[(&str, &str)] = &[
     ("x@.service.wants/b.service", "->../b.service"),
 ];
 
-/// What a unit wants.
-fn wanted(alloc: Global, defs: &Defs, unit: &str) -> Result<String, Fail> {
-    let unit = UnitName::parse(alloc, unit)?;
-    let mut text = String::new(alloc);
-    push_names(&mut text, defs.wanted(&unit).as_slice())?;
-    Ok(text)
-}
-
-/// What a unit of the system of a host wants.
-fn wanted_on(alloc: Global, host: &mut MemoryHost, unit: &str) -> Result<String, Fail> {
-    let system = SystemName::parse(alloc, "nix/store/a-sys")?;
-    let defs = Defs::read(alloc, host, &system)?;
-    wanted(alloc, &defs, unit)
-}
-
-/// What a unit of a system with these leaves wants.
-fn wanted_of(alloc: Global, leaves: &[(&str, &str)], unit: &str) -> Result<String, Fail> {
-    let mut host = host_of(alloc, leaves)?;
-    wanted_on(alloc, &mut host, unit)
-}
-
-/// A unit, and what it wants.
+/// A unit of this system, and what it wants.
 const WANTS: &[(&str, &str)] = &[
     ("t.target", "a.service b.service c.service x@i.service "),
     ("u.target", "a.service "),
@@ -311,29 +191,160 @@ const WANTS: &[(&str, &str)] = &[
     ("gone.service", ""),
 ];
 
-#[test]
-fn units_want_what_is_defined_and_no_template(rt: HostRuntime) -> Result<(), Fail> {
-    for (unit, want) in WANTS {
-        let text = wanted_of(rt.alloc(), WANTING, unit)?;
-        assert_eq!(rt; text.as_str(), *want, "{unit}");
+/// What is asked of a system.
+#[derive(Clone, Copy)]
+enum Question {
+    /// What it defines, where it is an old one, and what is found of a unit.
+    Found,
+    /// What a unit wants, where it is a new one, or its fault.
+    Wanted,
+}
+
+/// Appends the names that are defined, and the values of `K` in the section `S` of a unit's text, where
+/// it has one.
+fn push_found(out: &mut String, defs: &Defs, unit: &UnitName) -> Result<(), AllocError> {
+    push_names(out, defs.names().as_slice())?;
+    out.push_str(": ")?;
+    match defs.find(unit) {
+        Some(text) => push_values(out, text.values("S", "K")),
+        None => out.push_str("none"),
+    }
+}
+
+/// Appends the unit and the line of a fault.
+fn push_fault(alloc: Global, out: &mut String, fault: &DefsFault) -> Result<(), AllocError> {
+    match fault {
+        DefsFault::Text { unit, line } => {
+            out.push_str(unit.as_str())?;
+            out.push_str(format!(in alloc; " {line}")?.as_str())
+        }
+        DefsFault::Host(_) => out.push_str("a fault of the host"),
+    }
+}
+
+/// Appends what a unit wants, or the fault.
+fn push_wanted(
+    alloc: Global,
+    out: &mut String,
+    answer: &Result<Defs, DefsFault>,
+    unit: &UnitName,
+) -> Result<(), AllocError> {
+    match answer {
+        Ok(defs) => push_names(out, defs.wanted(unit).as_slice()),
+        Err(fault) => push_fault(alloc, out, fault),
+    }
+}
+
+/// A system, and a unit of it.
+type Asked<'a> = (&'a SystemName, &'a UnitName);
+
+/// Appends what an old system of a host defines, and what is found of a unit.
+fn push_found_on(
+    alloc: Global,
+    out: &mut String,
+    host: &mut MemoryHost,
+    (system, unit): Asked<'_>,
+) -> Result<(), Fail> {
+    let defs = Defs::read_old(alloc, host, system)?;
+    Ok(push_found(out, &defs, unit)?)
+}
+
+/// Appends what a unit of a new system of a host wants, or the fault of the system.
+fn push_wanted_on(
+    alloc: Global,
+    out: &mut String,
+    host: &mut MemoryHost,
+    (system, unit): Asked<'_>,
+) -> Result<(), Fail> {
+    let answer = Defs::read(alloc, host, system);
+    Ok(push_wanted(alloc, out, &answer, unit)?)
+}
+
+/// Appends what a host answers.
+fn push_answer(
+    alloc: Global,
+    out: &mut String,
+    host: &mut MemoryHost,
+    question: Question,
+    unit: &str,
+) -> Result<(), Fail> {
+    let system = SystemName::parse(alloc, "nix/store/a-sys")?;
+    let unit = UnitName::parse(alloc, unit)?;
+    match question {
+        Question::Found => push_found_on(alloc, out, host, (&system, &unit)),
+        Question::Wanted => push_wanted_on(alloc, out, host, (&system, &unit)),
+    }
+}
+
+/// Appends what a system with these leaves answers.
+fn push_answer_with(
+    alloc: Global,
+    out: &mut String,
+    leaves: &[(&str, &str)],
+    question: Question,
+    unit: &str,
+) -> Result<(), Fail> {
+    let mut host = system_host(alloc, leaves)?;
+    push_answer(alloc, out, &mut host, question, unit)
+}
+
+/// Asks the systems of these rows.
+fn try_rows(
+    rt: &impl Abort,
+    alloc: Global,
+    rows: &[Row],
+    question: Question,
+    unit: &str,
+) -> Result<(), Fail> {
+    for (row, leaves, want) in rows {
+        let mut found = String::new(alloc);
+        push_answer_with(alloc, &mut found, leaves, question, unit)?;
+        hold(rt, row, found.as_str(), want);
     }
     Ok(())
 }
 
-/// Whether a unit is found where there is no system, and how many are defined and wanted.
-fn found_without_system(alloc: Global) -> Result<(bool, usize, usize), Fail> {
-    let unit = UnitName::parse(alloc, "a@b.service")?;
-    let defs = Defs::none(alloc);
-    let is_found = defs.find(&unit).is_some();
-    Ok((
-        is_found,
-        defs.names().as_slice().len(),
-        defs.wanted(&unit).as_slice().len(),
-    ))
+/// Appends what is found of a unit among definitions, and what it wants.
+fn push_found_and_wanted(out: &mut String, defs: &Defs, unit: &UnitName) -> Result<(), AllocError> {
+    push_found(out, defs, unit)?;
+    push_names(out, defs.wanted(unit).as_slice())
+}
+
+/// Appends the same where there is no system.
+fn push_without_system(alloc: Global, out: &mut String, unit: &UnitName) -> Result<(), AllocError> {
+    let none = Defs::none(alloc);
+    push_found_and_wanted(out, &none, unit)
 }
 
 #[test]
 fn nothing_is_defined_without_a_system(rt: HostRuntime) -> Result<(), Fail> {
-    assert_eq!(rt; found_without_system(rt.alloc())?, (false, 0, 0));
+    let unit = UnitName::parse(rt.alloc(), "a@b.service")?;
+    let mut found = String::new(rt.alloc());
+    push_without_system(rt.alloc(), &mut found, &unit)?;
+    hold(&rt, unit.as_str(), found.as_str(), ": none");
+    Ok(())
+}
+
+#[test]
+fn a_unit_is_its_file_with_its_drop_ins(rt: HostRuntime) -> Result<(), Fail> {
+    try_rows(&rt, rt.alloc(), UNITS, Question::Found, "a.service")
+}
+
+#[test]
+fn an_instance_is_made_from_its_template(rt: HostRuntime) -> Result<(), Fail> {
+    try_rows(&rt, rt.alloc(), INSTANCES, Question::Found, "a@b.service")
+}
+
+#[test]
+fn the_first_faulty_unit_is_named(rt: HostRuntime) -> Result<(), Fail> {
+    try_rows(&rt, rt.alloc(), FAULTS, Question::Wanted, "a.service")
+}
+
+#[test]
+fn units_want_what_is_defined_and_no_template(rt: HostRuntime) -> Result<(), Fail> {
+    for (unit, want) in WANTS {
+        let row = (*unit, WANTING, *want);
+        try_rows(&rt, rt.alloc(), &[row], Question::Wanted, unit)?;
+    }
     Ok(())
 }

@@ -16,15 +16,15 @@ mod leaves;
 #[cfg(test)]
 mod owed_list_tests;
 #[cfg(test)]
-mod pairing_tests;
-#[cfg(test)]
 mod pull_tests;
 #[cfg(test)]
-mod service_tests;
+mod report_tests;
 #[cfg(test)]
-mod small_worlds;
+mod rows;
 #[cfg(test)]
-mod target_tests;
+mod service_rows;
+#[cfg(test)]
+mod target_rows;
 #[cfg(test)]
 mod text_tests;
 #[cfg(test)]

@@ -1,130 +1,186 @@
 //! What is pulled from the targets of a system.
-use crate::leaves::put_units;
-use crate::unit_names::{names_of, push_names, row_of};
+use crate::leaves::system_host;
+use crate::rows::hold;
+use crate::unit_names::{add_names, push_names, set_both};
 use host_memory::MemoryHost;
-use host_trait::{State, States, World};
+use host_trait::States;
 use std::alloc::{AllocError, Global};
 use std::test::Fail;
 use switch_names::{Listed, SystemName, UnitName};
 use unit_defs::Defs;
 use unit_pull::{pull, roots};
 
-/// A host with a system that has a target and a service.
-fn target_host(alloc: Global, text: &str) -> Result<MemoryHost, Fail> {
-    let mut world = World::new(alloc);
-    let units = [("t.target", text), ("a.service", "[Service]\n")];
-    put_units(alloc, &mut world, "a-sys", &units)?;
-    Ok(MemoryHost::new(alloc, world))
+/// Appends units, and what is pulled from them.
+fn push_pull(
+    alloc: Global,
+    out: &mut String,
+    defs: &Defs,
+    starts: &Listed<UnitName>,
+) -> Result<(), AllocError> {
+    push_names(out, starts.as_slice())?;
+    out.push_str("| ")?;
+    let all = pull(alloc, defs, starts)?.into_vec();
+    push_names(out, all.as_slice())
 }
 
-/// The states of units where one has a state.
-fn states_with(alloc: Global, unit: &str, state: State) -> Result<States, Fail> {
-    let unit = UnitName::parse(alloc, unit)?;
-    let mut states = States::new(alloc);
-    states.set(unit, state)?;
-    Ok(states)
+/// Appends the roots among these definitions, and what is pulled from them.
+fn push_roots(
+    alloc: Global,
+    out: &mut String,
+    defs: &Defs,
+    states: &States,
+    starts: &Listed<UnitName>,
+) -> Result<(), AllocError> {
+    let found = roots(alloc, defs, states, starts)?;
+    push_pull(alloc, out, defs, &found)
 }
 
-/// Roots, and what is pulled from them.
-fn with_pull(alloc: Global, defs: &Defs, starts: &Listed<UnitName>) -> Result<String, AllocError> {
-    let all = pull(alloc, defs, starts)?;
-    let mut text = String::new(alloc);
-    push_names(&mut text, starts.as_slice())?;
-    text.push_str("| ")?;
-    push_names(&mut text, all.as_slice())?;
-    Ok(text)
+/// Appends the roots and the pull among these definitions where nothing is to be started.
+fn push_running(
+    alloc: Global,
+    out: &mut String,
+    defs: &Defs,
+    states: &States,
+) -> Result<(), AllocError> {
+    let none = Listed::new(alloc);
+    push_roots(alloc, out, defs, states, &none)
 }
 
-/// The roots among these definitions and what is pulled from them, by the state of the target.
-fn pulled_by(alloc: Global, defs: &Defs, state: State) -> Result<String, Fail> {
-    let states = states_with(alloc, "t.target", state)?;
-    let starts = roots(alloc, defs, &states, &Listed::new(alloc))?;
-    Ok(with_pull(alloc, defs, &starts)?)
+/// Appends the same of a system of a host.
+fn push_system(
+    alloc: Global,
+    out: &mut String,
+    host: &mut MemoryHost,
+    system: &SystemName,
+    states: &States,
+) -> Result<(), Fail> {
+    let defs = Defs::read_old(alloc, host, system)?;
+    Ok(push_running(alloc, out, &defs, states)?)
 }
 
-/// The roots and the pull of the system of a host, by the state of the target.
-fn pulled_on(alloc: Global, host: &mut MemoryHost, state: State) -> Result<String, Fail> {
+/// The units that are active, those that have failed, and the text of a target.
+type Target<'a> = (&'a str, &'a str, &'a str);
+
+/// Appends the roots and the pull of a host on which all units are inactive yet.
+fn push_by_states(
+    alloc: Global,
+    out: &mut String,
+    host: &mut MemoryHost,
+    states: &mut States,
+    target: Target<'_>,
+) -> Result<(), Fail> {
+    set_both(alloc, states, target.0, target.1)?;
     let system = SystemName::parse(alloc, "nix/store/a-sys")?;
-    let defs = Defs::read_old(alloc, host, &system)?;
-    pulled_by(alloc, &defs, state)
+    push_system(alloc, out, host, &system, states)
 }
 
-/// The roots and the pull of a system with a target that wants a service, by the state of the target.
-fn pulled(alloc: Global, state: State, text: &str) -> Result<String, Fail> {
-    let mut host = target_host(alloc, text)?;
-    pulled_on(alloc, &mut host, state)
+/// Appends the roots and the pull of a system with a target and a service.
+fn push_target(alloc: Global, out: &mut String, target: Target<'_>) -> Result<(), Fail> {
+    let units = [("t.target", target.2), ("a.service", "[Service]\n")];
+    let mut host = system_host(alloc, &units)?;
+    let mut states = States::new(alloc);
+    push_by_states(alloc, out, &mut host, &mut states, target)
 }
 
-/// The target, its state, its text, and the roots and the pull.
-const TARGETS: &[(&str, State, &str, &str)] = &[
+/// What a row shows, the target's state and text, and the roots and the pull.
+const TARGETS: &[(&str, Target<'static>, &str)] = &[
     (
         "active",
-        State::Active,
-        "[Unit]\nWants=a.service\n",
+        ("t.target", "", "[Unit]\nWants=a.service\n"),
         "t.target | a.service t.target ",
     ),
-    ("failed", State::Failed, "[Unit]\nWants=a.service\n", "| "),
+    (
+        "failed",
+        ("", "t.target", "[Unit]\nWants=a.service\n"),
+        "| ",
+    ),
     (
         "not to be started",
-        State::Active,
-        "[Unit]\nWants=a.service\nRefuseManualStart=true\n",
+        (
+            "t.target",
+            "",
+            "[Unit]\nWants=a.service\nRefuseManualStart=true\n",
+        ),
         "| ",
     ),
 ];
 
+/// Appends what units pull among these definitions, and the roots and their pull where they are to be
+/// started.
+fn push_both(
+    alloc: Global,
+    out: &mut String,
+    defs: &Defs,
+    states: &States,
+    units: &Listed<UnitName>,
+) -> Result<(), AllocError> {
+    push_pull(alloc, out, defs, units)?;
+    out.push_str("; ")?;
+    push_roots(alloc, out, defs, states, units)
+}
+
+/// Appends the same where no unit has a text.
+fn push_units(
+    alloc: Global,
+    out: &mut String,
+    states: &States,
+    units: &Listed<UnitName>,
+) -> Result<(), AllocError> {
+    let none = Defs::none(alloc);
+    push_both(alloc, out, &none, states, units)
+}
+
+/// Appends the same of the units of a text, where others are active.
+fn push_named(
+    alloc: Global,
+    out: &mut String,
+    states: &mut States,
+    units: &mut Listed<UnitName>,
+    row: (&str, &str),
+) -> Result<(), Fail> {
+    set_both(alloc, states, row.0, "")?;
+    add_names(alloc, units, row.1)?;
+    Ok(push_units(alloc, out, states, units)?)
+}
+
+/// Appends the same from states and a list of its own.
+fn push_without_texts(alloc: Global, out: &mut String, row: (&str, &str)) -> Result<(), Fail> {
+    let mut states = States::new(alloc);
+    let mut units = Listed::new(alloc);
+    push_named(alloc, out, &mut states, &mut units, row)
+}
+
+/// What a row shows, the unit that is active and those that are to be started where no unit has a text,
+/// and what is pulled, and the roots.
+const WITHOUT_TEXTS: &[(&str, (&str, &str), &str)] = &[
+    (
+        "each root is pulled once",
+        ("", "b.target a.target b.target"),
+        "b.target a.target b.target | a.target b.target ; | ",
+    ),
+    (
+        "a target without a text is no root",
+        ("a.target", "b.target"),
+        "b.target | b.target ; | ",
+    ),
+];
+
 #[test]
-fn a_target_pulls_what_it_wants(rt: HostRuntime) -> Result<(), Fail> {
-    for (row, state, text, want) in TARGETS {
-        let found = pulled(rt.alloc(), *state, text)?;
-        assert_eq!(rt; found.as_str(), *want, "{row}");
+fn units_without_texts_pull_themselves_alone(rt: HostRuntime) -> Result<(), Fail> {
+    for (row, units, want) in WITHOUT_TEXTS {
+        let mut found = String::new(rt.alloc());
+        push_without_texts(rt.alloc(), &mut found, *units)?;
+        hold(&rt, row, found.as_str(), want);
     }
     Ok(())
 }
 
-/// What these units pull where no unit has a text.
-fn pulled_without_texts(alloc: Global, units: &Listed<UnitName>) -> Result<String, AllocError> {
-    let all = pull(alloc, &Defs::none(alloc), units)?;
-    row_of(alloc, all.as_slice())
-}
-
-/// The same of units by their names.
-fn pulled_by_names(alloc: Global, names: &str) -> Result<String, Fail> {
-    let units = names_of(alloc, names)?;
-    Ok(pulled_without_texts(alloc, &units)?)
-}
-
 #[test]
-fn each_root_is_pulled_once(rt: HostRuntime) -> Result<(), Fail> {
-    let found = pulled_by_names(rt.alloc(), "b.target a.target b.target")?;
-    assert_eq!(rt; found.as_str(), "a.target b.target ");
-    Ok(())
-}
-
-/// The roots where no unit has a text.
-fn roots_without_texts(
-    alloc: Global,
-    states: &States,
-    starts: &Listed<UnitName>,
-) -> Result<String, AllocError> {
-    let found = roots(alloc, &Defs::none(alloc), states, starts)?;
-    row_of(alloc, found.as_slice())
-}
-
-/// The same where these units are to be started.
-fn roots_by_starts(alloc: Global, states: &States, starts: &str) -> Result<String, Fail> {
-    let starts = names_of(alloc, starts)?;
-    Ok(roots_without_texts(alloc, states, &starts)?)
-}
-
-/// The same where this unit is active.
-fn roots_by_names(alloc: Global, active: &str, starts: &str) -> Result<String, Fail> {
-    let states = states_with(alloc, active, State::Active)?;
-    roots_by_starts(alloc, &states, starts)
-}
-
-#[test]
-fn a_target_without_a_text_is_no_root(rt: HostRuntime) -> Result<(), Fail> {
-    let found = roots_by_names(rt.alloc(), "a.target", "b.target")?;
-    assert_eq!(rt; found.as_str(), "");
+fn a_target_pulls_what_it_wants(rt: HostRuntime) -> Result<(), Fail> {
+    for (row, target, want) in TARGETS {
+        let mut found = String::new(rt.alloc());
+        push_target(rt.alloc(), &mut found, *target)?;
+        hold(&rt, row, found.as_str(), want);
+    }
     Ok(())
 }

@@ -1,17 +1,38 @@
-//! Names of units in texts.
+//! Names of units and their states in texts.
+use host_trait::{State, States};
 use std::alloc::{AllocError, Global};
 use std::test::Fail;
 use switch_names::{Listed, UnitName};
 
-/// The unit names between the blanks of a text.
-pub fn names_of(alloc: Global, text: &str) -> Result<Listed<UnitName>, Fail> {
-    let mut names = Listed::new(alloc);
+/// Appends the unit names between the blanks of a text.
+pub fn add_names(alloc: Global, names: &mut Listed<UnitName>, text: &str) -> Result<(), Fail> {
     for name in text.split(' ') {
         if !name.is_empty() {
             names.push(UnitName::parse(alloc, name)?)?;
         }
     }
-    Ok(names)
+    Ok(())
+}
+
+/// Puts the units that a text names into a state.
+fn set_states(alloc: Global, states: &mut States, text: &str, state: State) -> Result<(), Fail> {
+    for name in text.split(' ') {
+        if !name.is_empty() {
+            states.set(UnitName::parse(alloc, name)?, state)?;
+        }
+    }
+    Ok(())
+}
+
+/// Puts these units into the state active, and those into failed.
+pub fn set_both(
+    alloc: Global,
+    states: &mut States,
+    active: &str,
+    failed: &str,
+) -> Result<(), Fail> {
+    set_states(alloc, states, active, State::Active)?;
+    set_states(alloc, states, failed, State::Failed)
 }
 
 /// Appends names with a blank after each.
@@ -21,11 +42,4 @@ pub fn push_names(text: &mut String, names: &[UnitName]) -> Result<(), AllocErro
         text.push(' ')?;
     }
     Ok(())
-}
-
-/// The names with a blank after each.
-pub fn row_of(alloc: Global, names: &[UnitName]) -> Result<String, AllocError> {
-    let mut row = String::new(alloc);
-    push_names(&mut row, names)?;
-    Ok(row)
 }

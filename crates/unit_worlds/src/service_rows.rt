@@ -1,9 +1,9 @@
 //! What a switch owes services, mounts and other units that have changed, with the calls written out by
 //! hand from the rules of the NixOS manual, "Unit handling".
-use crate::small_worlds::{NEW_WEB, OLD_WEB, OTHER, Row, SOCKET, report_of, try_rows};
-use std::test::Fail;
+use crate::report_tests::{NEW_WEB, OLD_WEB, OTHER, Row, SOCKET};
 
-const SOCKETS: &[Row] = &[
+/// A changed service is left to its live socket.
+pub const SOCKETS: &[Row] = &[
     (
         "both are active",
         &[SOCKET],
@@ -103,12 +103,8 @@ const SOCKETS: &[Row] = &[
     ),
 ];
 
-#[test]
-fn a_changed_service_is_left_to_its_live_socket(rt: HostRuntime) -> Result<(), Fail> {
-    try_rows(&rt, rt.alloc(), SOCKETS)
-}
-
-const KINDS: &[Row] = &[
+/// A changed unit is handled by its kind and flags.
+pub const KINDS: &[Row] = &[
     (
         "an instance by its template",
         &[],
@@ -203,21 +199,12 @@ const KINDS: &[Row] = &[
     ),
 ];
 
-#[test]
-fn a_changed_unit_is_handled_by_its_kind_and_flags(rt: HostRuntime) -> Result<(), Fail> {
-    try_rows(&rt, rt.alloc(), KINDS)
-}
-
-#[test]
-fn a_faulty_unit_of_the_new_system_is_refused(rt: HostRuntime) -> Result<(), Fail> {
-    const ROW: Row = (
-        "an assignment before any section",
-        &[],
-        &[("web.service", "[")],
-        &[("web.service", "A=1\n")],
-        ["web.service", "", "", "", ""],
-        "",
-    );
-    assert_eq!(rt; report_of(rt.alloc(), &ROW)?.as_str(), "web.service 1");
-    Ok(())
-}
+/// A faulty unit of the new system, which is refused.
+pub const FAULTY: Row = (
+    "an assignment before any section",
+    &[],
+    &[("web.service", "[")],
+    &[("web.service", "A=1\n")],
+    ["web.service", "", "", "", ""],
+    "web.service 1",
+);

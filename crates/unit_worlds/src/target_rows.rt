@@ -1,9 +1,9 @@
 //! What a switch owes targets, what they want, and what a switch that was cut has left, with the calls
 //! written out by hand from the rules of the NixOS manual, "Unit handling".
-use crate::small_worlds::{NEW_WEB, OLD_WEB, OTHER, Row, SOCKET, try_rows};
-use std::test::Fail;
+use crate::report_tests::{NEW_WEB, OLD_WEB, OTHER, Row, SOCKET};
 
-const MARKS: &[Row] = &[
+/// A target is started or stopped as it is marked.
+pub const MARKS: &[Row] = &[
     (
         "an active target without a mark",
         &[("t.target", "[Unit]\nDescription=t\n")],
@@ -101,12 +101,8 @@ const MARKS: &[Row] = &[
     ),
 ];
 
-#[test]
-fn a_target_is_started_or_stopped_as_it_is_marked(rt: HostRuntime) -> Result<(), Fail> {
-    try_rows(&rt, rt.alloc(), MARKS)
-}
-
-const WANTS: &[Row] = &[
+/// What active targets want is started.
+pub const WANTS: &[Row] = &[
     (
         "what is wanted and inactive, or has failed",
         &[
@@ -190,12 +186,8 @@ const WANTS: &[Row] = &[
     ),
 ];
 
-#[test]
-fn what_active_targets_want_is_started(rt: HostRuntime) -> Result<(), Fail> {
-    try_rows(&rt, rt.alloc(), WANTS)
-}
-
-const LEFT: &[Row] = &[
+/// What a cut switch left is owed.
+pub const LEFT: &[Row] = &[
     (
         "each list, by the state of its units",
         &[
@@ -232,8 +224,3 @@ const LEFT: &[Row] = &[
         "stop web.service\nstart web.service\nstart web.service\n",
     ),
 ];
-
-#[test]
-fn what_a_cut_switch_left_is_owed(rt: HostRuntime) -> Result<(), Fail> {
-    try_rows(&rt, rt.alloc(), LEFT)
-}
