@@ -1,49 +1,68 @@
 //! Which generations are found in the profiles' folder, and the numbers that they give.
+use crate::rows::hold;
 use generations::{Gen, Gens, all, number_for, number_of_name, number_of_path, previous};
 use host_memory::MemoryHost;
 use std::alloc::{AllocError, Global};
+use std::process::Abort;
 use std::test::Fail;
 use switch_names::SystemName;
 use world_text::{Root, read_world};
 
 /// Appends a generation with its system.
-fn push_generation(alloc: Global, text: &mut String, generation: &Gen) -> Result<(), AllocError> {
+fn push_generation(alloc: Global, out: &mut String, generation: &Gen) -> Result<(), AllocError> {
     let target = match &generation.target {
         Some(target) => target.as_str(),
         None => "nothing",
     };
     let number = generation.number;
-    text.push_str(format!(in alloc; "{number} {target}, ")?.as_str())
+    out.push_str(format!(in alloc; "{number} {target}, ")?.as_str())
 }
 
-/// The number of a generation, or 0 for none.
-fn or_0(number: Option<u32>) -> u32 {
-    match number {
-        Some(number) => number,
-        None => 0,
+/// Appends the generations with their systems.
+fn push_generations(alloc: Global, out: &mut String, list: &[Gen]) -> Result<(), AllocError> {
+    for generation in list {
+        push_generation(alloc, out, generation)?;
     }
+    Ok(())
 }
 
-/// The current generation and the previous one, and the next number.
-fn numbers_in(alloc: Global, gens: &Gens, system: &SystemName) -> Result<String, AllocError> {
-    let current = or_0(gens.current);
-    let previous = or_0(previous(gens));
-    let next = or_0(number_for(gens, system));
-    format!(in alloc; "{current} {previous} {next}")
+/// Appends the current generation and the previous one, and the next number, each 0 for none.
+fn push_numbers(
+    alloc: Global,
+    out: &mut String,
+    gens: &Gens,
+    system: &SystemName,
+) -> Result<(), AllocError> {
+    let current = gens.current.unwrap_or(0);
+    let previous = previous(gens).unwrap_or(0);
+    let next = number_for(gens, system).unwrap_or(0);
+    out.push_str(format!(in alloc; "{current} {previous} {next}")?.as_str())
 }
 
-/// The generations with their systems, the current and the previous one, and the next number.
-fn written(alloc: Global, gens: &Gens, system: &SystemName) -> Result<String, AllocError> {
-    let mut text = String::new(alloc);
-    for generation in gens.list.as_slice() {
-        push_generation(alloc, &mut text, generation)?;
-    }
-    text.push_str(numbers_in(alloc, gens, system)?.as_str())?;
-    Ok(text)
+/// Appends generations, and their numbers for a system.
+fn push_found(alloc: Global, out: &mut String, gens: &Gens) -> Result<(), Fail> {
+    push_generations(alloc, out, gens.list.as_slice())?;
+    let system = SystemName::parse(alloc, "nix/store/b")?;
+    Ok(push_numbers(alloc, out, gens, &system)?)
 }
 
-/// What a row shows, the files of the links, and the generations.
-const GENERATIONS: &[(&str, Root, &str)] = &[
+/// The same of a host.
+fn push_found_on(alloc: Global, out: &mut String, host: &mut MemoryHost) -> Result<(), Fail> {
+    let gens = all(alloc, host)?;
+    push_found(alloc, out, &gens)
+}
+
+/// The same among these links.
+fn push_found_among(alloc: Global, out: &mut String, links: Root) -> Result<(), Fail> {
+    let world = read_world(alloc, links)?;
+    let mut host = MemoryHost::new(alloc, world);
+    push_found_on(alloc, out, &mut host)
+}
+
+/// What a row shows, the files of the links, and the generations with their numbers.
+type Row = (&'static str, Root, &'static str);
+
+const GENERATIONS: &[Row] = &[
     ("no links", &[], "0 0 1"),
     (
         "the numbers ascend, and other names are passed over",
@@ -107,50 +126,51 @@ const GENERATIONS: &[(&str, Root, &str)] = &[
     ),
 ];
 
-/// What is found among these links, for a system.
-fn found(alloc: Global, links: Root) -> Result<String, Fail> {
-    let system = SystemName::parse(alloc, "nix/store/b")?;
-    let mut host = MemoryHost::new(alloc, read_world(alloc, links)?);
-    let gens = all(alloc, &mut host)?;
-    Ok(written(alloc, &gens, &system)?)
-}
-
-#[test]
-fn generations_are_the_links_whose_names_are_written_so(rt: HostRuntime) -> Result<(), Fail> {
-    for (row, links, want) in GENERATIONS {
-        let text = found(rt.alloc(), links)?;
-        assert_eq!(rt; text.as_str(), *want, "{row}");
+/// Holds what is found in these rows to what is written down.
+fn try_rows(rt: &impl Abort, alloc: Global, rows: &[Row]) -> Result<(), Fail> {
+    for (row, links, want) in rows {
+        let mut found = String::new(alloc);
+        push_found_among(alloc, &mut found, links)?;
+        hold(rt, row, found.as_str(), want);
     }
     Ok(())
 }
 
-/// A name, and its number.
-const NAMES: &[(&str, Option<u32>)] = &[
-    ("system-12-link", Some(12)),
-    ("system-012-link", None),
-    ("system", None),
+#[test]
+fn generations_are_the_links_whose_names_are_written_so(rt: HostRuntime) -> Result<(), Fail> {
+    try_rows(&rt, rt.alloc(), GENERATIONS)
+}
+
+/// A name, its path, and its number.
+type Link = (&'static str, &'static str, Option<u32>);
+
+const LINKS: &[Link] = &[
+    (
+        "system-12-link",
+        "nix/var/nix/profiles/system-12-link",
+        Some(12),
+    ),
+    (
+        "system-012-link",
+        "nix/var/nix/profiles/system-012-link",
+        None,
+    ),
+    ("system", "nix/var/nix/profiles/system", None),
 ];
 
-/// The numbers that a name gives, that its path gives, and that it gives as a path.
-type Numbers = (Option<u32>, Option<u32>, Option<u32>);
-
-/// The numbers of a name.
-fn numbers_of(alloc: Global, name: &str) -> Result<Numbers, AllocError> {
-    let path = format!(in alloc; "nix/var/nix/profiles/{name}")?;
-    let by_name = number_of_name(alloc, name)?;
-    let by_path = number_of_path(alloc, path.as_str())?;
-    Ok((by_name, by_path, number_of_path(alloc, name)?))
+/// Whether the number of a name, of its path, and of the name as a path is what is written down.
+fn are_numbers_of(alloc: Global, link: &Link) -> Result<(bool, bool, bool), AllocError> {
+    let by_name = number_of_name(alloc, link.0)?;
+    let by_path = number_of_path(alloc, link.1)?;
+    let alone = number_of_path(alloc, link.0)?;
+    Ok((by_name == link.2, by_path == link.2, alone.is_none()))
 }
 
 #[test]
 fn a_link_bears_a_number_by_its_name_and_by_its_path(rt: HostRuntime) -> Result<(), Fail> {
-    for (name, want) in NAMES {
-        let got = numbers_of(rt.alloc(), name)?;
-        assert_eq!(rt;
-            got,
-            (*want, *want, None),
-            "{name}, its path, and alone as a path"
-        );
+    for link in LINKS {
+        let are_so = are_numbers_of(rt.alloc(), link)?;
+        assert_eq!(rt; are_so, (true, true, true), "{}", link.0);
     }
     Ok(())
 }

@@ -18,6 +18,8 @@ mod node_tests;
 #[cfg(test)]
 mod put_tests;
 #[cfg(test)]
+mod rows;
+#[cfg(test)]
 mod sink_tests;
 #[cfg(test)]
 mod state_tests;

@@ -31,15 +31,6 @@ fn start_reload_and_stop(
     make(alloc, state, Call::Stop(unit.copy(alloc)?))
 }
 
-/// Loads other definitions.
-fn load(alloc: Global, state: &mut ManagerState) -> Result<(), AllocError>
-    requires { HasPlainTexts state.old }
-    ensures { HasPlainTexts state.new }
-{
-    let text = Text::from_str(alloc, "/b")?;
-    make(alloc, state, Call::DaemonReload(text))
-}
-
 /// Starts a unit, and restarts it by half and then wholly.
 fn start_and_restart(
     alloc: Global,
@@ -54,7 +45,7 @@ fn start_and_restart(
     make(alloc, state, Call::Restart(unit.copy(alloc)?))
 }
 
-/// Acts on a unit in turn, and writes the state.
+/// Acts on a unit in turn, with other definitions loaded in between, and writes the state.
 fn act_and_write(
     alloc: Global,
     state: &mut ManagerState,
@@ -63,16 +54,24 @@ fn act_and_write(
     requires { HasPlainTexts state.old }
 {
     start_reload_and_stop(alloc, state, unit)?;
-    load(alloc, state)?;
+    let text = Text::from_str(alloc, "/b")?;
+    make(alloc, state, Call::DaemonReload(text))?;
     start_and_restart(alloc, state, unit)?;
     write_state(alloc, state)
 }
 
+/// The text of a state once acts in turn were done.
+fn acted_on(alloc: Global, state: &mut ManagerState) -> Result<Bytes, Fail>
+    requires { HasPlainTexts state.old }
+{
+    let unit = UnitName::parse(alloc, "web.service")?;
+    Ok(act_and_write(alloc, state, &unit)?)
+}
+
 /// The text of the state that acts in turn make of one.
 fn acted(alloc: Global, text: &[u8]) -> Result<Bytes, Fail> {
-    let unit = UnitName::parse(alloc, "web.service")?;
     let mut state = read_state(alloc, text)?;
-    Ok(act_and_write(alloc, &mut state, &unit)?)
+    acted_on(alloc, &mut state)
 }
 
 const ACTED: &str = "loaded /b\nfailed web.service\nbad web.service /b\n\
@@ -86,10 +85,15 @@ fn each_act_leaves_its_line(rt: HostRuntime) -> Result<(), Fail> {
     Ok(())
 }
 
+/// The text of the empty state.
+fn empty_text(alloc: Global) -> Result<Bytes, AllocError> {
+    let state = ManagerState::new(alloc);
+    write_state(alloc, &state)
+}
+
 #[test]
 fn the_empty_state_is_one_line(rt: HostRuntime) -> Result<(), Fail> {
-    let state = ManagerState::new(rt.alloc());
-    let text = write_state(rt.alloc(), &state)?;
+    let text = empty_text(rt.alloc())?;
     assert_eq!(rt; text.as_slice(), b"loaded \n".as_slice());
     Ok(())
 }

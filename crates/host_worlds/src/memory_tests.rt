@@ -7,6 +7,7 @@ ghost use Rattle.host_trait.specs.World.{IsClear, empty_world, is_in_line, stage
 use host_memory::MemoryHost;
 use host_trait::{HostFault, Leaf, LeafKind, Tree, World, fixed_path, stage_path};
 use std::alloc::{AllocError, Global};
+use std::process::Abort;
 use std::test::Fail;
 use switch_names::{Bytes, Listed, Path};
 
@@ -76,28 +77,45 @@ fn outcome(alloc: Global, host: &mut MemoryHost) -> Result<(End, bool, u64), All
     Ok((end, is_read, host.faults()))
 }
 
-/// How many leaves a host lists at the place once it is revived, and whether it reads.
-fn revived(alloc: Global, host: &mut MemoryHost) -> Result<(Option<usize>, bool), AllocError> {
-    host.revive();
-    Ok((count_at_place(alloc, host)?, may_read(alloc, host)?))
-}
+/// How many calls come before a cut, its pick, and the number of the call that fails.
+type Trouble = (u64, u64, u64);
 
-/// What a host that is cut gives, and what it gives once it is revived.
-type Cut = ((End, bool, u64), (Option<usize>, bool));
+/// More calls than a host gets here: no such call is cut, or fails.
+const NEVER: u64 = 9;
 
-/// What a host without leaves gives, and what it gives once it is revived.
-fn cut_and_revived(alloc: Global, host: &mut MemoryHost) -> Result<Cut, AllocError>
+/// What a host in trouble gives, and once it is revived how many leaves it lists at the place, and whether
+/// it reads.
+type Outcome = ((End, bool, u64), Option<usize>, bool);
+
+/// What a host without leaves gives in trouble, and once it is revived.
+fn ended_on(alloc: Global, host: &mut MemoryHost, trouble: Trouble) -> Result<Outcome, AllocError>
     requires { (host_of host.old).world ≡ Some empty_world }
 {
-    let cut = outcome(alloc, host)?;
-    Ok((cut, revived(alloc, host)?))
+    host.arm(trouble.0, trouble.1);
+    host.fail(Listed::from_vec([trouble.2].to_vec(alloc)?));
+    let ended = outcome(alloc, host)?;
+    host.revive();
+    let count = count_at_place(alloc, host)?;
+    Ok((ended, count, may_read(alloc, host)?))
 }
 
-/// What a host gives whose call after so many is cut with this pick.
-fn cut_at(alloc: Global, after: u64, pick: u64) -> Result<Cut, AllocError> {
+/// The same on a new host.
+fn ended(alloc: Global, trouble: Trouble) -> Result<Outcome, AllocError> {
     let mut host = MemoryHost::new(alloc, World::new(alloc));
-    host.arm(after, pick);
-    cut_and_revived(alloc, &mut host)
+    ended_on(alloc, &mut host, trouble)
+}
+
+/// Holds what a host in trouble gives to what is written down.
+fn try_trouble(
+    rt: &impl Abort,
+    alloc: Global,
+    trouble: Trouble,
+    want: Outcome,
+) -> Result<(), AllocError> {
+    let got = ended(alloc, trouble)?;
+    let (after, pick, number) = trouble;
+    assert_eq!(rt; got, want, "at {after}, {pick}, {number}");
+    Ok(())
 }
 
 /// The calls before a cut and its pick, the modes at the stage and the place, and the leaves at the place.
@@ -117,34 +135,25 @@ const CUTS: &[(u64, u64, Option<u16>, Option<u16>, usize)] = &[
 #[test]
 fn a_cut_leaves_what_its_pick_gives(rt: HostRuntime) -> Result<(), Fail> {
     for (after, pick, staged, put, count) in CUTS {
-        let got = cut_at(rt.alloc(), *after, *pick)?;
-        let cut = ((false, *staged, *put), false, 2);
-        assert_eq!(rt; got, (cut, (Some(*count), true)), "at {after}, {pick}");
+        let want = (((false, *staged, *put), false, 2), Some(*count), true);
+        try_trouble(&rt, rt.alloc(), (*after, *pick, NEVER), want)?;
     }
     Ok(())
 }
 
-/// What a host gives whose call with this number fails.
-fn failing_at(alloc: Global, number: u64) -> Result<(End, bool, u64), AllocError> {
-    let failing = Listed::from_vec([number].to_vec(alloc)?);
-    let mut host = MemoryHost::new(alloc, World::new(alloc));
-    host.fail(failing);
-    outcome(alloc, &mut host)
-}
-
-/// The number of a call that fails, and the end.
-const FAILURES: &[(u64, End)] = &[
-    (0, (false, None, None)),
-    (1, (false, Some(420), None)),
-    (2, (false, None, Some(420))),
-    (3, (true, None, None)),
+/// The number of a call that fails, the end, and the leaves at the place.
+const FAILURES: &[(u64, End, usize)] = &[
+    (0, (false, None, None), 0),
+    (1, (false, Some(420), None), 0),
+    (2, (false, None, Some(420)), 1),
+    (3, (true, None, None), 0),
 ];
 
 #[test]
 fn a_listed_call_does_nothing(rt: HostRuntime) -> Result<(), Fail> {
-    for (number, end) in FAILURES {
-        let got = failing_at(rt.alloc(), *number)?;
-        assert_eq!(rt; got, (*end, !end.0, 1), "at {number}");
+    for (number, end, count) in FAILURES {
+        let want = ((*end, !end.0, 1), Some(*count), true);
+        try_trouble(&rt, rt.alloc(), (NEVER, 0, *number), want)?;
     }
     Ok(())
 }

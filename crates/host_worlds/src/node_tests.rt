@@ -2,57 +2,66 @@
 use host_trait::Leaf;
 use node_text::{NodeFault, read_node, write_node};
 use std::alloc::Global;
+use std::process::Abort;
 use std::test::Fail;
-use switch_names::Bytes;
 
-/// The text of a leaf, and whether the same leaf is read from it.
-fn written(alloc: Global, leaf: &Leaf) -> Result<(Bytes, bool), Fail> {
+/// Whether a leaf is read from a text.
+fn is_read(alloc: Global, text: &[u8], leaf: &Leaf) -> bool {
+    match read_node(alloc, text) {
+        Ok(read) => read.same(leaf),
+        Err(_) => false,
+    }
+}
+
+/// Holds the text of a leaf to what is written down and read back.
+fn try_leaf(rt: &impl Abort, alloc: Global, leaf: &Leaf, want: &[u8]) -> Result<(), Fail> {
     let text = write_node(alloc, leaf)?;
-    let read = read_node(alloc, text.as_slice()).ok().ok_or("a leaf")?;
-    let is_same = read.same(leaf);
-    Ok((text, is_same))
+    let got = (text.as_slice(), is_read(alloc, text.as_slice(), leaf));
+    assert_eq!(rt; got, (want, true));
+    Ok(())
 }
 
 #[test]
 fn a_link_is_one_line(rt: HostRuntime) -> Result<(), Fail> {
-    let link = Leaf::link(rt.alloc(), "system-1-link")
-        .ok()
-        .ok_or("a target")?;
-    let (text, is_same) = written(rt.alloc(), &link)?;
-    let got = (text.as_slice(), is_same);
-    assert_eq!(rt; got, (b"L system-1-link\n".as_slice(), true));
-    Ok(())
+    let link = Leaf::link(rt.alloc(), "system-1-link")?;
+    try_leaf(&rt, rt.alloc(), &link, b"L system-1-link\n")
 }
 
-/// The place of a fault in the header, where it is one.
-fn place(read: Result<Leaf, NodeFault>) -> Option<usize> {
-    match read {
-        Err(NodeFault::Header(at)) => Some(at),
-        _ => None,
+/// A fault, and its place where it is one in the header.
+fn word_of(fault: &NodeFault) -> (&'static str, usize) {
+    match fault {
+        NodeFault::Tag => ("tag", 0),
+        NodeFault::Header(at) => ("header", *at),
+        NodeFault::Utf8 => ("UTF-8", 0),
+        NodeFault::Memory => ("memory", 0),
     }
 }
 
-/// A text, and the place where its header can't go on.
-const FAULTS: &[(&str, usize)] = &[
-    ("F 0644 00 0\n", 8),
-    ("F 0648", 5),
-    ("F 0644 0 4294967296\n", 18),
-    ("F 0644 0 0", 10),
-    ("L a", 3),
-    ("L \n", 2),
-    ("L a\nb", 4),
+/// The fault of a text.
+fn fault_of(alloc: Global, text: &[u8]) -> (&'static str, usize) {
+    match read_node(alloc, text) {
+        Ok(_) => ("none", 0),
+        Err(fault) => word_of(&fault),
+    }
+}
+
+/// A text, its fault, and the place where its header can't go on.
+const FAULTS: &[(&[u8], &str, usize)] = &[
+    (b"F 0644 00 0\n", "header", 8),
+    (b"F 0648", "header", 5),
+    (b"F 0644 0 4294967296\n", "header", 18),
+    (b"F 0644 0 0", "header", 10),
+    (b"L a", "header", 3),
+    (b"L \n", "header", 2),
+    (b"L a\nb", "header", 4),
+    (b"X", "tag", 0),
+    (b"L \xff\n", "UTF-8", 0),
 ];
 
 #[test]
 fn a_fault_names_the_first_place_that_cannot_go_on(rt: HostRuntime) {
-    for (text, at) in FAULTS {
-        let found = place(read_node(rt.alloc(), text.as_bytes()));
-        assert_eq!(rt; found, Some(*at), "{text}");
+    for (text, fault, at) in FAULTS {
+        let found = fault_of(rt.alloc(), text);
+        assert_eq!(rt; found, (*fault, *at), "{text:?}");
     }
-}
-
-#[test]
-fn a_text_without_a_header_has_a_fault_of_its_own(rt: HostRuntime) {
-    assert!(rt; matches!(read_node(rt.alloc(), b"X"), Err(NodeFault::Tag)));
-    assert!(rt; matches!(read_node(rt.alloc(), b"L \xff\n"), Err(NodeFault::Utf8)));
 }

@@ -29,10 +29,11 @@ fn fallen_host(alloc: Global) -> MemoryHost
 }
 
 /// What a put answers on such a host.
-fn after_put(alloc: Global, leaf: &Leaf) -> Result<Result<(), HostFault>, AllocError> {
+fn after_put(alloc: Global) -> Result<Option<HostFault>, Fail> {
+    let leaf = Leaf::link(alloc, "b")?;
     let at = place(alloc)?;
     let mut host = fallen_host(alloc);
-    Ok(put(alloc, &mut host, &at, leaf))
+    Ok(put(alloc, &mut host, &at, &leaf).err())
 }
 
 /// What a removal answers on such a host, whether a read fails there, and the faults then.
@@ -48,9 +49,8 @@ fn after_drop(alloc: Global) -> Result<(Option<HostFault>, bool, u64), AllocErro
 #[test]
 fn every_call_fails_once_a_cut_has_fallen(rt: HostRuntime) -> Result<(), Fail> {
     let alloc = rt.alloc();
-    let leaf = Leaf::link(alloc, "b")?;
     let device = Some(HostFault::Device);
-    assert_eq!(rt; after_put(alloc, &leaf)?.err(), device);
+    assert_eq!(rt; after_put(alloc)?, device);
     assert_eq!(rt; after_drop(alloc)?, (device, true, 3));
     Ok(())
 }

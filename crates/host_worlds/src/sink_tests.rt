@@ -1,18 +1,13 @@
 //! What a sink in memory takes.
 use host_memory::MemorySink;
 use host_trait::Sink;
-use std::alloc::{AllocError, Global};
+use std::alloc::Global;
 use std::process::Abort;
 use std::test::Fail;
 use switch_names::Listed;
 
 fn put<S: Sink>(sink: &mut S, text: &str) -> bool {
     sink.put(text.as_bytes()).is_ok()
-}
-
-/// The puts that fail.
-fn listed(alloc: Global, numbers: &[u64]) -> Result<Listed<u64>, AllocError> {
-    Ok(Listed::from_vec(numbers.to_vec(alloc)?))
 }
 
 /// A text, whether it is put whole, and the bytes and the faults of the sink then.
@@ -45,7 +40,7 @@ fn put_in_turn(rt: &impl Abort, alloc: Global, sink: &mut MemorySink) -> Result<
     sink.room(8)?;
     put_rows(rt, sink, FIRST_PUTS);
     sink.room(2)?;
-    sink.fail(listed(alloc, &[1])?);
+    sink.fail(Listed::from_vec([1].to_vec(alloc)?));
     put_rows(rt, sink, LATER_PUTS);
     Ok(())
 }

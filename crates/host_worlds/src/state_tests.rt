@@ -1,66 +1,63 @@
 //! What the states of units and a manager's state answer.
-use host_trait::{ManagerState, State, States, World};
+use crate::rows::hold;
+use crate::told::word_of;
+use host_trait::{ManagerState, State, States, UnitState, World};
 use std::alloc::{AllocError, Global};
 use std::process::Abort;
 use std::test::Fail;
 use switch_names::UnitName;
 use world_text::{Root, read_world};
 
-/// The units that aren't inactive with their states, in their order.
-fn written(alloc: Global, states: &States) -> Result<String, AllocError> {
-    let mut text = String::new(alloc);
-    for one in states.list().as_slice() {
-        let unit = one.unit.as_str();
-        let state = one.state;
-        text.push_str(format!(in alloc; "{unit} {state:?} ")?.as_str())?;
+/// Appends the units that aren't inactive with their states, in their order.
+fn push_listed(out: &mut String, listed: &[UnitState]) -> Result<(), AllocError> {
+    for one in listed {
+        out.push_str(one.unit.as_str())?;
+        out.push_str(word_of(one.state))?;
     }
-    Ok(text)
+    Ok(())
 }
 
-/// Brings a unit to a state, and answers the state that is told of it, with all that are listed.
+/// Brings a unit to a state, and appends the state that is told of it, with all that are listed.
 fn set_and_write(
     alloc: Global,
+    out: &mut String,
     states: &mut States,
-    unit: &str,
-    state: State,
-) -> Result<(State, String), Fail> {
+    (unit, state): (&str, State),
+) -> Result<(), Fail> {
     let name = UnitName::parse(alloc, unit)?;
-    let copy = name.copy(alloc)?;
-    states.set(copy, state)?;
-    Ok((states.of(&name), written(alloc, states)?))
+    states.set(name.copy(alloc)?, state)?;
+    out.push_str(word_of(states.of(&name)))?;
+    Ok(push_listed(out, states.list().as_slice())?)
 }
 
-/// A unit, the state to which it is brought, and the units that are listed then.
-const STATES: &[(&str, State, &str)] = &[
-    ("b.service", State::Active, "b.service Active "),
-    ("a.socket", State::Inactive, "b.service Active "),
+/// A unit and the state to which it is brought, and what is then told of it and listed.
+const STATES: &[((&str, State), &str)] = &[
+    (("b.service", State::Active), " active;b.service active;"),
+    (("a.socket", State::Inactive), " inactive;b.service active;"),
     (
-        "a.socket",
-        State::Failed,
-        "a.socket Failed b.service Active ",
+        ("a.socket", State::Failed),
+        " failed;a.socket failed;b.service active;",
     ),
     (
-        "c.mount",
-        State::Active,
-        "a.socket Failed b.service Active c.mount Active ",
+        ("c.mount", State::Active),
+        " active;a.socket failed;b.service active;c.mount active;",
     ),
     (
-        "b.service",
-        State::Failed,
-        "a.socket Failed b.service Failed c.mount Active ",
+        ("b.service", State::Failed),
+        " failed;a.socket failed;b.service failed;c.mount active;",
     ),
     (
-        "a.socket",
-        State::Inactive,
-        "b.service Failed c.mount Active ",
+        ("a.socket", State::Inactive),
+        " inactive;b.service failed;c.mount active;",
     ),
 ];
 
 /// Brings units to the states of these rows.
 fn set_rows(rt: &impl Abort, alloc: Global, states: &mut States) -> Result<(), Fail> {
-    for (unit, state, want) in STATES {
-        let (told, listed) = set_and_write(alloc, states, unit, *state)?;
-        assert_eq!(rt; (told, listed.as_str()), (*state, *want), "{unit}");
+    for (row, want) in STATES {
+        let mut found = String::new(alloc);
+        set_and_write(alloc, &mut found, states, *row)?;
+        hold(rt, row.0, found.as_str(), want);
     }
     Ok(())
 }
@@ -96,17 +93,18 @@ fn hand_over(alloc: Global, world: &mut World) -> HandedOver {
     (left, is_loaded, bad)
 }
 
-/// Hands the manager of a world over, and writes its units.
-fn handed_over(alloc: Global) -> Result<(HandedOver, String), Fail> {
-    let mut world = read_world(alloc, MANAGER)?;
-    let handed = hand_over(alloc, &mut world);
-    Ok((handed, written(alloc, world.states())?))
+/// Holds what is handed over of a world to what is written down.
+fn try_hand_over(rt: &impl Abort, alloc: Global, world: &mut World) -> Result<(), Fail> {
+    let handed = hand_over(alloc, world);
+    assert_eq!(rt; handed, ((true, 0, 0), true, 1));
+    let mut units = String::new(alloc);
+    push_listed(&mut units, world.states().list().as_slice())?;
+    hold(rt, "units", units.as_str(), "a.service failed;");
+    Ok(())
 }
 
 #[test]
 fn a_manager_is_handed_over_whole(rt: HostRuntime) -> Result<(), Fail> {
-    let (handed, units) = handed_over(rt.alloc())?;
-    let got = (handed, units.as_str());
-    assert_eq!(rt; got, (((true, 0, 0), true, 1), "a.service Failed "));
-    Ok(())
+    let mut world = read_world(rt.alloc(), MANAGER)?;
+    try_hand_over(&rt, rt.alloc(), &mut world)
 }

@@ -3,26 +3,26 @@ ghost use Rattle.std.specs.Prelude.{◌≡◌, codes};
 ghost use Rattle.host_trait.specs.Manager.{IsPlain};
 ghost use Rattle.host_trait.specs.World.{empty_world};
 
+use crate::rows::hold;
 use host_trait::{Leaf, LeafKind, State, World, WorldFault, stage_path};
 use std::alloc::{AllocError, Global};
+use std::process::Abort;
 use std::test::Fail;
 use switch_names::{Bytes, Path, Text, UnitName};
 
-/// The target of a link, or a word that says what stands in its place.
-fn shown(alloc: Global, leaf: Option<&Leaf>) -> Result<Text, AllocError> {
-    let Some(leaf) = leaf else {
-        return Text::from_str(alloc, "none");
-    };
+/// Appends the target of a link, or a word that says what stands in its place.
+fn push_leaf(alloc: Global, out: &mut String, leaf: &Leaf) -> Result<(), AllocError> {
     match leaf.kind() {
-        LeafKind::File { .. } => Text::from_str(alloc, "a file"),
-        LeafKind::Link { target } => target.copy(alloc),
+        LeafKind::File { .. } => out.push_str("a file"),
+        LeafKind::Link { target } => out.push_str(target.copy(alloc)?.as_str()),
     }
 }
 
-fn link_or_fault(alloc: Global, target: &str) -> Result<Text, AllocError> {
+/// Appends the target of a link, or the fault.
+fn push_link(alloc: Global, out: &mut String, target: &str) -> Result<(), AllocError> {
     match Leaf::link(alloc, target) {
-        Ok(leaf) => shown(alloc, Some(&leaf)),
-        Err(fault) => Ok(Text::from_string(format!(in alloc; "{fault:?}")?)),
+        Ok(leaf) => push_leaf(alloc, out, &leaf),
+        Err(fault) => out.push_str(format!(in alloc; "{fault:?}")?.as_str()),
     }
 }
 
@@ -32,15 +32,17 @@ const LINKS: &[(&str, &str)] = &[("", "Empty"), ("../b", "../b"), ("a\nb", "Byte
 #[test]
 fn a_link_leads_somewhere(rt: HostRuntime) -> Result<(), Fail> {
     for (target, want) in LINKS {
-        let told = link_or_fault(rt.alloc(), target)?;
-        assert_eq!(rt; told.as_str(), *want, "{target}");
+        let mut told = String::new(rt.alloc());
+        push_link(rt.alloc(), &mut told, target)?;
+        hold(&rt, target, told.as_str(), want);
     }
     Ok(())
 }
 
 #[test]
 fn the_stage_has_its_place(rt: HostRuntime) -> Result<(), Fail> {
-    assert_eq!(rt; stage_path(rt.alloc())?.as_str(), "nix/var/nixswitch.stage");
+    let stage = stage_path(rt.alloc())?;
+    hold(&rt, "the stage", stage.as_str(), "nix/var/nixswitch.stage");
     Ok(())
 }
 
@@ -56,43 +58,28 @@ fn put_file(alloc: Global, world: &mut World, at: &str) -> Result<Option<WorldFa
     Ok(world.set_leaf(at, file).err())
 }
 
-/// How many leaves stand at or below a place.
-fn count_at(alloc: Global, world: &World, at: &str) -> Result<usize, Fail> {
-    let at = Path::parse(alloc, at)?;
-    Ok(world.list(alloc, &at)?.as_slice().len())
-}
-
-/// Whether the file stands at a place.
-fn has_file(alloc: Global, world: &World, at: &str) -> Result<bool, Fail> {
+/// How many leaves stand at or below a place, and whether the file stands at it.
+fn find_file(alloc: Global, world: &World, at: &str) -> Result<(usize, bool), Fail> {
     let at = Path::parse(alloc, at)?;
     let file = text_file(alloc)?;
-    Ok(world.leaf(&at).is_some_and(|leaf| leaf.same(&file)))
+    let count = world.list(alloc, &at)?.as_slice().len();
+    Ok((count, world.leaf(&at).is_some_and(|leaf| leaf.same(&file))))
 }
-
-/// The faults of two puts, how many leaves then stand at the first place, and whether the file does.
-type Puts = (Option<WorldFault>, Option<WorldFault>, usize, bool);
 
 /// Puts the file at a place and then below it.
-fn put_below(alloc: Global, world: &mut World) -> Result<Puts, Fail> {
+fn put_below(rt: &impl Abort, alloc: Global, world: &mut World) -> Result<(), Fail> {
     let first = put_file(alloc, world, "a")?;
     let second = put_file(alloc, world, "a/b")?;
-    let count = count_at(alloc, world, "a")?;
-    Ok((first, second, count, has_file(alloc, world, "a")?))
-}
-
-/// Puts the file into an empty world at a place and then below it.
-fn new_puts(alloc: Global) -> Result<Puts, Fail> {
-    let mut world = World::new(alloc);
-    put_below(alloc, &mut world)
+    let found = find_file(alloc, world, "a")?;
+    let got = (first, second, found);
+    assert_eq!(rt; got, (None, Some(WorldFault::Blocked), (1, true)));
+    Ok(())
 }
 
 #[test]
 fn no_leaf_stands_below_another(rt: HostRuntime) -> Result<(), Fail> {
-    assert_eq!(rt;
-        new_puts(rt.alloc())?,
-        (None, Some(WorldFault::Blocked), 1, true)
-    );
-    Ok(())
+    let mut world = World::new(rt.alloc());
+    put_below(&rt, rt.alloc(), &mut world)
 }
 
 /// Puts a link to `b` at a place and moves it to another, and answers whether the places were free.
@@ -111,49 +98,57 @@ fn put_and_move(
     Ok((was.is_none(), replaced.is_none()))
 }
 
-/// Where a leaf leads, and where its copy does.
-fn shown_twice(alloc: Global, leaf: &Leaf) -> Result<String, AllocError> {
-    let mut text = String::new(alloc);
-    text.push_str(shown(alloc, Some(leaf))?.as_str())?;
-    text.push(' ')?;
-    text.push_str(shown(alloc, Some(&leaf.copy(alloc)?))?.as_str())?;
-    Ok(text)
+/// Appends where a leaf leads, and where its copy does.
+fn push_twice(alloc: Global, out: &mut String, leaf: &Leaf) -> Result<(), AllocError> {
+    push_leaf(alloc, out, leaf)?;
+    out.push(' ')?;
+    let copy = leaf.copy(alloc)?;
+    push_leaf(alloc, out, &copy)
 }
 
-/// Takes a leaf out, and says where it leads, and where its copy does.
-fn take(alloc: Global, world: &mut World, at: &Path) -> Result<String, AllocError> {
+/// Takes a leaf out, and appends where it leads, and where its copy does.
+fn push_taken(
+    alloc: Global,
+    out: &mut String,
+    world: &mut World,
+    at: &Path,
+) -> Result<(), AllocError> {
     match world.take_leaf(at) {
-        Some(leaf) => shown_twice(alloc, &leaf),
-        None => String::from_str(alloc, "none"),
+        Some(leaf) => push_twice(alloc, out, &leaf),
+        None => out.push_str("none"),
     }
 }
 
-/// Whether two places were free, what was then taken from the second one, and whether the first one is free.
-type Moved = ((bool, bool), String, bool);
-
-/// Moves a link in an empty world, and takes it out.
-fn move_and_take(alloc: Global, world: &mut World) -> Result<Moved, Fail>
+/// Moves a link in an empty world, takes it out and appends where it leads, and answers whether both
+/// places were free, and whether the first one is then.
+fn move_and_take(
+    alloc: Global,
+    out: &mut String,
+    world: &mut World,
+) -> Result<((bool, bool), bool), Fail>
     requires { world.old ≡ empty_world }
 {
     let from = Path::parse(alloc, "x")?;
     let to = Path::parse(alloc, "y")?;
     let were_free = put_and_move(alloc, world, &from, &to)?;
-    let taken = take(alloc, world, &to)?;
-    Ok((were_free, taken, world.leaf(&from).is_none()))
+    push_taken(alloc, out, world, &to)?;
+    Ok((were_free, world.leaf(&from).is_none()))
 }
 
-/// Moves a link in a new world, and takes it out.
-fn moved_link(alloc: Global) -> Result<Moved, Fail> {
-    let mut world = World::new(alloc);
-    move_and_take(alloc, &mut world)
+/// Moves a link in an empty world, and holds what is taken out to what is written down.
+fn try_move(rt: &impl Abort, alloc: Global, world: &mut World) -> Result<(), Fail>
+    requires { world.old ≡ empty_world }
+{
+    let mut taken = String::new(alloc);
+    let are_free = move_and_take(alloc, &mut taken, world)?;
+    assert_eq!(rt; (are_free, taken.as_str()), (((true, true), true), "b b"));
+    Ok(())
 }
 
 #[test]
 fn a_moved_link_is_taken_where_it_stands(rt: HostRuntime) -> Result<(), Fail> {
-    let (were_free, taken, is_free) = moved_link(rt.alloc())?;
-    let got = (were_free, taken.as_str(), is_free);
-    assert_eq!(rt; got, ((true, true), "b b", true));
-    Ok(())
+    let mut world = World::new(rt.alloc());
+    try_move(&rt, rt.alloc(), &mut world)
 }
 
 /// Puts a leaf at a path, and brings a unit to a state.
@@ -182,22 +177,35 @@ fn seem_empty(alloc: Global, at: &str, state: State, loaded: Text) -> Result<(bo
 
 const STAGE: &str = "nix/var/nixswitch.stage";
 
-/// A place with a leaf, the state of a unit, and whether the world seems to be an empty one.
-const SEEN: &[(&str, State, bool)] = &[
-    (STAGE, State::Inactive, true),
-    (STAGE, State::Active, false),
-    ("etc/a", State::Inactive, false),
+/// What a row shows, a place with a leaf, the state of a unit, and whether the world seems to be an empty
+/// one.
+type Seen = (&'static str, &'static str, State, bool);
+
+const SEEN: &[Seen] = &[
+    ("a leaf on the stage", STAGE, State::Inactive, true),
+    ("an active unit", STAGE, State::Active, false),
+    ("a leaf elsewhere", "etc/a", State::Inactive, false),
 ];
+
+/// Holds a world that has loaded nothing to seeming empty or not, as it is written down.
+fn try_seen(rt: &impl Abort, alloc: Global, row: &Seen) -> Result<(), Fail> {
+    let got = seem_empty(alloc, row.1, row.2, Text::new(alloc))?;
+    assert_eq!(rt; got, (row.3, row.3), "{}", row.0);
+    Ok(())
+}
 
 #[test]
 fn the_stage_and_the_journal_are_not_seen(rt: HostRuntime) -> Result<(), Fail> {
-    let alloc = rt.alloc();
-    for (at, state, want) in SEEN {
-        let got = seem_empty(alloc, at, *state, Text::new(alloc))?;
-        assert_eq!(rt; got, (*want, *want), "{at} {state:?}");
+    for row in SEEN {
+        try_seen(&rt, rt.alloc(), row)?;
     }
-    let loaded = Text::from_str(alloc, "/a")?;
-    let got = seem_empty(alloc, STAGE, State::Inactive, loaded)?;
+    Ok(())
+}
+
+#[test]
+fn what_is_loaded_is_seen(rt: HostRuntime) -> Result<(), Fail> {
+    let loaded = Text::from_str(rt.alloc(), "/a")?;
+    let got = seem_empty(rt.alloc(), STAGE, State::Inactive, loaded)?;
     assert_eq!(rt; got, (false, false));
     Ok(())
 }
