@@ -2,7 +2,7 @@
 ghost use Rattle.std.specs.Prelude.{◌≡◌, ◌++◌, ◌∷◌, codes, IfOk, string_bytes};
 ghost use Rattle.switch_names.specs.Path.{slash};
 
-use crate::place::{Found, foreign, look};
+use host_files::{Found, foreign, look};
 use std::alloc::{AllocError, Global};
 use std::collections::BTreeSet;
 use std::rt::Files;

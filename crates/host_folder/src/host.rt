@@ -1,23 +1,14 @@
 //! The host over a folder.
 ghost use Rattle.std.specs.Prelude.{◌≡◌, ◌++◌, codes, IfOk, string_bytes};
 ghost use Rattle.host_trait.specs.Host.{HasCause};
-ghost use Rattle.std.proofs.Props.{props};
-ghost use Rattle.std.specs.Option.{ForSome};
 ghost use Rattle.host_folder.specs.Folder.{silent_state, silent_is_host};
-ghost use Rattle.host_trait.specs.Plain.{bad_is_plain_once, entry_is_plain_once};
-ghost use Rattle.host_trait.specs.Manager.{HasPlainTexts};
-ghost use Rattle.manager_core.specs.Call.{IsPlainCall};
 
 use crate::folders::{Folders, Missing};
 use crate::listing::list_leaves;
-use crate::manager_file::{call_of, read_manager, step_manager};
-use crate::node_file::read_leaf;
-use crate::place::{Found, fault_of, look};
+use crate::service::Service;
 use crate::stage::{Stage, move_leaf, write_leaf};
-use host_trait::{
-    Act, HostFault, Leaf, Manager, ManagerState, States, Tree, definitions_path, loaded_text,
-};
-use manager_core::Call;
+use host_files::{Found, fault_of, look, read_leaf};
+use host_trait::{Act, HostFault, Leaf, Manager, States, Tree, definitions_path};
 use std::alloc::{AllocError, Global};
 use std::rt::Files;
 use std::{fs, io};
@@ -32,9 +23,8 @@ pub struct FolderHost<R: Files + AllocGlobal + Clone + Drop> {
     rt: R,
     tree: Folders,
     stage: Stage,
-    manager: Option<ManagerState>,
+    service: Service,
     faults: u64,
-    ghost plain: { ForSome manager HasPlainTexts } by { Prim.hlevel (props, bad_is_plain_once, entry_is_plain_once) },
 }
 
 /// The leaf at a place of the tree.
@@ -81,6 +71,54 @@ fn remove_at<R: Files>(rt: &R, alloc: Global, tree: &mut Folders, at: &Path) -> 
     remove_in(rt, alloc, tree, place.as_str())
 }
 
+/// The states of the units.
+fn read_units<R: Files>(
+    rt: &R,
+    alloc: Global,
+    tree: &Folders,
+    service: &mut Service,
+) -> io::Result<States> {
+    let root = tree.root()?;
+    service.units(rt, alloc, root)
+}
+
+/// Does something to a unit.
+fn perform<R: Files>(
+    rt: &R,
+    alloc: Global,
+    tree: &Folders,
+    service: &mut Service,
+    act: Act,
+    unit: &UnitName,
+) -> io::Result<()> {
+    let root = tree.root()?;
+    service.perform(rt, alloc, root, act, unit)
+}
+
+/// Loads the definitions to which this leaf leads.
+fn load_at<R: Files>(
+    rt: &R,
+    alloc: Global,
+    tree: &Folders,
+    service: &mut Service,
+    definitions: Option<&Leaf>,
+) -> io::Result<()> {
+    let root = tree.root()?;
+    service.load(rt, alloc, root, definitions)
+}
+
+/// Loads the definitions to which the link at their place leads.
+fn load<R: Files>(
+    rt: &R,
+    alloc: Global,
+    tree: &mut Folders,
+    service: &mut Service,
+) -> io::Result<()> {
+    let at = definitions_path(alloc)?;
+    let leaf = leaf_at(rt, alloc, tree, &at)?;
+    load_at(rt, alloc, tree, service, leaf.as_ref())
+}
+
 impl<R: Files + AllocGlobal + Clone + Drop> FolderHost<R> {
     /// A host over this root folder, which need not exist yet. No file call is made.
     pub fn open(rt: &R, root: &str) -> Result<FolderHost<R>, AllocError>
@@ -92,7 +130,7 @@ impl<R: Files + AllocGlobal + Clone + Drop> FolderHost<R> {
             rt: rt.clone()?,
             tree: Folders::new(rt.alloc(), root)?,
             stage: Stage::Unseen,
-            manager: None,
+            service: Service::new(),
             faults: 0,
         })
     }
@@ -102,82 +140,6 @@ impl<R: Files + AllocGlobal + Clone + Drop> FolderHost<R> {
         ensures { result ≡ self.now.faults }
     {
         self.faults
-    }
-
-    /// The manager's state, which is read once.
-    fn take_manager(&mut self, alloc: Global) -> io::Result<ManagerState>
-        ensures plain { IfOk result HasPlainTexts }
-        ensures faults { self.new.faults ≡ self.old.faults }
-    {
-        match self.manager.take() {
-            Some(state) => Ok(state),
-            None => read_manager(&self.rt, alloc, self.tree.root()?),
-        }
-    }
-
-    /// The states of the units.
-    fn read_units(&mut self, alloc: Global) -> io::Result<States>
-        ensures { self.new.faults ≡ self.old.faults }
-    {
-        let state = self.take_manager(alloc)?;
-        let states = state.states.copy(alloc)?;
-        self.manager = Some(state);
-        Ok(states)
-    }
-
-    /// Makes a call on the manager whose state this is.
-    fn step(&self, alloc: Global, state: &mut ManagerState, call: &Call) -> io::Result<()>
-        requires plain { HasPlainTexts state.old }
-        requires text { IsPlainCall call.now }
-        ensures { HasPlainTexts state.new }
-    {
-        let root = self.tree.root()?;
-        step_manager(&self.rt, alloc, root, state, call)
-    }
-
-    /// Makes a call on the manager. Its state is read again after one that has failed.
-    fn make(&mut self, alloc: Global, call: &Call) -> io::Result<()>
-        requires { IsPlainCall call.now }
-        ensures { self.new.faults ≡ self.old.faults }
-    {
-        let mut state = self.take_manager(alloc)?;
-        self.step(alloc, &mut state, call)?;
-        self.manager = Some(state);
-        Ok(())
-    }
-
-    /// Does something to a unit.
-    fn perform(&mut self, alloc: Global, act: Act, unit: &UnitName) -> io::Result<()>
-        ensures { self.new.faults ≡ self.old.faults }
-    {
-        let call = call_of(alloc, act, unit)?;
-        self.make(alloc, &call)
-    }
-
-    /// The leaf at the place of the definitions.
-    fn definitions(&mut self, alloc: Global) -> io::Result<Option<Leaf>>
-        ensures { self.new.faults ≡ self.old.faults }
-    {
-        let at = definitions_path(alloc)?;
-        leaf_at(&self.rt, alloc, &mut self.tree, &at)
-    }
-
-    /// The call that loads the definitions to which the link at their place leads.
-    fn load_call(&mut self, alloc: Global) -> io::Result<Call>
-        ensures plain { IfOk result IsPlainCall }
-        ensures faults { self.new.faults ≡ self.old.faults }
-    {
-        let leaf = self.definitions(alloc)?;
-        let text = loaded_text(alloc, leaf.as_ref())?;
-        Ok(Call::DaemonReload(text))
-    }
-
-    /// Loads the definitions to which the link at their place leads.
-    fn load(&mut self, alloc: Global) -> io::Result<()>
-        ensures { self.new.faults ≡ self.old.faults }
-    {
-        let call = self.load_call(alloc)?;
-        self.make(alloc, &call)
     }
 
     /// The answer of a call, counted where it is a fault of the device.
@@ -232,32 +194,60 @@ impl<R: Files + AllocGlobal + Clone + Drop> Tree for FolderHost<R> {
 #[tactic(auto, using(crate::proofs::Silence::silence))]
 impl<R: Files + AllocGlobal + Clone + Drop> Manager for FolderHost<R> {
     fn units(&mut self, alloc: Global) -> Result<States, HostFault> {
-        let answer = self.read_units(alloc);
+        let answer = read_units(&self.rt, alloc, &self.tree, &mut self.service);
         self.counted(answer)
     }
 
     fn stop(&mut self, alloc: Global, unit: &UnitName) -> Result<(), HostFault> {
-        let answer = self.perform(alloc, Act::Stop, unit);
+        let answer = perform(
+            &self.rt,
+            alloc,
+            &self.tree,
+            &mut self.service,
+            Act::Stop,
+            unit,
+        );
         self.counted(answer)
     }
 
     fn start(&mut self, alloc: Global, unit: &UnitName) -> Result<(), HostFault> {
-        let answer = self.perform(alloc, Act::Start, unit);
+        let answer = perform(
+            &self.rt,
+            alloc,
+            &self.tree,
+            &mut self.service,
+            Act::Start,
+            unit,
+        );
         self.counted(answer)
     }
 
     fn restart(&mut self, alloc: Global, unit: &UnitName) -> Result<(), HostFault> {
-        let answer = self.perform(alloc, Act::Restart, unit);
+        let answer = perform(
+            &self.rt,
+            alloc,
+            &self.tree,
+            &mut self.service,
+            Act::Restart,
+            unit,
+        );
         self.counted(answer)
     }
 
     fn reload(&mut self, alloc: Global, unit: &UnitName) -> Result<(), HostFault> {
-        let answer = self.perform(alloc, Act::Reload, unit);
+        let answer = perform(
+            &self.rt,
+            alloc,
+            &self.tree,
+            &mut self.service,
+            Act::Reload,
+            unit,
+        );
         self.counted(answer)
     }
 
     fn daemon_reload(&mut self, alloc: Global) -> Result<(), HostFault> {
-        let answer = self.load(alloc);
+        let answer = load(&self.rt, alloc, &mut self.tree, &mut self.service);
         self.counted(answer)
     }
 }

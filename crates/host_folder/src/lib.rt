@@ -5,13 +5,10 @@
 //! removed, whatever stands below it: no symbolic link below the tree is followed.
 #![tactic(auto)]
 
-mod clearing;
 mod folders;
 mod host;
 mod listing;
-mod manager_file;
-mod node_file;
-mod place;
+mod service;
 mod stage;
 
 pub use host::FolderHost;

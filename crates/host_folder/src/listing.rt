@@ -1,6 +1,6 @@
 //! The leaves below a folder.
 use crate::folders::{Folders, Missing};
-use crate::place::{Found, foreign, kind_of, look};
+use host_files::{Found, foreign, kind_of, look};
 use host_trait::stage_path;
 use std::alloc::{AllocError, Global};
 use std::fs::DirEntry;

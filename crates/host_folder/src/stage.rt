@@ -1,8 +1,6 @@
 //! The stage, at which a leaf is written before it takes its place.
-use crate::clearing::clear_folder;
 use crate::folders::{Folders, Missing};
-use crate::node_file::write_new;
-use crate::place::{Found, foreign, look};
+use host_files::{Found, clear_folder, foreign, look, write_new};
 use host_trait::{Leaf, stage_path};
 use node_text::write_node;
 use std::alloc::Global;

@@ -1,34 +1,7 @@
 //! Makes a built NixOS system the one of a root folder.
 #![tactic(auto)]
 
-mod booting;
-mod carrying;
-mod dry_run;
-#[cfg(test)]
-mod folder_tests;
-mod laws;
-mod out_sink;
-mod planning;
-mod reporting;
-mod run_fault;
-#[cfg(test)]
-mod run_tests;
-#[cfg(test)]
-mod runs;
-mod status;
-#[cfg(test)]
-mod status_tests;
-#[cfg(test)]
-mod switch_tests;
-mod switching;
-mod top_call;
-#[cfg(test)]
-mod trouble_tests;
-mod words;
-
-use crate::out_sink::OutSink;
-use crate::status::Status;
-use crate::top_call::run;
+use host_files::OutSink;
 use host_folder::FolderHost;
 use std::alloc::Global;
 use std::io::ErrorKind;
@@ -36,6 +9,7 @@ use std::process::ExitCode;
 use std::rt::Files;
 use std::{env, io};
 use switch_names::Text;
+use switch_run::{Status, run};
 
 /// What `--help` prints.
 const HELP: &str = "\

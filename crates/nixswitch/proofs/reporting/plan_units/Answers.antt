@@ -1,8 +1,0 @@
-use Rattle.std.proofs.Common.{◌≡◌, Err, ap, ◌∙◌}
-use Rattle.switch_engine.specs.declared.plan_fault.PlanFault.TheVariants as plan_fault
-use Rattle.nixswitch.proofs.reporting.plan_units.Goals as goal
-
-pub returns-in-Err-Refused-clause-refused : goal.returns-in-Err-Refused-clause-refused
-returns-in-Err-Refused-clause-refused g c why e =
-    let same : c.in-Err-Refused.why ≡ why = cc in
-    c.in-Err-Refused.ensures.refused why (ap (λ f. Err f) (c.in-Err-Refused.field-0-is ∙ ap plan_fault.Refused same))

@@ -1,0 +1,34 @@
+-- How a run ends: exit(3) takes the number, and standard error the text.
+use Rattle.std.specs.Prelude.{ℕ, List, [], ◌++◌, codes}
+use Rattle.std.specs.Fmt.{decimal}
+use Rattle.switch_engine.specs.declared.refusal.Refusal.{Refusal}
+use Rattle.switch_engine.specs.declared.refusal.Refusal.TheVariants.{NoSystem, InTheWay, UnitText, GenerationsFull}
+use Rattle.switch_run.specs.declared.status.Status.{Status}
+use Rattle.switch_run.specs.declared.status.Status.TheVariants.{Done, Usage, Refused, HostFault, SinkFault, UnitsFailed, NoMemory}
+
+-- the exit status
+abbrev pub status_number : Status → ℕ
+status_number Done = 0
+status_number Usage = 1
+status_number (Refused refusal) = 2
+status_number HostFault = 3
+status_number SinkFault = 6
+status_number UnitsFailed = 4
+status_number NoMemory = 5
+
+-- why a command was refused, in words
+abbrev pub refusal_text : Refusal → List ℕ
+refusal_text NoSystem = codes "no such system"
+refusal_text (InTheWay path) = codes "in the way: " ++ path
+refusal_text (UnitText unit line) = codes "unit " ++ (unit ++ (codes " line " ++ decimal line))
+refusal_text GenerationsFull = codes "no further generation"
+
+-- the line on standard error, which is empty after a run that is done
+abbrev pub status_text : Status → List ℕ
+status_text Done = []
+status_text Usage = codes "usage: nixswitch ROOT switch|test|boot|dry-activate SYSTEM | rollback | generations | rehearse NUMBER"
+status_text (Refused refusal) = codes "refused: " ++ refusal_text refusal
+status_text HostFault = codes "fault: host"
+status_text SinkFault = codes "fault: output"
+status_text UnitsFailed = codes "units failed"
+status_text NoMemory = codes "no memory"

@@ -1,0 +1,20 @@
+//! All that the program does with its words, over any host and any output.
+//!
+//! `run` reads the words, carries their command out, and says how that ended.
+#![tactic(auto)]
+
+mod booting;
+mod carrying;
+mod dry_run;
+pub mod laws;
+mod planning;
+mod reporting;
+mod run_fault;
+mod status;
+mod switching;
+mod top_call;
+mod words;
+
+pub use status::Status;
+pub use top_call::run;
+pub use words::read_words;

@@ -1,0 +1,47 @@
+//! Why a run breaks off.
+ghost use Rattle.std.specs.Prelude.{◌≡◌};
+ghost use Rattle.host_trait.specs.declared.tree.HostFault.TheVariants.{Memory};
+ghost use Rattle.switch_run.specs.declared.run_fault.RunFault.TheVariants.{Host, Sink};
+
+use host_trait::{HostFault, SinkFault};
+use std::alloc::AllocError;
+use switch_engine::Refusal;
+use thiserror::Error;
+
+/// Why a run breaks off.
+#[derive(Debug, Drop, Error)]
+pub enum RunFault {
+    /// The command is refused.
+    #[error("the command is refused")]
+    Refused(Refusal),
+    /// A call on the host has failed.
+    #[error("the host has failed")]
+    Host(HostFault),
+    /// A put has failed.
+    #[error("the output has failed")]
+    Sink,
+}
+
+impl From<HostFault> for RunFault {
+    ghost from_gives = { λ fault given. given ≡ Host fault };
+
+    fn from(fault: HostFault) -> RunFault {
+        RunFault::Host(fault)
+    }
+}
+
+impl From<AllocError> for RunFault {
+    ghost from_gives = { λ _ given. given ≡ Host Memory };
+
+    fn from(_error: AllocError) -> RunFault {
+        RunFault::Host(HostFault::Memory)
+    }
+}
+
+impl From<SinkFault> for RunFault {
+    ghost from_gives = { λ _ given. given ≡ Sink };
+
+    fn from(_fault: SinkFault) -> RunFault {
+        RunFault::Sink
+    }
+}

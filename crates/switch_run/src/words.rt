@@ -1,0 +1,55 @@
+//! The words of a command.
+ghost use Rattle.std.specs.Prelude.{◌≡◌, IfOk, option_and_then};
+ghost use Rattle.generations.specs.Places.{system_of};
+ghost use Rattle.switch_run.specs.Commands.{command_for, command_of};
+
+use std::alloc::{AllocError, Global};
+use switch_engine::Command;
+use switch_names::{NameFault, SystemName, Text};
+
+/// The system that a word names, or none.
+fn read_system(alloc: Global, word: &Text) -> Result<Option<SystemName>, AllocError>
+    ensures { IfOk result (λ system. system ≡ system_of word.now) }
+{
+    match SystemName::parse(alloc, word.as_str()) {
+        Ok(system) => Ok(Some(system)),
+        Err(NameFault::Memory) => Err(AllocError),
+        Err(_) => Ok(None),
+    }
+}
+
+/// The command that a word gives for a system, or none.
+fn command_for(verb: &Text, system: SystemName) -> Option<Command>
+    ensures { result ≡ command_for verb.now system }
+{
+    if verb.as_str() == "test" {
+        return Some(Command::Test(system));
+    }
+    if verb.as_str() == "boot" {
+        return Some(Command::Boot(system));
+    }
+    if verb.as_str() == "dry-activate" {
+        return Some(Command::DryActivate(system));
+    }
+    None
+}
+
+/// The command that two words give, or none.
+fn read_pair(alloc: Global, verb: &Text, word: &Text) -> Result<Option<Command>, AllocError>
+    ensures { IfOk result (λ command. command ≡ option_and_then (command_for verb.now) (system_of word.now)) }
+{
+    match read_system(alloc, word)? {
+        Some(system) => Ok(command_for(verb, system)),
+        None => Ok(None),
+    }
+}
+
+/// The command that words give, or none.
+pub fn read_words(alloc: Global, words: &[Text]) -> Result<Option<Command>, AllocError>
+    ensures { IfOk result (λ command. command ≡ command_of words.now) }
+{
+    match words {
+        [verb, word] => read_pair(alloc, verb, word),
+        _ => Ok(None),
+    }
+}
