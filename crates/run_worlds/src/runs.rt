@@ -115,6 +115,13 @@ pub fn status_of(
     Ok(run(alloc, words.as_slice(), host, sink))
 }
 
+/// Appends the line of a status.
+fn push_status(alloc: Global, out: &mut String, status: &Status) -> Result<(), AllocError> {
+    let said = status.text(alloc)?;
+    let line = format!(in alloc; "{} {}\n", status.number(), said.as_str())?;
+    out.push_str(line.as_str())
+}
+
 /// Appends a status and what was put.
 fn push_said(
     alloc: Global,
@@ -122,9 +129,7 @@ fn push_said(
     status: &Status,
     sink: &MemorySink,
 ) -> Result<(), Fail> {
-    let said = status.text(alloc)?;
-    let line = format!(in alloc; "{} {}\n", status.number(), said.as_str())?;
-    out.push_str(line.as_str())?;
+    push_status(alloc, out, status)?;
     out.push_str(std::str::from_utf8(sink.bytes())?)?;
     Ok(())
 }
@@ -143,7 +148,7 @@ fn push_run(
 }
 
 /// Appends all of a world but the journal, and how many leaves there are.
-pub fn push_seen(alloc: Global, out: &mut String, world: &World) -> Result<(), Fail> {
+fn push_seen(alloc: Global, out: &mut String, world: &World) -> Result<(), Fail> {
     push_states(out, world)?;
     push_leaves(alloc, out, world, "etc")?;
     push_leaves(alloc, out, world, "nix")?;
@@ -178,28 +183,43 @@ fn outcome(alloc: Global, row: &Run) -> Result<String, Fail> {
     outcome_on(alloc, &mut host, row.line, row.puts)
 }
 
+/// What is seen of a world.
+pub fn seen_of(alloc: Global, world: &World) -> Result<String, Fail> {
+    let mut text = String::new(alloc);
+    push_seen(alloc, &mut text, world)?;
+    Ok(text)
+}
+
 /// What is seen of the world with two systems, these unit files, and these files outside the store.
 pub fn seen_with(alloc: Global, units: Root, outside: Root) -> Result<String, Fail> {
     let world = world_of(alloc, units, outside)?;
-    let mut text = String::new(alloc);
-    push_seen(alloc, &mut text, &world)?;
+    seen_of(alloc, &world)
+}
+
+/// A text, and a whole world.
+fn told_of(alloc: Global, said: &str, world: &World) -> Result<String, Fail> {
+    let mut text = String::from_str(alloc, said)?;
+    push_world(alloc, &mut text, world)?;
     Ok(text)
 }
 
 /// A text, and the whole world with two systems, these unit files, and these files outside the store.
 pub fn told_with(alloc: Global, said: &str, units: Root, outside: Root) -> Result<String, Fail> {
     let world = world_of(alloc, units, outside)?;
-    let mut text = String::from_str(alloc, said)?;
-    push_world(alloc, &mut text, &world)?;
-    Ok(text)
+    told_of(alloc, said, &world)
+}
+
+/// Holds a run to this text of how it should end and of the world that it should leave.
+fn try_outcome(rt: &impl Abort, alloc: Global, row: &Run, want: &str) -> Result<(), Fail> {
+    let got = outcome(alloc, row)?;
+    assert_eq!(rt; got.as_str(), want, "{}: {:?}", row.name, row.line);
+    Ok(())
 }
 
 /// Holds a run to how it should end, and to the whole world that it should leave.
 pub fn try_run(rt: &impl Abort, alloc: Global, row: &Run) -> Result<(), Fail> {
-    let got = outcome(alloc, row)?;
     let want = told_with(alloc, row.said, row.units, row.after.unwrap_or(row.before))?;
-    assert_eq!(rt; got.as_str(), want.as_str(), "{}: {:?}", row.name, row.line);
-    Ok(())
+    try_outcome(rt, alloc, row, want.as_str())
 }
 
 /// Holds runs to how they should end, and to the whole worlds that they should leave.

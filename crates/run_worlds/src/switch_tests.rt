@@ -250,22 +250,16 @@ fn try_switch(
     try_run(rt, alloc, &run)
 }
 
-#[test]
-fn a_switch_leaves_its_whole_final_world(rt: HostRuntime) -> Result<(), Fail> {
-    for row in SWITCHES {
-        let said = said(rt.alloc(), row, row.status, row.closing)?;
-        try_switch(&rt, rt.alloc(), row, &[], said.as_str())?;
-    }
-    Ok(())
+/// A switch whose puts come off says all of its report, and leaves its whole final world.
+fn try_done(rt: &impl Abort, alloc: Global, row: &Switch) -> Result<(), Fail> {
+    let said = said(alloc, row, row.status, row.closing)?;
+    try_switch(rt, alloc, row, &[], said.as_str())
 }
 
-#[test]
-fn a_switch_that_cannot_close_was_carried_out(rt: HostRuntime) -> Result<(), Fail> {
-    for row in SWITCHES {
-        let said = said(rt.alloc(), row, "6 fault: output", "")?;
-        try_switch(&rt, rt.alloc(), row, &[1], said.as_str())?;
-    }
-    Ok(())
+/// A switch that can't close was carried out.
+fn try_unclosed(rt: &impl Abort, alloc: Global, row: &Switch) -> Result<(), Fail> {
+    let said = said(alloc, row, "6 fault: output", "")?;
+    try_switch(rt, alloc, row, &[1], said.as_str())
 }
 
 /// Holds a run over the machine of a row to these texts, and to no change.
@@ -289,19 +283,29 @@ fn try_unchanged(
     try_run(rt, alloc, &run)
 }
 
-#[test]
-fn a_dry_run_says_what_a_switch_says_first(rt: HostRuntime) -> Result<(), Fail> {
-    for row in SWITCHES {
-        let said = said(rt.alloc(), row, "0 ", "")?;
-        try_unchanged(&rt, rt.alloc(), row, DRY_B, &[], said.as_str())?;
-    }
-    Ok(())
+/// A dry run says what a switch says first, and changes nothing.
+fn try_dry(rt: &impl Abort, alloc: Global, row: &Switch) -> Result<(), Fail> {
+    let said = said(alloc, row, "0 ", "")?;
+    try_unchanged(rt, alloc, row, DRY_B, &[], said.as_str())
+}
+
+/// A switch that can't report changes nothing.
+fn try_unreported(rt: &impl Abort, alloc: Global, row: &Switch) -> Result<(), Fail> {
+    try_unchanged(rt, alloc, row, TEST_B, &[0], "6 fault: output\n")
+}
+
+/// Holds the switch of a row, with and without a put that fails, and its dry run to their ends.
+fn try_row(rt: &impl Abort, alloc: Global, row: &Switch) -> Result<(), Fail> {
+    try_done(rt, alloc, row)?;
+    try_unclosed(rt, alloc, row)?;
+    try_dry(rt, alloc, row)?;
+    try_unreported(rt, alloc, row)
 }
 
 #[test]
-fn a_switch_that_cannot_report_changes_nothing(rt: HostRuntime) -> Result<(), Fail> {
+fn a_switch_and_its_dry_run_end_as_their_row_says(rt: HostRuntime) -> Result<(), Fail> {
     for row in SWITCHES {
-        try_unchanged(&rt, rt.alloc(), row, TEST_B, &[0], "6 fault: output\n")?;
+        try_row(&rt, rt.alloc(), row)?;
     }
     Ok(())
 }

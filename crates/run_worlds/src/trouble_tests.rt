@@ -1,7 +1,7 @@
 //! Runs over a host in memory whose calls fail or are cut, and the same runs made again.
 use crate::runs::{
     BOOT_A, CURRENT_A, CURRENT_B, DRY_B, Line, NEW_WEB, OLD_WEB, STATIC_A, STATIC_B, TEST_B,
-    host_of, numbers, outcome_on, push_seen, seen_with, sink_of, status_of, told_with,
+    host_of, numbers, outcome_on, seen_of, seen_with, sink_of, status_of, told_with,
 };
 use host_memory::MemoryHost;
 use std::alloc::{AllocError, Global};
@@ -82,9 +82,7 @@ fn number(alloc: Global, host: &mut MemoryHost, line: Line) -> Result<u8, AllocE
 fn again(alloc: Global, host: &mut MemoryHost, line: Line) -> Result<(u8, String), Fail> {
     host.revive();
     let number = number(alloc, host, line)?;
-    let mut text = String::new(alloc);
-    push_seen(alloc, &mut text, host.world())?;
-    Ok((number, text))
+    Ok((number, seen_of(alloc, host.world())?))
 }
 
 /// A status and the faults then, and how the same run ends that is made again.
@@ -99,25 +97,45 @@ fn both_ends(alloc: Global, host: &mut MemoryHost, line: Line) -> Result<Ends, F
 
 /// How a run ends whose call with this number fails, and how it ends again.
 fn failing(alloc: Global, row: &Trouble, call: u64) -> Result<Ends, Fail> {
+    let calls = numbers(alloc, &[call])?;
     let mut host = host_of(alloc, row.units, row.before)?;
-    host.fail(numbers(alloc, &[call])?);
+    host.fail(calls);
     both_ends(alloc, &mut host, row.line)
+}
+
+/// Whether a run breaks off whose call with this number fails, where the same run that is made again
+/// ends as a whole one.
+fn breaks_off(
+    rt: &impl Abort,
+    alloc: Global,
+    row: &Trouble,
+    call: u64,
+    want: &str,
+) -> Result<bool, Fail> {
+    let (first, (number, seen)) = failing(alloc, row, call)?;
+    let is_failed = first == (3, 1);
+    let got = (is_failed || first == (0, 0), number, seen.as_str());
+    let line = row.line;
+    assert_eq!(rt; got, (true, 0, want), "{line:?}, call {call}");
+    Ok(is_failed)
+}
+
+/// Lets each call of a run fail in turn, and holds the same run that is made again to what is seen of a
+/// whole one. Answers how many calls break it off.
+fn count_failures(rt: &impl Abort, alloc: Global, row: &Trouble, want: &str) -> Result<u64, Fail> {
+    let mut failed = 0;
+    for call in 0..60 {
+        if breaks_off(rt, alloc, row, call, want)? {
+            failed = call + 1;
+        }
+    }
+    Ok(failed)
 }
 
 /// Lets each call of a run fail in turn, and holds the same run that is made again to a whole one.
 fn try_failures(rt: &impl Abort, alloc: Global, row: &Trouble) -> Result<(), Fail> {
     let want = seen_with(alloc, row.units, row.after)?;
-    let mut failed = 0;
-    for call in 0..60 {
-        let (first, (number, seen)) = failing(alloc, row, call)?;
-        let is_failed = first == (3, 1);
-        if is_failed {
-            failed = call + 1;
-        }
-        let got = (is_failed || first == (0, 0), number, seen.as_str());
-        let line = row.line;
-        assert_eq!(rt; got, (true, 0, want.as_str()), "{line:?}, call {call}");
-    }
+    let failed = count_failures(rt, alloc, row, want.as_str())?;
     assert!(rt; failed >= row.calls);
     Ok(())
 }
@@ -131,8 +149,9 @@ fn a_call_that_fails_ends_a_run_until_it_is_made_again(rt: HostRuntime) -> Resul
 
 /// How a run ends whose call with this number fails, and the whole world right after it.
 fn failed(alloc: Global, row: &Trouble, call: u64) -> Result<String, Fail> {
+    let calls = numbers(alloc, &[call])?;
     let mut host = host_of(alloc, row.units, row.before)?;
-    host.fail(numbers(alloc, &[call])?);
+    host.fail(calls);
     outcome_on(alloc, &mut host, row.line, &[])
 }
 
@@ -140,24 +159,38 @@ fn failed(alloc: Global, row: &Trouble, call: u64) -> Result<String, Fail> {
 const DRY_DONE: &str =
     "0 \nfrom nix/store/a-sys\nto nix/store/b-sys\nstop web.service\nstart web.service\n";
 
+/// Holds a dry run whose call with this number fails to one of these two ends: broken off, or done.
+fn try_dry_run(
+    rt: &impl Abort,
+    alloc: Global,
+    call: u64,
+    failing: &str,
+    done: &str,
+) -> Result<(), Fail> {
+    let got = failed(alloc, &DRY_RUN, call)?;
+    let is_broken_off = got.as_str() == failing;
+    assert!(rt; is_broken_off || got.as_str() == done, "call {call}: {got}");
+    assert!(rt;
+        is_broken_off || call >= DRY_RUN.calls,
+        "call {call} of {}",
+        DRY_RUN.calls
+    );
+    Ok(())
+}
+
+/// Lets each call of a dry run fail in turn.
+fn try_dry_runs(rt: &impl Abort, alloc: Global, failing: &str, done: &str) -> Result<(), Fail> {
+    for call in 0..60 {
+        try_dry_run(rt, alloc, call, failing, done)?;
+    }
+    Ok(())
+}
+
 #[test]
 fn a_dry_run_that_breaks_off_puts_nothing_and_changes_nothing(rt: HostRuntime) -> Result<(), Fail> {
     let failing = told_with(rt.alloc(), "3 fault: host\n", DRY_RUN.units, RUNNING)?;
     let done = told_with(rt.alloc(), DRY_DONE, DRY_RUN.units, RUNNING)?;
-    for call in 0..60 {
-        let got = failed(rt.alloc(), &DRY_RUN, call)?;
-        let is_broken_off = got.as_str() == failing.as_str();
-        assert!(rt;
-            is_broken_off || got.as_str() == done.as_str(),
-            "call {call}: {got}"
-        );
-        assert!(rt;
-            is_broken_off || call >= DRY_RUN.calls,
-            "call {call} of {}",
-            DRY_RUN.calls
-        );
-    }
-    Ok(())
+    try_dry_runs(&rt, rt.alloc(), failing.as_str(), done.as_str())
 }
 
 /// How a run ends whose call after so many is cut with this pick, and how it ends again.
@@ -170,15 +203,32 @@ fn cut(alloc: Global, row: &Trouble, after: u64, pick: u64) -> Result<Ends, Fail
 /// The calls before a cut, and the number of the status of a boot that is cut there.
 const CUTS: &[(u64, u8)] = &[(0, 3), (1, 3), (2, 3), (3, 3), (4, 0)];
 
-#[test]
-fn a_boot_that_was_cut_ends_as_one_that_was_not(rt: HostRuntime) -> Result<(), Fail> {
-    let want = seen_with(rt.alloc(), BOOT.units, BOOT.after)?;
-    for (after, number) in CUTS {
+/// Holds a boot that is cut to its status and to what is seen once it is made again.
+fn try_cut(
+    rt: &impl Abort,
+    alloc: Global,
+    (after, status): (u64, u8),
+    pick: u64,
+    want: &str,
+) -> Result<(), Fail> {
+    let ((first, _), (again, seen)) = cut(alloc, &BOOT, after, pick)?;
+    let got = (first, again, seen.as_str());
+    assert_eq!(rt; got, (status, 0, want), "after {after} at {pick}");
+    Ok(())
+}
+
+/// Cuts a boot after so many calls, with each pick.
+fn try_cuts(rt: &impl Abort, alloc: Global, want: &str) -> Result<(), Fail> {
+    for at in CUTS {
         for pick in 0..3 {
-            let ((first, _), (again, seen)) = cut(rt.alloc(), &BOOT, *after, pick)?;
-            let got = (first, again, seen.as_str());
-            assert_eq!(rt; got, (*number, 0, want.as_str()), "after {after} at {pick}");
+            try_cut(rt, alloc, *at, pick, want)?;
         }
     }
     Ok(())
+}
+
+#[test]
+fn a_boot_that_was_cut_ends_as_one_that_was_not(rt: HostRuntime) -> Result<(), Fail> {
+    let want = seen_with(rt.alloc(), BOOT.units, BOOT.after)?;
+    try_cuts(&rt, rt.alloc(), want.as_str())
 }
