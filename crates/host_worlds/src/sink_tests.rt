@@ -1,4 +1,5 @@
-//! What a sink in memory takes.
+//! What a sink in memory takes, and standard output.
+use host_files::OutSink;
 use host_memory::MemorySink;
 use host_trait::Sink;
 use std::alloc::Global;
@@ -49,4 +50,11 @@ fn put_in_turn(rt: &impl Abort, alloc: Global, sink: &mut MemorySink) -> Result<
 fn a_put_appends_what_fits_and_a_listed_put_nothing(rt: HostRuntime) -> Result<(), Fail> {
     let mut sink = MemorySink::new(rt.alloc());
     put_in_turn(&rt, rt.alloc(), &mut sink)
+}
+
+#[test]
+fn standard_output_takes_no_bytes_without_a_fault(rt: HostRuntime) -> Result<(), Fail> {
+    let mut out = OutSink::new(&rt)?;
+    assert!(rt; put(&mut out, ""));
+    Ok(())
 }
