@@ -1,5 +1,5 @@
 use Rattle.unit_worlds.proofs.EmptyLemmas.{can_record}
-use Rattle.unit_worlds.proofs.owed_list_tests.push_recorded.Goals as goal
+use Rattle.unit_worlds.proofs.list_cases.push_recorded.Goals as goal
 
 pub record-requires : goal.record-requires
 record-requires c = can_record _ c.requires

@@ -1,0 +1,116 @@
+//! Cases and their answers.
+use crate::call_cases::{push_given, push_owed_on};
+use crate::change_cases::push_changed;
+use crate::defs_cases::push_of_units;
+use crate::fields::{Field, bytes_of, fields_of, text_of};
+use crate::list_cases::{push_loaded, push_recorded_anew};
+use crate::names::add_names;
+use crate::report_cases::push_switch;
+use crate::text_cases::{push_file_values, push_merged, push_of_file};
+use crate::worlds::fill;
+use bstr::ByteSlice;
+use host_memory::MemoryHost;
+use host_trait::World;
+use std::alloc::Global;
+use std::test::Fail;
+use switch_names::Listed;
+
+/// Appends what is asked of the units of a field.
+fn push_of_field(
+    alloc: Global,
+    out: &mut String,
+    host: &mut MemoryHost,
+    (command, field): (&str, &Field),
+) -> Result<(), Fail> {
+    let mut units = Listed::new(alloc);
+    add_names(alloc, &mut units, field)?;
+    push_of_units(alloc, out, host, (command, &units))
+}
+
+/// Appends what is asked of a host.
+fn push_on_host(
+    alloc: Global,
+    out: &mut String,
+    host: &mut MemoryHost,
+    (command, given): (&str, &[Field]),
+) -> Result<(), Fail> {
+    match (command, given) {
+        ("lists", _) => push_loaded(alloc, out, host),
+        ("record", _) => push_recorded_anew(alloc, out, host),
+        ("owed", _) => push_owed_on(alloc, out, host),
+        ("report", _) => push_switch(alloc, out, host),
+        ("calls", _) => push_given(alloc, out, host.world().states(), given),
+        (_, [units, ..]) => push_of_field(alloc, out, host, (command, units)),
+        _ => Err(Fail::new("a field isn't there")),
+    }
+}
+
+/// Appends what is asked of a world with these places.
+fn push_on_world(
+    alloc: Global,
+    out: &mut String,
+    places: &[Field],
+    asked: (&str, &[Field]),
+) -> Result<(), Fail> {
+    let mut world = World::new(alloc);
+    fill(alloc, &mut world, places)?;
+    let mut host = MemoryHost::new(alloc, world);
+    push_on_host(alloc, out, &mut host, asked)
+}
+
+/// Appends what is answered to a command.
+fn push_answer(
+    alloc: Global,
+    out: &mut String,
+    command: &str,
+    given: &[Field],
+) -> Result<(), Fail> {
+    match (command, given) {
+        ("values", [file]) => Ok(push_file_values(alloc, out, bytes_of(file)?)?),
+        ("merge", [first, later]) => {
+            push_merged(alloc, out, (bytes_of(first)?, bytes_of(later)?))
+        }
+        ("start", [file]) => push_of_file(alloc, out, bytes_of(file)?, (command, "")),
+        ("flags" | "sockets" | "assign", [file, asked]) => {
+            push_of_file(alloc, out, bytes_of(file)?, (command, text_of(asked)?))
+        }
+        ("compare", [_, _, _]) => push_changed(alloc, out, given, None),
+        ("decide", [_, _, _, live]) => {
+            push_changed(alloc, out, given, Some(text_of(live)?.parse::<bool>()?))
+        }
+        ("lists" | "record" | "owed" | "report", places)
+        | ("calls", [_, _, _, _, _, places @ ..])
+        | (_, [_, places @ ..]) => push_on_world(alloc, out, places, (command, given)),
+        _ => Err(Fail::new("a field isn't there")),
+    }
+}
+
+/// Appends a title on a line, and what is answered to a command.
+fn push_case(alloc: Global, out: &mut String, fields: &[Field]) -> Result<(), Fail> {
+    let [command, title, given @ ..] = fields else {
+        return Err(Fail::new("a case has a command and a title"));
+    };
+    out.push_str(text_of(title)?)?;
+    out.push('\n')?;
+    push_answer(alloc, out, text_of(command)?, given)?;
+    Ok(out.push('\n')?)
+}
+
+/// Appends the case of a line, where it has one.
+fn push_line(alloc: Global, out: &mut String, line: &[u8]) -> Result<(), Fail> {
+    match line {
+        [] | [b'#', ..] => Ok(()),
+        _ => {
+            let fields = fields_of(alloc, line)?;
+            push_case(alloc, out, fields.as_slice())
+        }
+    }
+}
+
+/// Appends the cases of lines.
+pub fn push_cases(alloc: Global, out: &mut String, lines: &[u8]) -> Result<(), Fail> {
+    for line in lines.split_str(b"\n") {
+        push_line(alloc, out, line)?;
+    }
+    Ok(())
+}

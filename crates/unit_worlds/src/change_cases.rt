@@ -1,0 +1,62 @@
+//! What counts as a change of a unit, and what is decided: NixOS manual, "Unit handling".
+use crate::fields::{Field, text_of};
+use std::alloc::Global;
+use std::test::Fail;
+use switch_names::UnitName;
+use unit_compare::compare;
+use unit_decide::decide;
+use unit_text::{TextFault, UnitText, parse};
+
+/// The text of a unit, where there is a file.
+fn parsed(alloc: Global, file: &Field) -> Result<Option<UnitText>, TextFault> {
+    match file {
+        Some(bytes) => Ok(Some(parse(alloc, bytes.as_slice())?)),
+        None => Ok(None),
+    }
+}
+
+/// Appends the decision on an Active unit where it is told whether one of its sockets is live, and else
+/// the comparison of its texts both ways.
+fn push_change(
+    alloc: Global,
+    out: &mut String,
+    (old, new): (Option<&UnitText>, Option<&UnitText>),
+    (unit, live): (&UnitName, Option<bool>),
+) -> Result<(), Fail> {
+    let text = match (old, new, live) {
+        (_, _, Some(live)) => format!(in alloc; "{:?}", decide(old, new, unit, live))?,
+        (Some(old), Some(new), None) => {
+            let there = compare(unit.kind(), old, new);
+            let back = compare(unit.kind(), new, old);
+            format!(in alloc; "{there:?} {back:?}")?
+        }
+        _ => return Err(Fail::new("a text isn't there")),
+    };
+    Ok(out.push_str(text.as_str())?)
+}
+
+/// Appends the same where the new text is that of a file.
+fn push_change_to(
+    alloc: Global,
+    out: &mut String,
+    (old, new): (Option<&UnitText>, &Field),
+    asked: (&UnitName, Option<bool>),
+) -> Result<(), Fail> {
+    let new = parsed(alloc, new)?;
+    push_change(alloc, out, (old, new.as_ref()), asked)
+}
+
+/// Appends the same of a unit that the first field names and the next two fields define.
+pub fn push_changed(
+    alloc: Global,
+    out: &mut String,
+    given: &[Field],
+    live: Option<bool>,
+) -> Result<(), Fail> {
+    let [unit, old, new, ..] = given else {
+        return Err(Fail::new("a unit has an old and a new text"));
+    };
+    let unit = UnitName::parse(alloc, text_of(unit)?)?;
+    let old = parsed(alloc, old)?;
+    push_change_to(alloc, out, (old.as_ref(), new), (&unit, live))
+}

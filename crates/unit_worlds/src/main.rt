@@ -1,0 +1,30 @@
+//! Answers cases of units: what their texts say, how they change, what a system defines and pulls, and
+//! what a switch owes.
+//!
+//! Standard input has a case a line: a command, a title, and what is given. Fields are parted by a bar
+//! between blanks. Lines that are empty or begin with `#` are passed over. Each answer follows its title.
+#![tactic(auto)]
+
+mod call_cases;
+mod cases;
+mod change_cases;
+mod defs_cases;
+mod fields;
+mod list_cases;
+mod names;
+mod pull_cases;
+mod report_cases;
+mod text_cases;
+mod worlds;
+
+use cases::push_cases;
+use std::io::Read;
+use std::test::Fail;
+
+fn main(rt: HostRuntime) -> Result<(), Fail> {
+    let mut lines = Vec::new(rt.alloc());
+    rt.reader().read_to_end(&mut lines)?;
+    let mut out = String::new(rt.alloc());
+    push_cases(rt.alloc(), &mut out, lines.as_slice())?;
+    Ok(rt.print(out.as_str())?)
+}

@@ -1,0 +1,79 @@
+//! Worlds with two systems, of which the first is in use.
+use crate::fields::{Field, bytes_of, text_of};
+use host_trait::{Leaf, State, World};
+use std::alloc::Global;
+use std::test::Fail;
+use switch_names::{Bytes, Path, UnitName};
+
+/// A leaf by its content: a link where that begins with `->`, and else a file.
+fn leaf_of(alloc: Global, content: &[u8]) -> Result<Leaf, Fail> {
+    match content {
+        [b'-', b'>', target @ ..] => Ok(Leaf::link(alloc, std::str::from_utf8(target)?)?),
+        _ => Ok(Leaf::file(Bytes::from_slice(alloc, content)?, 420, 0, 0)),
+    }
+}
+
+/// Puts a leaf at a place.
+fn put_leaf(alloc: Global, world: &mut World, at: &str, content: &[u8]) -> Result<(), Fail> {
+    world.set_leaf(Path::parse(alloc, at)?, leaf_of(alloc, content)?)?;
+    Ok(())
+}
+
+/// Puts a leaf into the folder of units of a system.
+fn put_unit(
+    alloc: Global,
+    world: &mut World,
+    system: &str,
+    (name, content): (&str, &[u8]),
+) -> Result<(), Fail> {
+    let at = format!(in alloc; "nix/store/{system}/etc/systemd/system/{name}")?;
+    put_leaf(alloc, world, at.as_str(), content)
+}
+
+/// Puts the units between the blanks of a text into a state.
+fn put_states(alloc: Global, world: &mut World, names: &str, state: State) -> Result<(), Fail> {
+    for name in names.split(' ') {
+        world.set_state(UnitName::parse(alloc, name)?, state)?;
+    }
+    Ok(())
+}
+
+/// Puts what a place says: the units that are `active` or `failed`, a leaf of the `old` system, of the
+/// `new` one or of `both` by its name in the folder of units, or a leaf by its path.
+fn put(alloc: Global, world: &mut World, place: &str, content: &[u8]) -> Result<(), Fail> {
+    match place.split_once(' ') {
+        Some(("old", name)) => put_unit(alloc, world, "a-sys", (name, content)),
+        Some(("new", name)) => put_unit(alloc, world, "b-sys", (name, content)),
+        Some(("both", name)) => {
+            put_unit(alloc, world, "a-sys", (name, content))?;
+            put_unit(alloc, world, "b-sys", (name, content))
+        }
+        Some(_) => Err(Fail::new("a place isn't known")),
+        None if place == "active" => {
+            put_states(alloc, world, std::str::from_utf8(content)?, State::Active)
+        }
+        None if place == "failed" => {
+            put_states(alloc, world, std::str::from_utf8(content)?, State::Failed)
+        }
+        None => put_leaf(alloc, world, place, content),
+    }
+}
+
+/// Puts what these places say, each before its content.
+fn put_all(alloc: Global, world: &mut World, places: &[Field]) -> Result<(), Fail> {
+    for pair in places.chunks(2) {
+        let [place, content] = pair else {
+            return Err(Fail::new("a place has no content"));
+        };
+        put(alloc, world, text_of(place)?, bytes_of(content)?)?;
+    }
+    Ok(())
+}
+
+/// Puts the two systems, and what these places say.
+pub fn fill(alloc: Global, world: &mut World, places: &[Field]) -> Result<(), Fail> {
+    put_leaf(alloc, world, "nix/store/a-sys/nixos-version", b"24.05\n")?;
+    put_leaf(alloc, world, "nix/store/b-sys/nixos-version", b"24.05\n")?;
+    put_leaf(alloc, world, "run/current-system", b"->/nix/store/a-sys")?;
+    put_all(alloc, world, places)
+}
