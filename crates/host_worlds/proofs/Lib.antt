@@ -1,1 +1,1 @@
-pub mod PutTestLemmas
+pub mod FallenLemmas

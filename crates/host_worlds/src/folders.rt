@@ -1,0 +1,62 @@
+//! What a folder's host reads, and what another one's acts have left.
+use crate::cases::{misread, text_of};
+use crate::outcome::{push_told, word_of};
+use host_folder::FolderHost;
+use host_trait::{HostFault, Manager};
+use std::alloc::Global;
+use std::fs;
+use std::rt::Files;
+use std::test::Fail;
+use switch_names::{Bytes, UnitName};
+
+/// Loads definitions, and starts a unit.
+fn load_and_start<M: Manager>(
+    alloc: Global,
+    host: &mut M,
+    unit: &UnitName,
+) -> Result<(), HostFault> {
+    host.daemon_reload(alloc)?;
+    host.start(alloc, unit)
+}
+
+/// Appends what a new host tells of a unit, how it then starts it, and its faults each time.
+fn push_acted<R: Files + AllocGlobal + Clone + Drop>(
+    alloc: Global,
+    out: &mut String,
+    host: &mut FolderHost<R>,
+    unit: &UnitName,
+) -> Result<(), Fail> {
+    writeln!(out, "faults: {}", host.faults())?;
+    push_told(alloc, out, host, unit)?;
+    writeln!(out, ", faults: {}", host.faults())?;
+    let started = word_of(&load_and_start(alloc, host, unit))?;
+    Ok(writeln!(out, "start: {started}, faults: {}", host.faults())?)
+}
+
+/// Appends the same of a new host over a root.
+fn push_over<R: Files + AllocGlobal + Clone + Drop>(
+    rt: &R,
+    out: &mut String,
+    root: &str,
+    unit: &UnitName,
+) -> Result<(), Fail> {
+    let mut host = FolderHost::open(rt, root)?;
+    push_acted(rt.alloc(), out, &mut host, unit)
+}
+
+/// Appends the same, and the text of the manager's state that is left in the root.
+pub fn push_folder<R: Files + AllocGlobal + Clone + Drop>(
+    rt: &R,
+    out: &mut String,
+    fields: &[Bytes],
+) -> Result<(), Fail> {
+    let [root, unit] = fields else {
+        return misread();
+    };
+    let root = text_of(root)?;
+    let unit = UnitName::parse(rt.alloc(), text_of(unit)?)?;
+    push_over(rt, out, root, &unit)?;
+    let file = format!(in rt.alloc(); "{root}/manager")?;
+    out.push_str(fs::read_to_string(rt, file)?.as_str())?;
+    Ok(())
+}

@@ -1,0 +1,38 @@
+//! What names are read, and what keeps others from it.
+use crate::cases::{misread, no_memory, text_of};
+use std::alloc::{AllocError, Global};
+use std::test::Fail;
+use switch_names::{Bytes, NameFault, Path, SystemName, UnitName};
+
+/// Appends the name of a unit, its kind, and its stem.
+fn push_unit(out: &mut String, unit: &UnitName) -> Result<(), AllocError> {
+    let kind = unit.kind();
+    write!(out, "{} {kind:?} {}", unit.as_str(), unit.stem())
+}
+
+/// Appends what a text is read as.
+fn push_read(alloc: Global, out: &mut String, form: &str, text: &str) -> Result<(), NameFault> {
+    match form {
+        "path" => out.push_str(Path::parse(alloc, text)?.as_str())?,
+        "system" => out.push_str(SystemName::parse(alloc, text)?.path().as_str())?,
+        _ => push_unit(out, &UnitName::parse(alloc, text)?)?,
+    }
+    Ok(())
+}
+
+/// Appends the name or the fault of a text.
+pub fn push_name(
+    alloc: Global,
+    out: &mut String,
+    form: &str,
+    fields: &[Bytes],
+) -> Result<(), Fail> {
+    let [text] = fields else {
+        return misread();
+    };
+    match push_read(alloc, out, form, text_of(text)?) {
+        Ok(()) => Ok(()),
+        Err(NameFault::Memory) => no_memory(),
+        Err(fault) => Ok(write!(out, "{fault:?}")?),
+    }
+}
