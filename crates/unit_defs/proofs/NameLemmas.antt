@@ -1,13 +1,14 @@
 -- Names in byte order.
-use Rattle.std.proofs.Common.{◌≡◌, ℕ, ◌+◌, ◌<◌, ◌||◌, ◌&&◌, Bool, true, false, cond, Bor, List, [], ◌∷◌, ◌++◌, length, get_or, take, map, Option, None, Some, is_none, is_some, option_map, option_and_then, refl, sym, ap, subst, ◌∙◌, inl, inr}
+use Rattle.std.proofs.Common.{◌≡◌, ℕ, ◌+◌, ◌<◌, ◌||◌, ◌&&◌, Bool, true, false, cond, Bor, List, [], ◌∷◌, ◌++◌, length, get_or, take, map, Option, None, Some, not, is_none, is_some, option_map, option_and_then, refl, sym, ap, subst, ◌∙◌, inl, inr}
 use Rattle.std.specs.Cmp.{eq_by_cmp_equiv}
-use Rattle.std.specs.List.{AllByRecursion, filter}
+use Rattle.std.specs.List.{AllByRecursion, filter, flat_map}
 use Rattle.std.specs.List.Sorted.{IsStrictlySortedBy}
 use Rattle.std.specs.Ordering.{is_eq}
 use Rattle.std.specs.declared.cmp.Ordering.TheVariants.{Less}
 use Rattle.std.proofs.lemmas.Bool.{both_ways}
 use Rattle.std.proofs.lemmas.Cmp.{tied_itself}
-use Rattle.std.proofs.lemmas.List.{map-append, take_more}
+use Rattle.std.proofs.lemmas.List.{append-nil, append_assoc, map-append, take_more}
+use Rattle.std.proofs.lemmas.List.Concat.{flat_map-append}
 use Rattle.std.proofs.lemmas.List.Elements.{filter-append}
 use Rattle.std.proofs.lemmas.List.Folds.{list_any-append}
 use Rattle.host_trait.specs.World.{bytes_cmp}
@@ -18,8 +19,9 @@ use Rattle.unit_defs.specs.declared.unit.Unit.{Unit}
 use Rattle.unit_defs.specs.declared.unit.Wants.{Wants}
 use Rattle.unit_defs.specs.Defs.{AreNamesOf, AreSorted, IsDefs, own_in, unit_in, wants_for}
 use Rattle.switch_names.specs.Names.{has, is_name}
-use Rattle.unit_defs.specs.Units.{find_text}
-use Rattle.switch_names.specs.UnitName.{IsUnitName, template_of}
+use Rattle.unit_defs.specs.Place.{is_unit, named}
+use Rattle.unit_defs.specs.Units.{can_be_wanted, find_text}
+use Rattle.switch_names.specs.UnitName.{IsUnitName, is_template, template_of}
 use Rattle.std.specs.Option.{option_or}
 
 pub name_itself : (a : List ℕ) → is_name a a ≡ true
@@ -63,6 +65,14 @@ and_false : (b : Bool) → (b && false) ≡ false
 and_false true = refl
 and_false false = refl
 
+pub no_template : (b is : Bool) → is ≡ true → false ≡ (b && not is)
+no_template true is same = sym (ap not same)
+no_template false is same = refl
+
+pub other_than_template : (b is : Bool) → is ≡ false → b ≡ (b && not is)
+other_than_template true is same = sym (ap not same)
+other_than_template false is same = refl
+
 or_assoc : (a b c : Bool) → ((a || b) || c) ≡ (a || (b || c))
 or_assoc true b c = refl
 or_assoc false b c = refl
@@ -87,19 +97,89 @@ has_filtered_one p name unit = by (p name) (is_name unit name)
     by true c = or_false (is_name unit name) ∙ sym (and_true (is_name unit name))
     by false c = sym (and_false (is_name unit name))
 
--- one text more is added where it passes a test
-pub has_one_more : (p : List ℕ → Bool) (texts : List (Bor (List ℕ))) (i : ℕ) (d : Bor (List ℕ)) (unit : List ℕ) (before now after : Bool) → i < length texts →
-    now ≡ (before || has (filter p (map (λ (t : Bor (List ℕ)). t.now) (take i texts))) unit) → after ≡ (now || (is_name unit (get_or texts i d).now && p (get_or texts i d).now)) →
-    after ≡ (before || has (filter p (map (λ (t : Bor (List ℕ)). t.now) (take (i + 1) texts))) unit)
-has_one_more p texts i d unit before now after within so_far added =
-    let text : Bor (List ℕ) = get_or texts i d in
-    let more : take (i + 1) texts ≡ take i texts ++ text ∷ [] = take_more texts i d within in
-    added
-    ∙ ap (λ b. b || (is_name unit text.now && p text.now)) so_far
-    ∙ or_assoc before (has (filter p (map (λ (t : Bor (List ℕ)). t.now) (take i texts))) unit) (is_name unit text.now && p text.now)
-    ∙ ap (λ b. before || (has (filter p (map (λ (t : Bor (List ℕ)). t.now) (take i texts))) unit || b)) (sym (has_filtered_one p text.now unit))
-    ∙ ap (λ b. before || b) (sym (has-filter-append p (map (λ (t : Bor (List ℕ)). t.now) (take i texts)) (text.now ∷ []) unit))
-    ∙ ap (λ ts. before || has (filter p ts) unit) (sym (ap (map (λ (t : Bor (List ℕ)). t.now)) more ∙ map-append (λ (t : Bor (List ℕ)). t.now) (take i texts) (text ∷ [])))
+module _ (p : List ℕ → Bool) (unit : List ℕ) where
+  -- two lists of names are added one after the other
+  pub has_both : (xs ys : List (List ℕ)) (before now after : Bool) → now ≡ (before || has (filter p xs) unit) → after ≡ (now || has (filter p ys) unit) → after ≡ (before || has (filter p (xs ++ ys)) unit)
+  has_both xs ys before now after first second =
+      second
+      ∙ ap (λ b. b || has (filter p ys) unit) first
+      ∙ or_assoc before (has (filter p xs) unit) (has (filter p ys) unit)
+      ∙ ap (λ b. before || b) (sym (has-filter-append p xs ys unit))
+
+  has_both_one : (xs : List (List ℕ)) (name : List ℕ) (before now after : Bool) → now ≡ (before || has (filter p xs) unit) → after ≡ (now || (is_name unit name && p name)) → after ≡ (before || has (filter p (xs ++ name ∷ [])) unit)
+  has_both_one xs name before now after first second = has_both xs (name ∷ []) before now after first (second ∙ ap (λ b. now || b) (sym (has_filtered_one p name unit)))
+
+  -- one text more is added where it passes a test
+  pub has_one_more : (texts : List (Bor (List ℕ))) (i : ℕ) (d : Bor (List ℕ)) (before now after : Bool) → i < length texts →
+      now ≡ (before || has (filter p (map (λ (t : Bor (List ℕ)). t.now) (take i texts))) unit) → after ≡ (now || (is_name unit (get_or texts i d).now && p (get_or texts i d).now)) →
+      after ≡ (before || has (filter p (map (λ (t : Bor (List ℕ)). t.now) (take (i + 1) texts))) unit)
+  has_one_more texts i d before now after within so_far added =
+      let text : Bor (List ℕ) = get_or texts i d in
+      has_both_one (map (λ (t : Bor (List ℕ)). t.now) (take i texts)) text.now before now after so_far added
+      ∙ ap (λ ts. before || has (filter p ts) unit) (sym (ap (map (λ (t : Bor (List ℕ)). t.now)) (take_more texts i d within) ∙ map-append (λ (t : Bor (List ℕ)). t.now) (take i texts) (text ∷ [])))
+
+  -- the parts of one text more are added
+  pub has_parts_more : (parts : List ℕ → List (List ℕ)) (texts : List (Bor (List ℕ))) (i : ℕ) (d : Bor (List ℕ)) (before now after : Bool) → i < length texts →
+      now ≡ (before || has (filter p (flat_map parts (map (λ (t : Bor (List ℕ)). t.now) (take i texts)))) unit) → after ≡ (now || has (filter p (parts (get_or texts i d).now)) unit) →
+      after ≡ (before || has (filter p (flat_map parts (map (λ (t : Bor (List ℕ)). t.now) (take (i + 1) texts)))) unit)
+  has_parts_more parts texts i d before now after within so_far added =
+      let text : Bor (List ℕ) = get_or texts i d in
+      let first : List (List ℕ) = map (λ (t : Bor (List ℕ)). t.now) (take i texts) in
+      has_both (flat_map parts first) (parts text.now) before now after so_far added
+      ∙ ap (λ ts. before || has (filter p ts) unit) (sym (
+      ap (flat_map parts) (ap (map (λ (t : Bor (List ℕ)). t.now)) (take_more texts i d within) ∙ map-append (λ (t : Bor (List ℕ)). t.now) (take i texts) (text ∷ []))
+      ∙ flat_map-append parts first (text.now ∷ []) ∙ ap (λ ts. flat_map parts first ++ ts) (append-nil (parts text.now))))
+
+  -- one name more is added where it passes a test
+  pub has_name_more : (names : List (List ℕ)) (i : ℕ) (name copied : List ℕ) (before now after : Bool) → i < length names → name ≡ get_or names i name → copied ≡ name →
+      now ≡ (before || has (filter p (take i names)) unit) → after ≡ (now || (is_name unit copied && p copied)) → after ≡ (before || has (filter p (take (i + 1) names)) unit)
+  has_name_more names i name copied before now after within is same so_far added =
+      has_both_one (take i names) (get_or names i name) before now after so_far (added ∙ ap (λ n. now || (is_name unit n && p n)) (same ∙ is))
+      ∙ ap (λ ns. before || has (filter p ns) unit) (sym (take_more names i name within))
+
+-- one copy more of names
+pub copied_more : (names : List (List ℕ)) (i : ℕ) (name copied : List ℕ) (so_far now : List (List ℕ)) → i < length names → name ≡ get_or names i name → copied ≡ name →
+    so_far ≡ take i names → now ≡ so_far ++ copied ∷ [] → now ≡ take (i + 1) names
+copied_more names i name copied so_far now within is same before pushed =
+    pushed ∙ ap (λ n. so_far ++ n ∷ []) (same ∙ is) ∙ ap (λ ns. ns ++ get_or names i name ∷ []) before ∙ sym (take_more names i name within)
+
+-- one item more is made of those of a list
+pub mapped_more : {X Y : Type 0} (f : X → Y) (items : List X) (i : ℕ) (item : X) (made : Y) (so_far now : List Y) → i < length items → item ≡ get_or items i item → made ≡ f item →
+    so_far ≡ map f (take i items) → now ≡ so_far ++ made ∷ [] → now ≡ map f (take (i + 1) items)
+mapped_more f items i item made so_far now within is made_is before pushed =
+    pushed ∙ ap (λ y. so_far ++ y ∷ []) (made_is ∙ ap f is) ∙ ap (λ ys. ys ++ f (get_or items i item) ∷ []) before
+    ∙ sym (ap (map f) (take_more items i item within) ∙ map-append f (take i items) (get_or items i item ∷ []))
+
+-- the next item is put after those before it
+pub moved_on : {X : Type 0} (before now left rest all : List X) (item : X) → left ≡ item ∷ rest → before ++ left ≡ all → now ≡ before ++ item ∷ [] → now ++ rest ≡ all
+moved_on before now left rest all item is whole pushed = ap (λ xs. xs ++ rest) pushed ∙ append_assoc before (item ∷ []) rest ∙ ap (λ xs. before ++ xs) (sym is) ∙ whole
+
+pub all_moved : {X : Type 0} (before left all : List X) → left ≡ [] → before ++ left ≡ all → before ≡ all
+all_moved before left all none whole = sym (append-nil before) ∙ ap (λ xs. before ++ xs) (sym none) ∙ whole
+
+-- ---- names that a text may have
+
+pub name_by : (b : Bool) (text name : List ℕ) → Some name ≡ cond b (Some text) None → name ≡ text
+name_by true text name same = cc
+name_by false text name same = absurd (cc)
+
+-- a name that a text has is the text
+pub named_same : (text name : List ℕ) → Some name ≡ named text → name ≡ text
+named_same text name same = name_by (is_unit text) text name same
+
+no_name_by : (b : Bool) (text : List ℕ) → None ≡ cond b (Some text) None → b ≡ false
+no_name_by true text none = absurd (cc)
+no_name_by false text none = refl
+
+pub not_named : (text : List ℕ) → None ≡ named text → is_unit text ≡ false
+not_named text none = no_name_by (is_unit text) text none
+
+-- what is no unit name can't be wanted
+pub not_wanted : (own : List ℕ → Option (List Assignment)) (text unit : List ℕ) (had : Bool) → None ≡ named text → had ≡ (had || (is_name unit text && can_be_wanted own text))
+not_wanted own text unit had none =
+    sym (ap (λ b. had || (is_name unit text && b))
+    (ap (λ f. is_some (cond f (option_or (own text) (option_and_then own (template_of text))) None) && not (is_template text)) (not_named text none))
+    ∙ ap (λ b. had || b) (and_false (is_name unit text)) ∙ or_false had)
 
 -- ---- the text of a unit
 

@@ -29,6 +29,13 @@ added_none part =
     let fault = or_none part.fault in
     λ i. record { text = text i; fault = fault i }
 
+-- a part is applied before the others that are left
+pub added_first : (part one now : Part) (rest : List Part) → now.text ≡ part.text ++ one.text → now.fault ≡ option_or part.fault one.fault → added now rest ≡ added part (one ∷ rest)
+added_first part one now rest is_text is_fault =
+    let text = ap (λ t. t ++ flat_map (λ (part : Part). part.text) rest) is_text ∙ append_assoc part.text one.text (flat_map (λ (part : Part). part.text) rest) in
+    let fault = ap (λ f. option_or f (first_fault rest)) is_fault ∙ or_assoc part.fault one.fault (first_fault rest) in
+    λ i. record { text = text i; fault = fault i }
+
 -- a file with two lists of files applied after it
 pub added_twice : (base : Part) (xs ys : List Part) → added (added base xs) ys ≡ merged (base ∷ xs ++ ys)
 added_twice base xs ys =

@@ -1,5 +1,5 @@
 -- Which paths are the files of units.
-use Rattle.std.proofs.Common.{◌≡◌, ℕ, ◌&&◌, Bool, true, false, cond, List, ◌++◌, length, drop, nat_eq, codes, Option, None, Some, is_none, option_and_then, refl, ap, ◌∙◌}
+use Rattle.std.proofs.Common.{◌≡◌, ℕ, ◌&&◌, Bool, true, false, cond, List, ◌++◌, length, drop, nat_eq, codes, Option, None, Some, is_none, option_and_then, refl, sym, ap, ◌∙◌}
 use Rattle.std.specs.List.{after_first, before_first, list_any, starts_with}
 use Rattle.std.specs.Option.{option_or}
 use Rattle.std.proofs.lemmas.Bool.{both_ways}
@@ -10,8 +10,34 @@ use Rattle.switch_names.specs.UnitName.{IsUnitName}
 use Rattle.unit_defs.specs.declared.place.Place.{Place}
 use Rattle.unit_defs.specs.declared.place.Place.TheVariants.{File, DropIn, Want}
 use Rattle.unit_defs.specs.Found.{is_file}
-use Rattle.unit_defs.specs.Place.{after_front, before_end, drop_in, drop_in_of, is_drop_in_name, is_slash, is_unit, place_after, place_below, place_in, want, want_of}
-use Rattle.unit_defs.proofs.NameLemmas.{name_exact, name_itself}
+use Rattle.unit_defs.specs.Place.{after_front, before_end, drop_in, drop_in_of, is_drop_in_name, is_slash, is_unit, named, place_after, place_below, place_in, want, want_of}
+use Rattle.unit_defs.proofs.NameLemmas.{name_by, name_exact, name_itself, not_named}
+
+-- ---- what a path says, by the names in it
+
+file_by : (b : Bool) (rest unit : List ℕ) (other : Option Place) → Some unit ≡ cond b (Some rest) None → Some (File unit) ≡ cond b (Some (File rest)) other
+file_by true rest unit other is = ap (λ u. Some (File u)) (name_by true rest unit is)
+file_by false rest unit other is = absurd (cc)
+
+pub placed_file : (rest unit : List ℕ) → Some unit ≡ named rest → Some (File unit) ≡ place_in rest
+placed_file rest unit is = file_by (is_unit rest) rest unit _ is
+
+module _ (rest : List ℕ) (none : None ≡ named rest) where
+  abbrev below : Option Place
+  below = place_below (before_first is_slash rest) (after_first is_slash rest)
+
+  placed_by : (b : Bool) → list_any is_slash rest ≡ b → place_in rest ≡ cond b below None
+  placed_by b is = ap (λ t. cond t (Some (File rest)) (cond (list_any is_slash rest) below None)) (not_named rest none) ∙ ap (λ t. cond t below None) is
+
+  pub placed_nowhere : list_any is_slash rest ≡ false → None ≡ place_in rest
+  placed_nowhere lacks = sym (placed_by false lacks)
+
+  pub placed_below : (folder name : List ℕ) (place : Option Place) → list_any is_slash rest ≡ true → folder ≡ before_first is_slash rest → name ≡ after_first is_slash rest →
+      place ≡ place_below folder name → place ≡ place_in rest
+  placed_below folder name place has is_folder is_name is =
+      is ∙ ap (λ f. place_below f name) is_folder ∙ ap (place_below (before_first is_slash rest)) is_name ∙ sym (placed_by true has)
+
+-- ---- which paths are files
 
 drop_in_no_file : (unit : List ℕ) (folder name : Option (List ℕ)) → is_file unit (drop_in_of folder name) ≡ false
 drop_in_no_file unit None name = refl

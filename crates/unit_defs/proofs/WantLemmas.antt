@@ -1,18 +1,21 @@
 -- What a unit wants, as it is kept beside the units.
-use Rattle.std.proofs.Common.{filter, ◌≡◌, ℕ, ◌<◌, ◌++◌, Bool, true, false, cond, List, [], ◌∷◌, length, get_or, map, Option, None, Some, option_map, option_and_then, refl, sym, ap, subst, ◌∙◌, arith}
-use Rattle.std.specs.List.{slice_get}
+use Rattle.std.proofs.Common.{filter, ◌≡◌, ℕ, ◌<◌, ◌++◌, ◌||◌, codes, Bool, true, false, cond, List, [], ◌∷◌, length, get_or, map, Option, None, Some, option_map, option_and_then, refl, sym, ap, subst, ◌∙◌, arith}
+use Rattle.std.specs.List.{flat_map, slice_get}
 use Rattle.std.specs.Option.{option_map_or, option_or}
 use Rattle.std.proofs.lemmas.Option.{slice_get-get_or, slice_get-map}
 use Rattle.switch_names.specs.UnitName.{IsUnitName, template_of}
+use Rattle.unit_text.specs.UnitKey.{key_of}
+use Rattle.unit_text.specs.UnitText.{values_of}
+use Rattle.unit_text.specs.declared.assignment.Assignment.{Assignment}
 use Rattle.unit_defs.specs.declared.part.Part.{Part}
 use Rattle.unit_defs.specs.declared.unit.Unit.{Unit}
 use Rattle.unit_defs.specs.declared.unit.Wants.{Wants}
 use Rattle.unit_defs.specs.Defs.{found_in, names_in, own_in, unit_in, wanted_in, wants_for}
 use Rattle.switch_names.specs.Names.{has, is_name}
-use Rattle.unit_defs.specs.Units.{can_be_wanted, wanted, words_in}
+use Rattle.unit_defs.specs.Units.{can_be_wanted, wanted, words_at, words_in, words_of}
 use Rattle.std.specs.List.Sorted.{IsStrictlySortedBy}
 use Rattle.host_trait.specs.World.{bytes_cmp}
-use Rattle.unit_defs.proofs.NameLemmas.{found_unit, name_exact}
+use Rattle.unit_defs.proofs.NameLemmas.{found_unit, has_both, name_exact, or_false}
 use Rattle.unit_defs.proofs.OrderLemmas.{in_order_sorted, none_in_order, wanted_each}
 
 unit_named : (units : List Unit) (name : List ℕ) (unit : Unit) → unit_in units name ≡ Some unit → name ≡ unit.name
@@ -55,6 +58,26 @@ own_through : (units : List Unit) (o : Option (List ℕ)) →
     option_and_then (own_in units) o ≡ option_map (λ (part : Part). part.text) (option_and_then (λ (unit : Unit). unit.part) (option_and_then (unit_in units) o))
 own_through units None = refl
 own_through units (Some name) = refl
+
+-- the text of a template by the unit that is found of it
+pub own_of_template : (units : List Unit) (o : Option (List ℕ)) (found : Option Unit) → option_and_then (unit_in units) o ≡ found →
+    option_map (λ (part : Part). part.text) (option_and_then (λ (unit : Unit). unit.part) found) ≡ option_and_then (own_in units) o
+own_of_template units o found there =
+    ap (λ u. option_map (λ (part : Part). part.text) (option_and_then (λ (unit : Unit). unit.part) u)) (sym there) ∙ sym (own_through units o)
+
+-- no text names a unit
+pub adds_nothing : (p : List ℕ → Bool) (text : Option (List Assignment)) (unit : List ℕ) (had : Bool) → text ≡ None → had ≡ (had || has (filter p (words_in text)) unit)
+adds_nothing p text unit had none = sym (ap (λ t. had || has (filter p (words_in t)) unit) none ∙ or_false had)
+
+-- the units of both keys are added
+pub adds_both : (p : List ℕ → Bool) (whole : Option (List Assignment)) (text : List Assignment) (wants requires : List (List ℕ)) (unit : List ℕ) (before now after : Bool) →
+    whole ≡ Some text → wants ≡ values_of text (key_of (codes "Unit") (codes "Wants")) → requires ≡ values_of text (key_of (codes "Unit") (codes "Requires")) →
+    now ≡ (before || has (filter p (flat_map words_of wants)) unit) → after ≡ (now || has (filter p (flat_map words_of requires)) unit) → after ≡ (before || has (filter p (words_in whole)) unit)
+adds_both p whole text wants requires unit before now after is are_wants are_requires first second =
+    has_both p unit (flat_map words_of wants) (flat_map words_of requires) before now after first second
+    ∙ ap (λ ws. before || has (filter p (flat_map words_of ws ++ flat_map words_of requires)) unit) are_wants
+    ∙ ap (λ ws. before || has (filter p (words_at (codes "Wants") text ++ flat_map words_of ws)) unit) are_requires
+    ∙ ap (λ t. before || has (filter p (words_in t)) unit) (sym is)
 
 -- a unit that the folder doesn't name wants what its template's text wants
 wanted_of_template : (units : List Unit) (name : List ℕ) (o : Option Unit) → IsUnitName name → unit_in units name ≡ None → option_and_then (unit_in units) (template_of name) ≡ o →

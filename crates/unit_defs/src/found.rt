@@ -15,7 +15,7 @@ use std::collections::BTreeMap;
 use switch_names::{Listed, Text, UnitName};
 
 /// What is found of one unit.
-#[derive(Debug, Drop)]
+#[derive(Drop)]
 pub struct UnitFiles {
     /// Its file, where a leaf stands there. A leaf without content is none.
     pub file: Option<Option<Part>>,
@@ -41,7 +41,7 @@ impl UnitFiles {
 }
 
 /// What is found of units by their names.
-#[derive(Debug, Drop)]
+#[derive(Drop)]
 pub struct Found {
     pub units: BTreeMap<UnitName, UnitFiles>,
 }
@@ -99,8 +99,7 @@ impl Found {
                 drop_ins,
                 wants,
             },
-        )?;
-        Ok(())
+        )
     }
 
     /// A drop-in of a unit is found, where the leaf has content.
@@ -118,8 +117,7 @@ impl Found {
         };
         let mut files = self.take(alloc, &unit);
         insert_new(&mut files.drop_ins, name, part)?;
-        self.put(unit, files)?;
-        Ok(())
+        self.put(unit, files)
     }
 
     /// A unit is found that another one wants.
@@ -133,8 +131,7 @@ impl Found {
     {
         let mut files = self.take(alloc, &unit);
         files.wants.push(name)?;
-        self.put(unit, files)?;
-        Ok(())
+        self.put(unit, files)
     }
 
     /// What is found of a unit.

@@ -8,7 +8,7 @@ use std::alloc::{AllocError, Global};
 use switch_names::{NameFault, Path, Text, UnitName};
 
 /// What a leaf in the folder of units is.
-#[derive(Debug, Drop)]
+#[derive(Drop)]
 pub enum Place {
     /// The file of a unit.
     File(UnitName),

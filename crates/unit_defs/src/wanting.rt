@@ -49,7 +49,10 @@ fn can_be_wanted(units: &[Unit], name: &UnitName) -> bool
     requires { AreSorted units.now }
     ensures { result ≡ can_be_wanted (own_in units.now) name.now }
 {
-    find_text(units, name).is_some() && !name.is_template()
+    if name.is_template() {
+        return false;
+    }
+    find_text(units, name).is_some()
 }
 
 /// Adds a unit that is wanted, where it can be.

@@ -1,8 +1,13 @@
 use Rattle.std.proofs.Common.{ap, sym, ◌∙◌}
 use Rattle.unit_defs.specs.Part.{added}
 use Rattle.unit_defs.proofs.DropInLemmas.{ordered_values}
-use Rattle.unit_defs.proofs.PartLemmas.{added_none}
+use Rattle.unit_defs.proofs.PartLemmas.{added_first, added_none}
 use Rattle.unit_defs.proofs.found.add_parts.Goals as goal
+
+pub loop-drop_in-preserved : goal.loop-drop_in-preserved
+loop-drop_in-preserved c =
+    added_first c.loop-drop_in.part c.in-Some.drop_in.now c.add.new.self c.next.new.self c.in_ok-add.ensures.text c.in_ok-add.ensures.fault
+    ∙ ap (added c.loop-drop_in.part) (sym c.in-Some.ensures.steps) ∙ c.loop-drop_in.invariant
 
 pub returns : goal.returns
 returns c =

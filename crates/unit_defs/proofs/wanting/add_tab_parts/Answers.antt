@@ -5,4 +5,4 @@ use Rattle.unit_defs.proofs.wanting.add_tab_parts.Goals as goal
 
 pub loop-part-preserved : goal.loop-part-preserved
 loop-part-preserved c = λ unit.
-    has_one_more (can_be_wanted (own_in c.args.units.now)) c.as_slice-part-items.result.now c.loop-part.part-index _ unit _ _ _ c.loop-part-test.true (c.loop-part.invariant unit) (c.in_ok-add_word.ensures unit)
+    has_one_more (can_be_wanted (own_in c.args.units.now)) unit c.as_slice-part-items.result.now c.loop-part.part-index _ _ _ _ c.loop-part-test.true (c.loop-part.invariant unit) (c.in_ok-add_word.ensures unit)
