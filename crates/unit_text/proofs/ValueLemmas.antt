@@ -1,11 +1,11 @@
 -- What one more assignment changes.
-use Rattle.std.proofs.Common.{◌≡◌, ℕ, Bool, true, false, not, cond, ◌&&◌, ◌||◌, List, [], ◌∷◌, ◌++◌, map, refl, sym, ap, ◌∙◌}
+use Rattle.std.proofs.Common.{◌≡◌, ℕ, ◌+◌, ◌<◌, Bool, true, false, not, cond, ◌&&◌, ◌||◌, List, [], ◌∷◌, ◌++◌, length, get_or, take, map, refl, sym, ap, ◌∙◌}
 use Rattle.std.specs.List.{filter, list_any}
 use Rattle.std.specs.List.Sorted.{ties, IsStableBy}
 use Rattle.std.specs.Ordering.{is_lt, ordering_reverse}
 use Rattle.std.specs.declared.cmp.Ordering.{Ordering}
 use Rattle.std.specs.declared.cmp.Ordering.TheVariants.{Less, Equal, Greater}
-use Rattle.std.proofs.lemmas.List.{append-nil, map-append}
+use Rattle.std.proofs.lemmas.List.{append-nil, append_assoc, map-append, take_more}
 use Rattle.std.proofs.lemmas.List.Elements.{filter-append}
 use Rattle.std.proofs.lemmas.List.Folds.{list_any-append}
 use Rattle.unit_text.specs.declared.assignment.Assignment.{Assignment}
@@ -18,6 +18,13 @@ use Rattle.unit_text.proofs.KeyLemmas.{key_total, exact_keys, same_self, less_ot
 or_false : (b : Bool) → (b || false) ≡ b
 or_false true = refl
 or_false false = refl
+
+-- a copy of one item more stands at the end
+pub taken_more : {X : Type 0} (first items : List X) (i : ℕ) (item copied : X) (so_far now : List X) → i < length items → item ≡ get_or items i item → copied ≡ item →
+    so_far ≡ first ++ take i items → now ≡ so_far ++ copied ∷ [] → now ≡ first ++ take (i + 1) items
+taken_more first items i item copied so_far now within is same before pushed =
+    pushed ∙ ap (λ x. so_far ++ x ∷ []) (same ∙ is) ∙ ap (λ xs. xs ++ get_or items i item ∷ []) before
+    ∙ append_assoc first (take i items) (get_or items i item ∷ []) ∙ ap (λ xs. first ++ xs) (sym (take_more items i item within))
 
 -- one more value clears the earlier ones, or goes to the end
 after_push : (values : List (List ℕ)) (value : List ℕ) → after_last_empty (values ++ value ∷ []) ≡ cond (is_empty value) [] (after_last_empty values ++ value ∷ [])

@@ -37,7 +37,7 @@ impl Index {
         let mut ordered = copies(alloc, assignments)?;
         ordered.sort_by(|one, other| one.at.cmp(&other.at))?;
         let mut index = Index::new(alloc);
-        for assignment in ordered {
+        for assignment in ordered.as_slice() {
             index.apply(alloc, assignment)?;
         }
         Ok(index)
@@ -101,10 +101,10 @@ impl Index {
     }
 
     /// Applies one more assignment.
-    pub fn apply(&mut self, alloc: Global, assignment: Assignment) -> Result<(), AllocError>
+    pub fn apply(&mut self, alloc: Global, assignment: &Assignment) -> Result<(), AllocError>
         requires sorted { IsStrictlySortedBy key_cmp self.old.keys }
         requires as_many { vec_len self.old.values ≡ length self.old.keys }
-        ensures ok { (text : List Assignment) → IsIndexOf text self.old → OnOk result (IsIndexOf (text ++ assignment ∷ []) self.new) }
+        ensures ok { (text : List Assignment) → IsIndexOf text self.old → OnOk result (IsIndexOf (text ++ assignment.now ∷ []) self.new) }
         ensures err { (text : List Assignment) → IsIndexOf text self.old → OnErr result (IsIndexOf text self.new) }
     {
         let Assignment { at: key, value } = assignment;
@@ -114,9 +114,9 @@ impl Index {
                 self.remove(at);
                 Ok(())
             }
-            Ok(at) => self.add_value(at, value),
+            Ok(at) => self.add_value(at, value.copy(alloc)?),
             Err(_) if is_empty => Ok(()),
-            Err(at) => self.insert(alloc, at, key, value),
+            Err(at) => self.insert(alloc, at, key.copy(alloc)?, value.copy(alloc)?),
         }
     }
 }

@@ -85,8 +85,7 @@ impl UnitText {
         ensures err { OnErr result (self.new ≡ self.old) }
     {
         self.assignments.reserve(1)?;
-        let copied = assignment.copy(alloc)?;
-        self.index.apply(alloc, copied)?;
+        self.index.apply(alloc, &assignment)?;
         self.assignments.push_reserved(assignment);
         Ok(())
     }

@@ -1,5 +1,5 @@
-use Rattle.std.proofs.Common.{◌≡◌, ◌<◌, ◌==◌, ℕ, List, length, refl, sym, ap, ◌∙◌, subst, ⊎_elim, OnOk, Result, Ok, Err, Some}
-use Rattle.std.specs.List.{slice_get}
+use Rattle.std.proofs.Common.{[], ◌∷◌, ◌++◌, ◌≡◌, ◌<◌, ◌==◌, ℕ, List, length, refl, sym, ap, ◌∙◌, subst, ⊎_elim, OnOk, Result, Ok, Err, Some}
+use Rattle.std.specs.List.{insert, slice_get, slice_index_or, slice_set}
 use Rattle.std.proofs.lemmas.Bool.{cases_lt}
 use Rattle.std.proofs.lemmas.Option.{slice_get_past, none-some}
 use Rattle.std.proofs.lemmas.Result.{on_ok_weaker}
@@ -19,30 +19,34 @@ both (Err e) f p q = tt
 pub returns-in-Ok-clause-ok : goal.returns-in-Ok-clause-ok
 returns-in-Ok-clause-ok c text is =
     let found = c.in-Ok.ensures.found ∙ ap Some (λ i. key_of (c.as_str-2.ensures i) (c.as_str-3.ensures i)) in
-    drops text c.args.assignment c.args.self.now c.remove.new.self is c.in-Ok.at (within _ _ _ found) found
+    drops text c.args.assignment.now c.args.self.now c.remove.new.self is c.in-Ok.at (within _ _ _ found) found
     (ap (λ t. length t == 0) (sym c.as_str.ensures) ∙ sym c.if-is_empty.ensures) c.remove.ensures.keys c.remove.ensures.values
 
 pub add_value-requires : goal.add_value-requires
 add_value-requires c = subst (λ (n : ℕ). c.in-Ok.at < n) (sym c.requires.as_many) (within _ _ _ c.in-Ok.ensures.found)
 
-pub returns-in-Ok-2-clause-ok : goal.returns-in-Ok-2-clause-ok
-returns-in-Ok-2-clause-ok c text is =
+pub returns-in_ok-copy-in-Ok-2-clause-ok : goal.returns-in_ok-copy-in-Ok-2-clause-ok
+returns-in_ok-copy-in-Ok-2-clause-ok c text is =
     let found = c.in-Ok.ensures.found ∙ ap Some (λ i. key_of (c.as_str-2.ensures i) (c.as_str-3.ensures i)) in
+    let values = subst (λ (value : List ℕ). OnOk c.add_value.result (c.add_value.new.self.values.items ≡ slice_set c.args.self.now.values.items c.in-Ok.at (slice_index_or c.args.self.now.values.items c.in-Ok.at [] ++ value ∷ [])))
+    c.in_ok-copy-in-Ok-2.ensures c.add_value.ensures.values in
     on_ok_weaker c.add_value.result
-    (adds text c.args.assignment c.args.self.now c.add_value.new.self is c.in-Ok.at (within _ _ _ found) found
+    (adds text c.args.assignment.now c.args.self.now c.add_value.new.self is c.in-Ok.at (within _ _ _ found) found
     (ap (λ t. length t == 0) (sym c.as_str.ensures) ∙ sym c.if-is_empty.ensures) c.add_value.ensures.keys)
-    c.add_value.ensures.values
+    values
 
 pub returns-in-Err-clause-ok : goal.returns-in-Err-clause-ok
 returns-in-Err-clause-ok c text is =
     let place = subst (λ (key : UnitKey). IsPlaceFor c.args.self.now.keys key c.in-Err.field-0) (λ i. key_of (c.as_str-2.ensures i) (c.as_str-3.ensures i)) c.in-Err.ensures.missing in
-    skips text c.args.assignment c.args.self.now c.args.self.now is c.in-Err.field-0 place
+    skips text c.args.assignment.now c.args.self.now c.args.self.now is c.in-Err.field-0 place
     (ap (λ t. length t == 0) (sym c.as_str.ensures) ∙ sym c.if-is_empty-2.ensures) refl refl
 
-pub returns-clause-ok : goal.returns-clause-ok
-returns-clause-ok c text is =
+pub returns-in_ok-copy-in-Err-2-2-clause-ok : goal.returns-in_ok-copy-in-Err-2-2-clause-ok
+returns-in_ok-copy-in-Err-2-2-clause-ok c text is =
     let place = subst (λ (key : UnitKey). IsPlaceFor c.args.self.now.keys key c.in-Err.field-0) (λ i. key_of (c.as_str-2.ensures i) (c.as_str-3.ensures i)) c.in-Err.ensures.missing in
+    let keys = subst (λ (key : UnitKey). OnOk c.insert.result (c.insert.new.self.keys ≡ insert c.args.self.now.keys c.in-Err.field-0 key)) c.in_ok-copy-in-Err-2.ensures c.insert.ensures.keys in
+    let values = subst (λ (value : List ℕ). OnOk c.insert.result (c.insert.new.self.values.items ≡ insert c.args.self.now.values.items c.in-Err.field-0 (value ∷ []))) c.in_ok-copy-in-Err-2-2.ensures c.insert.ensures.values in
     both c.insert.result
-    (inserts text c.args.assignment c.args.self.now c.insert.new.self is c.in-Err.field-0 place
+    (inserts text c.args.assignment.now c.args.self.now c.insert.new.self is c.in-Err.field-0 place
     (ap (λ t. length t == 0) (sym c.as_str.ensures) ∙ sym c.if-is_empty-2.ensures))
-    c.insert.ensures.keys c.insert.ensures.values
+    keys values

@@ -1,4 +1,4 @@
-use Rattle.std.proofs.Common.{ℕ, List, inl, inr, ⊎_elim, OnOk, Result, Ok, Err, Some, sym, ap, ◌∙◌, subst}
+use Rattle.std.proofs.Common.{rules, ℕ, List, inl, inr, ⊎_elim, OnOk, Result, Ok, Err, Some, sym, ap, ◌∙◌, subst}
 use Rattle.std.proofs.lemmas.Result.{on_ok_weaker, IfErr-weaker}
 use Rattle.std.proofs.lemmas.Str.{is_utf8-from_IsUtf8}
 use Rattle.unit_text.specs.Lines.{is_continued, with_space}
@@ -63,3 +63,6 @@ returns-in-None-clause-fault c rest =
     (ap (λ text. joined_fault old.body.section old.bad (ended old.part c.args.number text)) (sym same) ∙ is)))
     h)
     c.end.ensures.fault
+
+pub returns-then-is_comment-clause-fault : goal.returns-then-is_comment-clause-fault
+returns-then-is_comment-clause-fault c = search rules
