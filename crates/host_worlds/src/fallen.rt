@@ -50,6 +50,24 @@ fn push_drop(
     )?)
 }
 
+/// Appends how the calls of a word end on a host.
+fn push_called(
+    alloc: Global,
+    out: &mut String,
+    host: &mut MemoryHost,
+    at: &Path,
+    word: &str,
+) -> Result<(), Fail>
+    requires host { Told (host_of host.old) (λ w. (q : List ℕ) → get w.leaves q ≡ None) }
+    requires at { at.now ≡ codes "etc/put" }
+{
+    match word {
+        "put" => push_put(alloc, out, host, at),
+        "drop" => push_drop(alloc, out, host, at),
+        _ => misread(),
+    }
+}
+
 /// Appends how the calls of a word end on a host on which a cut has fallen.
 pub fn push_fallen(alloc: Global, out: &mut String, fields: &[Bytes]) -> Result<(), Fail> {
     let [word] = fields else {
@@ -58,9 +76,5 @@ pub fn push_fallen(alloc: Global, out: &mut String, fields: &[Bytes]) -> Result<
     let word = text_of(word)?;
     let at = place(alloc)?;
     let mut host = fallen_host(alloc);
-    match word {
-        "put" => push_put(alloc, out, &mut host, &at),
-        "drop" => push_drop(alloc, out, &mut host, &at),
-        _ => misread(),
-    }
+    push_called(alloc, out, &mut host, &at, word)
 }

@@ -19,8 +19,8 @@ fn load_and_start<M: Manager>(
     host.start(alloc, unit)
 }
 
-/// Appends what a new host tells of a unit, how it then starts it, and its faults each time.
-fn push_acted<R: Files + AllocGlobal + Clone + Drop>(
+/// Appends what a host tells of a unit, and its faults before and after.
+fn push_asked<R: Files + AllocGlobal + Clone + Drop>(
     alloc: Global,
     out: &mut String,
     host: &mut FolderHost<R>,
@@ -28,7 +28,17 @@ fn push_acted<R: Files + AllocGlobal + Clone + Drop>(
 ) -> Result<(), Fail> {
     writeln!(out, "faults: {}", host.faults())?;
     push_told(alloc, out, host, unit)?;
-    writeln!(out, ", faults: {}", host.faults())?;
+    Ok(writeln!(out, ", faults: {}", host.faults())?)
+}
+
+/// Appends the same of a new host, how it then starts the unit, and its faults.
+fn push_acted<R: Files + AllocGlobal + Clone + Drop>(
+    alloc: Global,
+    out: &mut String,
+    host: &mut FolderHost<R>,
+    unit: &UnitName,
+) -> Result<(), Fail> {
+    push_asked(alloc, out, host, unit)?;
     let started = word_of(&load_and_start(alloc, host, unit))?;
     Ok(writeln!(out, "start: {started}, faults: {}", host.faults())?)
 }

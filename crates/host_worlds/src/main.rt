@@ -48,19 +48,18 @@ fn push_of_host(
     }
 }
 
-/// Appends the same of a host with a world of files.
+/// Appends the same of a host with the world that stands after so many fields.
 fn push_on_host(
     alloc: Global,
     out: &mut String,
     command: &str,
+    count: usize,
     fields: &[Bytes],
 ) -> Result<(), Fail> {
-    let count = if command == "act" { 4 } else { 1 };
     let Some((arguments, files)) = fields.split_at_checked(count) else {
         return misread();
     };
-    let world = worlds::world_of(alloc, files)?;
-    let mut host = MemoryHost::new(alloc, world);
+    let mut host = MemoryHost::new(alloc, worlds::world_of(alloc, files)?);
     push_of_host(alloc, out, command, &mut host, arguments)
 }
 
@@ -109,7 +108,8 @@ fn push_in_memory(
         "states" | "seen" | "put" | "move" | "hand over" => {
             push_on_world(alloc, out, command, fields)
         }
-        "act" | "generations" => push_on_host(alloc, out, command, fields),
+        "act" => push_on_host(alloc, out, command, 4, fields),
+        "generations" => push_on_host(alloc, out, command, 1, fields),
         "number" => found::push_number(alloc, out, fields),
         "trouble" => troubles::push_trouble(alloc, out, fields),
         "fallen" => fallen::push_fallen(alloc, out, fields),

@@ -40,7 +40,25 @@ fn push_taken(alloc: Global, out: &mut String, world: &mut World, at: &Path) -> 
     }
 }
 
-/// Moves a link from `x` to `y` in an empty world and takes it out, and appends which places were free.
+/// Moves a link in an empty world and takes it out, and appends which places were free.
+fn push_between(
+    alloc: Global,
+    out: &mut String,
+    world: &mut World,
+    from: &Path,
+    to: &Path,
+) -> Result<(), Fail>
+    requires empty { world.old ≡ empty_world }
+    requires from { from.now ≡ codes "x" }
+    requires to { to.now ≡ codes "y" }
+{
+    let (was_free, is_free) = put_and_move(alloc, world, from, to)?;
+    writeln!(out, "free before: {was_free} {is_free}")?;
+    push_taken(alloc, out, world, to)?;
+    Ok(write!(out, "free then: {}", world.leaf(from).is_none())?)
+}
+
+/// Moves a link from `x` to `y` in an empty world.
 pub fn push_moved(
     alloc: Global,
     out: &mut String,
@@ -54,8 +72,5 @@ pub fn push_moved(
     };
     let from = Path::parse(alloc, "x")?;
     let to = Path::parse(alloc, "y")?;
-    let (was_free, is_free) = put_and_move(alloc, world, &from, &to)?;
-    writeln!(out, "free before: {was_free} {is_free}")?;
-    push_taken(alloc, out, world, &to)?;
-    Ok(write!(out, "free then: {}", world.leaf(&from).is_none())?)
+    push_between(alloc, out, world, &from, &to)
 }

@@ -67,7 +67,7 @@ fn push_revived(
     push_read(alloc, out, host, at)
 }
 
-/// Appends how `put_and_remove` ends on a host without leaves, and what stands at the stage and the place then.
+/// Appends how `put_and_remove` ends on a host without leaves, and what stands at the stage and the place.
 fn push_end(alloc: Global, out: &mut String, host: &mut MemoryHost) -> Result<(), Fail>
     requires { (host_of host.old).world ≡ Some empty_world }
 {
@@ -80,7 +80,7 @@ fn push_end(alloc: Global, out: &mut String, host: &mut MemoryHost) -> Result<()
     push_revived(alloc, out, host, &to)
 }
 
-/// Appends the same of a new host that is cut after so many calls with a pick, and fails the call with a number.
+/// Appends the same of a new host that is cut after so many calls with a pick, and fails one call.
 pub fn push_trouble(alloc: Global, out: &mut String, fields: &[Bytes]) -> Result<(), Fail> {
     let [after, pick, failing] = fields else {
         return misread();

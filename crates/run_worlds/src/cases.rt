@@ -1,26 +1,11 @@
 //! The lines of cases.
+use crate::fields::fields_of;
 use crate::folders::push_folder;
 use crate::runs::push_case_run;
 use crate::troubles::push_troubles;
 use crate::worlds::Case;
 use crate::writing::push_faults;
-use std::alloc::{AllocError, Global};
 use std::test::Fail;
-
-/// The fields of a line.
-fn fields_of<'a>(alloc: Global, line: &'a str) -> Result<Vec<&'a str>, AllocError> {
-    let mut fields = Vec::new(alloc);
-    let mut rest = line;
-    for _ in 0..4 {
-        let Some((field, next)) = rest.split_once(" | ") else {
-            break;
-        };
-        fields.push(field)?;
-        rest = next;
-    }
-    fields.push(rest)?;
-    Ok(fields)
-}
 
 /// Appends what a command gives.
 fn push_command(

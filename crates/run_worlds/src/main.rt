@@ -2,6 +2,7 @@
 #![tactic(auto)]
 
 mod cases;
+mod fields;
 mod folders;
 mod runs;
 mod troubles;

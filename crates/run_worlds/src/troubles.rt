@@ -3,14 +3,15 @@ use crate::runs::{list_of, push_outcome, sink_of, status_of};
 use crate::worlds::{Case, host_of};
 use crate::writing::{push_seen, push_status};
 use host_memory::MemoryHost;
+use host_trait::Manager;
 use std::alloc::{AllocError, Global};
 use std::test::Fail;
 
 /// Runs these words, and appends the line of the status.
-fn push_end(
+fn push_end<H: Manager>(
     alloc: Global,
     out: &mut String,
-    host: &mut MemoryHost,
+    host: &mut H,
     words: &str,
 ) -> Result<(), Fail> {
     let mut sink = sink_of(alloc, "-")?;

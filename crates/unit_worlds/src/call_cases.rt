@@ -1,6 +1,7 @@
 //! The calls by which what is owed is given.
 use crate::fields::Field;
-use crate::names::{add_names, push_names};
+use crate::names::add_names;
+use crate::writing::{push, push_named, push_names};
 use host_memory::MemoryHost;
 use host_trait::States;
 use owed_lists::{Lists, load};
@@ -11,23 +12,20 @@ use switch_names::Listed;
 use unit_defs::Defs;
 
 /// Appends calls in their order, with a semicolon and a blank after each.
-fn push_duties(alloc: Global, out: &mut String, duties: &[Duty]) -> Result<(), AllocError> {
+fn push_duties(alloc: Global, out: &mut String, duties: &[Duty]) -> Result<(), Fail> {
     for duty in duties {
-        let call = format!(in alloc; "{:?} {}; ", duty.act, duty.unit.as_str())?;
-        out.push_str(call.as_str())?;
+        push_named(alloc, out, duty.act)?;
+        push(out, " ")?;
+        push(out, duty.unit.as_str())?;
+        push(out, "; ")?;
     }
     Ok(())
 }
 
 /// Appends the units that are left, and the calls in some states.
-fn push_calls(
-    alloc: Global,
-    out: &mut String,
-    owed: &Owed,
-    states: &States,
-) -> Result<(), AllocError> {
+fn push_calls(alloc: Global, out: &mut String, owed: &Owed, states: &States) -> Result<(), Fail> {
     push_names(out, owed.left.as_slice())?;
-    out.push_str("| ")?;
+    push(out, "| ")?;
     let duties = calls(alloc, owed, states)?;
     push_duties(alloc, out, duties.as_slice())
 }
@@ -44,6 +42,18 @@ fn add_owed(alloc: Global, owed: &mut Owed, given: &[Field]) -> Result<(), Fail>
     add_names(alloc, &mut owed.left, left)
 }
 
+/// Appends the units that are left, and the calls, once what five fields give is owed too.
+fn push_added(
+    alloc: Global,
+    out: &mut String,
+    owed: &mut Owed,
+    states: &States,
+    given: &[Field],
+) -> Result<(), Fail> {
+    add_owed(alloc, owed, given)?;
+    push_calls(alloc, out, owed, states)
+}
+
 /// Appends the units that are left, and the calls of what five fields give.
 pub fn push_given(
     alloc: Global,
@@ -58,8 +68,7 @@ pub fn push_given(
         starts: Listed::new(alloc),
         left: Listed::new(alloc),
     };
-    add_owed(alloc, &mut owed, given)?;
-    Ok(push_calls(alloc, out, &owed, states)?)
+    push_added(alloc, out, &mut owed, states, given)
 }
 
 /// What is owed between two systems without units.
@@ -69,12 +78,7 @@ fn owed_without_units(alloc: Global, states: &States, lists: &Lists) -> Result<O
 }
 
 /// Appends the units that are left between two systems without units, and the calls.
-fn push_owed(
-    alloc: Global,
-    out: &mut String,
-    states: &States,
-    lists: &Lists,
-) -> Result<(), AllocError> {
+fn push_owed(alloc: Global, out: &mut String, states: &States, lists: &Lists) -> Result<(), Fail> {
     let owed = owed_without_units(alloc, states, lists)?;
     push_calls(alloc, out, &owed, states)
 }
@@ -82,5 +86,5 @@ fn push_owed(
 /// Appends the same with the states and the lists of a host.
 pub fn push_owed_on(alloc: Global, out: &mut String, host: &mut MemoryHost) -> Result<(), Fail> {
     let lists = load(alloc, host)?;
-    Ok(push_owed(alloc, out, host.world().states(), &lists)?)
+    push_owed(alloc, out, host.world().states(), &lists)
 }

@@ -8,7 +8,7 @@ use crate::names::add_names;
 use crate::report_cases::push_switch;
 use crate::text_cases::{push_file_values, push_merged, push_of_file};
 use crate::worlds::fill;
-use bstr::ByteSlice;
+use crate::writing::push;
 use host_memory::MemoryHost;
 use host_trait::World;
 use std::alloc::Global;
@@ -66,7 +66,7 @@ fn push_answer(
     given: &[Field],
 ) -> Result<(), Fail> {
     match (command, given) {
-        ("values", [file]) => Ok(push_file_values(alloc, out, bytes_of(file)?)?),
+        ("values", [file]) => push_file_values(alloc, out, bytes_of(file)?),
         ("merge", [first, later]) => {
             push_merged(alloc, out, (bytes_of(first)?, bytes_of(later)?))
         }
@@ -90,26 +90,24 @@ fn push_case(alloc: Global, out: &mut String, fields: &[Field]) -> Result<(), Fa
     let [command, title, given @ ..] = fields else {
         return Err(Fail::new("a case has a command and a title"));
     };
-    out.push_str(text_of(title)?)?;
-    out.push('\n')?;
+    push(out, text_of(title)?)?;
+    push(out, "\n")?;
     push_answer(alloc, out, text_of(command)?, given)?;
-    Ok(out.push('\n')?)
+    push(out, "\n")
 }
 
 /// Appends the case of a line, where it has one.
-fn push_line(alloc: Global, out: &mut String, line: &[u8]) -> Result<(), Fail> {
-    match line {
-        [] | [b'#', ..] => Ok(()),
-        _ => {
-            let fields = fields_of(alloc, line)?;
-            push_case(alloc, out, fields.as_slice())
-        }
+fn push_line(alloc: Global, out: &mut String, line: &str) -> Result<(), Fail> {
+    if line.is_empty() || line.starts_with('#') {
+        return Ok(());
     }
+    let fields = fields_of(alloc, line)?;
+    push_case(alloc, out, fields.as_slice())
 }
 
 /// Appends the cases of lines.
-pub fn push_cases(alloc: Global, out: &mut String, lines: &[u8]) -> Result<(), Fail> {
-    for line in lines.split_str(b"\n") {
+pub fn push_cases(alloc: Global, out: &mut String, lines: &str) -> Result<(), Fail> {
+    for line in lines.split('\n') {
         push_line(alloc, out, line)?;
     }
     Ok(())

@@ -1,9 +1,11 @@
 //! What counts as a change of a unit, and what is decided: NixOS manual, "Unit handling".
 use crate::fields::{Field, text_of};
+use crate::names::name_of;
+use crate::writing::{push, push_named};
 use std::alloc::Global;
 use std::test::Fail;
 use switch_names::UnitName;
-use unit_compare::compare;
+use unit_compare::{Comparison, compare};
 use unit_decide::decide;
 use unit_text::{TextFault, UnitText, parse};
 
@@ -15,6 +17,17 @@ fn parsed(alloc: Global, file: &Field) -> Result<Option<UnitText>, TextFault> {
     }
 }
 
+/// Appends two comparisons.
+fn push_compared(
+    alloc: Global,
+    out: &mut String,
+    (there, back): (Comparison, Comparison),
+) -> Result<(), Fail> {
+    push_named(alloc, out, there)?;
+    push(out, " ")?;
+    push_named(alloc, out, back)
+}
+
 /// Appends the decision on an Active unit where it is told whether one of its sockets is live, and else
 /// the comparison of its texts both ways.
 fn push_change(
@@ -23,16 +36,15 @@ fn push_change(
     (old, new): (Option<&UnitText>, Option<&UnitText>),
     (unit, live): (&UnitName, Option<bool>),
 ) -> Result<(), Fail> {
-    let text = match (old, new, live) {
-        (_, _, Some(live)) => format!(in alloc; "{:?}", decide(old, new, unit, live))?,
+    match (old, new, live) {
+        (_, _, Some(live)) => push_named(alloc, out, decide(old, new, unit, live)),
         (Some(old), Some(new), None) => {
             let there = compare(unit.kind(), old, new);
             let back = compare(unit.kind(), new, old);
-            format!(in alloc; "{there:?} {back:?}")?
+            push_compared(alloc, out, (there, back))
         }
-        _ => return Err(Fail::new("a text isn't there")),
-    };
-    Ok(out.push_str(text.as_str())?)
+        _ => Err(Fail::new("a text isn't there")),
+    }
 }
 
 /// Appends the same where the new text is that of a file.
@@ -56,7 +68,7 @@ pub fn push_changed(
     let [unit, old, new, ..] = given else {
         return Err(Fail::new("a unit has an old and a new text"));
     };
-    let unit = UnitName::parse(alloc, text_of(unit)?)?;
+    let unit = name_of(alloc, text_of(unit)?)?;
     let old = parsed(alloc, old)?;
     push_change_to(alloc, out, (old.as_ref(), new), (&unit, live))
 }

@@ -1,34 +1,34 @@
 //! Which units a system defines, by the rules of systemd.unit(5), and which each wants.
-use crate::names::{push_faulty, push_names, push_values};
 use crate::pull_cases::push_pulls;
+use crate::writing::{push, push_faulty, push_names, push_values};
 use host_memory::MemoryHost;
 use host_trait::States;
-use std::alloc::{AllocError, Global};
+use std::alloc::Global;
 use std::test::Fail;
 use switch_names::{Listed, SystemName, UnitName};
 use unit_defs::{Defs, DefsFault};
 
 /// Appends the names that are defined, and for each of these units the values of `K` in the section `S`
 /// of its text, where it has one.
-fn push_found(out: &mut String, defs: &Defs, units: &[UnitName]) -> Result<(), AllocError> {
+fn push_found(out: &mut String, defs: &Defs, units: &[UnitName]) -> Result<(), Fail> {
     push_names(out, defs.names().as_slice())?;
     for unit in units {
-        out.push_str(": ")?;
+        push(out, ": ")?;
         match defs.find(unit) {
             Some(text) => push_values(out, text.values("S", "K"))?,
-            None => out.push_str("none")?,
+            None => push(out, "none")?,
         }
     }
     Ok(())
 }
 
 /// Appends a line for each of these units, with what it wants.
-fn push_wants(out: &mut String, defs: &Defs, units: &[UnitName]) -> Result<(), AllocError> {
+fn push_wants(out: &mut String, defs: &Defs, units: &[UnitName]) -> Result<(), Fail> {
     for unit in units {
-        out.push_str(unit.as_str())?;
-        out.push_str(": ")?;
+        push(out, unit.as_str())?;
+        push(out, ": ")?;
         push_names(out, defs.wanted(unit).as_slice())?;
-        out.push('\n')?;
+        push(out, "\n")?;
     }
     Ok(())
 }
@@ -42,9 +42,9 @@ fn push_by_defs(
     (command, units): (&str, &Listed<UnitName>),
 ) -> Result<(), Fail> {
     match command {
-        "found" | "found without a system" => Ok(push_found(out, defs, units.as_slice())?),
-        "pull" | "pull without a system" => Ok(push_pulls(alloc, out, defs, states, units)?),
-        "wanted without a system" => Ok(push_wants(out, defs, units.as_slice())?),
+        "found" | "found without a system" => push_found(out, defs, units.as_slice()),
+        "pull" | "pull without a system" => push_pulls(alloc, out, defs, states, units),
+        "wanted without a system" => push_wants(out, defs, units.as_slice()),
         _ => Err(Fail::new("no such question")),
     }
 }
@@ -72,7 +72,21 @@ fn push_by_none(
     push_by_defs(alloc, out, &none, states, asked)
 }
 
-/// Appends what these units want in a new system, or the first unit with a fault and its line.
+/// Appends what these units want, or the first unit with a fault and its line.
+fn push_read(
+    alloc: Global,
+    out: &mut String,
+    answer: &Result<Defs, DefsFault>,
+    units: &[UnitName],
+) -> Result<(), Fail> {
+    match answer {
+        Ok(defs) => push_wants(out, defs, units),
+        Err(DefsFault::Text { unit, line }) => push_faulty(alloc, out, unit, *line),
+        Err(DefsFault::Host(_)) => Err(Fail::new("a call on the host has failed")),
+    }
+}
+
+/// Appends the same of a new system.
 fn push_wanted(
     alloc: Global,
     out: &mut String,
@@ -80,11 +94,8 @@ fn push_wanted(
     units: &Listed<UnitName>,
 ) -> Result<(), Fail> {
     let system = SystemName::parse(alloc, "nix/store/a-sys")?;
-    match Defs::read(alloc, host, &system) {
-        Ok(defs) => Ok(push_wants(out, &defs, units.as_slice())?),
-        Err(DefsFault::Text { unit, line }) => Ok(push_faulty(alloc, out, &unit, line)?),
-        Err(DefsFault::Host(fault)) => Err(Fail::from(fault)),
-    }
+    let answer = Defs::read(alloc, host, &system);
+    push_read(alloc, out, &answer, units.as_slice())
 }
 
 /// Appends what is asked of these units.

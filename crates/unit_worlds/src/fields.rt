@@ -1,5 +1,4 @@
 //! The fields of a line.
-use bstr::ByteSlice;
 use std::alloc::Global;
 use std::test::Fail;
 
@@ -48,24 +47,27 @@ fn push_bytes(bytes: &mut Vec<u8>, text: &[u8]) -> Result<(), Fail> {
     Ok(())
 }
 
+/// The bytes of a text.
+fn read_bytes(alloc: Global, text: &[u8]) -> Result<Vec<u8>, Fail> {
+    let mut bytes = Vec::new(alloc);
+    push_bytes(&mut bytes, text)?;
+    Ok(bytes)
+}
+
 /// The field of a text: nothing for `\e`.
-fn field_of(alloc: Global, text: &[u8]) -> Result<Field, Fail> {
+fn field_of(alloc: Global, text: &str) -> Result<Field, Fail> {
     match text {
-        [b'-'] => Ok(None),
-        [b'\\', b'e'] => Ok(Some(Vec::new(alloc))),
-        [] => Err(Fail::new("a field is empty")),
-        _ => {
-            let mut bytes = Vec::new(alloc);
-            push_bytes(&mut bytes, text)?;
-            Ok(Some(bytes))
-        }
+        "-" => Ok(None),
+        "\\e" => Ok(Some(Vec::new(alloc))),
+        "" => Err(Fail::new("a field is empty")),
+        _ => Ok(Some(read_bytes(alloc, text.as_bytes())?)),
     }
 }
 
 /// The fields of a line.
-pub fn fields_of(alloc: Global, line: &[u8]) -> Result<Vec<Field>, Fail> {
+pub fn fields_of(alloc: Global, line: &str) -> Result<Vec<Field>, Fail> {
     let mut fields = Vec::new(alloc);
-    for text in line.split_str(b" | ") {
+    for text in line.split(" | ") {
         fields.push(field_of(alloc, text)?)?;
     }
     Ok(fields)
@@ -79,7 +81,12 @@ pub fn bytes_of(field: &Field) -> Result<&[u8], Fail> {
     }
 }
 
+/// The text of bytes.
+pub fn text_from(bytes: &[u8]) -> Result<&str, Fail> {
+    Ok(std::str::from_utf8(bytes)?)
+}
+
 /// The text of a field that isn't none.
 pub fn text_of(field: &Field) -> Result<&str, Fail> {
-    Ok(std::str::from_utf8(bytes_of(field)?)?)
+    text_from(bytes_of(field)?)
 }

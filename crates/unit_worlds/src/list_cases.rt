@@ -3,28 +3,28 @@ ghost use Rattle.std.specs.Prelude.{◌≡◌, Some};
 ghost use Rattle.host_memory.specs.MemoryHost.{host_of};
 ghost use Rattle.host_trait.specs.World.{empty_world};
 
-use crate::names::push_names;
+use crate::writing::{push, push_names};
 use host_memory::MemoryHost;
 use host_trait::World;
 use owed_lists::{Lists, Which, clear, load, record};
-use std::alloc::{AllocError, Global};
+use std::alloc::Global;
 use std::test::Fail;
 use world_text::push_leaves;
 
 /// Appends the three lists, a bar after each.
-fn push_lists(out: &mut String, lists: &Lists) -> Result<(), AllocError> {
+fn push_lists(out: &mut String, lists: &Lists) -> Result<(), Fail> {
     push_names(out, lists.starts.as_slice())?;
-    out.push('|')?;
+    push(out, "|")?;
     push_names(out, lists.restarts.as_slice())?;
-    out.push('|')?;
+    push(out, "|")?;
     push_names(out, lists.reloads.as_slice())?;
-    out.push_str("| ")
+    push(out, "| ")
 }
 
 /// Appends the three lists as they are read.
 pub fn push_loaded(alloc: Global, out: &mut String, host: &mut MemoryHost) -> Result<(), Fail> {
     let lists = load(alloc, host)?;
-    Ok(push_lists(out, &lists)?)
+    push_lists(out, &lists)
 }
 
 /// Records lists, and appends what is read, what is read once the restart list is cleared, and the files
@@ -41,7 +41,7 @@ fn push_recorded(
     push_loaded(alloc, out, host)?;
     clear(alloc, host, Which::Restarts)?;
     push_loaded(alloc, out, host)?;
-    out.push('\n')?;
+    push(out, "\n")?;
     push_leaves(alloc, out, host.world(), "run/nixos")
 }
 

@@ -16,15 +16,15 @@ mod pull_cases;
 mod report_cases;
 mod text_cases;
 mod worlds;
+mod writing;
 
 use cases::push_cases;
-use std::io::Read;
+use std::io;
 use std::test::Fail;
 
 fn main(rt: HostRuntime) -> Result<(), Fail> {
-    let mut lines = Vec::new(rt.alloc());
-    rt.reader().read_to_end(&mut lines)?;
+    let lines = io::read_to_string(rt.alloc(), rt.reader())?;
     let mut out = String::new(rt.alloc());
-    push_cases(rt.alloc(), &mut out, lines.as_slice())?;
+    push_cases(rt.alloc(), &mut out, lines.as_str())?;
     Ok(rt.print(out.as_str())?)
 }

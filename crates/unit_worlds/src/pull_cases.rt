@@ -1,7 +1,8 @@
 //! What is pulled from the targets of a system.
-use crate::names::push_names;
+use crate::writing::{push, push_names};
 use host_trait::States;
-use std::alloc::{AllocError, Global};
+use std::alloc::Global;
+use std::test::Fail;
 use switch_names::{Listed, UnitName};
 use unit_defs::Defs;
 use unit_pull::{pull, roots};
@@ -12,9 +13,9 @@ fn push_pull(
     out: &mut String,
     defs: &Defs,
     units: &Listed<UnitName>,
-) -> Result<(), AllocError> {
+) -> Result<(), Fail> {
     push_names(out, units.as_slice())?;
-    out.push_str("| ")?;
+    push(out, "| ")?;
     let all = pull(alloc, defs, units)?;
     push_names(out, all.as_slice())
 }
@@ -26,9 +27,9 @@ pub fn push_pulls(
     defs: &Defs,
     states: &States,
     units: &Listed<UnitName>,
-) -> Result<(), AllocError> {
+) -> Result<(), Fail> {
     push_pull(alloc, out, defs, units)?;
-    out.push_str("; ")?;
+    push(out, "; ")?;
     let found = roots(alloc, defs, states, units)?;
     push_pull(alloc, out, defs, &found)
 }

@@ -1,5 +1,6 @@
 //! The report of a switch from one system to another.
-use crate::names::push_faulty;
+use crate::fields::text_from;
+use crate::writing::{push, push_faulty};
 use dry_report::report;
 use host_memory::MemoryHost;
 use std::alloc::Global;
@@ -10,17 +11,27 @@ use switch_names::SystemName;
 /// Appends the report of a plan.
 fn push_report(alloc: Global, out: &mut String, plan: &Plan) -> Result<(), Fail> {
     let text = report(alloc, plan)?;
-    Ok(out.push_str(std::str::from_utf8(text.as_slice())?)?)
+    push(out, text_from(text.as_slice())?)
+}
+
+/// Appends the report of a plan, or the unit and the line by which it is refused.
+fn push_plan(
+    alloc: Global,
+    out: &mut String,
+    answer: &Result<Plan, PlanFault>,
+) -> Result<(), Fail> {
+    match answer {
+        Ok(plan) => push_report(alloc, out, plan),
+        Err(PlanFault::Refused(Refusal::UnitText { unit, line })) => {
+            push_faulty(alloc, out, unit, *line)
+        }
+        Err(_) => Err(Fail::new("no plan is made")),
+    }
 }
 
 /// Appends the report of a switch to the second system, or the unit and the line by which it is refused.
 pub fn push_switch(alloc: Global, out: &mut String, host: &mut MemoryHost) -> Result<(), Fail> {
     let command = Command::DryActivate(SystemName::parse(alloc, "nix/store/b-sys")?);
-    match plan_all(alloc, host, &command) {
-        Ok(plan) => push_report(alloc, out, &plan),
-        Err(PlanFault::Refused(Refusal::UnitText { unit, line })) => {
-            Ok(push_faulty(alloc, out, &unit, line)?)
-        }
-        Err(fault) => Err(Fail::from(fault)),
-    }
+    let answer = plan_all(alloc, host, &command);
+    push_plan(alloc, out, &answer)
 }

@@ -1,14 +1,15 @@
 //! Worlds with two systems, of which the first is in use.
-use crate::fields::{Field, bytes_of, text_of};
+use crate::fields::{Field, bytes_of, text_from, text_of};
+use crate::names::name_of;
 use host_trait::{Leaf, State, World};
 use std::alloc::Global;
 use std::test::Fail;
-use switch_names::{Bytes, Path, UnitName};
+use switch_names::{Bytes, Path};
 
 /// A leaf by its content: a link where that begins with `->`, and else a file.
 fn leaf_of(alloc: Global, content: &[u8]) -> Result<Leaf, Fail> {
     match content {
-        [b'-', b'>', target @ ..] => Ok(Leaf::link(alloc, std::str::from_utf8(target)?)?),
+        [b'-', b'>', target @ ..] => Ok(Leaf::link(alloc, text_from(target)?)?),
         _ => Ok(Leaf::file(Bytes::from_slice(alloc, content)?, 420, 0, 0)),
     }
 }
@@ -33,7 +34,7 @@ fn put_unit(
 /// Puts the units between the blanks of a text into a state.
 fn put_states(alloc: Global, world: &mut World, names: &str, state: State) -> Result<(), Fail> {
     for name in names.split(' ') {
-        world.set_state(UnitName::parse(alloc, name)?, state)?;
+        world.set_state(name_of(alloc, name)?, state)?;
     }
     Ok(())
 }
@@ -49,12 +50,8 @@ fn put(alloc: Global, world: &mut World, place: &str, content: &[u8]) -> Result<
             put_unit(alloc, world, "b-sys", (name, content))
         }
         Some(_) => Err(Fail::new("a place isn't known")),
-        None if place == "active" => {
-            put_states(alloc, world, std::str::from_utf8(content)?, State::Active)
-        }
-        None if place == "failed" => {
-            put_states(alloc, world, std::str::from_utf8(content)?, State::Failed)
-        }
+        None if place == "active" => put_states(alloc, world, text_from(content)?, State::Active),
+        None if place == "failed" => put_states(alloc, world, text_from(content)?, State::Failed),
         None => put_leaf(alloc, world, place, content),
     }
 }

@@ -7,5 +7,5 @@
 mod reading;
 mod writing;
 
-pub use reading::{File, Root, put_files, read_world};
+pub use reading::put_file;
 pub use writing::{push_journal, push_leaves, push_states};
