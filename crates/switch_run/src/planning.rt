@@ -1,30 +1,27 @@
 //! What a boot will do, before anything is put or changed.
-ghost use Rattle.std.specs.Prelude.{◌≡◌, None, Some, IfOk, IsErrOf, OnOk, is_some};
+ghost use Rattle.std.specs.Prelude.{◌≡◌, None, Some, IfOk, IsErrOf, OnOk};
 ghost use Rattle.std.specs.List.{find};
 ghost use Rattle.host_trait.specs.declared.tree.HostFault.TheVariants.{Device};
 ghost use Rattle.host_trait.specs.Change.{IsSame};
 ghost use Rattle.host_trait.specs.Host.{Told, Passes, HasCause, HasCauseOf};
-ghost use Rattle.host_trait.specs.World.{content_of};
 ghost use Rattle.tree_put.specs.Put.{is_blocked};
 ghost use Rattle.generations.specs.Gens.{IsGensOf, number_for_in};
 ghost use Rattle.switch_engine.specs.declared.refusal.Refusal.{Refusal};
 ghost use Rattle.switch_run.specs.declared.run_fault.RunFault.TheVariants.{Refused, Host, Sink};
 ghost use Rattle.switch_engine.specs.declared.command.Command.TheVariants.{Boot};
-ghost use Rattle.switch_engine.specs.System.{version_path};
 ghost use Rattle.switch_run.specs.Boot.{IsPlanOf, boot_report, set_refusal};
 ghost use Rattle.switch_run.specs.Outcomes.{refusal};
 ghost use Rattle.switch_run.specs.BootPlaces.{AreApartFromStage, new_link_in, places_in};
 
 use crate::run_fault::RunFault;
 use generations::{Gens, all, generation_path, is_highest_of, number_for, profile_path};
-use host_trait::{HostFault, Tree, content, stage_path};
+use host_trait::{HostFault, Tree, stage_path};
 use std::alloc::{AllocError, Global};
-use switch_engine::Refusal;
-use switch_names::{Listed, NameFault, Path, SystemName, Text};
+use switch_engine::{Refusal, has_version};
+use switch_names::{Listed, Path, SystemName, Text};
 use tree_put::is_blocked;
 
 /// What a boot will do.
-#[derive(Debug, Drop)]
 pub struct Plan {
     /// The generations that stand.
     pub gens: Gens,
@@ -34,23 +31,15 @@ pub struct Plan {
     pub report: Text,
 }
 
-/// The file that each built system has.
-fn version_path(alloc: Global, system: &SystemName) -> Result<Path, AllocError>
-    ensures { IfOk result (λ path. path ≡ version_path system.now) }
-{
-    let text = format!(in alloc; "{}/nixos-version", system.as_str())?;
-    Path::parse(alloc, text.as_str()).map_err(|_fault: NameFault| AllocError)
-}
-
-/// Whether a system has its file.
-fn has_version<T: Tree>(alloc: Global, host: &mut T, system: &SystemName) -> Result<bool, HostFault>
-    ensures has { IfOk result (λ has. Told (T.host host.old) (λ w. has ≡ is_some (content_of w.leaves (version_path system.now)))) }
-    ensures moments { Passes (T.host host.old) (T.host host.new) IsSame }
-    ensures cause { HasCause (T.host host.old) (T.host host.new) result }
-{
-    let at = version_path(alloc, system)?;
-    let version = content(alloc, host, &at)?;
-    Ok(version.is_some())
+/// One call: a derived drop is proved anew in each function that lets one go.
+impl Drop for Plan {
+    fn drop(self) {
+        let Plan {
+            gens: _,
+            number: _,
+            report: _,
+        } = self;
+    }
 }
 
 /// The path of the link of the generation that a set makes, where it makes one.
