@@ -6,7 +6,7 @@ ghost use Rattle.generations.specs.Places.{is_of};
 use switch_names::{Listed, SystemName};
 
 /// A generation of the profile.
-#[derive(Debug, Drop)]
+#[derive(Drop)]
 pub struct Gen {
     /// Its number, from 1 on.
     pub number: u32,
@@ -15,7 +15,7 @@ pub struct Gen {
 }
 
 /// The generations of the profile in ascending order, and the number of the current one.
-#[derive(Debug, Drop)]
+#[derive(Drop)]
 pub struct Gens {
     /// The generations, ascending.
     pub list: Listed<Gen>,

@@ -1,6 +1,7 @@
 //! What the hosts of the program do outside of memory: files, folders, and standard output.
 //!
-//! No symbolic link is followed at the end of a place, and a file is replaced in one step.
+//! Whatever finds or changes what stands at a place follows no symbolic link at its end; a file is read as
+//! it was found just before. A file is replaced in one step.
 #![tactic(auto)]
 
 mod clearing;

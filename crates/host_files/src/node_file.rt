@@ -29,7 +29,8 @@ fn fill<F: Read>(file: &mut F, buffer: &mut [u8]) -> io::Result<usize> {
     Ok(filled)
 }
 
-/// The bytes of a regular file, of which there are this many.
+/// The bytes of a regular file, of which there are this many. A symbolic link is followed: `look` tells
+/// beforehand that none stands there.
 pub fn read_bytes<R: Files>(rt: &R, alloc: Global, place: &str, len: u64) -> io::Result<Vec<u8>> {
     if len > FILE_MAX {
         return Err(foreign());
@@ -41,7 +42,8 @@ pub fn read_bytes<R: Files>(rt: &R, alloc: Global, place: &str, len: u64) -> io:
     Ok(bytes)
 }
 
-/// The leaf in a regular file of this many bytes.
+/// The leaf in a regular file of this many bytes, as `look` finds it. A symbolic link that has taken its
+/// place since then is followed.
 pub fn read_leaf<R: Files>(rt: &R, alloc: Global, place: &str, len: u64) -> io::Result<Leaf> {
     let bytes = read_bytes(rt, alloc, place, len)?;
     match read_node(alloc, bytes.as_slice()) {

@@ -18,13 +18,25 @@ use switch_names::{Listed, Path, UnitName};
 ///
 /// A node or a manager's state that can't be read, a name that is none of a path, a symbolic link or a special file
 /// below the tree, and whatever the file system refuses, is a fault that is counted.
-#[derive(Drop)]
 pub struct FolderHost<R: Files + AllocGlobal + Clone + Drop> {
     rt: R,
     tree: Folders,
     stage: Stage,
     service: Service,
     faults: u64,
+}
+
+/// One call: a derived drop is proved anew in each function that lets one go.
+impl<R: Files + AllocGlobal + Clone + Drop> Drop for FolderHost<R> {
+    fn drop(self) {
+        let FolderHost {
+            rt: _,
+            tree: _,
+            stage: _,
+            service: _,
+            faults: _,
+        } = self;
+    }
 }
 
 /// The leaf at a place of the tree.

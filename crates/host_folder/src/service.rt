@@ -15,10 +15,16 @@ use std::rt::Files;
 use switch_names::UnitName;
 
 /// The manager's state, where it is known: not before it is read, and not after a call that has failed.
-#[derive(Drop)]
 pub struct Service {
     state: Option<ManagerState>,
     ghost plain: { ForSome state HasPlainTexts } by { Prim.hlevel (props, bad_is_plain_once, entry_is_plain_once) },
+}
+
+/// One call: a derived drop is proved anew in each function that lets one go.
+impl Drop for Service {
+    fn drop(self) {
+        let Service { state: _ } = self;
+    }
 }
 
 impl Service {

@@ -13,7 +13,7 @@ use std::alloc::{AllocError, Global};
 use switch_names::{Bytes, Path, UnitName};
 
 /// A cut that is armed, or that has fallen.
-#[derive(Clone, Copy, Debug)]
+#[derive(Clone, Copy)]
 pub(crate) struct ArmedCut {
     /// The clock when it was armed.
     pub(crate) from: usize,

@@ -18,7 +18,6 @@ pub enum Act {
 }
 
 /// One act in the journal.
-#[derive(Debug, Drop)]
 pub struct Entry {
     /// The unit on which it was done.
     pub unit: UnitName,
@@ -28,13 +27,30 @@ pub struct Entry {
     pub loaded: Text,
 }
 
+/// One call: a derived drop is proved anew in each function that lets one go.
+impl Drop for Entry {
+    fn drop(self) {
+        let Entry {
+            unit: _,
+            act: _,
+            loaded: _,
+        } = self;
+    }
+}
+
 /// A unit that fails when it is started under these definitions.
-#[derive(Debug, Drop)]
 pub struct Bad {
     /// Where the definitions lie.
     pub loaded: Text,
     /// The unit that fails.
     pub unit: UnitName,
+}
+
+/// One call: a derived drop is proved anew in each function that lets one go.
+impl Drop for Bad {
+    fn drop(self) {
+        let Bad { loaded: _, unit: _ } = self;
+    }
 }
 
 impl Entry {

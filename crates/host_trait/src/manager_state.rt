@@ -8,7 +8,6 @@ use std::alloc::Global;
 use switch_names::{Listed, Text};
 
 /// What a service manager knows and has done.
-#[derive(Debug, Drop)]
 pub struct ManagerState {
     /// The states of its units.
     pub states: States,
@@ -18,6 +17,18 @@ pub struct ManagerState {
     pub bad: Listed<Bad>,
     /// What it has done, the oldest first.
     pub journal: Listed<Entry>,
+}
+
+/// One call: a derived drop is proved anew in each function that lets one go.
+impl Drop for ManagerState {
+    fn drop(self) {
+        let ManagerState {
+            states: _,
+            loaded: _,
+            bad: _,
+            journal: _,
+        } = self;
+    }
 }
 
 impl ManagerState {

@@ -13,7 +13,7 @@ pub enum State {
 }
 
 /// A unit with its state.
-#[derive(Debug, Drop, PartialEq, Eq)]
+#[derive(Drop, PartialEq, Eq)]
 pub struct UnitState {
     pub unit: UnitName,
     pub state: State,

@@ -3,7 +3,7 @@ use switch_names::{Text, UnitName};
 
 /// One thing that a service manager does in one go: systemctl(1), "Unit Commands" and "Manager
 /// State Commands".
-#[derive(Debug, Drop)]
+#[derive(Drop)]
 pub enum Call {
     /// A unit is stopped.
     Stop(UnitName),

@@ -9,7 +9,6 @@ use switch_names::{Listed, Path, UnitName};
 /// The units that are still to be started, restarted and reloaded.
 ///
 /// Source: NixOS manual, "Unit handling".
-#[derive(Debug, Drop)]
 pub struct Lists {
     /// The units to start.
     pub starts: Listed<UnitName>,
@@ -17,6 +16,17 @@ pub struct Lists {
     pub restarts: Listed<UnitName>,
     /// The units to reload.
     pub reloads: Listed<UnitName>,
+}
+
+/// One call: a derived drop is proved anew in each function that lets one go.
+impl Drop for Lists {
+    fn drop(self) {
+        let Lists {
+            starts: _,
+            restarts: _,
+            reloads: _,
+        } = self;
+    }
 }
 
 /// One of the three lists.

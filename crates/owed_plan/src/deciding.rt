@@ -8,7 +8,6 @@ use switch_names::{Listed, UnitName};
 use unit_decide::{Decision, Facts, decide_by, is_same, is_target};
 
 /// What is decided on an Active unit.
-#[derive(Drop)]
 pub struct UnitDecision {
     pub unit: UnitName,
     pub decision: Decision,
@@ -16,6 +15,18 @@ pub struct UnitDecision {
     pub live: Listed<UnitName>,
     /// Whether the unit has changed, stays up and gets nothing.
     pub is_left: bool,
+}
+
+/// One call: a derived drop is proved anew in each function that lets one go.
+impl Drop for UnitDecision {
+    fn drop(self) {
+        let UnitDecision {
+            unit: _,
+            decision: _,
+            live: _,
+            is_left: _,
+        } = self;
+    }
 }
 
 /// Whether a unit is stopped and left to its sockets.

@@ -18,10 +18,16 @@ use switch_names::{Listed, UnitName};
 use unit_decide::is_socket;
 
 /// A call on a unit.
-#[derive(Debug, Drop)]
 pub struct Duty {
     pub act: Act,
     pub unit: UnitName,
+}
+
+/// One call: a derived drop is proved anew in each function that lets one go.
+impl Drop for Duty {
+    fn drop(self) {
+        let Duty { act: _, unit: _ } = self;
+    }
 }
 
 /// Whether a unit is a socket.

@@ -4,7 +4,6 @@ use switch_names::{Listed, UnitName};
 /// What a switch owes the units, each list in byte order.
 ///
 /// Source: NixOS manual, "Unit handling".
-#[derive(Debug, Drop)]
 pub struct Owed {
     /// The units to stop.
     pub stops: Listed<UnitName>,
@@ -16,4 +15,17 @@ pub struct Owed {
     pub starts: Listed<UnitName>,
     /// The changed units that get nothing.
     pub left: Listed<UnitName>,
+}
+
+/// One call: a derived drop is proved anew in each function that lets one go.
+impl Drop for Owed {
+    fn drop(self) {
+        let Owed {
+            stops: _,
+            reloads: _,
+            restarts: _,
+            starts: _,
+            left: _,
+        } = self;
+    }
 }

@@ -28,10 +28,19 @@ pub struct OldSystem {
 }
 
 /// The states of the units, and the lists that a switch which was cut has left.
-#[derive(Drop)]
 pub struct UnitStates {
     pub states: States,
     pub lists: Lists,
+}
+
+/// One call: a derived drop is proved anew in each function that lets one go.
+impl Drop for UnitStates {
+    fn drop(self) {
+        let UnitStates {
+            states: _,
+            lists: _,
+        } = self;
+    }
 }
 
 /// All that a switch is planned by.

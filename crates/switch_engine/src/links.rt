@@ -8,12 +8,21 @@ use std::alloc::{AllocError, Global};
 use switch_names::{NameFault, SystemName};
 
 /// The links to a system and to its definitions.
-#[derive(Drop)]
 pub struct Links {
     /// The link to its definitions.
     pub definitions: Leaf,
     /// The link to the system.
     pub current: Leaf,
+}
+
+/// One call: a derived drop is proved anew in each function that lets one go.
+impl Drop for Links {
+    fn drop(self) {
+        let Links {
+            definitions: _,
+            current: _,
+        } = self;
+    }
 }
 
 /// A link to a text that is short and has neither NUL nor line feed.

@@ -7,12 +7,21 @@ use host_trait::{State, States, UnitState};
 use unit_defs::Defs;
 
 /// How a switch that was carried out ended.
-#[derive(Debug, Drop)]
 pub struct Outcome {
     /// The units that aren't inactive, with their states.
     pub states: States,
     /// Whether a unit that the system defines has failed.
     pub failed: bool,
+}
+
+/// One call: a derived drop is proved anew in each function that lets one go.
+impl Drop for Outcome {
+    fn drop(self) {
+        let Outcome {
+            states: _,
+            failed: _,
+        } = self;
+    }
 }
 
 /// Whether a unit has failed.

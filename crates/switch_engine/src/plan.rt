@@ -8,7 +8,6 @@ use switch_names::{Listed, SystemName, UnitName};
 use unit_defs::Defs;
 
 /// What a switch to a system does.
-#[derive(Debug, Drop)]
 pub struct Plan {
     from: Option<SystemName>,
     to: SystemName,
@@ -16,6 +15,20 @@ pub struct Plan {
     owed: Owed,
     recorded: Lists,
     duties: Listed<Duty>,
+}
+
+/// One call: a derived drop is proved anew in each function that lets one go.
+impl Drop for Plan {
+    fn drop(self) {
+        let Plan {
+            from: _,
+            to: _,
+            defs: _,
+            owed: _,
+            recorded: _,
+            duties: _,
+        } = self;
+    }
 }
 
 impl Plan {

@@ -11,11 +11,17 @@ use switch_names::Path;
 use tree_put::is_blocked;
 
 /// A place that a command writes.
-#[derive(Drop)]
 pub struct WrittenPlace {
     pub at: Path,
     /// Whether its content is read before.
     pub is_read: bool,
+}
+
+/// One call: a derived drop is proved anew in each function that lets one go.
+impl Drop for WrittenPlace {
+    fn drop(self) {
+        let WrittenPlace { at: _, is_read: _ } = self;
+    }
 }
 
 /// Whether a leaf without content stands at a place.

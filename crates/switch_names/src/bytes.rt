@@ -5,9 +5,16 @@ use std::alloc::{AllocError, Global};
 use std::marker::Model;
 
 /// A list of bytes, as a file holds it.
-#[derive(Debug, Drop)]
+#[derive(Debug)]
 pub struct Bytes {
     bytes: Vec<u8>,
+}
+
+/// One call: a derived drop is proved anew in each function that lets one go.
+impl Drop for Bytes {
+    fn drop(self) {
+        let Bytes { bytes: _ } = self;
+    }
 }
 
 impl Model for Bytes {
@@ -39,7 +46,8 @@ impl Bytes {
     pub fn into_vec(self) -> Vec<u8>
         ensures { result.items ≡ self }
     {
-        self.bytes
+        let Bytes { bytes } = self;
+        bytes
     }
 
     /// The bytes, lent.

@@ -5,9 +5,16 @@ use std::alloc::{AllocError, Global};
 use std::marker::Model;
 
 /// A list of items in order.
-#[derive(Debug, Drop)]
+#[derive(Debug)]
 pub struct Listed<T> {
     items: Vec<T>,
+}
+
+/// One call: a derived drop is proved anew in each function that lets one go.
+impl<T: Drop> Drop for Listed<T> {
+    fn drop(self) {
+        let Listed { items: _ } = self;
+    }
 }
 
 impl<T> Model for Listed<T> {
@@ -39,7 +46,8 @@ impl<T> Listed<T> {
     pub fn into_vec(self) -> Vec<T>
         ensures { result.items ≡ self }
     {
-        self.items
+        let Listed { items } = self;
+        items
     }
 
     /// Adds an item at the end.

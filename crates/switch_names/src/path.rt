@@ -17,9 +17,16 @@ pub const PATH_MAX: usize = 4096;
 /// Where a leaf stands below the root folder: names joined by slashes, without a slash at either end.
 ///
 /// Contracts see its bytes.
-#[derive(Debug, Drop)]
+#[derive(Debug)]
 pub struct Path {
     text: Text,
+}
+
+/// One call: a derived drop is proved anew in each function that lets one go.
+impl Drop for Path {
+    fn drop(self) {
+        let Path { text: _ } = self;
+    }
 }
 
 impl Model for Path {

@@ -18,9 +18,16 @@ const STORE_NAME_MAX: usize = 255;
 /// A built system: its path `nix/store/<name>` below the root folder.
 ///
 /// Contracts see the bytes of that path.
-#[derive(Debug, Drop)]
+#[derive(Debug)]
 pub struct SystemName {
     path: Path,
+}
+
+/// One call: a derived drop is proved anew in each function that lets one go.
+impl Drop for SystemName {
+    fn drop(self) {
+        let SystemName { path: _ } = self;
+    }
 }
 
 impl Model for SystemName {

@@ -7,9 +7,16 @@ use std::hash::{Hash, Hasher};
 use std::marker::Model;
 
 /// A UTF-8 text. Contracts see its bytes.
-#[derive(Debug, Drop)]
+#[derive(Debug)]
 pub struct Text {
     text: String,
+}
+
+/// One call: a derived drop is proved anew in each function that lets one go.
+impl Drop for Text {
+    fn drop(self) {
+        let Text { text: _ } = self;
+    }
 }
 
 impl Model for Text {
@@ -41,7 +48,8 @@ impl Text {
     pub fn into_string(self) -> String
         ensures { string_bytes result ≡ self }
     {
-        self.text
+        let Text { text } = self;
+        text
     }
 
     /// The text with these bytes.

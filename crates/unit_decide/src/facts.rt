@@ -10,7 +10,7 @@ use unit_compare::{Comparison, compare};
 use unit_text::UnitText;
 
 /// What the table of decisions reads of a unit in the old system and the new one.
-#[derive(Debug, Drop)]
+#[derive(Drop)]
 pub struct Facts {
     pub kind: UnitKind,
     /// Whether the old system defines the unit.

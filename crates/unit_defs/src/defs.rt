@@ -27,12 +27,23 @@ use unit_text::UnitText;
 ///
 /// Contracts see what the folder of units says of each unit: what its files say, and the units that
 /// stand in its folders `.wants` and `.requires`.
-#[derive(Debug, Drop)]
 pub struct Defs {
     names: Listed<UnitName>,
     units: Vec<Unit>,
     wants: Vec<Wants>,
     nothing: Listed<UnitName>,
+}
+
+/// One call: a derived drop is proved anew in each function that lets one go.
+impl Drop for Defs {
+    fn drop(self) {
+        let Defs {
+            names: _,
+            units: _,
+            wants: _,
+            nothing: _,
+        } = self;
+    }
 }
 
 impl Model for Defs {

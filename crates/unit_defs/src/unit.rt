@@ -16,7 +16,6 @@ use switch_names::{Listed, UnitName};
 use unit_text::UnitText;
 
 /// What the folder of units says of a unit.
-#[derive(Debug, Drop)]
 pub struct Unit {
     pub name: UnitName,
     /// What its files say, where it has a text of its own.
@@ -25,13 +24,33 @@ pub struct Unit {
     pub wants: Listed<UnitName>,
 }
 
+/// One call: a derived drop is proved anew in each function that lets one go.
+impl Drop for Unit {
+    fn drop(self) {
+        let Unit {
+            name: _,
+            part: _,
+            wants: _,
+        } = self;
+    }
+}
+
 /// The units that a unit wants.
-#[derive(Debug, Drop)]
 pub struct Wants {
     /// All of them.
     pub whole: Listed<UnitName>,
     /// Those that its own text wants.
     pub by_text: Listed<UnitName>,
+}
+
+/// One call: a derived drop is proved anew in each function that lets one go.
+impl Drop for Wants {
+    fn drop(self) {
+        let Wants {
+            whole: _,
+            by_text: _,
+        } = self;
+    }
 }
 
 impl Unit {

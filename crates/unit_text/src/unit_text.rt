@@ -19,10 +19,19 @@ use switch_names::{Listed, Text};
 /// The assignments of a unit file, and of the files that are applied after it.
 ///
 /// Contracts see the list of the assignments in order.
-#[derive(Debug, Drop)]
 pub struct UnitText {
     assignments: Vec<Assignment>,
     index: Index,
+}
+
+/// One call: a derived drop is proved anew in each function that lets one go.
+impl Drop for UnitText {
+    fn drop(self) {
+        let UnitText {
+            assignments: _,
+            index: _,
+        } = self;
+    }
 }
 
 impl Model for UnitText {

@@ -6,4 +6,4 @@ pub returns-in-0-clause-moments : goal.returns-in-0-clause-moments
 returns-in-0-clause-moments c = nothing_yet _ (Stage c.args.leaf.now)
 
 pub returns-in-1-clause-moments : goal.returns-in-1-clause-moments
-returns-in-1-clause-moments c = on_ok _ (goes_on_with_any _ _ c.file.result c.args.leaf.now) c.stage-in-1.ensures.moments
+returns-in-1-clause-moments c = on_ok _ (goes_on_with_any _ _ c.file.result c.args.leaf.now) c.stage.ensures.moments
