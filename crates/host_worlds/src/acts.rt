@@ -1,12 +1,12 @@
 //! What each act of the manager leaves, whole and cut.
-use crate::cases::{misread, number_of, text_of};
+use crate::cases::{misread, number_of};
 use crate::outcome::{push_told, word_of};
 use host_memory::MemoryHost;
 use host_trait::{HostFault, Manager, State};
 use std::alloc::Global;
 use std::test::Fail;
 use switch_names::{Bytes, UnitName};
-use world_text::{push_journal, push_states};
+use world_text::{push_journal, push_states, text_of};
 
 /// Reloads a unit, which has to be active.
 fn reload(

@@ -4,7 +4,7 @@ ghost use Rattle.std.specs.FinMap.{get};
 ghost use Rattle.host_memory.specs.MemoryHost.{host_of};
 ghost use Rattle.host_trait.specs.Host.{Told};
 
-use crate::cases::{misread, text_of};
+use crate::cases::misread;
 use crate::outcome::word_of;
 use crate::troubles::place;
 use host_memory::MemoryHost;
@@ -13,6 +13,7 @@ use std::alloc::Global;
 use std::test::Fail;
 use switch_names::{Bytes, Path};
 use tree_put::{drop_leaf, put};
+use world_text::text_of;
 
 /// A host without leaves, on which a cut has fallen.
 fn fallen_host(alloc: Global) -> MemoryHost

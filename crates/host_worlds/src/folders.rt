@@ -1,5 +1,5 @@
 //! What a folder's host reads, and what another one's acts have left.
-use crate::cases::{misread, text_of};
+use crate::cases::misread;
 use crate::outcome::{push_told, word_of};
 use host_folder::FolderHost;
 use host_trait::{HostFault, Manager};
@@ -8,6 +8,7 @@ use std::fs;
 use std::rt::Files;
 use std::test::Fail;
 use switch_names::{Bytes, UnitName};
+use world_text::text_of;
 
 /// Loads definitions, and starts a unit.
 fn load_and_start<M: Manager>(

@@ -1,10 +1,11 @@
 //! Which generations are found in the profiles' folder, and the numbers that they give.
-use crate::cases::{misread, text_of};
+use crate::cases::misread;
 use generations::{Gen, Gens, all, number_for, number_of_name, number_of_path, previous};
 use host_memory::MemoryHost;
 use std::alloc::{AllocError, Global};
 use std::test::Fail;
 use switch_names::{Bytes, SystemName};
+use world_text::text_of;
 
 /// Appends generations with their systems, a line each.
 fn push_generations(out: &mut String, list: &[Gen]) -> Result<(), AllocError> {

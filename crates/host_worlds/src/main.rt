@@ -24,7 +24,7 @@ mod troubles;
 mod worlds;
 
 use bstr::ByteSlice;
-use cases::{fields_of, misread, text_of};
+use cases::misread;
 use host_files::OutSink;
 use host_memory::MemoryHost;
 use host_trait::{Sink, World};
@@ -33,6 +33,7 @@ use std::io;
 use std::rt::Files;
 use std::test::Fail;
 use switch_names::Bytes;
+use world_text::{fields_of, text_of};
 
 /// Appends what is tried of a host in memory gives.
 fn push_of_host(
@@ -142,9 +143,9 @@ fn run_case<R: Files + Print + AllocGlobal + Clone + Drop>(
 fn run_line<R: Files + Print + AllocGlobal + Clone + Drop>(
     rt: &R,
     sink: &mut OutSink<R>,
-    line: &[u8],
+    line: &str,
 ) -> Result<(), Fail> {
-    if line.is_empty() || line.starts_with(b"#") {
+    if line.is_empty() || line.starts_with('#') {
         return Ok(());
     }
     let fields = fields_of(rt.alloc(), line)?;
@@ -155,7 +156,7 @@ fn main(rt: HostRuntime) -> Result<(), Fail> {
     let input = io::read_to_string(rt.alloc(), rt.reader())?;
     let cases = input.as_bytes().replace(rt.alloc(), b"\n| ", b" | ")?;
     let mut sink = OutSink::new(&rt)?;
-    for line in cases.as_slice().split_str(b"\n") {
+    for line in std::str::from_utf8(cases.as_slice())?.split('\n') {
         run_line(&rt, &mut sink, line)?;
     }
     Ok(())

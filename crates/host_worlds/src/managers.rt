@@ -3,14 +3,14 @@ ghost use Rattle.std.specs.Prelude.{IfOk, IfSome};
 ghost use Rattle.host_trait.specs.Manager.{HasPlainTexts, IsPlain};
 ghost use Rattle.manager_core.specs.Call.{IsPlainCall};
 
-use crate::cases::{misread, no_memory, text_of};
+use crate::cases::{misread, no_memory};
 use crate::worlds::fill;
 use host_trait::{Leaf, ManagerState, World, loaded_text};
 use manager_core::{Call, StateFault, read_state, step, write_state};
 use std::alloc::Global;
 use std::test::Fail;
 use switch_names::{Bytes, Text, UnitName};
-use world_text::{push_journal, push_states};
+use world_text::{push_journal, push_states, text_of};
 
 /// Where the definitions lie to which a link leads, or the empty text where there is none.
 pub fn loaded_of(alloc: Global, target: &str) -> Result<Text, Fail>

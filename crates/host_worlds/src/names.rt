@@ -1,8 +1,9 @@
 //! What names are read, and what keeps others from it.
-use crate::cases::{misread, no_memory, text_of};
+use crate::cases::{misread, no_memory};
 use std::alloc::{AllocError, Global};
 use std::test::Fail;
 use switch_names::{Bytes, NameFault, Path, SystemName, UnitName};
+use world_text::text_of;
 
 /// Appends the name of a unit, its kind, and its stem.
 fn push_unit(out: &mut String, unit: &UnitName) -> Result<(), AllocError> {

@@ -1,10 +1,11 @@
 //! The texts of leaves, and the faults of others.
-use crate::cases::{misread, no_memory, text_of};
+use crate::cases::{misread, no_memory};
 use host_trait::Leaf;
 use node_text::{NodeFault, read_node, write_node};
 use std::alloc::Global;
 use std::test::Fail;
 use switch_names::{Bytes, NameFault};
+use world_text::text_of;
 
 /// Appends the text of a leaf.
 pub fn push_leaf(alloc: Global, out: &mut String, leaf: &Leaf) -> Result<(), Fail> {

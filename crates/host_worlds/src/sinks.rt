@@ -1,10 +1,11 @@
 //! What a sink in memory takes, and standard output.
-use crate::cases::{misread, number_of, text_of};
+use crate::cases::{misread, number_of};
 use host_memory::MemorySink;
 use host_trait::Sink;
 use std::alloc::Global;
 use std::test::Fail;
 use switch_names::{Bytes, Listed};
+use world_text::text_of;
 
 /// Puts bytes into a sink, and appends how that ended, what the sink has, and its faults.
 fn push_put(out: &mut String, sink: &mut MemorySink, bytes: &Bytes) -> Result<(), Fail> {

@@ -1,10 +1,10 @@
 //! What the states of units answer.
-use crate::cases::{misread, text_of};
+use crate::cases::misread;
 use host_trait::{State, World};
 use std::alloc::Global;
 use std::test::Fail;
 use switch_names::{Bytes, UnitName};
-use world_text::push_states;
+use world_text::{push_states, text_of};
 
 /// The state of a word.
 fn state_of(word: &str) -> Result<State, Fail> {

@@ -1,5 +1,5 @@
 //! Worlds of leaves and a manager, and what they answer.
-use crate::cases::{misread, no_memory, text_of};
+use crate::cases::{misread, no_memory};
 use crate::managers::loaded_of;
 use crate::states::bring;
 use host_trait::{World, WorldFault};
@@ -8,7 +8,7 @@ use node_text::read_node;
 use std::alloc::Global;
 use std::test::Fail;
 use switch_names::{Bytes, Path};
-use world_text::push_leaves;
+use world_text::{push_leaves, text_of};
 
 /// Puts the leaf of a node's text at a place of a world, and answers the fault.
 fn put_leaf(

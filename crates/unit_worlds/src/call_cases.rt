@@ -1,5 +1,4 @@
 //! The calls by which what is owed is given.
-use crate::fields::Field;
 use crate::names::add_names;
 use crate::writing::{push, push_named, push_names};
 use host_memory::MemoryHost;
@@ -8,7 +7,7 @@ use owed_lists::{Lists, load};
 use owed_plan::{Duty, Owed, calls, plan};
 use std::alloc::{AllocError, Global};
 use std::test::Fail;
-use switch_names::Listed;
+use switch_names::{Bytes, Listed};
 use unit_defs::Defs;
 
 /// Appends calls in their order, with a semicolon and a blank after each.
@@ -31,7 +30,7 @@ fn push_calls(alloc: Global, out: &mut String, owed: &Owed, states: &States) -> 
 }
 
 /// Adds the units of five fields to what is owed.
-fn add_owed(alloc: Global, owed: &mut Owed, given: &[Field]) -> Result<(), Fail> {
+fn add_owed(alloc: Global, owed: &mut Owed, given: &[Bytes]) -> Result<(), Fail> {
     let [stops, reloads, restarts, starts, left, ..] = given else {
         return Err(Fail::new("a list of units isn't there"));
     };
@@ -48,7 +47,7 @@ fn push_added(
     out: &mut String,
     owed: &mut Owed,
     states: &States,
-    given: &[Field],
+    given: &[Bytes],
 ) -> Result<(), Fail> {
     add_owed(alloc, owed, given)?;
     push_calls(alloc, out, owed, states)
@@ -59,7 +58,7 @@ pub fn push_given(
     alloc: Global,
     out: &mut String,
     states: &States,
-    given: &[Field],
+    given: &[Bytes],
 ) -> Result<(), Fail> {
     let mut owed = Owed {
         stops: Listed::new(alloc),

@@ -2,7 +2,6 @@
 use crate::call_cases::{push_given, push_owed_on};
 use crate::change_cases::push_changed;
 use crate::defs_cases::push_of_units;
-use crate::fields::{Field, bytes_of, fields_of, text_of};
 use crate::list_cases::{push_loaded, push_recorded_anew};
 use crate::names::add_names;
 use crate::report_cases::push_switch;
@@ -13,14 +12,15 @@ use host_memory::MemoryHost;
 use host_trait::World;
 use std::alloc::Global;
 use std::test::Fail;
-use switch_names::Listed;
+use switch_names::{Bytes, Listed};
+use world_text::{fields_of, text_of};
 
 /// Appends what is asked of the units of a field.
 fn push_of_field(
     alloc: Global,
     out: &mut String,
     host: &mut MemoryHost,
-    (command, field): (&str, &Field),
+    (command, field): (&str, &Bytes),
 ) -> Result<(), Fail> {
     let mut units = Listed::new(alloc);
     add_names(alloc, &mut units, field)?;
@@ -32,7 +32,7 @@ fn push_on_host(
     alloc: Global,
     out: &mut String,
     host: &mut MemoryHost,
-    (command, given): (&str, &[Field]),
+    (command, given): (&str, &[Bytes]),
 ) -> Result<(), Fail> {
     match (command, given) {
         ("lists", _) => push_loaded(alloc, out, host),
@@ -49,8 +49,8 @@ fn push_on_host(
 fn push_on_world(
     alloc: Global,
     out: &mut String,
-    places: &[Field],
-    asked: (&str, &[Field]),
+    places: &[Bytes],
+    asked: (&str, &[Bytes]),
 ) -> Result<(), Fail> {
     let mut world = World::new(alloc);
     fill(alloc, &mut world, places)?;
@@ -63,16 +63,16 @@ fn push_answer(
     alloc: Global,
     out: &mut String,
     command: &str,
-    given: &[Field],
+    given: &[Bytes],
 ) -> Result<(), Fail> {
     match (command, given) {
-        ("values", [file]) => push_file_values(alloc, out, bytes_of(file)?),
+        ("values", [file]) => push_file_values(alloc, out, file.as_slice()),
         ("merge", [first, later]) => {
-            push_merged(alloc, out, (bytes_of(first)?, bytes_of(later)?))
+            push_merged(alloc, out, (first.as_slice(), later.as_slice()))
         }
-        ("start", [file]) => push_of_file(alloc, out, bytes_of(file)?, (command, "")),
+        ("start", [file]) => push_of_file(alloc, out, file.as_slice(), (command, "")),
         ("flags" | "sockets" | "assign", [file, asked]) => {
-            push_of_file(alloc, out, bytes_of(file)?, (command, text_of(asked)?))
+            push_of_file(alloc, out, file.as_slice(), (command, text_of(asked)?))
         }
         ("compare", [_, _, _]) => push_changed(alloc, out, given, None),
         ("decide", [_, _, _, live]) => {
@@ -86,7 +86,7 @@ fn push_answer(
 }
 
 /// Appends a title on a line, and what is answered to a command.
-fn push_case(alloc: Global, out: &mut String, fields: &[Field]) -> Result<(), Fail> {
+fn push_case(alloc: Global, out: &mut String, fields: &[Bytes]) -> Result<(), Fail> {
     let [command, title, given @ ..] = fields else {
         return Err(Fail::new("a case has a command and a title"));
     };

@@ -1,19 +1,19 @@
 //! What counts as a change of a unit, and what is decided: NixOS manual, "Unit handling".
-use crate::fields::{Field, text_of};
 use crate::names::name_of;
 use crate::writing::{push, push_named};
 use std::alloc::Global;
 use std::test::Fail;
-use switch_names::UnitName;
+use switch_names::{Bytes, UnitName};
 use unit_compare::{Comparison, compare};
 use unit_decide::decide;
 use unit_text::{TextFault, UnitText, parse};
+use world_text::text_of;
 
-/// The text of a unit, where there is a file.
-fn parsed(alloc: Global, file: &Field) -> Result<Option<UnitText>, TextFault> {
-    match file {
-        Some(bytes) => Ok(Some(parse(alloc, bytes.as_slice())?)),
-        None => Ok(None),
+/// The text of a unit, where there is a file: `-` is none.
+fn parsed(alloc: Global, file: &Bytes) -> Result<Option<UnitText>, TextFault> {
+    match file.as_slice() {
+        [b'-'] => Ok(None),
+        bytes => Ok(Some(parse(alloc, bytes)?)),
     }
 }
 
@@ -51,7 +51,7 @@ fn push_change(
 fn push_change_to(
     alloc: Global,
     out: &mut String,
-    (old, new): (Option<&UnitText>, &Field),
+    (old, new): (Option<&UnitText>, &Bytes),
     asked: (&UnitName, Option<bool>),
 ) -> Result<(), Fail> {
     let new = parsed(alloc, new)?;
@@ -62,7 +62,7 @@ fn push_change_to(
 pub fn push_changed(
     alloc: Global,
     out: &mut String,
-    given: &[Field],
+    given: &[Bytes],
     live: Option<bool>,
 ) -> Result<(), Fail> {
     let [unit, old, new, ..] = given else {

@@ -9,7 +9,6 @@ mod call_cases;
 mod cases;
 mod change_cases;
 mod defs_cases;
-mod fields;
 mod list_cases;
 mod names;
 mod pull_cases;

@@ -1,5 +1,4 @@
 //! The report of a switch from one system to another.
-use crate::fields::text_from;
 use crate::writing::{push, push_faulty};
 use dry_report::report;
 use host_memory::MemoryHost;
@@ -11,7 +10,7 @@ use switch_names::SystemName;
 /// Appends the report of a plan.
 fn push_report(alloc: Global, out: &mut String, plan: &Plan) -> Result<(), Fail> {
     let text = report(alloc, plan)?;
-    push(out, text_from(text.as_slice())?)
+    push(out, std::str::from_utf8(text.as_slice())?)
 }
 
 /// Appends the report of a plan, or the unit and the line by which it is refused.

@@ -1,15 +1,15 @@
 //! Worlds with two systems, of which the first is in use.
-use crate::fields::{Field, bytes_of, text_from, text_of};
 use crate::names::name_of;
 use host_trait::{Leaf, State, World};
 use std::alloc::Global;
 use std::test::Fail;
 use switch_names::{Bytes, Path};
+use world_text::text_of;
 
 /// A leaf by its content: a link where that begins with `->`, and else a file.
 fn leaf_of(alloc: Global, content: &[u8]) -> Result<Leaf, Fail> {
     match content {
-        [b'-', b'>', target @ ..] => Ok(Leaf::link(alloc, text_from(target)?)?),
+        [b'-', b'>', target @ ..] => Ok(Leaf::link(alloc, std::str::from_utf8(target)?)?),
         _ => Ok(Leaf::file(Bytes::from_slice(alloc, content)?, 420, 0, 0)),
     }
 }
@@ -50,25 +50,35 @@ fn put(alloc: Global, world: &mut World, place: &str, content: &[u8]) -> Result<
             put_unit(alloc, world, "b-sys", (name, content))
         }
         Some(_) => Err(Fail::new("a place isn't known")),
-        None if place == "active" => put_states(alloc, world, text_from(content)?, State::Active),
-        None if place == "failed" => put_states(alloc, world, text_from(content)?, State::Failed),
+        None if place == "active" => put_states(
+            alloc,
+            world,
+            std::str::from_utf8(content)?,
+            State::Active,
+        ),
+        None if place == "failed" => put_states(
+            alloc,
+            world,
+            std::str::from_utf8(content)?,
+            State::Failed,
+        ),
         None => put_leaf(alloc, world, place, content),
     }
 }
 
 /// Puts what these places say, each before its content.
-fn put_all(alloc: Global, world: &mut World, places: &[Field]) -> Result<(), Fail> {
+fn put_all(alloc: Global, world: &mut World, places: &[Bytes]) -> Result<(), Fail> {
     for pair in places.chunks(2) {
         let [place, content] = pair else {
             return Err(Fail::new("a place has no content"));
         };
-        put(alloc, world, text_of(place)?, bytes_of(content)?)?;
+        put(alloc, world, text_of(place)?, content.as_slice())?;
     }
     Ok(())
 }
 
 /// Puts the two systems, and what these places say.
-pub fn fill(alloc: Global, world: &mut World, places: &[Field]) -> Result<(), Fail> {
+pub fn fill(alloc: Global, world: &mut World, places: &[Bytes]) -> Result<(), Fail> {
     put_leaf(alloc, world, "nix/store/a-sys/nixos-version", b"24.05\n")?;
     put_leaf(alloc, world, "nix/store/b-sys/nixos-version", b"24.05\n")?;
     put_leaf(alloc, world, "run/current-system", b"->/nix/store/a-sys")?;
