@@ -55,6 +55,24 @@ fn push_over<R: Files + AllocGlobal + Clone + Drop>(
     push_acted(rt.alloc(), out, &mut host, unit)
 }
 
+/// Appends the same of the unit of a name.
+fn push_unit_over<R: Files + AllocGlobal + Clone + Drop>(
+    rt: &R,
+    out: &mut String,
+    root: &str,
+    unit: &str,
+) -> Result<(), Fail> {
+    let unit = UnitName::parse(rt.alloc(), unit)?;
+    push_over(rt, out, root, &unit)
+}
+
+/// Appends the text of the manager's state in a root.
+fn push_state_in<R: Files + AllocGlobal>(rt: &R, out: &mut String, root: &str) -> Result<(), Fail> {
+    let file = format!(in rt.alloc(); "{root}/manager")?;
+    let text = fs::read_to_string(rt, file)?;
+    Ok(out.push_str(text.as_str())?)
+}
+
 /// Appends the same, and the text of the manager's state that is left in the root.
 pub fn push_folder<R: Files + AllocGlobal + Clone + Drop>(
     rt: &R,
@@ -65,9 +83,6 @@ pub fn push_folder<R: Files + AllocGlobal + Clone + Drop>(
         return misread();
     };
     let root = text_of(root)?;
-    let unit = UnitName::parse(rt.alloc(), text_of(unit)?)?;
-    push_over(rt, out, root, &unit)?;
-    let file = format!(in rt.alloc(); "{root}/manager")?;
-    out.push_str(fs::read_to_string(rt, file)?.as_str())?;
-    Ok(())
+    push_unit_over(rt, out, root, text_of(unit)?)?;
+    push_state_in(rt, out, root)
 }

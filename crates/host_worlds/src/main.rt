@@ -119,23 +119,45 @@ fn push_in_memory(
     }
 }
 
+/// Appends what a case gives.
+fn push_answer<R: Files + Print + AllocGlobal + Clone + Drop>(
+    rt: &R,
+    sink: &mut OutSink<R>,
+    out: &mut String,
+    command: &str,
+    fields: &[Bytes],
+) -> Result<(), Fail> {
+    match command {
+        "folder" => folders::push_folder(rt, out, fields),
+        "output" => sinks::push_output(out, sink, fields),
+        _ => push_in_memory(rt.alloc(), out, command, fields),
+    }
+}
+
+/// Appends a line with what the case of these fields shows, and what it gives.
+fn push_case<R: Files + Print + AllocGlobal + Clone + Drop>(
+    rt: &R,
+    sink: &mut OutSink<R>,
+    out: &mut String,
+    fields: &[Bytes],
+) -> Result<(), Fail> {
+    let [command, title, fields @ ..] = fields else {
+        return misread();
+    };
+    out.push_str(text_of(title)?)?;
+    out.push_str(": ")?;
+    push_answer(rt, sink, out, text_of(command)?, fields)?;
+    Ok(out.push('\n')?)
+}
+
 /// Puts out what the case of these fields shows, and what it gives.
 fn run_case<R: Files + Print + AllocGlobal + Clone + Drop>(
     rt: &R,
     sink: &mut OutSink<R>,
     fields: &[Bytes],
 ) -> Result<(), Fail> {
-    let [command, title, fields @ ..] = fields else {
-        return misread();
-    };
     let mut out = String::new(rt.alloc());
-    write!(out, "{}: ", text_of(title)?)?;
-    match text_of(command)? {
-        "folder" => folders::push_folder(rt, &mut out, fields)?,
-        "output" => sinks::push_output(&mut out, sink, fields)?,
-        command => push_in_memory(rt.alloc(), &mut out, command, fields)?,
-    }
-    out.push('\n')?;
+    push_case(rt, sink, &mut out, fields)?;
     Ok(sink.put(out.as_bytes())?)
 }
 
@@ -152,12 +174,29 @@ fn run_line<R: Files + Print + AllocGlobal + Clone + Drop>(
     run_case(rt, sink, fields.as_slice())
 }
 
-fn main(rt: HostRuntime) -> Result<(), Fail> {
-    let input = io::read_to_string(rt.alloc(), rt.reader())?;
-    let cases = input.as_bytes().replace(rt.alloc(), b"\n| ", b" | ")?;
-    let mut sink = OutSink::new(&rt)?;
-    for line in std::str::from_utf8(cases.as_slice())?.split('\n') {
-        run_line(&rt, &mut sink, line)?;
+/// Runs the cases of lines.
+fn run_lines<R: Files + Print + AllocGlobal + Clone + Drop>(
+    rt: &R,
+    lines: &[u8],
+) -> Result<(), Fail> {
+    let lines = std::str::from_utf8(lines)?;
+    let mut sink = OutSink::new(rt)?;
+    for line in lines.split('\n') {
+        run_line(rt, &mut sink, line)?;
     }
     Ok(())
+}
+
+/// Runs the cases of an input, in which some lines go on with the line before.
+fn run_input<R: Files + Print + AllocGlobal + Clone + Drop>(
+    rt: &R,
+    input: &str,
+) -> Result<(), Fail> {
+    let lines = input.as_bytes().replace(rt.alloc(), b"\n| ", b" | ")?;
+    run_lines(rt, lines.as_slice())
+}
+
+fn main(rt: HostRuntime) -> Result<(), Fail> {
+    let input = io::read_to_string(rt.alloc(), rt.reader())?;
+    run_input(&rt, input.as_str())
 }

@@ -47,19 +47,35 @@ fn call_of(alloc: Global, word: &str, text: &str) -> Result<Option<Call>, Fail>
     Ok(call_on(word, UnitName::parse(alloc, text)?))
 }
 
+/// Makes the call of a word on a text.
+fn make_on(alloc: Global, state: &mut ManagerState, word: &str, text: &str) -> Result<(), Fail>
+    requires { HasPlainTexts state.old }
+    ensures { HasPlainTexts state.new }
+{
+    match call_of(alloc, word, text)? {
+        Some(call) => Ok(step(alloc, state, &call)?),
+        None => misread(),
+    }
+}
+
+/// Makes a call.
+fn make_one(alloc: Global, state: &mut ManagerState, call: &[Bytes]) -> Result<(), Fail>
+    requires { HasPlainTexts state.old }
+    ensures { HasPlainTexts state.new }
+{
+    let [word, text] = call else {
+        return misread();
+    };
+    make_on(alloc, state, text_of(word)?, text_of(text)?)
+}
+
 /// Makes calls in turn.
 fn make(alloc: Global, state: &mut ManagerState, calls: &[Bytes]) -> Result<(), Fail>
     requires { HasPlainTexts state.old }
     ensures { HasPlainTexts state.new }
 {
     for call in calls.chunks(2) {
-        let [word, text] = call else {
-            return misread();
-        };
-        let Some(call) = call_of(alloc, text_of(word)?, text_of(text)?)? else {
-            return misread();
-        };
-        step(alloc, state, &call)?;
+        make_one(alloc, state, call)?;
     }
     Ok(())
 }

@@ -58,6 +58,54 @@ fn push_on_world(
     push_on_host(alloc, out, &mut host, asked)
 }
 
+/// Appends what is asked of files.
+fn push_of_files(
+    alloc: Global,
+    out: &mut String,
+    command: &str,
+    given: &[Bytes],
+) -> Result<(), Fail> {
+    match given {
+        [file] if command == "values" => push_file_values(alloc, out, file.as_slice()),
+        [file] if command == "start" => push_of_file(alloc, out, file.as_slice(), (command, "")),
+        [first, later] if command == "merge" => {
+            push_merged(alloc, out, (first.as_slice(), later.as_slice()))
+        }
+        [file, asked] => push_of_file(alloc, out, file.as_slice(), (command, text_of(asked)?)),
+        _ => Err(Fail::new("a field isn't there")),
+    }
+}
+
+/// Appends what is asked of an old and a new text of a unit.
+fn push_of_change(
+    alloc: Global,
+    out: &mut String,
+    command: &str,
+    given: &[Bytes],
+) -> Result<(), Fail> {
+    match given {
+        [_, _, _] if command == "compare" => push_changed(alloc, out, given, None),
+        [_, _, _, live] if command == "decide" => {
+            push_changed(alloc, out, given, Some(text_of(live)?.parse::<bool>()?))
+        }
+        _ => Err(Fail::new("a field isn't there")),
+    }
+}
+
+/// Appends what is asked of a world, after so many other fields.
+fn push_after(
+    alloc: Global,
+    out: &mut String,
+    others: usize,
+    asked: (&str, &[Bytes]),
+) -> Result<(), Fail> {
+    let (_, given) = asked;
+    match given.split_at_checked(others) {
+        Some((_, places)) => push_on_world(alloc, out, places, asked),
+        None => Err(Fail::new("a field isn't there")),
+    }
+}
+
 /// Appends what is answered to a command.
 fn push_answer(
     alloc: Global,
@@ -65,23 +113,14 @@ fn push_answer(
     command: &str,
     given: &[Bytes],
 ) -> Result<(), Fail> {
-    match (command, given) {
-        ("values", [file]) => push_file_values(alloc, out, file.as_slice()),
-        ("merge", [first, later]) => {
-            push_merged(alloc, out, (first.as_slice(), later.as_slice()))
+    match command {
+        "values" | "start" | "merge" | "flags" | "sockets" | "assign" => {
+            push_of_files(alloc, out, command, given)
         }
-        ("start", [file]) => push_of_file(alloc, out, file.as_slice(), (command, "")),
-        ("flags" | "sockets" | "assign", [file, asked]) => {
-            push_of_file(alloc, out, file.as_slice(), (command, text_of(asked)?))
-        }
-        ("compare", [_, _, _]) => push_changed(alloc, out, given, None),
-        ("decide", [_, _, _, live]) => {
-            push_changed(alloc, out, given, Some(text_of(live)?.parse::<bool>()?))
-        }
-        ("lists" | "record" | "owed" | "report", places)
-        | ("calls", [_, _, _, _, _, places @ ..])
-        | (_, [_, places @ ..]) => push_on_world(alloc, out, places, (command, given)),
-        _ => Err(Fail::new("a field isn't there")),
+        "compare" | "decide" => push_of_change(alloc, out, command, given),
+        "lists" | "record" | "owed" | "report" => push_after(alloc, out, 0, (command, given)),
+        "calls" => push_after(alloc, out, 5, (command, given)),
+        _ => push_after(alloc, out, 1, (command, given)),
     }
 }
 
