@@ -5,7 +5,6 @@ use std::alloc::{AllocError, Global};
 use std::marker::Model;
 
 /// A list of bytes, as a file holds it.
-#[derive(Debug)]
 pub struct Bytes {
     bytes: Vec<u8>,
 }

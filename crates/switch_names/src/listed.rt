@@ -5,7 +5,6 @@ use std::alloc::{AllocError, Global};
 use std::marker::Model;
 
 /// A list of items in order.
-#[derive(Debug)]
 pub struct Listed<T> {
     items: Vec<T>,
 }

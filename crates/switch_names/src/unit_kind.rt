@@ -3,7 +3,7 @@ ghost use Rattle.std.specs.Prelude.{◌≡◌};
 ghost use Rattle.switch_names.specs.UnitKind.{ending_of, has_ending, kind_of};
 
 /// What a unit is, by the ending of its name.
-#[derive(Clone, Copy, Debug, PartialEq, Eq, PartialOrd, Ord, Hash)]
+#[derive(Clone, Copy, Debug, PartialEq, Eq)]
 pub enum UnitKind {
     /// `.service`: a process that the manager starts and watches.
     Service,

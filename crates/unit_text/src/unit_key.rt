@@ -7,7 +7,7 @@ use std::cmp::Ordering;
 use switch_names::Text;
 
 /// A key and the section in which it stands.
-#[derive(Debug, PartialEq, Eq, PartialOrd, Ord)]
+#[derive(PartialEq, Eq, PartialOrd, Ord)]
 pub struct UnitKey {
     pub section: Text,
     pub key: Text,
