@@ -71,7 +71,9 @@ fn push_of_files(
         [first, later] if command == "merge" => {
             push_merged(alloc, out, (first.as_slice(), later.as_slice()))
         }
-        [file, asked] => push_of_file(alloc, out, file.as_slice(), (command, text_of(asked)?)),
+        [file, asked] if command != "start" => {
+            push_of_file(alloc, out, file.as_slice(), (command, text_of(asked)?))
+        }
         _ => Err(Fail::new("a field isn't there")),
     }
 }
