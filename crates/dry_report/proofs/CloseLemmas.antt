@@ -1,5 +1,5 @@
 -- The lines of the units that have failed, one after another.
-use Rattle.std.proofs.Common.{◌≡◌, ℕ, ◌+◌, ◌++◌, List, [], ◌∷◌, Some, ap, codes, drop, filter, map, subst, sym, take, ◌∙◌}
+use Rattle.std.proofs.Common.{◌≡◌, ℕ, ◌+◌, ◌++◌, false, cond, List, [], ◌∷◌, Some, ap, codes, drop, filter, map, subst, sym, take, ◌∙◌}
 use Rattle.std.proofs.lemmas.List.{map-append, take-append-drop, take_more}
 use Rattle.std.proofs.lemmas.List.Concat.{flat_map-append}
 use Rattle.std.proofs.lemmas.List.Elements.{filter-append}
@@ -13,7 +13,7 @@ use Rattle.switch_names.specs.Names.{Name}
 use Rattle.unit_defs.specs.declared.unit.Unit.{Unit}
 use Rattle.dry_report.specs.Close.{close_of, closing, failed_in}
 use Rattle.dry_report.specs.Report.{line}
-use Rattle.dry_report.proofs.PutLemmas.{both_texts, first_prefix, puts_as, then_part}
+use Rattle.dry_report.proofs.PutLemmas.{both_texts, first_part, first_prefix, puts_as, then_part}
 
 -- the units that have failed, among these
 abbrev pub failed_units : List Unit → List UnitState → List Name
@@ -63,3 +63,11 @@ module _ (defs : List Unit) (list : List UnitState) (count : ℕ) (one : UnitSta
 pub closing_part : (defs : List Unit) (states : UnitStates) {a b c : SinkState} → Puts a b (λ more. more ≡ failed_lines defs (listed_states states)) → Puts b c (IsPrefixOf closing) →
     Puts a c (IsPrefixOf (close_of (failed_in defs states)))
 closing_part defs states lines part = then_part (failed_lines defs (listed_states states)) closing lines part
+
+-- a beginning of the lines alone
+pub lines_part : (defs : List Unit) (states : UnitStates) {a b : SinkState} → Puts a b (IsPrefixOf (failed_lines defs (listed_states states))) → Puts a b (IsPrefixOf (close_of (failed_in defs states)))
+lines_part defs states part = first_part (failed_lines defs (listed_states states)) closing part
+
+-- a unit that hasn't failed has no line
+pub none_failed : (defs : List Unit) (one : UnitState) → is_failed_of defs one ≡ false → [] ≡ failed_lines defs (one ∷ [])
+none_failed defs one is = sym (ap (λ b. flat_map (line (codes "failed")) (map (λ (o : UnitState). o.unit) (cond b (one ∷ []) []))) is)

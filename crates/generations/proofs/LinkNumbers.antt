@@ -2,7 +2,7 @@
 use Rattle.std.proofs.Common.{◌≡◌, ◌≢◌, ℕ, ◌<◌, ◌^◌, ◌&&◌, Bool, true, false, List, ◌++◌, nat_lt, Option, None, Some, Result, Ok, Err, IfOk, MatchOption, Bor, refl, sym, ap, subst, ◌∙◌, arith}
 use Rattle.std.proofs.lemmas.Bool.{both_ways}
 use Rattle.std.proofs.lemmas.Fmt.{parse-decimal}
-use Rattle.std.proofs.lemmas.List.{append_cancel_left}
+use Rattle.std.proofs.lemmas.List.{append_cancel_left, append_cancel_right}
 use Rattle.std.proofs.lemmas.Slice.Eq.{bytes_eq-Decides}
 use Rattle.std.specs.Bool.{then_some}
 use Rattle.std.specs.Fmt.{decimal}
@@ -55,6 +55,11 @@ bears_digits text r number false parses parsed small is = λ n of_generation sam
 pub bears_after : (front text inner : List ℕ) (number : Option ℕ) (written : ℕ → List ℕ) → text ≡ front ++ inner → Bears written inner number → Bears (λ n. front ++ written n) text number
 bears_after front text inner None written is lacks = λ n of_generation same. lacks n of_generation (append_cancel_left front inner (written n) (sym is ∙ same))
 bears_after front text inner (Some n) written is bears = (is ∙ ap (λ t. front ++ t) bears.0, bears.1)
+
+-- a text before an end bears what it bears
+pub bears_before : (end text inner : List ℕ) (number : Option ℕ) (written : ℕ → List ℕ) → text ≡ inner ++ end → Bears written inner number → Bears (λ n. written n ++ end) text number
+bears_before end text inner None written is lacks = λ n of_generation same. lacks n of_generation (append_cancel_right inner (written n) end (sym is ∙ same))
+bears_before end text inner (Some n) written is bears = (is ∙ ap (λ t. t ++ end) bears.0, bears.1)
 
 -- a weaker property of what is answered
 pub if_ok_as : {X E : Type 0} (r : Result X E) (P Q : X → Type 0) → IfOk r P → ((x : X) → P x → Q x) → IfOk r Q

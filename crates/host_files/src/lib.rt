@@ -14,4 +14,4 @@ pub use clearing::clear_folder;
 pub use manager_file::{call_of, read_manager, step_manager};
 pub use node_file::{read_leaf, write_new};
 pub use out_sink::OutSink;
-pub use place::{Found, fault_of, foreign, kind_of, look};
+pub use place::{Found, fault_of, foreign, kind_of_entry, look, place_in};

@@ -4,7 +4,7 @@ ghost use Rattle.host_trait.specs.Manager.{HasPlainTexts};
 ghost use Rattle.manager_core.specs.Call.{IsPlainCall};
 
 use crate::node_file::{read_bytes, write_new};
-use crate::place::{Found, foreign, look};
+use crate::place::{Found, foreign, look, place_in};
 use host_trait::{Act, ManagerState};
 use manager_core::{Call, StateFault, read_state, step, write_state};
 use std::alloc::{AllocError, Global};
@@ -48,7 +48,7 @@ fn state_of(alloc: Global, bytes: &[u8]) -> io::Result<ManagerState>
 pub fn read_manager<R: Files>(rt: &R, alloc: Global, root: &str) -> io::Result<ManagerState>
     ensures { IfOk result HasPlainTexts }
 {
-    let place = format!(in alloc; "{root}/manager")?;
+    let place = place_in(alloc, root, "manager")?;
     match look(rt, place.as_str())? {
         Found::Nothing => Ok(ManagerState::new(alloc)),
         Found::File(len) => {
@@ -93,8 +93,8 @@ fn write_manager<R: Files>(
     requires { HasPlainTexts state.now }
 {
     let text = write_state(alloc, state)?;
-    let draft = format!(in alloc; "{root}/manager.new")?;
-    let place = format!(in alloc; "{root}/manager")?;
+    let draft = place_in(alloc, root, "manager.new")?;
+    let place = place_in(alloc, root, "manager")?;
     replace_file(rt, root, draft.as_str(), place.as_str(), text.as_slice())
 }
 

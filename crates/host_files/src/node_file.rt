@@ -4,9 +4,10 @@ use host_trait::Leaf;
 use node_text::{NodeFault, read_node};
 use std::alloc::{AllocError, Global};
 use std::fs::OpenOptions;
-use std::io;
 use std::io::{ErrorKind, Read, Write};
 use std::rt::Files;
+use std::{fs, io};
+use switch_names::Bytes;
 
 /// The longest file that is read: a longer one could take all of the memory, and holds no content
 /// that a run may take.
@@ -31,15 +32,15 @@ fn fill<F: Read>(file: &mut F, buffer: &mut [u8]) -> io::Result<usize> {
 
 /// The bytes of a regular file, of which there are this many. A symbolic link is followed: `look` tells
 /// beforehand that none stands there.
-pub fn read_bytes<R: Files>(rt: &R, alloc: Global, place: &str, len: u64) -> io::Result<Vec<u8>> {
+pub fn read_bytes<R: Files>(rt: &R, alloc: Global, place: &str, len: u64) -> io::Result<Bytes> {
     if len > FILE_MAX {
         return Err(foreign());
     }
     let mut bytes = vec![in alloc; 0u8; len as usize]?;
-    let mut file = OpenOptions::new().read(true).open(rt, place)?;
+    let mut file = fs::open(rt, place)?;
     let filled = fill(&mut file, bytes.as_mut_slice())?;
     bytes.truncate(filled);
-    Ok(bytes)
+    Ok(Bytes::from_vec(bytes))
 }
 
 /// The leaf in a regular file of this many bytes, as `look` finds it. A symbolic link that has taken its

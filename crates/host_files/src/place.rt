@@ -1,12 +1,15 @@
 //! What stands at a place of the file system.
-ghost use Rattle.std.specs.Prelude.{◌≡◌, ◌↔◌};
+ghost use Rattle.std.specs.Prelude.{◌≡◌, ◌↔◌, ◌++◌, ◌∷◌, IfOk};
 ghost use Rattle.std.specs.IoError.{error_kind};
+ghost use Rattle.switch_names.specs.Path.{slash};
 
 use host_trait::HostFault;
-use std::fs::Metadata;
+use std::alloc::{AllocError, Global};
+use std::fs::{DirEntry, Metadata};
 use std::io::ErrorKind;
 use std::rt::Files;
 use std::{fs, io};
+use switch_names::Text;
 
 /// The longest name that a file system can hold: `NAME_MAX` of limits.h(0p).
 const NAME_MAX: usize = 255;
@@ -20,6 +23,13 @@ pub enum Found {
     Folder,
     /// A regular file, of this many bytes.
     File(u64),
+}
+
+/// The place of a name in a folder.
+pub fn place_in(alloc: Global, folder: &str, name: &str) -> Result<Text, AllocError>
+    ensures { IfOk result (λ place. place ≡ folder.now ++ slash ∷ name.now) }
+{
+    Ok(Text::from_string(format!(in alloc; "{folder}/{name}")?))
 }
 
 /// The error at what no host wrote: a link, a special file, a text that is no node.
@@ -43,7 +53,7 @@ fn has_long_name(place: &str) -> bool {
 }
 
 /// What is found by these metadata. A symbolic link or a special file is foreign.
-pub fn kind_of(metadata: &Metadata) -> io::Result<Found> {
+fn kind_of(metadata: &Metadata) -> io::Result<Found> {
     if metadata.is_dir() {
         Ok(Found::Folder)
     } else if metadata.is_file() {
@@ -51,6 +61,11 @@ pub fn kind_of(metadata: &Metadata) -> io::Result<Found> {
     } else {
         Err(foreign())
     }
+}
+
+/// What an entry of a folder names, by one system call that follows no link at its end.
+pub fn kind_of_entry<R: Files + AllocGlobal>(entry: &DirEntry<R>) -> io::Result<Found> {
+    kind_of(&entry.metadata()?)
 }
 
 /// What stands at a place, by one system call that follows no link at its end.

@@ -1,13 +1,13 @@
 //! The folders on the way to a leaf.
-ghost use Rattle.std.specs.Prelude.{◌≡◌, ◌++◌, ◌∷◌, codes, IfOk, string_bytes};
+ghost use Rattle.std.specs.Prelude.{◌≡◌, ◌++◌, ◌∷◌, codes, IfOk};
 ghost use Rattle.switch_names.specs.Path.{slash};
 
-use host_files::{Found, foreign, look};
+use host_files::{Found, foreign, look, place_in};
 use std::alloc::{AllocError, Global};
 use std::collections::BTreeSet;
 use std::rt::Files;
 use std::{fs, io};
-use switch_names::Path;
+use switch_names::{Path, Text};
 
 /// What becomes of a folder on the way that is missing.
 #[derive(Clone, Copy)]
@@ -20,8 +20,8 @@ pub enum Missing {
 
 /// The tree's folder, and the folders in it that were looked at and are no links.
 pub struct Folders {
-    root: String,
-    tree: String,
+    root: Text,
+    tree: Text,
     known: BTreeSet<String>,
 }
 
@@ -39,35 +39,31 @@ impl Drop for Folders {
 impl Folders {
     /// The folders of the tree below this root.
     pub fn new(alloc: Global, root: &str) -> Result<Folders, AllocError>
-        ensures root { IfOk result (λ folders. string_bytes folders.root ≡ root.now) }
-        ensures tree { IfOk result (λ folders. string_bytes folders.tree ≡ root.now ++ codes "/tree") }
+        ensures root { IfOk result (λ folders. folders.root ≡ root.now) }
+        ensures tree { IfOk result (λ folders. folders.tree ≡ root.now ++ codes "/tree") }
     {
         Ok(Folders {
-            root: String::from_str(alloc, root)?,
-            tree: format!(in alloc; "{root}/tree")?,
+            root: Text::from_str(alloc, root)?,
+            tree: place_in(alloc, root, "tree")?,
             known: BTreeSet::new(alloc),
         })
     }
 
     /// The root, below which everything stands. An empty one is no folder.
     pub fn root(&self) -> io::Result<&str> {
-        if self.root.is_empty() {
+        let root = self.root.as_str();
+        if root.is_empty() {
             return Err(foreign());
         }
-        Ok(self.root.as_str())
+        Ok(root)
     }
 
     /// The place of a path's leaf, below the tree's folder. An empty root is no folder.
-    pub fn place(&self, alloc: Global, at: &Path) -> io::Result<String>
-        ensures { IfOk result (λ place. string_bytes place ≡ string_bytes self.now.tree ++ slash ∷ at.now) }
+    pub fn place(&self, alloc: Global, at: &Path) -> io::Result<Text>
+        ensures { IfOk result (λ place. place ≡ self.now.tree ++ slash ∷ at.now) }
     {
-        if self.root.is_empty() {
-            return Err(foreign());
-        }
-        let mut place = String::from_str(alloc, self.tree.as_str())?;
-        place.push('/')?;
-        place.push_str(at.as_str())?;
-        Ok(place)
+        self.root()?;
+        Ok(place_in(alloc, self.tree.as_str(), at.as_str())?)
     }
 
     /// Whether each folder on the way to a place of the tree stands, or was made.
@@ -84,34 +80,51 @@ impl Folders {
         if self.known.contains(parent) {
             return Ok(true);
         }
-        let Some(below) = parent.strip_prefix(self.tree.as_str()) else {
+        if !place.starts_with(self.tree.as_str()) {
             return Ok(false);
-        };
-        let mut folder = String::from_str(alloc, self.tree.as_str())?;
-        self.lead_below(rt, alloc, &mut folder, below, missing)
+        }
+        self.lead_along(rt, alloc, place, missing)
     }
 
-    /// Whether a folder and each one on the way below it stands, or was made. The folder's place grows
-    /// by the names on the way.
-    fn lead_below<R: Files>(
+    /// Whether the tree's folder and each one in it on the way to a place stands, or was made.
+    fn lead_along<R: Files>(
         &mut self,
         rt: &R,
         alloc: Global,
-        folder: &mut String,
-        below: &str,
+        place: &str,
         missing: Missing,
     ) -> io::Result<bool> {
-        if !self.has_folder(rt, alloc, folder.as_str(), missing)? {
-            return Ok(false);
-        }
-        for name in below.split('/').skip(1) {
-            folder.push('/')?;
-            folder.push_str(name)?;
-            if !self.has_folder(rt, alloc, folder.as_str(), missing)? {
+        for end in self.tree.as_str().len()..place.len() {
+            if !self.leads_past(rt, alloc, place, end, missing)? {
                 return Ok(false);
             }
         }
         Ok(true)
+    }
+
+    /// Whether the folder on the way to a place that ends here stands, or was made. None may end here.
+    fn leads_past<R: Files>(
+        &mut self,
+        rt: &R,
+        alloc: Global,
+        place: &str,
+        end: usize,
+        missing: Missing,
+    ) -> io::Result<bool> {
+        match place.split_at_checked(end) {
+            Some((folder, rest)) if rest.starts_with('/') => {
+                self.has_folder(rt, alloc, folder, missing)
+            }
+            _ => Ok(true),
+        }
+    }
+
+    /// What stands at a place of the tree. Nothing stands where a folder on the way is missing.
+    pub fn find<R: Files>(&mut self, rt: &R, alloc: Global, place: &str) -> io::Result<Found> {
+        if !self.lead_to(rt, alloc, place, Missing::Stays)? {
+            return Ok(Found::Nothing);
+        }
+        look(rt, place)
     }
 
     /// Whether a folder stands, or was made, where those on the way to it do.
@@ -125,11 +138,11 @@ impl Folders {
         if self.known.contains(folder) {
             return Ok(true);
         }
-        match (look(rt, folder)?, missing) {
-            (Found::Folder, _) => {}
-            (Found::Nothing, Missing::IsMade) => self.make(rt, folder)?,
-            (Found::File(_), Missing::IsMade) => return Err(foreign()),
-            (_, Missing::Stays) => return Ok(false),
+        match look(rt, folder)? {
+            Found::Folder => {}
+            _ if matches!(missing, Missing::Stays) => return Ok(false),
+            Found::Nothing => self.make(rt, folder)?,
+            Found::File(_) => return Err(foreign()),
         }
         self.remember(alloc, folder)?;
         Ok(true)

@@ -1,13 +1,13 @@
 //! The host over a folder.
-ghost use Rattle.std.specs.Prelude.{◌≡◌, ◌++◌, codes, IfOk, string_bytes};
+ghost use Rattle.std.specs.Prelude.{◌≡◌, ◌++◌, codes, IfOk};
 ghost use Rattle.host_trait.specs.Host.{HasCause};
 ghost use Rattle.host_folder.specs.Folder.{silent_state, silent_is_host};
 
-use crate::folders::{Folders, Missing};
+use crate::folders::Folders;
 use crate::listing::list_leaves;
 use crate::service::Service;
 use crate::stage::{Stage, move_leaf, write_leaf};
-use host_files::{Found, fault_of, look, read_leaf};
+use host_files::{Found, fault_of, read_leaf};
 use host_trait::{Act, HostFault, Leaf, Manager, States, Tree, definitions_path};
 use std::alloc::{AllocError, Global};
 use std::rt::Files;
@@ -39,22 +39,6 @@ impl<R: Files + AllocGlobal + Clone + Drop> Drop for FolderHost<R> {
     }
 }
 
-/// The leaf at a place of the tree.
-fn leaf_in<R: Files>(
-    rt: &R,
-    alloc: Global,
-    tree: &mut Folders,
-    place: &str,
-) -> io::Result<Option<Leaf>> {
-    if !tree.lead_to(rt, alloc, place, Missing::Stays)? {
-        return Ok(None);
-    }
-    match look(rt, place)? {
-        Found::File(len) => Ok(Some(read_leaf(rt, alloc, place, len)?)),
-        _ => Ok(None),
-    }
-}
-
 /// The leaf at a path.
 fn leaf_at<R: Files>(
     rt: &R,
@@ -63,60 +47,19 @@ fn leaf_at<R: Files>(
     at: &Path,
 ) -> io::Result<Option<Leaf>> {
     let place = tree.place(alloc, at)?;
-    leaf_in(rt, alloc, tree, place.as_str())
-}
-
-/// Removes the leaf at a place of the tree.
-fn remove_in<R: Files>(rt: &R, alloc: Global, tree: &mut Folders, place: &str) -> io::Result<()> {
-    if !tree.lead_to(rt, alloc, place, Missing::Stays)? {
-        return Ok(());
-    }
-    match look(rt, place)? {
-        Found::File(_) => fs::remove_file(rt, place),
-        _ => Ok(()),
+    match tree.find(rt, alloc, place.as_str())? {
+        Found::File(len) => Ok(Some(read_leaf(rt, alloc, place.as_str(), len)?)),
+        _ => Ok(None),
     }
 }
 
 /// Removes the leaf at a path.
 fn remove_at<R: Files>(rt: &R, alloc: Global, tree: &mut Folders, at: &Path) -> io::Result<()> {
     let place = tree.place(alloc, at)?;
-    remove_in(rt, alloc, tree, place.as_str())
-}
-
-/// The states of the units.
-fn read_units<R: Files>(
-    rt: &R,
-    alloc: Global,
-    tree: &Folders,
-    service: &mut Service,
-) -> io::Result<States> {
-    let root = tree.root()?;
-    service.units(rt, alloc, root)
-}
-
-/// Does something to a unit.
-fn perform<R: Files>(
-    rt: &R,
-    alloc: Global,
-    tree: &Folders,
-    service: &mut Service,
-    act: Act,
-    unit: &UnitName,
-) -> io::Result<()> {
-    let root = tree.root()?;
-    service.perform(rt, alloc, root, act, unit)
-}
-
-/// Loads the definitions to which this leaf leads.
-fn load_at<R: Files>(
-    rt: &R,
-    alloc: Global,
-    tree: &Folders,
-    service: &mut Service,
-    definitions: Option<&Leaf>,
-) -> io::Result<()> {
-    let root = tree.root()?;
-    service.load(rt, alloc, root, definitions)
+    match tree.find(rt, alloc, place.as_str())? {
+        Found::File(_) => fs::remove_file(rt, place.as_str()),
+        _ => Ok(()),
+    }
 }
 
 /// Loads the definitions to which the link at their place leads.
@@ -128,15 +71,15 @@ fn load<R: Files>(
 ) -> io::Result<()> {
     let at = definitions_path(alloc)?;
     let leaf = leaf_at(rt, alloc, tree, &at)?;
-    load_at(rt, alloc, tree, service, leaf.as_ref())
+    service.load(rt, alloc, tree, leaf.as_ref())
 }
 
 impl<R: Files + AllocGlobal + Clone + Drop> FolderHost<R> {
     /// A host over this root folder, which need not exist yet. No file call is made.
     pub fn open(rt: &R, root: &str) -> Result<FolderHost<R>, AllocError>
         ensures faults { IfOk result (λ host. host.faults ≡ 0) }
-        ensures root { IfOk result (λ host. string_bytes host.tree.root ≡ root.now) }
-        ensures tree { IfOk result (λ host. string_bytes host.tree.tree ≡ root.now ++ codes "/tree") }
+        ensures root { IfOk result (λ host. host.tree.root ≡ root.now) }
+        ensures tree { IfOk result (λ host. host.tree.tree ≡ root.now ++ codes "/tree") }
     {
         Ok(FolderHost {
             rt: rt.clone()?,
@@ -206,55 +149,35 @@ impl<R: Files + AllocGlobal + Clone + Drop> Tree for FolderHost<R> {
 #[tactic(auto, using(crate::proofs::Silence::silence))]
 impl<R: Files + AllocGlobal + Clone + Drop> Manager for FolderHost<R> {
     fn units(&mut self, alloc: Global) -> Result<States, HostFault> {
-        let answer = read_units(&self.rt, alloc, &self.tree, &mut self.service);
+        let answer = self.service.units(&self.rt, alloc, &self.tree);
         self.counted(answer)
     }
 
     fn stop(&mut self, alloc: Global, unit: &UnitName) -> Result<(), HostFault> {
-        let answer = perform(
-            &self.rt,
-            alloc,
-            &self.tree,
-            &mut self.service,
-            Act::Stop,
-            unit,
-        );
+        let answer = self
+            .service
+            .perform(&self.rt, alloc, &self.tree, Act::Stop, unit);
         self.counted(answer)
     }
 
     fn start(&mut self, alloc: Global, unit: &UnitName) -> Result<(), HostFault> {
-        let answer = perform(
-            &self.rt,
-            alloc,
-            &self.tree,
-            &mut self.service,
-            Act::Start,
-            unit,
-        );
+        let answer = self
+            .service
+            .perform(&self.rt, alloc, &self.tree, Act::Start, unit);
         self.counted(answer)
     }
 
     fn restart(&mut self, alloc: Global, unit: &UnitName) -> Result<(), HostFault> {
-        let answer = perform(
-            &self.rt,
-            alloc,
-            &self.tree,
-            &mut self.service,
-            Act::Restart,
-            unit,
-        );
+        let answer = self
+            .service
+            .perform(&self.rt, alloc, &self.tree, Act::Restart, unit);
         self.counted(answer)
     }
 
     fn reload(&mut self, alloc: Global, unit: &UnitName) -> Result<(), HostFault> {
-        let answer = perform(
-            &self.rt,
-            alloc,
-            &self.tree,
-            &mut self.service,
-            Act::Reload,
-            unit,
-        );
+        let answer = self
+            .service
+            .perform(&self.rt, alloc, &self.tree, Act::Reload, unit);
         self.counted(answer)
     }
 

@@ -1,6 +1,6 @@
 //! The leaves below a folder.
-use crate::folders::{Folders, Missing};
-use host_files::{Found, foreign, kind_of, look};
+use crate::folders::Folders;
+use host_files::{Found, foreign, kind_of_entry};
 use host_trait::stage_path;
 use std::alloc::{AllocError, Global};
 use std::fs::DirEntry;
@@ -30,15 +30,28 @@ fn push_entry<R: Files + AllocGlobal>(
     alloc: Global,
     folder: &Path,
     entry: &DirEntry<R>,
-    folders: &mut Vec<Path>,
-    leaves: &mut Vec<Path>,
+    folders: &mut Listed<Path>,
+    leaves: &mut Listed<Path>,
 ) -> io::Result<()> {
     let path = path_in(alloc, folder, entry.file_name())?;
-    match kind_of(&entry.metadata()?)? {
-        Found::Folder => folders.push(path)?,
-        _ => leaves.push(path)?,
+    match kind_of_entry(entry)? {
+        Found::Folder => Ok(folders.push(path)?),
+        _ => Ok(leaves.push(path)?),
     }
-    Ok(())
+}
+
+/// Adds what the entry that was read next names, if it could be read.
+fn push_next<R: Files + AllocGlobal + Drop>(
+    alloc: Global,
+    folder: &Path,
+    entry: io::Result<DirEntry<R>>,
+    folders: &mut Listed<Path>,
+    leaves: &mut Listed<Path>,
+) -> io::Result<()> {
+    match entry {
+        Ok(entry) => push_entry(alloc, folder, &entry, folders, leaves),
+        Err(error) => Err(error),
+    }
 }
 
 /// Adds what stands in a folder to the folders and the leaves.
@@ -47,11 +60,11 @@ fn push_entries<R: Files + AllocGlobal + Clone + Drop>(
     alloc: Global,
     place: &str,
     folder: &Path,
-    folders: &mut Vec<Path>,
-    leaves: &mut Vec<Path>,
+    folders: &mut Listed<Path>,
+    leaves: &mut Listed<Path>,
 ) -> io::Result<()> {
     for entry in fs::read_dir(rt, place)? {
-        push_entry(alloc, folder, &entry?, folders, leaves)?;
+        push_next(alloc, folder, entry, folders, leaves)?;
     }
     Ok(())
 }
@@ -62,8 +75,8 @@ fn push_folder<R: Files + AllocGlobal + Clone + Drop>(
     alloc: Global,
     tree: &mut Folders,
     folder: &Path,
-    folders: &mut Vec<Path>,
-    leaves: &mut Vec<Path>,
+    folders: &mut Listed<Path>,
+    leaves: &mut Listed<Path>,
 ) -> io::Result<()> {
     let place = tree.place(alloc, folder)?;
     tree.remember(alloc, place.as_str())?;
@@ -76,14 +89,16 @@ fn push_below<R: Files + AllocGlobal + Clone + Drop>(
     alloc: Global,
     tree: &mut Folders,
     under: &Path,
-    leaves: &mut Vec<Path>,
+    leaves: &mut Listed<Path>,
 ) -> io::Result<()> {
-    let mut folders = Vec::new(alloc);
-    folders.push(under.copy(alloc)?)?;
+    let mut folders = Listed::new(alloc);
+    push_folder(rt, alloc, tree, under, &mut folders, leaves)?;
     for _ in 0..u64::MAX {
-        let Some(folder) = folders.pop() else {
+        let count = folders.as_slice().len();
+        if count == 0 {
             break;
-        };
+        }
+        let folder = folders.remove(count - 1);
         push_folder(rt, alloc, tree, &folder, &mut folders, leaves)?;
     }
     Ok(())
@@ -96,30 +111,21 @@ fn push_under<R: Files + AllocGlobal + Clone + Drop>(
     tree: &mut Folders,
     under: &Path,
     place: &str,
-    leaves: &mut Vec<Path>,
+    leaves: &mut Listed<Path>,
 ) -> io::Result<()> {
-    if !tree.lead_to(rt, alloc, place, Missing::Stays)? {
-        return Ok(());
+    match tree.find(rt, alloc, place)? {
+        Found::Nothing => Ok(()),
+        Found::File(_) => Ok(leaves.push(under.copy(alloc)?)?),
+        Found::Folder => push_below(rt, alloc, tree, under, leaves),
     }
-    match look(rt, place)? {
-        Found::Nothing => {}
-        Found::File(_) => leaves.push(under.copy(alloc)?)?,
-        Found::Folder => push_below(rt, alloc, tree, under, leaves)?,
-    }
-    Ok(())
 }
 
-/// The leaf at a path alone, or those below it.
-fn leaves_under<R: Files + AllocGlobal + Clone + Drop>(
-    rt: &R,
-    alloc: Global,
-    tree: &mut Folders,
-    under: &Path,
-) -> io::Result<Vec<Path>> {
-    let place = tree.place(alloc, under)?;
-    let mut leaves = Vec::new(alloc);
-    push_under(rt, alloc, tree, under, place.as_str(), &mut leaves)?;
-    Ok(leaves)
+/// These paths in byte order, without that of the stage.
+fn sorted(paths: Listed<Path>, stage: &Path) -> io::Result<Listed<Path>> {
+    let mut paths = paths.into_vec();
+    paths.sort()?;
+    paths.retain(|path| *path != *stage);
+    Ok(Listed::from_vec(paths))
 }
 
 /// The paths of the leaves at or below a path, in byte order, without the stage.
@@ -130,8 +136,8 @@ pub fn list_leaves<R: Files + AllocGlobal + Clone + Drop>(
     under: &Path,
 ) -> io::Result<Listed<Path>> {
     let stage = stage_path(alloc)?;
-    let mut leaves = leaves_under(rt, alloc, tree, under)?;
-    leaves.sort()?;
-    leaves.retain(|path| *path != stage);
-    Ok(Listed::from_vec(leaves))
+    let place = tree.place(alloc, under)?;
+    let mut leaves = Listed::new(alloc);
+    push_under(rt, alloc, tree, under, place.as_str(), &mut leaves)?;
+    sorted(leaves, &stage)
 }

@@ -6,6 +6,7 @@ ghost use Rattle.host_trait.specs.Plain.{bad_is_plain_once, entry_is_plain_once}
 ghost use Rattle.host_trait.specs.Manager.{HasPlainTexts};
 ghost use Rattle.manager_core.specs.Call.{IsPlainCall};
 
+use crate::folders::Folders;
 use host_files::{call_of, read_manager, step_manager};
 use host_trait::{Act, Leaf, ManagerState, States, loaded_text};
 use manager_core::Call;
@@ -43,8 +44,9 @@ impl Service {
         }
     }
 
-    /// The states of the units below a root.
-    pub fn units<R: Files>(&mut self, rt: &R, alloc: Global, root: &str) -> io::Result<States> {
+    /// The states of the units below the root of a tree.
+    pub fn units<R: Files>(&mut self, rt: &R, alloc: Global, tree: &Folders) -> io::Result<States> {
+        let root = tree.root()?;
         let state = self.take(rt, alloc, root)?;
         let states = state.states.copy(alloc);
         self.state = Some(state);
@@ -56,34 +58,34 @@ impl Service {
         requires { IsPlainCall call.now }
     {
         let mut state = self.take(rt, alloc, root)?;
-        let answer = step_manager(rt, alloc, root, &mut state, call);
-        if answer.is_ok() {
-            self.state = Some(state);
-        }
-        answer
+        step_manager(rt, alloc, root, &mut state, call)?;
+        self.state = Some(state);
+        Ok(())
     }
 
-    /// Does something to a unit below a root.
+    /// Does something to a unit below the root of a tree.
     pub fn perform<R: Files>(
         &mut self,
         rt: &R,
         alloc: Global,
-        root: &str,
+        tree: &Folders,
         act: Act,
         unit: &UnitName,
     ) -> io::Result<()> {
+        let root = tree.root()?;
         let call = call_of(alloc, act, unit)?;
         self.make(rt, alloc, root, &call)
     }
 
-    /// Loads the definitions to which a leaf leads, below a root.
+    /// Loads the definitions to which a leaf leads, below the root of a tree.
     pub fn load<R: Files>(
         &mut self,
         rt: &R,
         alloc: Global,
-        root: &str,
+        tree: &Folders,
         definitions: Option<&Leaf>,
     ) -> io::Result<()> {
+        let root = tree.root()?;
         let call = Call::DaemonReload(loaded_text(alloc, definitions)?);
         self.make(rt, alloc, root, &call)
     }

@@ -6,7 +6,7 @@ use node_text::write_node;
 use std::alloc::Global;
 use std::rt::Files;
 use std::{fs, io};
-use switch_names::Path;
+use switch_names::{Path, Text};
 
 /// What is known of the stage.
 #[derive(Clone, Copy)]
@@ -20,7 +20,7 @@ pub enum Stage {
 }
 
 /// The place of the stage.
-fn stage_place(alloc: Global, tree: &Folders) -> io::Result<String> {
+fn stage_place(alloc: Global, tree: &Folders) -> io::Result<Text> {
     let at = stage_path(alloc)?;
     tree.place(alloc, &at)
 }

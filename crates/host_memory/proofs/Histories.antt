@@ -1,5 +1,5 @@
 -- How a history goes on: the worlds since a time after one more call.
-use Rattle.std.proofs.Common.{◌≡◌, ◌≤◌, ◌⊎◌, ℕ, Bool, List, [], ◌∷◌, ◌++◌, length, drop, Option, None, Some, refl, sym, ap, subst, ◌∙◌, inl, inr, ⊎_elim, arith, eq-or-lt_of_le, length-append}
+use Rattle.std.proofs.Common.{◌≡◌, ◌+◌, ◌≤◌, ◌⊎◌, ℕ, Bool, List, [], ◌∷◌, ◌++◌, length, drop, Option, None, Some, refl, sym, ap, subst, ◌∙◌, inl, inr, ⊎_elim, arith, eq-or-lt_of_le, length-append}
 use Rattle.std.proofs.lemmas.List.{drop-append-le, drop_all}
 use Rattle.host_memory.specs.declared.history.DoneCall.{DoneCall}
 use Rattle.host_memory.specs.declared.history.History.{History}
@@ -65,6 +65,10 @@ passes_more us vs u w v R last then_last faults then_faults is_sure then_sure gr
 -- a record that grew by one call
 pub one_more : (old kept new : List DoneCall) (u : DoneCall) → new ≡ kept ++ u ∷ [] → kept ≡ old → new ≡ old ++ u ∷ []
 one_more old kept new u grown same = grown ∙ ap (λ calls. calls ++ u ∷ []) same
+
+-- such a record is longer by one
+pub one_longer : (old kept new : List DoneCall) (u : DoneCall) → new ≡ kept ++ u ∷ [] → kept ≡ old → length new ≡ length old + 1
+one_longer old kept new u grown same = ap (λ calls. length calls) (one_more old kept new u grown same) ∙ length-append old (u ∷ [])
 
 -- a history with one more call has gone on by it
 pub recorded :

@@ -196,6 +196,10 @@ option_unit (Some x) unit is = (x, refl, let e : x.unit ≡ unit = cc in e)
 pub item_at : (list : List UnitState) (at : ℕ) (unit : List ℕ) → slice_get (units_of list) at ≡ Some unit → (x : UnitState) × (slice_get list at ≡ Some x) × (x.unit ≡ unit)
 item_at list at unit is = option_unit (slice_get list at) unit (sym (slice_get-map (λ (one : UnitState). one.unit) list at) ∙ is)
 
+-- the place where a unit was found is within the list
+pub place_within : (list : List UnitState) (at : ℕ) (unit : List ℕ) → slice_get (units_of list) at ≡ Some unit → at < length list
+place_within list at unit is = let one = item_at list at unit is in slice_get_within list at one.0 one.1
+
 -- the state of a unit that was found
 pub state_at : (list : List UnitState) (at : ℕ) (unit : List ℕ) (d : UnitState) → IsSortedList list → slice_get (units_of list) at ≡ Some unit
     → (get_or list at d).state ≡ state_of (states_of list) unit

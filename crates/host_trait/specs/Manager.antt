@@ -30,6 +30,7 @@ pub record HasPlainTexts (manager : ManagerState) : Type 0 where
 abbrev pub is_bad : List Bad → List ℕ → List ℕ → Bool
 is_bad bad loaded unit = list_any (λ one. pointwise nat_eq one.loaded loaded && pointwise nat_eq one.unit unit) bad
 
+-- whether a unit in this state is started
 abbrev pub is_active : State → Bool
 is_active Active = true
 is_active Inactive = false

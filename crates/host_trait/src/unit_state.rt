@@ -1,4 +1,7 @@
 //! What a service manager says of a unit.
+ghost use Rattle.std.specs.Prelude.{◌≡◌};
+ghost use Rattle.host_trait.specs.Manager.{is_active};
+
 use switch_names::UnitName;
 
 /// The state of a unit, as far as a switch tells states apart.
@@ -10,6 +13,15 @@ pub enum State {
     Inactive,
     /// Its last start has failed.
     Failed,
+}
+
+impl State {
+    /// Whether the unit is started.
+    pub fn is_active(self) -> bool
+        ensures { result ≡ is_active self }
+    {
+        matches!(self, State::Active)
+    }
 }
 
 /// A unit with its state.

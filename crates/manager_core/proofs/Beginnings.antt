@@ -100,13 +100,19 @@ before_fault bytes (suc few) many f g less = elim g.before [
       f.none (subst IsStateText same (first_is_text state few some.1.readable))
 ]
 
+less_by : (one other : ℕ) → nat_lt one other ≡ true → one < other
+less_by one other is = grind arith
+
+same_by : (one other : ℕ) → nat_lt one other ≡ false → nat_lt other one ≡ false → one ≡ other
+same_by one other is not = grind arith
+
 -- there is one first fault at most
 pub one_fault : (bytes : List ℕ) (one other : ℕ) → IsFirstFault bytes one → IsFirstFault bytes other → one ≡ other
 one_fault bytes one other f g =
     elim (nat_lt one other) as (λ b. nat_lt one other ≡ b → one ≡ other) [
-      | true ↦ λ e. absurd (before_fault bytes one other f g (grind arith))
+      | true ↦ λ e. absurd (before_fault bytes one other f g (less_by one other e))
       | false ↦ λ e. elim (nat_lt other one) as (λ b. nat_lt other one ≡ b → one ≡ other) [
-        | true ↦ λ h. absurd (before_fault bytes other one g f (grind arith))
-        | false ↦ λ h. grind arith
+        | true ↦ λ h. absurd (before_fault bytes other one g f (less_by other one h))
+        | false ↦ λ h. same_by one other e h
       ] refl
     ] refl

@@ -7,5 +7,6 @@ pub mod Names
 pub mod Order
 pub mod Parts
 pub mod Readable
+pub mod Results
 pub mod Splitting
 pub mod Written

@@ -15,7 +15,9 @@ fn octal_at(bytes: &[u8]) -> Result<(u16, &[u8]), usize>
     ensures low { IfOk result (λ x. x.0 ≤ 7) }
 {
     match bytes {
-        [digit @ b'0'..=b'7', rest @ ..] => Ok((u16::from(*digit - b'0'), rest)),
+        [digit, rest @ ..] if b'0' <= *digit && *digit <= b'7' => {
+            Ok((u16::from(*digit - b'0'), rest))
+        }
         _ => Err(bytes.len()),
     }
 }

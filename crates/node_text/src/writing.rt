@@ -1,5 +1,6 @@
 //! Writing a leaf.
-ghost use Rattle.std.specs.Prelude.{◌≡◌, ◌≤◌, IfOk};
+ghost use Rattle.std.specs.Prelude.{◌≡◌, ◌≤◌, ◌++◌, IfOk, OnOk};
+ghost use Rattle.host_trait.specs.declared.leaf.LeafKind.{LeafKind};
 ghost use Rattle.node_text.specs.Node.{node_of, octal};
 
 use host_trait::{Leaf, LeafKind};
@@ -19,6 +20,35 @@ fn octal(mode: u16) -> [u8; 4]
     ]
 }
 
+/// Writes a file after a text.
+fn push_file(
+    alloc: Global,
+    text: &mut Vec<u8>,
+    bytes: &[u8],
+    mode: u16,
+    uid: u32,
+    gid: u32,
+) -> Result<(), AllocError>
+    requires { mode ≤ 4095 }
+    ensures { OnOk result (text.new.items ≡ text.old.items ++ node_of (LeafKind.File bytes.now mode uid gid)) }
+{
+    text.extend_from_slice(b"F ")?;
+    text.extend_from_slice(&octal(mode))?;
+    text.extend_from_slice(format!(in alloc; " {uid} {gid}\n")?.as_bytes())?;
+    text.extend_from_slice(bytes)?;
+    Ok(())
+}
+
+/// Writes a link after a text.
+fn push_link(text: &mut Vec<u8>, target: &str) -> Result<(), AllocError>
+    ensures { OnOk result (text.new.items ≡ text.old.items ++ node_of (LeafKind.Link target.now)) }
+{
+    text.extend_from_slice(b"L ")?;
+    text.extend_from_slice(target.as_bytes())?;
+    text.push(b'\n')?;
+    Ok(())
+}
+
 /// The text of a leaf.
 pub fn write_node(alloc: Global, leaf: &Leaf) -> Result<Bytes, AllocError>
     ensures { IfOk result (λ text. text ≡ node_of leaf.now) }
@@ -30,17 +60,8 @@ pub fn write_node(alloc: Global, leaf: &Leaf) -> Result<Bytes, AllocError>
             mode,
             uid,
             gid,
-        } => {
-            text.extend_from_slice(b"F ")?;
-            text.extend_from_slice(&octal(*mode))?;
-            text.extend_from_slice(format!(in alloc; " {uid} {gid}\n")?.as_bytes())?;
-            text.extend_from_slice(bytes.as_slice())?;
-        }
-        LeafKind::Link { target } => {
-            text.extend_from_slice(b"L ")?;
-            text.extend_from_slice(target.as_str().as_bytes())?;
-            text.push(b'\n')?;
-        }
+        } => push_file(alloc, &mut text, bytes.as_slice(), *mode, *uid, *gid)?,
+        LeafKind::Link { target } => push_link(&mut text, target.as_str())?,
     }
     Ok(Bytes::from_vec(text))
 }

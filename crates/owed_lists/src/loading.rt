@@ -1,18 +1,16 @@
 //! Reads the three lists.
-ghost use Rattle.std.specs.Prelude.{◌≡◌, ◌==◌, ◌++◌, ◌∷◌, ◌||◌, [], List, ℕ, Some, None, IfOk, OnOk, filter, if◌then◌else◌};
+ghost use Rattle.std.specs.Prelude.{◌≡◌, ◌==◌, ◌++◌, ◌∷◌, [], List, ℕ, Some, None, IfOk, OnOk, filter, if◌then◌else◌};
 ghost use Rattle.std.specs.List.{slice_split};
-ghost use Rattle.std.specs.List.Sorted.{IsStrictlySortedBy};
 ghost use Rattle.host_trait.specs.Change.{IsSame};
 ghost use Rattle.host_trait.specs.Host.{Told, Passes, HasCause};
-ghost use Rattle.host_trait.specs.World.{bytes_cmp, content_of};
+ghost use Rattle.host_trait.specs.World.{content_of};
 ghost use Rattle.owed_lists.specs.Lists.{AreListsOf, IsListOf, is_unit, names_in, place_of};
-ghost use Rattle.switch_names.specs.Names.{has, is_name};
+ghost use Rattle.switch_names.specs.Names.{has};
 
 use crate::lists::{Lists, Which, list_path};
 use host_trait::{HostFault, Tree, content};
 use std::alloc::{AllocError, Global};
-use std::collections::BTreeSet;
-use switch_names::{Bytes, Listed, NameFault, UnitName};
+use switch_names::{Bytes, Listed, NameFault, UnitName, UnitSet};
 
 /// The unit that a line names.
 fn read_name(alloc: Global, line: &[u8]) -> Result<Option<UnitName>, AllocError>
@@ -49,51 +47,15 @@ fn read_names(alloc: Global, bytes: &[u8]) -> Result<Listed<UnitName>, AllocErro
     Ok(names)
 }
 
-/// Adds a name to a set.
-fn add_name(set: &mut BTreeSet<UnitName>, name: UnitName) -> Result<(), AllocError>
-    ensures { OnOk result ((unit : List ℕ) → has set.new.keys unit ≡ (has set.old.keys unit || is_name unit name)) }
-{
-    set.insert(name)?;
-    Ok(())
-}
-
-/// Adds names to a set.
-fn add_names(
-    alloc: Global,
-    set: &mut BTreeSet<UnitName>,
-    names: &[UnitName],
-) -> Result<(), AllocError>
-    ensures { OnOk result ((unit : List ℕ) → has set.new.keys unit ≡ (has set.old.keys unit || has names.now unit)) }
-{
-    for name in names {
-        add_name(set, name.copy(alloc)?)?;
-    }
-    Ok(())
-}
-
-/// The names of a set in byte order.
-fn listed(alloc: Global, set: BTreeSet<UnitName>) -> Result<Listed<UnitName>, AllocError>
-    ensures names { IfOk result (λ names. names ≡ set.keys) }
-    ensures sorted { IsStrictlySortedBy bytes_cmp set.keys }
-{
-    let mut names = Listed::new(alloc);
-    for name in set {
-        names.push(name)?;
-    }
-    Ok(names)
-}
-
 /// The unit names among the lines of a content.
-fn set_of(alloc: Global, content: Option<Bytes>) -> Result<BTreeSet<UnitName>, AllocError>
-    ensures { IfOk result (λ set. (unit : List ℕ) → has set.keys unit ≡ has (names_in content) unit) }
+fn set_of(alloc: Global, content: Option<Bytes>) -> Result<UnitSet, AllocError>
+    ensures { IfOk result (λ set. (unit : List ℕ) → has set unit ≡ has (names_in content) unit) }
 {
-    let mut set = BTreeSet::new(alloc);
     let Some(bytes) = content else {
-        return Ok(set);
+        return Ok(UnitSet::new(alloc));
     };
     let names = read_names(alloc, bytes.as_slice())?;
-    add_names(alloc, &mut set, names.as_slice())?;
-    Ok(set)
+    UnitSet::of(alloc, names.as_slice())
 }
 
 /// The list that a content says.
@@ -101,8 +63,7 @@ fn list_of(alloc: Global, content: Option<Bytes>) -> Result<Listed<UnitName>, Al
     ensures { IfOk result (IsListOf content) }
 {
     let set = set_of(alloc, content)?;
-    let list = listed(alloc, set)?;
-    Ok(list)
+    set.into_names(alloc)
 }
 
 /// Reads one of the lists.

@@ -12,7 +12,7 @@ use Rattle.host_trait.specs.States.{UnitStates, listed_states, state_of}
 use Rattle.host_trait.specs.declared.unit_state.State.{State}
 use Rattle.host_trait.specs.declared.unit_state.State.TheVariants.{Active, Inactive}
 use Rattle.host_trait.specs.declared.unit_state.UnitState.{UnitState}
-use Rattle.owed_plan.specs.Lists.{is_active}
+use Rattle.host_trait.specs.Manager.{is_active}
 use Rattle.owed_plan.specs.Decisions.{Situation, decision_of, decisions_of}
 use Rattle.owed_plan.specs.declared.deciding.UnitDecision.{UnitDecision}
 use Rattle.owed_plan.proofs.CoreLemmas.{active_from_test}

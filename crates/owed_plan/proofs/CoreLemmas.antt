@@ -4,7 +4,8 @@ use Rattle.std.proofs.lemmas.Bool.{and_from, and_parts, or_cases, or_left, or_ri
 use Rattle.host_trait.specs.declared.unit_state.State.{State}
 use Rattle.host_trait.specs.declared.unit_state.State.TheVariants.{Active, Inactive, Failed}
 use Rattle.owed_plan.specs.Law.{IsSound, SameOwed}
-use Rattle.owed_plan.specs.Lists.{is_active, is_live, pending}
+use Rattle.host_trait.specs.Manager.{is_active}
+use Rattle.owed_plan.specs.Lists.{is_live, pending}
 use Rattle.owed_lists.specs.declared.lists.Lists.{Lists}
 use Rattle.owed_plan.specs.Owed.{Activates, Decides, Reloads, Restarts, Starts, Stops, has_live}
 use Rattle.owed_plan.specs.Pull.{IsRoot, Running, Pending, Pulled}

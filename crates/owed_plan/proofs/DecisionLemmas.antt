@@ -9,18 +9,10 @@ use Rattle.unit_decide.specs.Decision.{decide}
 use Rattle.unit_decide.specs.declared.decision.Decision.{Decision}
 use Rattle.unit_decide.specs.declared.facts.Facts.{Facts}
 use Rattle.unit_decide.proofs.TableLemmas.{same_or_started}
-use Rattle.unit_defs.proofs.NameLemmas.{name_turned}
 
--- a name is added to a set
-pub has_added : (old new : List Name) (name unit : Name) (is_added : Bool) → is_added ≡ true → has new unit ≡ cond (is_name name unit) true (has old unit) → has new unit ≡ (has old unit || (is_added && is_name unit name))
-has_added old new name unit is_added is added =
-    added ∙ ap (λ b. cond b true (has old unit)) (name_turned name unit) ∙ either (is_name unit name) (has old unit) ∙ ap (λ b. has old unit || (b && is_name unit name)) (sym is)
-  where
-    either : (b h : Bool) → cond b true h ≡ (h || (true && b))
-    either true true = refl
-    either true false = refl
-    either false true = refl
-    either false false = refl
+-- a name is added to a set, where it is to be there
+pub has_added : (old : List Name) (name unit : Name) (now is_added : Bool) → is_added ≡ true → now ≡ (has old unit || is_name unit name) → now ≡ (has old unit || (is_added && is_name unit name))
+has_added old name unit now is_added is added = added ∙ ap (λ b. has old unit || (b && is_name unit name)) (sym is)
 
 positive : (n : ℕ) → not (suc n == 0) ≡ true
 positive n = grind (arith, nat_tests)
@@ -70,3 +62,21 @@ unit_decided situation unit copied facts live empty decision left copy of among 
       live = among i;
       is_left = (nothing ∙ ap (λ f. is_left f decision) of ∙ ap (λ d. is_left (situation.systems.facts unit) d) row) i;
     }
+
+-- whether a unit is left to its sockets, by what is read of it
+left_as : (situation : Situation) (unit : Name) (facts : Facts) (decision : Decision) (started : Bool) → facts ≡ situation.systems.facts unit → decision ≡ decide facts true →
+    started ≡ is_socket_started decision → started ≡ is_socket_started (decide (situation.systems.facts unit) true)
+left_as situation unit facts decision started of row is = is ∙ ap is_socket_started row ∙ ap (λ f. is_socket_started (decide f true)) of
+
+-- where a unit is left to its sockets, its live sockets are those of its sockets that are live
+pub live_there : (situation : Situation) (unit : Name) (facts : Facts) (decision : Decision) (started : Bool) (sockets among live : List Name) → facts ≡ situation.systems.facts unit → decision ≡ decide facts true →
+    started ≡ is_socket_started decision → started ≡ true → sockets ≡ situation.systems.sockets unit → among ≡ sockets → live ≡ filter (is_live_socket situation) among → live ≡ live_sockets situation unit
+live_there situation unit facts decision started sockets among live of row is left these same found =
+    found ∙ ap (filter (is_live_socket situation)) (same ∙ these)
+    ∙ ap (λ b. if b then filter (is_live_socket situation) (situation.systems.sockets unit) else []) (sym left ∙ left_as situation unit facts decision started of row is)
+
+-- elsewhere they make no difference, and none is listed
+pub none_live : (situation : Situation) (unit : Name) (facts : Facts) (decision : Decision) (started : Bool) (live : List Name) → facts ≡ situation.systems.facts unit → decision ≡ decide facts true →
+    started ≡ is_socket_started decision → started ≡ false → live ≡ [] → live ≡ live_sockets situation unit
+none_live situation unit facts decision started live of row is other none =
+    none ∙ ap (λ b. if b then filter (is_live_socket situation) (situation.systems.sockets unit) else []) (sym other ∙ left_as situation unit facts decision started of row is)

@@ -9,16 +9,15 @@ use Rattle.std.proofs.lemmas.Bool.{and_from, and_parts}
 use Rattle.host_trait.specs.declared.unit_state.State.{State}
 use Rattle.host_trait.proofs.Places.{bytes_total}
 use Rattle.owed_plan.specs.Law.{ListLaw, SameOwed, rest_of}
-use Rattle.owed_plan.specs.Lists.{is_active}
+use Rattle.host_trait.specs.Manager.{is_active}
 use Rattle.owed_lists.specs.declared.lists.Lists.{Lists}
 use Rattle.owed_plan.specs.Owed.{IsOwed, IsPlan, Stops}
 use Rattle.owed_plan.specs.declared.owed.Owed.{Owed}
-use Rattle.switch_names.specs.Names.{IsListOf}
+use Rattle.switch_names.specs.Names.{IsListOf, Name, has}
 use Rattle.owed_plan.specs.Systems.{Systems}
 use Rattle.owed_plan.proofs.CoreLemmas.{active_from_test}
 use Rattle.owed_plan.proofs.NameLemmas.{has-filter}
 use Rattle.owed_plan.proofs.PrefixLemmas.{law}
-use Rattle.switch_names.specs.Names.{Name, has}
 
 -- a set of names has one list
 pub one_list : (names others : List Name) (P : Name → Type 0) → IsListOf names P → IsListOf others P → names ≡ others

@@ -8,7 +8,8 @@ use Rattle.host_trait.specs.States.{UnitStates, state_of}
 use Rattle.host_trait.specs.declared.unit_state.State.TheVariants.{Active}
 use Rattle.owed_lists.specs.declared.lists.Lists.{Lists}
 use Rattle.owed_plan.specs.Collected.{IsCollected, IsListBy, comes_up, defined, is_socketed}
-use Rattle.owed_plan.specs.Lists.{is_active, is_live}
+use Rattle.host_trait.specs.Manager.{is_active}
+use Rattle.owed_plan.specs.Lists.{is_live}
 use Rattle.owed_plan.specs.Owed.{Activates, Decides, IsLeft, IsPlan, Reloads, Restarts, Starts, Stops, has_live}
 use Rattle.owed_plan.specs.Pull.{Pulled}
 use Rattle.owed_plan.specs.Decisions.{Situation, is_left, is_live_socket, is_nothing, is_reloaded, is_restarted, is_socket_started, is_started, is_stopped, leaves, live_sockets, reloads, restarts, decisions_of, starts, stops}
@@ -344,3 +345,11 @@ pub same_up : (situation : Situation) (pulled stops stop_keys reloads reload_key
     has (filter (comes_up situation stop_keys reload_keys restart_keys) pulled) unit ≡ has (filter (comes_up situation stops reloads restarts) pulled) unit
 same_up situation pulled stops stop_keys reloads reload_keys restarts restart_keys unit one two three =
     λ i. has (filter (comes_up situation (sym one i) (sym two i) (sym three i)) pulled) unit
+
+-- a unit that nothing else brings up comes up where no socket starts it
+pub comes_up_by :
+    (active stopped reloaded restarted socketed a s r t k : Bool) → active ≡ a → stopped ≡ s → reloaded ≡ r → restarted ≡ t → socketed ≡ k →
+    (not active || stopped) ≡ true → reloaded ≡ false → restarted ≡ false → not socketed ≡ ((not a || s) && not r && not t && not k)
+comes_up_by active stopped reloaded restarted socketed a s r t k is_a is_s is_r is_t is_k down no_reload no_restart =
+    sym (ap (λ b. b && not r && not t && not k) (ap (λ b. not b || s) (sym is_a) ∙ ap (λ b. not active || b) (sym is_s) ∙ down)
+    ∙ ap (λ b. not b && not t && not k) (sym is_r ∙ no_reload) ∙ ap (λ b. not b && not k) (sym is_t ∙ no_restart) ∙ ap not (sym is_k))

@@ -5,7 +5,7 @@ use Rattle.host_trait.specs.declared.entry.Act.TheVariants.{Stop, Reload, Restar
 use Rattle.host_trait.specs.declared.unit_state.State.{State}
 use Rattle.owed_plan.specs.declared.duty.Duty.{Duty}
 use Rattle.owed_plan.specs.declared.owed.Owed.{Owed}
-use Rattle.owed_plan.specs.Lists.{is_active}
+use Rattle.host_trait.specs.Manager.{is_active}
 use Rattle.owed_plan.specs.Owed.{sockets_first}
 use Rattle.switch_names.specs.Names.{Name, has}
 use Rattle.unit_decide.specs.Facts.{unit_kind}

@@ -3,7 +3,7 @@ use Rattle.std.specs.Prelude.{◌&&◌, ◌||◌, Bool, true, false, List, [], f
 use Rattle.std.specs.List.{list_any}
 use Rattle.host_trait.specs.States.{UnitStates, listed_states, state_of}
 use Rattle.host_trait.specs.declared.unit_state.State.{State}
-use Rattle.owed_plan.specs.Lists.{is_active}
+use Rattle.host_trait.specs.Manager.{is_active}
 use Rattle.owed_plan.specs.Systems.{Systems, systems_in}
 use Rattle.owed_plan.specs.declared.known.Known.{Known}
 use Rattle.owed_plan.specs.declared.deciding.UnitDecision.{UnitDecision}
@@ -26,7 +26,7 @@ abbrev pub situation_of : Known → Situation
 situation_of known = record {
   systems = systems_in known.old.now known.new.now;
   states = state_of known.states.now;
-  waits = has known.waiting.now.keys;
+  waits = has known.waiting.now;
 }
 
 -- the decision is to stop the unit, whether or not it is started then

@@ -1,18 +1,13 @@
 -- The lists of units that a switch which was cut has left: NixOS manual, "Unit handling".
-use Rattle.std.specs.Prelude.{◌||◌, Bool, true, false, List}
+use Rattle.std.specs.Prelude.{◌||◌, Bool, List}
 use Rattle.host_trait.specs.declared.unit_state.State.{State}
-use Rattle.host_trait.specs.declared.unit_state.State.TheVariants.{Active}
+use Rattle.host_trait.specs.Manager.{is_active}
 use Rattle.owed_lists.specs.declared.lists.Lists.{Lists}
 use Rattle.switch_names.specs.Names.{Name, has}
 
 -- the names that wait for a start
 abbrev pub pending : Lists → List Name
 pending lists = lists.starts
-
--- the unit is started
-abbrev pub is_active : State → Bool
-is_active Active = true
-is_active state = false
 
 -- a socket that is active or waits for a start
 abbrev pub is_live : (Name → State) → Lists → Name → Bool

@@ -1,18 +1,15 @@
 //! Collects the units to stop, reload, restart and start, and those that are left.
 ghost use Rattle.std.specs.Prelude.{◌≡◌, ◌&&◌, ◌||◌, List, ℕ, IfOk, OnOk, filter};
 ghost use Rattle.std.specs.List.{list_any};
-ghost use Rattle.std.specs.List.Sorted.{IsStrictlySortedBy};
-ghost use Rattle.host_trait.specs.World.{bytes_cmp};
 ghost use Rattle.owed_plan.specs.Collected.{defined};
-ghost use Rattle.owed_plan.specs.Lists.{is_active};
+ghost use Rattle.host_trait.specs.Manager.{is_active};
 ghost use Rattle.owed_plan.specs.Decisions.{is_reloaded, is_restarted, is_started, is_stopped, leaves, reloads, restarts, situation_of, starts, stops};
 ghost use Rattle.switch_names.specs.Names.{has, is_name};
 
 use crate::deciding::UnitDecision;
 use crate::known::Known;
 use std::alloc::{AllocError, Global};
-use std::collections::BTreeSet;
-use switch_names::{Listed, UnitName};
+use switch_names::{UnitName, UnitSet};
 use unit_decide::Decision;
 
 /// Whether a unit is stopped, whether or not it is started then.
@@ -49,28 +46,14 @@ fn is_restarted(decision: Decision) -> bool
 /// Adds a name to a set, where it is to be there.
 pub fn add_if(
     alloc: Global,
-    set: &mut BTreeSet<UnitName>,
+    set: &mut UnitSet,
     name: &UnitName,
     is_added: bool,
 ) -> Result<(), AllocError>
-    ensures { OnOk result ((unit : List ℕ) → has set.new.keys unit ≡ (has set.old.keys unit || (is_added && is_name unit name.now))) }
+    ensures { OnOk result ((unit : List ℕ) → has set.new unit ≡ (has set.old unit || (is_added && is_name unit name.now))) }
 {
     if is_added {
         set.insert(name.copy(alloc)?)?;
-    }
-    Ok(())
-}
-
-/// Adds names to a set.
-pub fn add_names(
-    alloc: Global,
-    set: &mut BTreeSet<UnitName>,
-    names: &[UnitName],
-) -> Result<(), AllocError>
-    ensures { OnOk result ((unit : List ℕ) → has set.new.keys unit ≡ (has set.old.keys unit || has names.now unit)) }
-{
-    for name in names {
-        add_if(alloc, set, name, true)?;
     }
     Ok(())
 }
@@ -79,10 +62,10 @@ pub fn add_names(
 fn add_active(
     alloc: Global,
     known: Known<'_>,
-    set: &mut BTreeSet<UnitName>,
+    set: &mut UnitSet,
     names: &[UnitName],
 ) -> Result<(), AllocError>
-    ensures { OnOk result ((unit : List ℕ) → has set.new.keys unit ≡ (has set.old.keys unit || has (filter (λ name. is_active ((situation_of known.entry).states name)) names.now) unit)) }
+    ensures { OnOk result ((unit : List ℕ) → has set.new unit ≡ (has set.old unit || has (filter (λ name. is_active ((situation_of known.entry).states name)) names.now) unit)) }
 {
     for name in names {
         add_if(alloc, set, name, known.is_active(name))?;
@@ -94,10 +77,10 @@ fn add_active(
 pub fn add_defined(
     alloc: Global,
     known: Known<'_>,
-    set: &mut BTreeSet<UnitName>,
+    set: &mut UnitSet,
     names: &[UnitName],
 ) -> Result<(), AllocError>
-    ensures { OnOk result ((unit : List ℕ) → has set.new.keys unit ≡ (has set.old.keys unit || has (defined (situation_of known.entry) names.now) unit)) }
+    ensures { OnOk result ((unit : List ℕ) → has set.new unit ≡ (has set.old unit || has (defined (situation_of known.entry) names.now) unit)) }
 {
     for name in names {
         add_if(alloc, set, name, known.is_defined(name))?;
@@ -111,10 +94,10 @@ pub fn stops(
     alloc: Global,
     known: Known<'_>,
     decisions: &[UnitDecision],
-) -> Result<BTreeSet<UnitName>, AllocError>
-    ensures { IfOk result (λ set. (unit : List ℕ) → has set.keys unit ≡ list_any (stops (situation_of known.entry) unit) decisions.now) }
+) -> Result<UnitSet, AllocError>
+    ensures { IfOk result (λ set. (unit : List ℕ) → has set unit ≡ list_any (stops (situation_of known.entry) unit) decisions.now) }
 {
-    let mut set = BTreeSet::new(alloc);
+    let mut set = UnitSet::new(alloc);
     for decided in decisions {
         add_if(alloc, &mut set, &decided.unit, is_stopped(decided.decision))?;
         add_active(alloc, known, &mut set, decided.live.as_slice())?;
@@ -123,22 +106,22 @@ pub fn stops(
 }
 
 /// The units that are started by what is decided on Active units.
-pub fn starts(alloc: Global, decisions: &[UnitDecision]) -> Result<BTreeSet<UnitName>, AllocError>
-    ensures { IfOk result (λ set. (unit : List ℕ) → has set.keys unit ≡ list_any (starts unit) decisions.now) }
+pub fn starts(alloc: Global, decisions: &[UnitDecision]) -> Result<UnitSet, AllocError>
+    ensures { IfOk result (λ set. (unit : List ℕ) → has set unit ≡ list_any (starts unit) decisions.now) }
 {
-    let mut set = BTreeSet::new(alloc);
+    let mut set = UnitSet::new(alloc);
     for decided in decisions {
         add_if(alloc, &mut set, &decided.unit, is_started(decided.decision))?;
-        add_names(alloc, &mut set, decided.live.as_slice())?;
+        set.insert_all(alloc, decided.live.as_slice())?;
     }
     Ok(set)
 }
 
 /// The Active units that are reloaded by their own decision.
-pub fn reloads(alloc: Global, decisions: &[UnitDecision]) -> Result<BTreeSet<UnitName>, AllocError>
-    ensures { IfOk result (λ set. (unit : List ℕ) → has set.keys unit ≡ list_any (reloads unit) decisions.now) }
+pub fn reloads(alloc: Global, decisions: &[UnitDecision]) -> Result<UnitSet, AllocError>
+    ensures { IfOk result (λ set. (unit : List ℕ) → has set unit ≡ list_any (reloads unit) decisions.now) }
 {
-    let mut set = BTreeSet::new(alloc);
+    let mut set = UnitSet::new(alloc);
     for decided in decisions {
         add_if(
             alloc,
@@ -151,10 +134,10 @@ pub fn reloads(alloc: Global, decisions: &[UnitDecision]) -> Result<BTreeSet<Uni
 }
 
 /// The Active units that are restarted by their own decision.
-pub fn restarts(alloc: Global, decisions: &[UnitDecision]) -> Result<BTreeSet<UnitName>, AllocError>
-    ensures { IfOk result (λ set. (unit : List ℕ) → has set.keys unit ≡ list_any (restarts unit) decisions.now) }
+pub fn restarts(alloc: Global, decisions: &[UnitDecision]) -> Result<UnitSet, AllocError>
+    ensures { IfOk result (λ set. (unit : List ℕ) → has set unit ≡ list_any (restarts unit) decisions.now) }
 {
-    let mut set = BTreeSet::new(alloc);
+    let mut set = UnitSet::new(alloc);
     for decided in decisions {
         add_if(
             alloc,
@@ -167,24 +150,12 @@ pub fn restarts(alloc: Global, decisions: &[UnitDecision]) -> Result<BTreeSet<Un
 }
 
 /// The changed units that get nothing.
-pub fn left(alloc: Global, decisions: &[UnitDecision]) -> Result<BTreeSet<UnitName>, AllocError>
-    ensures { IfOk result (λ set. (unit : List ℕ) → has set.keys unit ≡ list_any (leaves unit) decisions.now) }
+pub fn left(alloc: Global, decisions: &[UnitDecision]) -> Result<UnitSet, AllocError>
+    ensures { IfOk result (λ set. (unit : List ℕ) → has set unit ≡ list_any (leaves unit) decisions.now) }
 {
-    let mut set = BTreeSet::new(alloc);
+    let mut set = UnitSet::new(alloc);
     for decided in decisions {
         add_if(alloc, &mut set, &decided.unit, decided.is_left)?;
     }
     Ok(set)
-}
-
-/// The names of a set in byte order.
-pub fn listed(alloc: Global, set: BTreeSet<UnitName>) -> Result<Listed<UnitName>, AllocError>
-    ensures names { IfOk result (λ names. names ≡ set.keys) }
-    ensures sorted { IsStrictlySortedBy bytes_cmp set.keys }
-{
-    let mut names = Listed::new(alloc);
-    for name in set {
-        names.push(name)?;
-    }
-    Ok(names)
 }

@@ -2,7 +2,7 @@
 ghost use Rattle.std.specs.Prelude.{◌≡◌, IfOk, filter};
 ghost use Rattle.owed_plan.specs.Decisions.{is_left, is_live_socket, is_nothing, is_socket_started, live_sockets, decision_of, decisions_of, situation_of};
 
-use crate::known::{Known, is_active};
+use crate::known::Known;
 use std::alloc::{AllocError, Global};
 use switch_names::{Listed, UnitName};
 use unit_decide::{Decision, Facts, decide_by, is_same, is_target};
@@ -109,7 +109,7 @@ pub fn decide_units(alloc: Global, known: Known<'_>) -> Result<Vec<UnitDecision>
 {
     let mut decisions = Vec::new(alloc);
     for one in known.states.list().as_slice() {
-        if is_active(one.state) {
+        if one.state.is_active() {
             decisions.push(decide_unit(alloc, known, &one.unit)?)?;
         }
     }

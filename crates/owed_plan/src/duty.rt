@@ -1,20 +1,17 @@
 //! The calls by which what is owed is given.
-ghost use Rattle.std.specs.Prelude.{◌≡◌, ◌++◌, ◌||◌, ◌∷◌, [], List, ℕ, IfOk, OnOk, filter, map, not};
+ghost use Rattle.std.specs.Prelude.{◌≡◌, ◌++◌, ◌∷◌, [], IfOk, OnOk, filter, map, not};
 ghost use Rattle.host_trait.specs.States.{state_of};
 ghost use Rattle.host_trait.specs.declared.entry.Act.TheVariants.{Stop};
 ghost use Rattle.owed_plan.specs.Calls.{calls_of, duty, reload_act};
-ghost use Rattle.owed_plan.specs.Lists.{is_active};
 ghost use Rattle.owed_plan.specs.Owed.{sockets_first};
 ghost use Rattle.switch_names.specs.declared.unit_kind.UnitKind.TheVariants.{Socket};
-ghost use Rattle.switch_names.specs.Names.{has, is_name};
 ghost use Rattle.unit_decide.specs.Facts.{unit_kind};
 ghost use Rattle.unit_decide.specs.Kinds.{is_kind};
 
 use crate::owed::Owed;
-use host_trait::{Act, State, States};
+use host_trait::{Act, States};
 use std::alloc::{AllocError, Global};
-use std::collections::BTreeSet;
-use switch_names::{Listed, UnitName};
+use switch_names::{Listed, UnitName, UnitSet};
 use unit_decide::is_socket;
 
 /// A call on a unit.
@@ -35,13 +32,6 @@ fn is_socket_unit(unit: &UnitName) -> bool
     ensures { result ≡ is_kind (unit_kind unit.now) Socket }
 {
     is_socket(unit.kind())
-}
-
-/// Whether a unit is started.
-fn is_active(state: State) -> bool
-    ensures { result ≡ is_active state }
-{
-    matches!(state, State::Active)
 }
 
 /// Adds a call on a unit.
@@ -114,30 +104,12 @@ fn add_stops(alloc: Global, duties: &mut Listed<Duty>, units: &[UnitName]) -> Re
     add_other_stops(alloc, duties, units)
 }
 
-/// Adds a unit to a set.
-fn add_unit(set: &mut BTreeSet<UnitName>, unit: UnitName) -> Result<(), AllocError>
-    ensures { OnOk result ((other : List ℕ) → has set.new.keys other ≡ (has set.old.keys other || is_name other unit)) }
-{
-    set.insert(unit)?;
-    Ok(())
-}
-
-/// The set of these units.
-fn set_of(alloc: Global, units: &[UnitName]) -> Result<BTreeSet<UnitName>, AllocError>
-    ensures { IfOk result (λ set. (unit : List ℕ) → has set.keys unit ≡ has units.now unit) }
-{
-    let mut set = BTreeSet::new(alloc);
-    for unit in units {
-        add_unit(&mut set, unit.copy(alloc)?)?;
-    }
-    Ok(set)
-}
-
 /// How a unit is reloaded: where it stays Active, and by a start elsewhere.
-fn reload_act(states: &States, stops: &BTreeSet<UnitName>, unit: &UnitName) -> Act
-    ensures { result ≡ reload_act (state_of states.now) stops.now.keys unit.now }
+fn reload_act(states: &States, stops: &UnitSet, unit: &UnitName) -> Act
+    ensures { result ≡ reload_act (state_of states.now) stops.now unit.now }
 {
-    if is_active(states.of(unit)) && !stops.contains(unit) {
+    let is_stopped = stops.contains(unit);
+    if states.of(unit).is_active() && !is_stopped {
         Act::Reload
     } else {
         Act::Start
@@ -149,10 +121,10 @@ fn add_reloads(
     alloc: Global,
     duties: &mut Listed<Duty>,
     states: &States,
-    stops: &BTreeSet<UnitName>,
+    stops: &UnitSet,
     units: &[UnitName],
 ) -> Result<(), AllocError>
-    ensures { OnOk result (duties.new ≡ duties.old ++ map (λ unit. duty (reload_act (state_of states.now) stops.now.keys unit) unit) units.now) }
+    ensures { OnOk result (duties.new ≡ duties.old ++ map (λ unit. duty (reload_act (state_of states.now) stops.now unit) unit) units.now) }
 {
     for unit in units {
         add_call(alloc, duties, reload_act(states, stops, unit), unit)?;
@@ -168,7 +140,7 @@ fn add_reloads(
 pub fn calls(alloc: Global, owed: &Owed, states: &States) -> Result<Listed<Duty>, AllocError>
     ensures { IfOk result (λ duties. duties ≡ calls_of owed.now (state_of states.now)) }
 {
-    let stops = set_of(alloc, owed.stops.as_slice())?;
+    let stops = UnitSet::of(alloc, owed.stops.as_slice())?;
     let mut duties = Listed::new(alloc);
     add_stops(alloc, &mut duties, owed.stops.as_slice())?;
     add_reloads(alloc, &mut duties, states, &stops, owed.reloads.as_slice())?;

@@ -1,13 +1,12 @@
 //! What is read to plan a switch.
 ghost use Rattle.std.specs.Prelude.{◌≡◌, ◌&&◌, IfOk};
-ghost use Rattle.owed_plan.specs.Lists.{is_active};
+ghost use Rattle.host_trait.specs.Manager.{is_active};
 ghost use Rattle.owed_plan.specs.Collected.{is_socketed};
 ghost use Rattle.owed_plan.specs.Decisions.{is_live_socket, situation_of};
 
-use host_trait::{State, States};
+use host_trait::States;
 use std::alloc::{AllocError, Global};
-use std::collections::BTreeSet;
-use switch_names::{Listed, UnitName};
+use switch_names::{Listed, UnitName, UnitSet};
 use unit_decide::{Facts, is_service, sockets};
 use unit_defs::Defs;
 
@@ -17,14 +16,7 @@ pub struct Known<'a> {
     pub old: &'a Defs,
     pub new: &'a Defs,
     pub states: &'a States,
-    pub waiting: &'a BTreeSet<UnitName>,
-}
-
-/// Whether a unit is started.
-pub fn is_active(state: State) -> bool
-    ensures { result ≡ is_active state }
-{
-    matches!(state, State::Active)
+    pub waiting: &'a UnitSet,
 }
 
 impl Known<'_> {
@@ -46,14 +38,15 @@ impl Known<'_> {
     pub fn is_active(self, unit: &UnitName) -> bool
         ensures { result ≡ is_active ((situation_of self.entry).states unit.now) }
     {
-        is_active(self.states.of(unit))
+        self.states.of(unit).is_active()
     }
 
     /// Whether a socket that the new system defines is Active or waits for a start.
     pub fn is_live_socket(self, socket: &UnitName) -> bool
         ensures { result ≡ is_live_socket (situation_of self.entry) socket.now }
     {
-        self.is_defined(socket) && (self.is_active(socket) || self.waiting.contains(socket))
+        let waits = self.waiting.contains(socket);
+        self.is_defined(socket) && (self.is_active(socket) || waits)
     }
 
     /// The sockets that a unit is paired with.

@@ -11,33 +11,22 @@ ghost use Rattle.owed_plan.specs.Decisions.{leaves, reloads, restarts, situation
 ghost use Rattle.owed_plan.specs.Systems.{systems_in};
 ghost use Rattle.switch_names.specs.Names.{IsListOf, has};
 
-use crate::collecting::{
-    add_defined, add_if, add_names, left, listed, reloads, restarts, starts, stops,
-};
+use crate::collecting::{add_defined, add_if, left, reloads, restarts, starts, stops};
 use crate::deciding::{UnitDecision, decide_units};
 use crate::known::Known;
 use crate::owed::Owed;
 use host_trait::States;
 use owed_lists::Lists;
 use std::alloc::{AllocError, Global};
-use std::collections::BTreeSet;
-use switch_names::{Listed, UnitName};
+use switch_names::{Listed, UnitName, UnitSet};
 use unit_defs::Defs;
 
 /// The units that are stopped, reloaded and restarted.
 #[derive(Clone, Copy)]
 struct Handled<'a> {
-    stops: &'a BTreeSet<UnitName>,
-    reloads: &'a BTreeSet<UnitName>,
-    restarts: &'a BTreeSet<UnitName>,
-}
-
-/// Their names, each list in byte order.
-#[derive(Drop)]
-struct HandledNames {
-    stops: Listed<UnitName>,
-    reloads: Listed<UnitName>,
-    restarts: Listed<UnitName>,
+    stops: &'a UnitSet,
+    reloads: &'a UnitSet,
+    restarts: &'a UnitSet,
 }
 
 /// Whether a pulled unit is to be started: it neither stays up nor comes up otherwise.
@@ -47,9 +36,10 @@ fn comes_up(
     handled: Handled<'_>,
     unit: &UnitName,
 ) -> Result<bool, AllocError>
-    ensures { IfOk result (λ is. is ≡ comes_up (situation_of known.entry) handled.entry.stops.now.keys handled.entry.reloads.now.keys handled.entry.restarts.now.keys unit.now) }
+    ensures { IfOk result (λ is. is ≡ comes_up (situation_of known.entry) handled.entry.stops.now handled.entry.reloads.now handled.entry.restarts.now unit.now) }
 {
-    if known.is_active(unit) && !handled.stops.contains(unit) {
+    let is_stopped = handled.stops.contains(unit);
+    if known.is_active(unit) && !is_stopped {
         return Ok(false);
     }
     if handled.reloads.contains(unit) || handled.restarts.contains(unit) {
@@ -63,11 +53,11 @@ fn add_pulled(
     alloc: Global,
     known: Known<'_>,
     handled: Handled<'_>,
-    set: &mut BTreeSet<UnitName>,
+    set: &mut UnitSet,
     pulled: &[UnitName],
 ) -> Result<(), AllocError>
-    ensures { OnOk result ((unit : List ℕ) → has set.new.keys unit ≡ (has set.old.keys unit
-        || has (filter (comes_up (situation_of known.entry) handled.entry.stops.now.keys handled.entry.reloads.now.keys handled.entry.restarts.now.keys) pulled.now) unit)) }
+    ensures { OnOk result ((unit : List ℕ) → has set.new unit ≡ (has set.old unit
+        || has (filter (comes_up (situation_of known.entry) handled.entry.stops.now handled.entry.reloads.now handled.entry.restarts.now) pulled.now) unit)) }
 {
     for unit in pulled {
         add_if(alloc, set, unit, comes_up(alloc, known, handled, unit)?)?;
@@ -81,8 +71,8 @@ fn all_reloads(
     known: Known<'_>,
     decisions: &[UnitDecision],
     lists: &Lists,
-) -> Result<BTreeSet<UnitName>, AllocError>
-    ensures { IfOk result (λ set. (unit : List ℕ) → has set.keys unit ≡ (list_any (reloads unit) decisions.now || has (defined (situation_of known.entry) lists.now.reloads) unit)) }
+) -> Result<UnitSet, AllocError>
+    ensures { IfOk result (λ set. (unit : List ℕ) → has set unit ≡ (list_any (reloads unit) decisions.now || has (defined (situation_of known.entry) lists.now.reloads) unit)) }
 {
     let mut set = reloads(alloc, decisions)?;
     add_defined(alloc, known, &mut set, lists.reloads.as_slice())?;
@@ -95,8 +85,8 @@ fn all_restarts(
     known: Known<'_>,
     decisions: &[UnitDecision],
     lists: &Lists,
-) -> Result<BTreeSet<UnitName>, AllocError>
-    ensures { IfOk result (λ set. (unit : List ℕ) → has set.keys unit ≡ (list_any (restarts unit) decisions.now || has (defined (situation_of known.entry) lists.now.restarts) unit)) }
+) -> Result<UnitSet, AllocError>
+    ensures { IfOk result (λ set. (unit : List ℕ) → has set unit ≡ (list_any (restarts unit) decisions.now || has (defined (situation_of known.entry) lists.now.restarts) unit)) }
 {
     let mut set = restarts(alloc, decisions)?;
     add_defined(alloc, known, &mut set, lists.restarts.as_slice())?;
@@ -110,8 +100,8 @@ fn own_starts(
     known: Known<'_>,
     decisions: &[UnitDecision],
     lists: &Lists,
-) -> Result<BTreeSet<UnitName>, AllocError>
-    ensures { IfOk result (λ set. (unit : List ℕ) → has set.keys unit ≡ (list_any (starts unit) decisions.now || has (defined (situation_of known.entry) lists.now.starts) unit)) }
+) -> Result<UnitSet, AllocError>
+    ensures { IfOk result (λ set. (unit : List ℕ) → has set unit ≡ (list_any (starts unit) decisions.now || has (defined (situation_of known.entry) lists.now.starts) unit)) }
 {
     let mut set = starts(alloc, decisions)?;
     add_defined(alloc, known, &mut set, lists.starts.as_slice())?;
@@ -128,11 +118,11 @@ fn started(
     pulled: &[UnitName],
 ) -> Result<Listed<UnitName>, AllocError>
     ensures { IfOk result (λ names. IsListBy names (λ unit. (list_any (starts unit) decisions.now || has (defined (situation_of known.entry) lists.now.starts) unit)
-        || has (filter (comes_up (situation_of known.entry) handled.entry.stops.now.keys handled.entry.reloads.now.keys handled.entry.restarts.now.keys) pulled.now) unit)) }
+        || has (filter (comes_up (situation_of known.entry) handled.entry.stops.now handled.entry.reloads.now handled.entry.restarts.now) pulled.now) unit)) }
 {
     let mut set = own_starts(alloc, known, decisions, lists)?;
     add_pulled(alloc, known, handled, &mut set, pulled)?;
-    listed(alloc, set)
+    set.into_names(alloc)
 }
 
 /// The names of the changed units that get nothing.
@@ -140,27 +130,33 @@ fn left_names(alloc: Global, decisions: &[UnitDecision]) -> Result<Listed<UnitNa
     ensures { IfOk result (λ names. IsListBy names (λ unit. list_any (leaves unit) decisions.now)) }
 {
     let set = left(alloc, decisions)?;
-    listed(alloc, set)
+    set.into_names(alloc)
 }
 
-/// The names of the units that are stopped, reloaded and restarted.
-fn handled_names(
+/// What is owed, given the units that are handled otherwise than by a start.
+fn owed_of(
     alloc: Global,
-    stops: BTreeSet<UnitName>,
-    reloads: BTreeSet<UnitName>,
-    restarts: BTreeSet<UnitName>,
-) -> Result<HandledNames, AllocError>
-    ensures stops { IfOk result (λ names. names.stops ≡ stops.keys) }
-    ensures reloads { IfOk result (λ names. names.reloads ≡ reloads.keys) }
-    ensures restarts { IfOk result (λ names. names.restarts ≡ restarts.keys) }
-    ensures sorted_stops { OnOk result (IsStrictlySortedBy bytes_cmp stops.keys) }
-    ensures sorted_reloads { OnOk result (IsStrictlySortedBy bytes_cmp reloads.keys) }
-    ensures sorted_restarts { OnOk result (IsStrictlySortedBy bytes_cmp restarts.keys) }
+    stops: UnitSet,
+    reloads: UnitSet,
+    restarts: UnitSet,
+    starts: Listed<UnitName>,
+    left: Listed<UnitName>,
+) -> Result<Owed, AllocError>
+    ensures stops { IfOk result (λ owed. owed.stops ≡ stops) }
+    ensures reloads { IfOk result (λ owed. owed.reloads ≡ reloads) }
+    ensures restarts { IfOk result (λ owed. owed.restarts ≡ restarts) }
+    ensures starts { IfOk result (λ owed. owed.starts ≡ starts) }
+    ensures left { IfOk result (λ owed. owed.left ≡ left) }
+    ensures sorted_stops { OnOk result (IsStrictlySortedBy bytes_cmp stops) }
+    ensures sorted_reloads { OnOk result (IsStrictlySortedBy bytes_cmp reloads) }
+    ensures sorted_restarts { OnOk result (IsStrictlySortedBy bytes_cmp restarts) }
 {
-    Ok(HandledNames {
-        stops: listed(alloc, stops)?,
-        reloads: listed(alloc, reloads)?,
-        restarts: listed(alloc, restarts)?,
+    Ok(Owed {
+        stops: stops.into_names(alloc)?,
+        reloads: reloads.into_names(alloc)?,
+        restarts: restarts.into_names(alloc)?,
+        starts,
+        left,
     })
 }
 
@@ -183,24 +179,9 @@ fn collect(
         restarts: &restarts,
     };
     let starts = started(alloc, known, decisions, lists, handled, pulled)?;
-    let names = handled_names(alloc, stops, reloads, restarts)?;
     let left = left_names(alloc, decisions)?;
-    Ok(Owed {
-        stops: names.stops,
-        reloads: names.reloads,
-        restarts: names.restarts,
-        starts,
-        left,
-    })
-}
-
-/// The names of a list, as a set.
-fn set_of(alloc: Global, names: &Listed<UnitName>) -> Result<BTreeSet<UnitName>, AllocError>
-    ensures { IfOk result (λ set. (unit : List ℕ) → has set.keys unit ≡ has names.now unit) }
-{
-    let mut set = BTreeSet::new(alloc);
-    add_names(alloc, &mut set, names.as_slice())?;
-    Ok(set)
+    let owed = owed_of(alloc, stops, reloads, restarts, starts, left)?;
+    Ok(owed)
 }
 
 /// What a switch from one system to another owes the units, given their states, the lists that a
@@ -218,7 +199,7 @@ pub fn plan(
     requires { IsListOf pulled.now (Pulled (systems_in old.now new.now) (state_of states.now) lists.now) }
     ensures { IfOk result (IsPlan (systems_in old.now new.now) (state_of states.now) lists.now) }
 {
-    let waiting = set_of(alloc, &lists.starts)?;
+    let waiting = UnitSet::of(alloc, lists.starts.as_slice())?;
     let known = Known {
         old,
         new,

@@ -1,5 +1,5 @@
 -- The places that a switch writes are apart from the stage, and where nothing is in the way of them each is clear.
-use Rattle.std.proofs.Common.{◌≡◌, ◌&&◌, ℕ, ◌<◌, ◌+◌, Bool, true, false, cond, List, [], ◌∷◌, Option, None, Some, option_map, suc, length, get_or, drop, add-one, refl, sym, ap, subst, ◌∙◌}
+use Rattle.std.proofs.Common.{◌≡◌, ◌&&◌, ℕ, ◌<◌, ◌+◌, Bool, true, false, cond, List, [], ◌∷◌, ◌++◌, append_assoc, Option, None, Some, option_map, suc, length, get_or, drop, add-one, refl, sym, ap, subst, ◌∙◌}
 use Rattle.std.proofs.Math.Seq.{drop-cons}
 use Rattle.std.proofs.lemmas.Bool.{or_parts}
 use Rattle.std.specs.List.{find}
@@ -10,7 +10,7 @@ use Rattle.tree_put.specs.Put.{is_blocked}
 use Rattle.tree_put.proofs.BlockedLemmas.{clear_of_free}
 use Rattle.switch_engine.specs.declared.written_place.WrittenPlace.{WrittenPlace}
 use Rattle.switch_engine.specs.Final.{CanSwitch}
-use Rattle.switch_engine.specs.Places.{is_in_the_way, lacks_content, switch_places, written}
+use Rattle.switch_engine.specs.Places.{is_in_the_way, lacks_content, switch_places, written, written_links, written_lists}
 use Rattle.switch_engine.specs.Reach.{AreApartFromStage}
 use Rattle.switch_engine.specs.System.{current_place}
 
@@ -27,9 +27,16 @@ pub first_next : (test : WrittenPlace → Bool) (places : List WrittenPlace) (i 
 first_next test places i place inside is free =
     sym (ap (find test) (from_here places i place inside is) ∙ ap (λ b. cond b (Some place) (find test (drop (i + 1) places))) free)
 
+-- three places more
+pub three_more : (old one two new : List WrittenPlace) (a b c : WrittenPlace) → one ≡ old ++ a ∷ [] → two ≡ one ++ b ∷ [] → new ≡ two ++ c ∷ [] → new ≡ old ++ a ∷ b ∷ c ∷ []
+three_more old one two new a b c first second third =
+    third
+    ∙ ap (λ (places : List WrittenPlace). places ++ c ∷ []) (second ∙ ap (λ (places : List WrittenPlace). places ++ b ∷ []) first ∙ append_assoc old (a ∷ []) (b ∷ []))
+    ∙ append_assoc old (a ∷ b ∷ []) (c ∷ [])
+
 -- the stage is apart from each place that a switch writes
 pub places_apart : AreApartFromStage switch_places
-unfolding switch_places definitions_place stage current_place reloads_place restarts_place starts_place
+unfolding switch_places written_links written_lists definitions_place stage current_place reloads_place restarts_place starts_place
 places_apart = (refl, (refl, (refl, (refl, (refl, (refl, tt))))))
 
 none_found : (o : Option WrittenPlace) → None ≡ option_map (λ place. place.at) o → o ≡ None
@@ -46,7 +53,7 @@ clear_first leaves place places is =
     ] refl is
 
 can_switch : (w : WorldState) → find (is_in_the_way w.leaves) switch_places ≡ None → CanSwitch w
-unfolding switch_places
+unfolding switch_places written_links written_lists
 can_switch w is =
     let last : List WrittenPlace = written true starts_place ∷ [] in
     let lists : List WrittenPlace = written true restarts_place ∷ last in

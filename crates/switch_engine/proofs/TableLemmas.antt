@@ -7,12 +7,10 @@ use Rattle.host_trait.specs.declared.entry.Bad.{Bad}
 use Rattle.host_trait.specs.declared.manager_state.ManagerState.{ManagerState}
 use Rattle.host_trait.specs.declared.unit_state.State.{State}
 use Rattle.host_trait.specs.declared.unit_state.State.TheVariants.{Active, Inactive, Failed}
-use Rattle.host_trait.specs.Manager.{is_bad, loading}
-use Rattle.host_trait.specs.Manager as manager_of
+use Rattle.host_trait.specs.Manager.{is_active, is_bad, loading}
 use Rattle.host_trait.specs.States.{state_of}
 use Rattle.owed_plan.specs.declared.owed.Owed.{Owed}
 use Rattle.owed_plan.specs.Calls.{reload_act, reload_calls, restart_calls, start_calls, stop_calls}
-use Rattle.owed_plan.specs.Lists.{is_active}
 use Rattle.owed_plan.specs.Owed.{sockets_first}
 use Rattle.switch_names.specs.Names.{Name, has}
 use Rattle.switch_engine.specs.Acts.{CanPerform, brought_by, entry_of, final_state, performed}
@@ -49,7 +47,7 @@ still_active true Failed is = absurd cc
 
 -- the state after a start, where there is one
 abbrev after_start : Bool → State → State → State
-after_start starts to was = if starts then if manager_of.is_active was then Active else to else was
+after_start starts to was = if starts then if is_active was then Active else to else was
 
 -- a start leaves a unit that stays active or has been started as it is
 started_still : (active is : Bool) →

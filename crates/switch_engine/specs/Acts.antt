@@ -6,13 +6,12 @@ use Rattle.host_trait.specs.declared.entry.Entry.{Entry}
 use Rattle.host_trait.specs.declared.manager_state.ManagerState.{ManagerState}
 use Rattle.host_trait.specs.declared.unit_state.State.{State}
 use Rattle.host_trait.specs.declared.unit_state.State.TheVariants.{Active, Inactive, Failed}
-use Rattle.host_trait.specs.Manager.{acted, halted, is_bad}
+use Rattle.host_trait.specs.Manager.{acted, halted, is_active, is_bad}
 use Rattle.host_trait.specs.States.{state_of}
 use Rattle.host_trait.specs.World.{WorldState, with_manager}
 use Rattle.owed_plan.specs.declared.duty.Duty.{Duty}
 use Rattle.owed_plan.specs.declared.owed.Owed.{Owed}
 use Rattle.owed_plan.specs.Calls.{duty}
-use Rattle.owed_plan.specs.Lists.{is_active}
 use Rattle.switch_names.specs.Names.{Name, has}
 
 -- a manager after these calls, in their order

@@ -1,5 +1,5 @@
 -- The places that a switch writes, and what stands in the way of one: path_resolution(7).
-use Rattle.std.specs.Prelude.{◌&&◌, ◌||◌, Bool, true, false, List, [], ◌∷◌, Option, is_none, is_some, option_map}
+use Rattle.std.specs.Prelude.{◌&&◌, ◌||◌, ◌++◌, Bool, true, false, List, [], ◌∷◌, Option, is_none, is_some, option_map}
 use Rattle.std.specs.FinMap.{get}
 use Rattle.std.specs.List.{find}
 use Rattle.host_trait.specs.Change.{definitions_place}
@@ -16,11 +16,17 @@ use Rattle.tree_put.specs.Put.{is_blocked}
 abbrev pub written : Bool → Name → WrittenPlace
 written is_read at = record { at = at; is_read = is_read }
 
--- the places that a switch writes, in byte order: the two links, the stage, and the lists, which are read
+-- both links and the stage
+unfoldable pub written_links : List WrittenPlace
+written_links = written false definitions_place ∷ written false stage ∷ written false current_place ∷ []
+
+-- the lists, which are read
+unfoldable pub written_lists : List WrittenPlace
+written_lists = written true reloads_place ∷ written true restarts_place ∷ written true starts_place ∷ []
+
+-- the places that a switch writes, in byte order
 unfoldable pub switch_places : List WrittenPlace
-switch_places =
-    written false definitions_place ∷ written false stage ∷ written false current_place
-    ∷ written true reloads_place ∷ written true restarts_place ∷ written true starts_place ∷ []
+switch_places = written_links ++ written_lists
 
 -- a leaf without content stands at a place
 abbrev pub lacks_content : Leaves → Name → Bool

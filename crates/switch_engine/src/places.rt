@@ -1,5 +1,5 @@
 //! The places that a switch writes, and the first that something stands in the way of.
-ghost use Rattle.std.specs.Prelude.{◌≡◌, [], None, Some, IfOk, IsErrOf, OnOk};
+ghost use Rattle.std.specs.Prelude.{◌≡◌, ◌++◌, None, Some, IfOk, IsErrOf, OnOk};
 ghost use Rattle.std.specs.List.{find};
 ghost use Rattle.std.specs.Prelude.{option_map};
 ghost use Rattle.host_trait.specs.declared.tree.HostFault.TheVariants.{Device};
@@ -8,7 +8,7 @@ ghost use Rattle.host_trait.specs.Host.{Told, Passes, HasCause, HasCauseOf};
 ghost use Rattle.switch_engine.specs.declared.plan_fault.PlanFault.TheVariants.{Host, Refused};
 ghost use Rattle.switch_engine.specs.declared.refusal.Refusal.{Refusal};
 ghost use Rattle.switch_engine.specs.Final.{CanSwitch};
-ghost use Rattle.switch_engine.specs.Places.{is_in_the_way, switch_places, way_refusal};
+ghost use Rattle.switch_engine.specs.Places.{is_in_the_way, switch_places, way_refusal, written_links, written_lists};
 ghost use Rattle.switch_engine.specs.Reach.{AreApartFromStage};
 
 use crate::plan_fault::PlanFault;
@@ -20,12 +20,9 @@ use owed_lists::{Which, list_path};
 use std::alloc::{AllocError, Global};
 use switch_names::{Listed, Path};
 
-/// Adds the places that a switch writes, in byte order: both links, the stage, and the lists, which
-/// are read.
-#[tactic(auto, unfolding(crate::specs::Places::switch_places))]
-fn add_places(alloc: Global, places: &mut Listed<WrittenPlace>) -> Result<(), AllocError>
-    requires { places.old ≡ [] }
-    ensures { OnOk result (places.new ≡ switch_places) }
+/// Adds both links and the stage, in byte order.
+fn add_links(alloc: Global, places: &mut Listed<WrittenPlace>) -> Result<(), AllocError>
+    ensures { OnOk result (places.new ≡ places.old ++ written_links) }
 {
     places.push(WrittenPlace {
         at: definitions_path(alloc)?,
@@ -38,7 +35,13 @@ fn add_places(alloc: Global, places: &mut Listed<WrittenPlace>) -> Result<(), Al
     places.push(WrittenPlace {
         at: current_path(alloc)?,
         is_read: false,
-    })?;
+    })
+}
+
+/// Adds the lists in byte order.
+fn add_lists(alloc: Global, places: &mut Listed<WrittenPlace>) -> Result<(), AllocError>
+    ensures { OnOk result (places.new ≡ places.old ++ written_lists) }
+{
     places.push(WrittenPlace {
         at: list_path(alloc, Which::Reloads)?,
         is_read: true,
@@ -50,8 +53,7 @@ fn add_places(alloc: Global, places: &mut Listed<WrittenPlace>) -> Result<(), Al
     places.push(WrittenPlace {
         at: list_path(alloc, Which::Starts)?,
         is_read: true,
-    })?;
-    Ok(())
+    })
 }
 
 /// The places that a switch writes, in byte order.
@@ -59,7 +61,8 @@ fn switch_places(alloc: Global) -> Result<Listed<WrittenPlace>, AllocError>
     ensures { IfOk result (λ places. places ≡ switch_places) }
 {
     let mut places = Listed::new(alloc);
-    add_places(alloc, &mut places)?;
+    add_links(alloc, &mut places)?;
+    add_lists(alloc, &mut places)?;
     Ok(places)
 }
 

@@ -1,4 +1,5 @@
-//! Texts, lists, and the names of paths, units and systems that every other crate speaks of.
+//! Texts, lists, sets of units, and the names of paths, units and systems that every other crate
+//! speaks of.
 #![tactic(auto)]
 
 mod bytes;
@@ -9,6 +10,7 @@ mod system_name;
 mod text;
 mod unit_kind;
 mod unit_name;
+mod unit_set;
 
 pub use bytes::Bytes;
 pub use listed::Listed;
@@ -18,3 +20,4 @@ pub use system_name::SystemName;
 pub use text::Text;
 pub use unit_kind::UnitKind;
 pub use unit_name::UnitName;
+pub use unit_set::UnitSet;

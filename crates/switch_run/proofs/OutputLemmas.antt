@@ -37,6 +37,9 @@ no_refusal fault.Sink why is same = is
 pub same_fault : {T : Type 0} (x y : RunFault) → IsErrOf {T = T} (Err x) y → x ≡ y
 same_fault x y e = cc
 
+pub same_refusal : {T : Type 0} (x y : Refusal) → IsErrOf {T = T} (Err (fault.Refused x)) (fault.Refused y) → x ≡ y
+same_refusal x y e = cc
+
 -- nothing was put before a fault of the plan
 pub nothing_output : (y : RunFault) (text : List ℕ) → IsBootOutput (Err y) text []
 nothing_output (fault.Refused why) text = refl

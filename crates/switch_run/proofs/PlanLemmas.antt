@@ -111,11 +111,14 @@ further_of leaves gens system n is given = either (number_after leaves system) (
     either k true e = (let same : k ≡ n = cc in sym same, refl)
     either k false e = absurd (cc)
 
+some_none : {X : Type 0} (x : X) → ◌≡◌ {A = Option X} (Some x) None → ⊥
+some_none x e = cc
+
 pub full_of : (leaves : Leaves) (gens : Gens) (system : List ℕ) → IsGensOf leaves gens → number_for_in gens.list system ≡ None → nat_lt (number_after leaves system) (2 ^ 32) ≡ false
 full_of leaves gens system is given = either (nat_lt (number_after leaves system) (2 ^ 32)) (sym (number_for_world leaves gens system is) ∙ given)
   where
     either : (b : Bool) → cond b (Some (number_after leaves system)) None ≡ None → b ≡ false
-    either true e = absurd (cc)
+    either true e = absurd (some_none (number_after leaves system) e)
     either false e = refl
 
 -- the refusal of a set, case by case

@@ -25,13 +25,19 @@ none_some o x none some = cc
 one_of : {X : Type 0} (o : Option X) (x y : X) → o ≡ Some x → o ≡ Some y → x ≡ y
 one_of o x y first second = cc
 
+no_some : {X : Type 0} (x : X) → ◌≡◌ {A = Option X} None (Some x) → ⊥
+no_some x e = cc
+
+some_same : {X : Type 0} (x y : X) → Some x ≡ Some y → x ≡ y
+some_same x y e = cc
+
 -- the system that words name has the name of one
 named_by : (word s : List ℕ) → system_of word ≡ Some s → NamesSystem s s
 named_by word s is = either (system_fault word) refl is
   where
     either : (f : Option Rattle.switch_names.specs.declared.name_fault.NameFault.NameFault) → system_fault word ≡ f → cond (is_none f) (Some (system_path word)) None ≡ Some s → NamesSystem s s
-    either None fault some = subst (λ p. NamesSystem p p) (let same : system_path word ≡ s = cc in same) (IsSystemPath-from_named word fault)
-    either (Some f) fault some = absurd (cc)
+    either None fault some = subst (λ p. NamesSystem p p) (some_same (system_path word) s some) (IsSystemPath-from_named word fault)
+    either (Some f) fault some = absurd (no_some s some)
 
 -- the word `boot` gives the boot of the system alone, and no other word does
 boot_system : (verb t s : List ℕ) → command_for verb t ≡ Some (Boot s) → t ≡ s
@@ -47,7 +53,7 @@ boot_names : (verb word s : List ℕ) → option_and_then (command_for verb) (sy
 boot_names verb word s is = either (system_of word) refl is
   where
     either : (o : Option (List ℕ)) → system_of word ≡ o → option_and_then (command_for verb) o ≡ Some (Boot s) → NamesSystem s s
-    either None named some = absurd (cc)
+    either None named some = absurd (no_some (Boot s) some)
     either (Some t) named some = named_by word s (named ∙ ap Some (boot_system verb t s some))
 
 command_names : (words : List (List ℕ)) (s : List ℕ) → command_of words ≡ Some (Boot s) → NamesSystem s s

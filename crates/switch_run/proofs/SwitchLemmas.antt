@@ -1,5 +1,5 @@
 -- The moments of a switch of the units, its end, and what it puts out.
-use Rattle.std.proofs.Common.{◌≡◌, ◌↔◌, ℕ, Bool, List, ◌++◌, Option, None, Some, Result, Err, append_assoc, arith, refl, sym, ap, subst, ◌∙◌, inl, inr}
+use Rattle.std.proofs.Common.{◌≡◌, ◌↔◌, ℕ, Bool, List, [], ◌++◌, Option, None, Some, Result, Err, append_assoc, arith, refl, sym, ap, subst, ◌∙◌, inl, inr}
 use Rattle.host_trait.specs.declared.tree.HostFault.{HostFault}
 use Rattle.host_trait.specs.Host.{HasCauseOf, HostState, Leads, Told}
 use Rattle.host_trait.specs.Sink.{IsPrefixOf}
@@ -37,15 +37,14 @@ test_moment system w m none moment = record {
     none_or_why : (o : Option Refusal) (why : Refusal) → o ≡ None → o ≡ Some why → ⊥
     none_or_why o why none some = cc
 
--- the world at the beginning is one
-pub test_begins : (system : List ℕ) (w : WorldState) → IsCommandMoment (Test system) w w
-test_begins system w = record {
-  underway = λ free steady never. absurd never;
-  named = λ free. tt;
-  calls = inl refl;
-  refused = λ why is. refl;
-  query = λ never. absurd never;
-}
+-- nothing was put before a fault of the plan
+pub nothing_test : {T : Type 0} (result : Result T RunFault) (y : RunFault) (w : WorldState) (system : List ℕ) → result ≡ Err y → (y ≡ fault.Sink → ⊥) → IsTestOutput result w system []
+nothing_test {T} result y w system is other = subst (λ (r : Result T RunFault). IsTestOutput r w system []) (sym is) (nothing y other)
+  where
+    nothing : (y : RunFault) → (y ≡ fault.Sink → ⊥) → IsTestOutput {T = T} (Err y) w system []
+    nothing (fault.Refused why) other = refl
+    nothing (fault.Host why) other = inl refl
+    nothing fault.Sink other = absurd (other refl)
 
 -- the end of a switch to an equal system, from an equal world
 pub same_end : {system other : List ℕ} {w v u : WorldState} → other ≡ system → v ≡ w → IsEndOf (Test other) v u → IsEndOf (Test system) w u

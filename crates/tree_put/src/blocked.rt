@@ -56,8 +56,9 @@ pub fn is_blocked<T: Tree>(alloc: Global, host: &mut T, at: &Path) -> Result<boo
     ensures moments { Passes (T.host host.old) (T.host host.new) IsSame }
     ensures cause { HasCause (T.host host.old) (T.host host.new) result }
 {
-    if has_leaf_below(alloc, host, at)? {
-        return Ok(true);
+    let below = has_leaf_below(alloc, host, at)?;
+    if below {
+        return Ok(below);
     }
     let above = has_leaf_above(alloc, host, at)?;
     Ok(above)

@@ -6,7 +6,7 @@ use Rattle.std.specs.declared.cmp.Ordering.TheVariants.{Less, Equal, Greater}
 use Rattle.std.specs.Ordering.{ordering_reverse}
 use Rattle.std.proofs.lemmas.Bool.{not-false, eqb-true, and_parts, true≢false}
 use Rattle.std.proofs.Math.ListN.{drop_of_length-le}
-use Rattle.std.proofs.lemmas.List.{nil_from_length, drop_more, get_or-map}
+use Rattle.std.proofs.lemmas.List.{nil_from_length, drop_more, get_or-map, length-map}
 use Rattle.std.proofs.lemmas.List.Folds.{list_any-append}
 use Rattle.std.proofs.lemmas.Option.{slice_get_cases, slice_get_within, slice_get_read, get_or_from_slice_get}
 use Rattle.switch_names.specs.declared.unit_kind.UnitKind.{UnitKind}
@@ -174,7 +174,7 @@ module _ (kind : UnitKind) (old new : List Assignment) (outcome end : Comparison
 -- ---- one turn by places
 
 -- the text with the lower key hasn't ended
-less_here : (keys : List UnitKey) (at : ℕ) (that : Option UnitKey) → next_order (slice_get keys at) that ≡ Some Less → at < length keys
+pub less_here : (keys : List UnitKey) (at : ℕ) (that : Option UnitKey) → next_order (slice_get keys at) that ≡ Some Less → at < length keys
 less_here keys at that e = by (is_at keys at) that e
   where
     by : IsAt keys at → (that : Option UnitKey) → next_order (slice_get keys at) that ≡ Some Less → at < length keys
@@ -182,13 +182,28 @@ less_here keys at that e = by (is_at keys at) that e
     by (Past h d) None e = let n = sym (ap (λ o. next_order o None) h) ∙ e in cc
     by (Past h d) (Some other) e = let n = sym (ap (λ o. next_order o (Some other)) h) ∙ e in cc
 
-greater_here : (keys : List UnitKey) (at : ℕ) (this : Option UnitKey) → next_order this (slice_get keys at) ≡ Some Greater → at < length keys
+pub greater_here : (keys : List UnitKey) (at : ℕ) (this : Option UnitKey) → next_order this (slice_get keys at) ≡ Some Greater → at < length keys
 greater_here keys at this e = by (is_at keys at) this e
   where
     by : IsAt keys at → (this : Option UnitKey) → next_order this (slice_get keys at) ≡ Some Greater → at < length keys
     by (Here key h d) this e = slice_get_within keys at key h
     by (Past h d) None e = let n = sym (ap (λ o. next_order None o) h) ∙ e in cc
     by (Past h d) (Some other) e = let n = sym (ap (λ o. next_order (Some other) o) h) ∙ e in cc
+
+-- where the keys are equal, neither text has ended
+pub equal_here : (of_old of_new : List UnitKey) (at other : ℕ) → next_order (slice_get of_old at) (slice_get of_new other) ≡ Some Equal
+    → (at < length of_old) × (other < length of_new)
+equal_here of_old of_new at other e = by (is_at of_old at) (is_at of_new other)
+  where
+    by : IsAt of_old at → IsAt of_new other → (at < length of_old) × (other < length of_new)
+    by (Here a at d) (Here b bt f) = (slice_get_within of_old _ a at, slice_get_within of_new other b bt)
+    by (Here a at d) (Past bt f) = let n = sym (λ i. next_order (at i) (bt i)) ∙ e in cc
+    by (Past at d) (Here b bt f) = let n = sym (λ i. next_order (at i) (bt i)) ∙ e in cc
+    by (Past at d) (Past bt f) = let n = sym (λ i. next_order (at i) (bt i)) ∙ e in cc
+
+-- where there is a key there are its values
+pub valued_here : (text : List Assignment) (keys : List UnitKey) (all : List (List (List ℕ))) (at : ℕ) → all ≡ map (values_of text) keys → at < length keys → at < length all
+valued_here text keys all at e lt = subst (λ (n : ℕ). at < n) (sym (ap length e ∙ length-map keys (values_of text))) lt
 
 -- the lower key is below all that are left of the other text
 less_above : (keys : List UnitKey) (at : ℕ) (key : UnitKey) → next_order (Some key) (slice_get keys at) ≡ Some Less → IsStrictlySortedBy key_cmp (drop at keys) → AreAbove (drop at keys) key
@@ -320,3 +335,21 @@ moved kind old new end of_old of_new o p i k j l a b c walk =
 -- the keys of a text and their values, as slices
 pub lent : (text : List Assignment) (keys slice : List UnitKey) → slice ≡ keys → AreKeysOf text keys → AreKeysOf text slice
 lent text keys slice e are = subst (AreKeysOf text) (sym e) are
+
+-- where no key has been passed, all keys are left
+pub at_start : (kind : UnitKind) (old new : List Assignment) (of_old of_new : List UnitKey) → AreKeysOf old of_old → AreKeysOf new of_new
+    → IsWalk kind old new Same (worse (made_of kind old new of_old) (made_of kind old new of_new)) of_old of_new
+at_start kind old new of_old of_new old_are new_are = record {
+  left = record {
+    old_sorted = old_are.sorted;
+    new_sorted = new_are.sorted;
+    in_new = each of_new new new_are.exact of_old;
+    in_old = each of_old old old_are.exact of_new;
+  };
+  rest = refl;
+}
+  where
+    each : (keys : List UnitKey) (text : List Assignment) → ((key : UnitKey) → has_key keys key ≡ has_value text key)
+        → (others : List UnitKey) → AllByRecursion (λ key. has_key keys key ≡ has_value text key) others
+    each keys text exact [] = tt
+    each keys text exact (key ∷ others) = (exact key, each keys text exact others)

@@ -1,5 +1,5 @@
 //! What the keys of a unit mean for a comparison.
-ghost use Rattle.std.specs.Prelude.{◌≡◌};
+ghost use Rattle.std.specs.Prelude.{◌≡◌, ◌&&◌, codes};
 ghost use Rattle.unit_compare.specs.Compare.{is_ignored, is_ignored_name, is_mount, is_reload_key};
 ghost use Rattle.unit_compare.specs.Walk.{key_comparison};
 ghost use Rattle.unit_text.specs.UnitKey.{is_same_key, key_of};
@@ -34,14 +34,11 @@ fn is_ignored_name(key: &str) -> bool
 fn is_ignored(key: &UnitKey) -> bool
     ensures { result ≡ is_ignored key.now }
 {
-    let section = key.section.as_str();
-    section == "Install" || (section == "Unit" && is_ignored_name(key.key.as_str()))
-}
-
-fn is_mount(kind: UnitKind) -> bool
-    ensures { result ≡ is_mount kind }
-{
-    matches!(kind, UnitKind::Mount)
+    match key.section.as_str() {
+        "Install" => true,
+        "Unit" => is_ignored_name(key.key.as_str()),
+        _ => false,
+    }
 }
 
 fn is_named(key: &UnitKey, section: &str, name: &str) -> bool
@@ -50,12 +47,21 @@ fn is_named(key: &UnitKey, section: &str, name: &str) -> bool
     key.section.as_str() == section && key.key.as_str() == name
 }
 
+/// Whether a key is one of the options of a mount.
+fn is_mount_option(kind: UnitKind, key: &UnitKey) -> bool
+    ensures { result ≡ (is_mount kind && is_same_key key.now (key_of (codes "Mount") (codes "Options"))) }
+{
+    match kind {
+        UnitKind::Mount => is_named(key, "Mount", "Options"),
+        _other => false,
+    }
+}
+
 /// Whether a reload takes up a change of a key.
 fn is_reload_key(kind: UnitKind, key: &UnitKey) -> bool
     ensures { result ≡ is_reload_key kind key.now }
 {
-    is_named(key, "Unit", "X-Reload-Triggers")
-        || (is_mount(kind) && is_named(key, "Mount", "Options"))
+    is_named(key, "Unit", "X-Reload-Triggers") || is_mount_option(kind, key)
 }
 
 /// The comparison by one key, which has these values in the two texts.

@@ -1,10 +1,18 @@
 -- The decision on an Active unit: NixOS manual, "Unit handling".
-use Rattle.std.specs.Prelude.{◌&&◌, ◌||◌, Bool, not, if◌then◌else◌}
+use Rattle.std.specs.Prelude.{◌≡◌, ◌&&◌, ◌||◌, Bool, true, false, not, if◌then◌else◌}
 use Rattle.switch_names.specs.declared.unit_kind.UnitKind.TheVariants.{Target, Mount, Service}
 use Rattle.unit_decide.specs.declared.decision.Decision.{Decision}
 use Rattle.unit_decide.specs.declared.decision.Decision.TheVariants.{Nothing, Stop, Start, StopStart, SocketStart, Restart, Reload}
 use Rattle.unit_decide.specs.declared.facts.Facts.{Facts}
 use Rattle.unit_decide.specs.Kinds.{is_kind, is_left_alone, is_reload_only, is_same}
+
+-- no row before those of a change fits
+pub record IsChanged (f : Facts) : Type 0 where
+  pub defined : f.in_new ≡ true
+  pub before : f.in_old ≡ true
+  pub no_target : is_kind f.kind Target ≡ false
+  pub differs : is_same f.outcome ≡ false
+  pub acted_on : is_left_alone f.kind ≡ false
 
 -- the first row that fits; the last argument says that one of the unit's sockets is live
 unfoldable pub decide : Facts → Bool → Decision

@@ -1,8 +1,10 @@
 //! Decisions on Active units.
-ghost use Rattle.std.specs.Prelude.{◌≡◌};
+ghost use Rattle.std.specs.Prelude.{◌≡◌, Bool, true, false};
 ghost use Rattle.std.specs.Option.{option_copied};
-ghost use Rattle.unit_decide.specs.Decision.{decide};
+ghost use Rattle.switch_names.specs.declared.unit_kind.UnitKind.TheVariants.{Target};
+ghost use Rattle.unit_decide.specs.Decision.{IsChanged, decide};
 ghost use Rattle.unit_decide.specs.Facts.{facts_of};
+ghost use Rattle.unit_decide.specs.Kinds.{is_kind};
 
 use crate::facts::Facts;
 use crate::kinds::{is_left_alone, is_mount, is_reload_only, is_same, is_service, is_target};
@@ -49,22 +51,54 @@ pub fn decide(
 pub fn decide_by(facts: &Facts, live: bool) -> Decision
     ensures { result ≡ decide facts.now live }
 {
-    let is_target = is_target(facts.kind);
-    if !facts.in_new && facts.in_old && facts.stop_on_removal {
-        Decision::Stop
-    } else if !facts.in_new {
-        Decision::Nothing
-    } else if is_target && facts.stop_on_reconfiguration && facts.may_start {
-        Decision::StopStart
-    } else if is_target && facts.stop_on_reconfiguration {
-        Decision::Stop
-    } else if is_target && facts.may_start {
-        Decision::Start
-    } else if is_target || !facts.in_old || is_same(&facts.outcome) {
+    if !facts.in_new {
+        decide_removed(facts)
+    } else if is_target(facts.kind) {
+        decide_target(facts)
+    } else if !facts.in_old || is_same(&facts.outcome) {
         Decision::Nothing
     } else if is_left_alone(facts.kind) {
         Decision::Nothing
-    } else if is_reload_only(&facts.outcome) || facts.is_root_mount {
+    } else {
+        decide_changed(facts, live)
+    }
+}
+
+/// The rows of a unit that the new system doesn't define.
+#[tactic(auto, unfolding(crate::specs::Decision::decide))]
+fn decide_removed(facts: &Facts) -> Decision
+    requires { facts.now.in_new ≡ false }
+    ensures { (live : Bool) → result ≡ decide facts.now live }
+{
+    if facts.in_old && facts.stop_on_removal {
+        Decision::Stop
+    } else {
+        Decision::Nothing
+    }
+}
+
+/// The rows of a target.
+#[tactic(auto, unfolding(crate::specs::Decision::decide))]
+fn decide_target(facts: &Facts) -> Decision
+    requires defined { facts.now.in_new ≡ true }
+    requires target { is_kind facts.now.kind Target ≡ true }
+    ensures { (live : Bool) → result ≡ decide facts.now live }
+{
+    match (facts.stop_on_reconfiguration, facts.may_start) {
+        (true, true) => Decision::StopStart,
+        (true, false) => Decision::Stop,
+        (false, true) => Decision::Start,
+        (false, false) => Decision::Nothing,
+    }
+}
+
+/// The rows of a unit that has changed, whose kind is no target and isn't left alone.
+#[tactic(auto, unfolding(crate::specs::Decision::decide))]
+fn decide_changed(facts: &Facts, live: bool) -> Decision
+    requires { IsChanged facts.now }
+    ensures { result ≡ decide facts.now live }
+{
+    if is_reload_only(&facts.outcome) || facts.is_root_mount {
         Decision::Reload
     } else if is_mount(facts.kind) {
         Decision::Restart

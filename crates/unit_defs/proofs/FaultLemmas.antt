@@ -1,5 +1,5 @@
 -- The first unit with a faulty file.
-use Rattle.std.proofs.Common.{◌≡◌, ℕ, Bool, true, false, cond, List, [], ◌∷◌, map, Option, None, Some, option_map, option_and_then, refl, sym, ap, subst, ◌∙◌}
+use Rattle.std.proofs.Common.{◌≡◌, ℕ, Bool, true, false, cond, List, [], ◌∷◌, map, Option, None, Some, Result, Err, option_map, option_and_then, refl, sym, ap, subst, ◌∙◌}
 use Rattle.std.specs.List.{AllByRecursion}
 use Rattle.std.specs.List.Sorted.{IsStrictlySortedBy}
 use Rattle.std.specs.Option.{option_or}
@@ -7,12 +7,15 @@ use Rattle.std.specs.declared.cmp.Ordering.TheVariants.{Less}
 use Rattle.switch_names.specs.UnitName.{IsUnitName}
 use Rattle.host_trait.specs.World.{Leaves, bytes_cmp}
 use Rattle.host_trait.proofs.Places.{bytes_total}
+use Rattle.unit_defs.specs.declared.defs_fault.DefsFault.{DefsFault}
+use Rattle.unit_defs.specs.declared.defs_fault.DefsFault.TheVariants.{Text}
 use Rattle.unit_defs.specs.declared.part.Part.{Part}
 use Rattle.unit_defs.specs.declared.unit.Unit.{Unit}
 use Rattle.unit_defs.specs.Defs.{AreSorted, AreUnitsOf, first_faulty, part_in, unit_in}
 use Rattle.switch_names.specs.Names.{is_name}
 use Rattle.unit_defs.specs.Units.{HasNoFault, IsFirstFault}
-use Rattle.unit_defs.proofs.NameLemmas.{less_is_other, name_exact, name_itself, name_turned}
+use Rattle.switch_names.proofs.Names.{name_turned}
+use Rattle.unit_defs.proofs.NameLemmas.{less_is_other, name_exact, name_itself}
 use Rattle.unit_defs.proofs.PathLemmas.{some_same}
 
 abbrev fault_of : Unit → Option ℕ
@@ -106,3 +109,7 @@ first_is leaves system units name line are sorted is named =
 pub none_left : {X : Type 0} (o : Option X) → ((x : X) → o ≡ Some x → ⊥) → None ≡ o
 none_left None lacks = refl
 none_left (Some x) lacks = absurd (lacks x refl)
+
+-- a fault of a text names one unit and one line
+pub same_fault : {X : Type 0} (unit other : List ℕ) (line at : ℕ) → ◌≡◌ {A = Result X DefsFault} (Err (Text unit line)) (Err (Text other at)) → (unit ≡ other) × (line ≡ at)
+same_fault unit other line at is = (cc, cc)

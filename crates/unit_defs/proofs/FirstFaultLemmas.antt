@@ -19,7 +19,8 @@ use Rattle.unit_defs.specs.Part.{merged, part_of}
 use Rattle.unit_defs.specs.Place.{path_of, place_of}
 use Rattle.unit_defs.specs.Units.{HasNoFault, IsFirstFault, first_fault_of, own_fault, unit_at, units_of}
 use Rattle.unit_defs.proofs.DropInLemmas.{none_exactly, some_more}
-use Rattle.unit_defs.proofs.NameLemmas.{has-append, less_is_other, name_exact, name_itself, name_turned, or_false}
+use Rattle.switch_names.proofs.Names.{name_turned}
+use Rattle.unit_defs.proofs.NameLemmas.{has-append, less_is_other, name_exact, name_itself, or_false}
 use Rattle.unit_defs.proofs.OrderLemmas.{has_in_order, in_order_sorted}
 use Rattle.unit_defs.proofs.PathLemmas.{places_named, some_same}
 use Rattle.unit_defs.proofs.WorldLemmas.{among}

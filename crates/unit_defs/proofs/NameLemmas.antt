@@ -1,6 +1,5 @@
 -- Names in byte order.
 use Rattle.std.proofs.Common.{◌≡◌, ℕ, ◌+◌, ◌<◌, ◌||◌, ◌&&◌, Bool, true, false, cond, Bor, List, [], ◌∷◌, ◌++◌, length, get_or, take, map, Option, None, Some, not, is_none, is_some, option_map, option_and_then, refl, sym, ap, subst, ◌∙◌, inl, inr}
-use Rattle.std.specs.Cmp.{eq_by_cmp_equiv}
 use Rattle.std.specs.List.{AllByRecursion, filter, flat_map}
 use Rattle.std.specs.List.Sorted.{IsStrictlySortedBy}
 use Rattle.std.specs.Ordering.{is_eq}
@@ -26,9 +25,6 @@ use Rattle.std.specs.Option.{option_or}
 
 pub name_itself : (a : List ℕ) → is_name a a ≡ true
 name_itself a = ap is_eq (tied_itself bytes_total a)
-
-pub name_turned : (a b : List ℕ) → is_name a b ≡ is_name b a
-name_turned a b = (eq_by_cmp_equiv bytes_total).symm a b
 
 pub name_exact : (a b : List ℕ) → is_name a b ≡ true → a ≡ b
 name_exact a b is = elim (same_or_other a b) [
@@ -80,15 +76,8 @@ or_assoc false b c = refl
 -- ---- sets of names that can be wanted
 
 -- a name that passes a test is added
-pub has_added : (old new : List (List ℕ)) (name unit : List ℕ) (passes : Bool) → passes ≡ true → has new unit ≡ cond (is_name name unit) true (has old unit) →
-    has new unit ≡ (has old unit || (is_name unit name && passes))
-has_added old new name unit passes is added = added ∙ ap (λ b. cond b true (has old unit)) (name_turned name unit) ∙ either (is_name unit name) (has old unit) passes is
-  where
-    either : (b h passes : Bool) → passes ≡ true → cond b true h ≡ (h || (b && passes))
-    either true true passes is = refl
-    either true false passes is = sym is
-    either false true passes is = refl
-    either false false passes is = refl
+pub has_added : (old : List (List ℕ)) (name unit : List ℕ) (now passes : Bool) → passes ≡ true → now ≡ (has old unit || is_name unit name) → now ≡ (has old unit || (is_name unit name && passes))
+has_added old name unit now passes is added = added ∙ ap (λ b. has old unit || b) (sym (and_true (is_name unit name)) ∙ ap (λ b. is_name unit name && b) (sym is))
 
 has_filtered_one : (p : List ℕ → Bool) (name unit : List ℕ) → has (filter p (name ∷ [])) unit ≡ (is_name unit name && p name)
 has_filtered_one p name unit = by (p name) (is_name unit name)

@@ -274,6 +274,9 @@ below_stands system path folder name (Want unit other) is there = (
   ],
 )
 
+no_place : (place : Place) → None ≡ Some place → ⊥
+no_place place is = both_ways true (ap (λ o. is_none o) is) refl
+
 in_to : (system path rest : List ℕ) (place : Place) → path ≡ path_of system rest → place_in rest ≡ Some place → StandsAt system path place
 in_to system path rest place is stands = by (is_unit rest) (list_any is_slash rest) refl refl stands
   where
@@ -283,7 +286,7 @@ in_to system path rest place is stands = by (is_unit rest) (list_any is_slash re
     by false true named some stands =
         below_stands system path (before_first is_slash rest) (after_first is_slash rest) place (is ∙ ap (path_of system) (cut_at rest some))
         (below_to (before_first is_slash rest) (after_first is_slash rest) place stands)
-    by false false named some stands = absurd (cc)
+    by false false named some stands = absurd (no_place place stands)
 
 place_to : (system path : List ℕ) (place : Place) → place_of system path ≡ Some place → StandsAt system path place
 place_to system path place is = by (after_front (path_of system []) path) refl is

@@ -22,6 +22,25 @@ file_by false rest unit other is = absurd (cc)
 pub placed_file : (rest unit : List ℕ) → Some unit ≡ named rest → Some (File unit) ≡ place_in rest
 placed_file rest unit is = file_by (is_unit rest) rest unit _ is
 
+-- a drop-in by what its folder and its name have before their endings
+pub placed_drop_in : (folder name front stem unit copy : List ℕ) (holds : Bool) → Some front ≡ before_end (codes ".d") folder → Some stem ≡ before_end (codes ".conf") name →
+    holds ≡ is_drop_in_name stem → holds ≡ true → Some unit ≡ named front → copy ≡ stem → Some (DropIn unit copy) ≡ drop_in folder name
+placed_drop_in folder name front stem unit copy holds is_front is_stem tested passes is same =
+    ap (λ text. Some (DropIn unit text)) same ∙ by (is_unit front) is ∙ ap (λ b. cond (b && is_unit front) (Some (DropIn front stem)) None) (sym passes ∙ tested) ∙ (λ i. drop_in_of (is_front i) (is_stem i))
+  where
+    by : (b : Bool) → Some unit ≡ cond b (Some front) None → Some (DropIn unit stem) ≡ cond b (Some (DropIn front stem)) None
+    by true is = ap (λ text. Some (DropIn text stem)) (name_by true front unit is)
+    by false is = absurd (both_ways false refl (ap (λ o. is_none o) is))
+
+-- a wanted unit by what its folder has before its ending
+pub placed_want : (end folder name front unit wanted : List ℕ) → Some front ≡ before_end end folder → Some unit ≡ named front → Some wanted ≡ named name → Some (Want unit wanted) ≡ want end folder name
+placed_want end folder name front unit wanted is_front is_unit_name is_wanted = by (is_unit front) (is_unit name) is_unit_name is_wanted ∙ ap (λ o. want_of o name) is_front
+  where
+    by : (a b : Bool) → Some unit ≡ cond a (Some front) None → Some wanted ≡ cond b (Some name) None → Some (Want unit wanted) ≡ cond (a && b) (Some (Want front name)) None
+    by true true first second = λ i. Some (Want (name_by true front unit first i) (name_by true name wanted second i))
+    by true false first second = absurd (both_ways false refl (ap (λ o. is_none o) second))
+    by false b first second = absurd (both_ways false refl (ap (λ o. is_none o) first))
+
 module _ (rest : List ℕ) (none : None ≡ named rest) where
   abbrev below : Option Place
   below = place_below (before_first is_slash rest) (after_first is_slash rest)
@@ -72,7 +91,7 @@ in_folder unit rest is = by (is_unit rest) (list_any is_slash rest) is
     by : (named slashed : Bool) → is_file unit (cond named (Some (File rest)) (cond slashed (place_below (before_first is_slash rest) (after_first is_slash rest)) None)) ≡ true → rest ≡ unit
     by true slashed is = name_exact rest unit is
     by false true is = absurd (both_ways _ (below_no_file unit (before_first is_slash rest) (after_first is_slash rest)) is)
-    by false false is = absurd (cc)
+    by false false is = absurd (both_ways false refl is)
 
 -- the path of what is a unit's file
 pub file_path : (front path unit : List ℕ) → is_file unit (place_after front path) ≡ true → path ≡ front ++ unit

@@ -20,7 +20,7 @@ use Rattle.unit_defs.specs.Part.{part_of}
 use Rattle.unit_defs.specs.Place.{place_after}
 use Rattle.switch_names.specs.Names.{is_name}
 use Rattle.unit_defs.proofs.DropInLemmas.{find-append}
-use Rattle.unit_defs.proofs.NameLemmas.{name_turned}
+use Rattle.switch_names.proofs.Names.{name_turned}
 use Rattle.unit_defs.proofs.PlaceLemmas.{file_path}
 
 -- nothing is read yet

@@ -1,11 +1,16 @@
 -- What stands in the folder of a system's units: systemd.unit(5), "Description".
-use Rattle.std.specs.Prelude.{◌≡◌, ◌⊎◌, ◌↔◌, ℕ, ◌-◌, ◌&&◌, ◌==◌, not, Bool, true, List, [], ◌∷◌, ◌++◌, length, take, drop, codes, nat_eq, Option, None, Some, option_and_then, is_none, if◌then◌else◌}
+use Rattle.std.specs.Prelude.{◌≡◌, ◌⊎◌, ◌↔◌, ℕ, ◌-◌, ◌&&◌, ◌==◌, not, Bool, false, true, List, [], ◌∷◌, ◌++◌, length, take, drop, codes, nat_eq, Option, None, Some, option_and_then, is_none, if◌then◌else◌}
 use Rattle.std.specs.List.{list_any, starts_with, ends_with, before_first, after_first}
 use Rattle.std.specs.Option.{option_or}
 use Rattle.switch_names.specs.Path.{slash}
 use Rattle.switch_names.specs.UnitName.{IsUnitName, unit_fault}
 use Rattle.unit_defs.specs.declared.place.Place.{Place}
 use Rattle.unit_defs.specs.declared.place.Place.TheVariants.{File, DropIn, Want}
+
+-- a unit stands there that another one wants
+abbrev pub is_want : Place → Bool
+is_want (Want unit name) = true
+is_want place = false
 
 -- the folder of a system's units
 unfoldable pub unit_folder : List ℕ → List ℕ

@@ -29,8 +29,8 @@ use unit_text::UnitText;
 /// stand in its folders `.wants` and `.requires`.
 pub struct Defs {
     names: Listed<UnitName>,
-    units: Vec<Unit>,
-    wants: Vec<Wants>,
+    units: Listed<Unit>,
+    wants: Listed<Wants>,
     nothing: Listed<UnitName>,
 }
 
@@ -53,9 +53,9 @@ impl Model for Defs {
 
     ghost Value = { List Unit };
 
-    ghost view = { λ defs. defs.units.items };
+    ghost view = { λ defs. defs.units };
 
-    ghost invariant = { λ defs. IsDefs defs.names defs.units.items defs.wants.items defs.nothing };
+    ghost invariant = { λ defs. IsDefs defs.names defs.units defs.wants defs.nothing };
 }
 
 impl Defs {
@@ -65,15 +65,15 @@ impl Defs {
     {
         Defs {
             names: Listed::new(alloc),
-            units: Vec::new(alloc),
-            wants: Vec::new(alloc),
+            units: Listed::new(alloc),
+            wants: Listed::new(alloc),
             nothing: Listed::new(alloc),
         }
     }
 
-    fn from_units(alloc: Global, units: Vec<Unit>) -> Result<Defs, AllocError>
-        requires { AreSorted units.items }
-        ensures { IfOk result (λ defs. defs ≡ units.items) }
+    fn from_units(alloc: Global, units: Listed<Unit>) -> Result<Defs, AllocError>
+        requires { AreSorted units }
+        ensures { IfOk result (λ defs. defs ≡ units) }
     {
         let names = names_of(alloc, units.as_slice())?;
         let wants = wants_of(alloc, units.as_slice())?;
@@ -151,10 +151,10 @@ impl Defs {
     {
         let _name = unit.as_str();
         if let Some(at) = find_unit(self.units.as_slice(), unit) {
-            return &self.wants[at].whole;
+            return &self.wants.as_slice()[at].whole;
         }
         match find_template(self.units.as_slice(), unit) {
-            Some(at) => &self.wants[at].by_text,
+            Some(at) => &self.wants.as_slice()[at].by_text,
             None => &self.nothing,
         }
     }

@@ -15,7 +15,6 @@ use std::collections::BTreeMap;
 use switch_names::{Listed, Text, UnitName};
 
 /// What is found of one unit.
-#[derive(Drop)]
 pub struct UnitFiles {
     /// Its file, where a leaf stands there. A leaf without content is none.
     pub file: Option<Option<Part>>,
@@ -23,6 +22,17 @@ pub struct UnitFiles {
     pub drop_ins: BTreeMap<Text, Part>,
     /// The units that stand in its folders of units that it wants.
     pub wants: Listed<UnitName>,
+}
+
+/// One call: a derived drop is proved anew in each function that lets one go.
+impl Drop for UnitFiles {
+    fn drop(self) {
+        let UnitFiles {
+            file: _,
+            drop_ins: _,
+            wants: _,
+        } = self;
+    }
 }
 
 impl UnitFiles {
@@ -92,20 +102,9 @@ impl Found {
     ) -> Result<(), AllocError>
         ensures { OnOk result (Takes (Some (File unit)) part self.old self.new) }
     {
-        let UnitFiles {
-            file: _,
-            drop_ins,
-            wants,
-        } = self.take(alloc, &unit);
-        let file = Some(part);
-        self.put(
-            unit,
-            UnitFiles {
-                file,
-                drop_ins,
-                wants,
-            },
-        )
+        let mut files = self.take(alloc, &unit);
+        files.file = Some(part);
+        self.put(unit, files)
     }
 
     /// A drop-in of a unit is found, where the leaf has content.

@@ -1,14 +1,16 @@
 //! What the paths in the folder of a system's units are.
-ghost use Rattle.std.specs.Prelude.{◌≡◌, false, true, Some, IfOk, MatchOption};
+ghost use Rattle.std.specs.Prelude.{◌≡◌, false, true, Some, IfOk, MatchOption, OnOk};
 ghost use Rattle.std.specs.List.{list_any, before_first, after_first};
 ghost use Rattle.std.specs.Option.{option_copied};
-ghost use Rattle.unit_defs.specs.Place.{after_front, before_end, drop_in, is_drop_in_name, is_slash, named, place_below, place_after, place_in, want};
+ghost use Rattle.unit_defs.specs.Found.{Takes};
+ghost use Rattle.unit_defs.specs.Place.{after_front, before_end, drop_in, is_drop_in_name, is_slash, is_want, named, place_below, place_after, place_in, want};
 
+use crate::found::Found;
+use crate::part::Part;
 use std::alloc::{AllocError, Global};
 use switch_names::{NameFault, Path, Text, UnitName};
 
 /// What a leaf in the folder of units is.
-#[derive(Drop)]
 pub enum Place {
     /// The file of a unit.
     File(UnitName),
@@ -16,6 +18,37 @@ pub enum Place {
     DropIn(UnitName, Text),
     /// A unit, and another one that it wants.
     Want(UnitName, UnitName),
+}
+
+/// One call: a derived drop is proved anew in each function that lets one go.
+impl Drop for Place {
+    fn drop(self) {
+        match self {
+            Place::File(_) => {}
+            Place::DropIn(_, _) => {}
+            Place::Want(_, _) => {}
+        }
+    }
+}
+
+impl Place {
+    /// Whether a unit stands here that another one wants.
+    pub fn is_want(&self) -> bool
+        ensures { result ≡ is_want self.now }
+    {
+        matches!(self, Place::Want(_, _))
+    }
+
+    /// Puts what stands here, with what its leaf says, to what is found.
+    pub fn put(self, alloc: Global, part: Option<Part>, found: &mut Found) -> Result<(), AllocError>
+        ensures { OnOk result (Takes (Some self) part found.old found.new) }
+    {
+        match self {
+            Place::File(unit) => found.add_file(alloc, unit, part),
+            Place::DropIn(unit, name) => found.add_drop_in(alloc, unit, name, part),
+            Place::Want(unit, name) => found.add_want(alloc, unit, name),
+        }
+    }
 }
 
 /// A unit name, where a text is one.
@@ -54,17 +87,14 @@ fn split_at_slash(text: &str) -> Option<(&str, &str)>
     text.split_once('/')
 }
 
-fn has_slash(name: &[u8]) -> bool
-    ensures { result ≡ list_any is_slash name.now }
-{
-    name.iter().any(|byte| *byte == b'/')
-}
-
 /// Whether a text can be the name of a drop-in.
 fn is_drop_in_name(name: &str) -> bool
     ensures { result ≡ is_drop_in_name name.now }
 {
-    !name.is_empty() && !has_slash(name.as_bytes())
+    match split_at_slash(name) {
+        None => !name.is_empty(),
+        Some(_) => false,
+    }
 }
 
 /// A drop-in of the unit whose folder this is.

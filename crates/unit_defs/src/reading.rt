@@ -1,22 +1,21 @@
 //! Reads the folder of a system's units.
-ghost use Rattle.std.specs.Prelude.{◌≡◌, [], ◌∷◌, ◌++◌, Some, IfOk, OnOk, option_map};
+ghost use Rattle.std.specs.Prelude.{◌≡◌, [], ◌∷◌, ◌++◌, IfOk, OnOk, option_map};
 ghost use Rattle.host_trait.specs.Change.{IsSame};
 ghost use Rattle.host_trait.specs.Host.{Told, Passes, HasCause};
 ghost use Rattle.host_trait.specs.World.{content_of, listed};
-ghost use Rattle.unit_defs.specs.declared.place.Place.TheVariants.{File, DropIn};
 ghost use Rattle.unit_defs.specs.Defs.{AreSorted, AreUnitsOf};
-ghost use Rattle.unit_defs.specs.Found.{AreFilesAt, AreFilesOf, Takes, TakesPath};
+ghost use Rattle.unit_defs.specs.Found.{AreFilesAt, AreFilesOf, TakesPath};
 ghost use Rattle.unit_defs.specs.Part.{part_of};
 ghost use Rattle.unit_defs.specs.Place.{unit_folder};
 ghost use Rattle.switch_names.specs.Path.{slash};
 
 use crate::found::Found;
 use crate::part::Part;
-use crate::place::{Place, place_after};
+use crate::place::place_after;
 use crate::unit::{Unit, units_of};
 use host_trait::{HostFault, Tree, content};
 use std::alloc::{AllocError, Global};
-use switch_names::{NameFault, Path, SystemName, Text, UnitName};
+use switch_names::{Listed, NameFault, Path, SystemName, Text};
 
 /// What the file at a path says.
 fn read_part<T: Tree>(alloc: Global, host: &mut T, path: &Path) -> Result<Option<Part>, HostFault>
@@ -28,39 +27,6 @@ fn read_part<T: Tree>(alloc: Global, host: &mut T, path: &Path) -> Result<Option
         return Ok(None);
     };
     Ok(Some(Part::read(alloc, bytes.as_slice())?))
-}
-
-/// Reads the leaf at a path as the file of a unit.
-fn read_file<T: Tree>(
-    alloc: Global,
-    host: &mut T,
-    path: &Path,
-    unit: UnitName,
-    found: &mut Found,
-) -> Result<(), HostFault>
-    ensures found { OnOk result (Told (T.host host.old) (λ w. Takes (Some (File unit)) (option_map part_of (content_of w.leaves path.now)) found.old found.new)) }
-    ensures moments { Passes (T.host host.old) (T.host host.new) IsSame }
-    ensures cause { HasCause (T.host host.old) (T.host host.new) result }
-{
-    let part = read_part(alloc, host, path)?;
-    Ok(found.add_file(alloc, unit, part)?)
-}
-
-/// Reads the leaf at a path as a drop-in of a unit.
-fn read_drop_in<T: Tree>(
-    alloc: Global,
-    host: &mut T,
-    path: &Path,
-    unit: UnitName,
-    name: Text,
-    found: &mut Found,
-) -> Result<(), HostFault>
-    ensures found { OnOk result (Told (T.host host.old) (λ w. Takes (Some (DropIn unit name)) (option_map part_of (content_of w.leaves path.now)) found.old found.new)) }
-    ensures moments { Passes (T.host host.old) (T.host host.new) IsSame }
-    ensures cause { HasCause (T.host host.old) (T.host host.new) result }
-{
-    let part = read_part(alloc, host, path)?;
-    Ok(found.add_drop_in(alloc, unit, name, part)?)
 }
 
 /// Reads what stands at a path, where the folder of units and a slash are its front.
@@ -75,12 +41,14 @@ fn read_path<T: Tree>(
     ensures moments { Passes (T.host host.old) (T.host host.new) IsSame }
     ensures cause { HasCause (T.host host.old) (T.host host.new) result }
 {
-    match place_after(alloc, front, path)? {
-        None => Ok(()),
-        Some(Place::File(unit)) => read_file(alloc, host, path, unit, found),
-        Some(Place::DropIn(unit, name)) => read_drop_in(alloc, host, path, unit, name, found),
-        Some(Place::Want(unit, name)) => Ok(found.add_want(alloc, unit, name)?),
+    let Some(place) = place_after(alloc, front, path)? else {
+        return Ok(());
+    };
+    if place.is_want() {
+        return Ok(place.put(alloc, None, found)?);
     }
+    let part = read_part(alloc, host, path)?;
+    Ok(place.put(alloc, part, found)?)
 }
 
 /// Reads what stands at these paths.
@@ -156,9 +124,9 @@ pub fn read_units<T: Tree>(
     alloc: Global,
     host: &mut T,
     system: &SystemName,
-) -> Result<Vec<Unit>, HostFault>
-    ensures sorted { IfOk result (λ units. AreSorted units.items) }
-    ensures units { IfOk result (λ units. Told (T.host host.old) (λ w. AreUnitsOf w.leaves system.now units.items)) }
+) -> Result<Listed<Unit>, HostFault>
+    ensures sorted { IfOk result (λ units. AreSorted units) }
+    ensures units { IfOk result (λ units. Told (T.host host.old) (λ w. AreUnitsOf w.leaves system.now units)) }
     ensures moments { Passes (T.host host.old) (T.host host.new) IsSame }
     ensures cause { HasCause (T.host host.old) (T.host host.new) result }
 {

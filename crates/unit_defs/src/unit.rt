@@ -157,11 +157,11 @@ fn unit_of(alloc: Global, found: &Found, name: &UnitName) -> Result<Unit, AllocE
 }
 
 /// The units that were found, in byte order.
-pub fn units_of(alloc: Global, found: &Found) -> Result<Vec<Unit>, AllocError>
-    ensures units { IfOk result (λ units. units.items ≡ map (unit_of found.now) (keys found.now.units)) }
+pub fn units_of(alloc: Global, found: &Found) -> Result<Listed<Unit>, AllocError>
+    ensures units { IfOk result (λ units. units ≡ map (unit_of found.now) (keys found.now.units)) }
     ensures ordered { IsStrictlySortedBy bytes_cmp (keys found.now.units) }
 {
-    let mut units = Vec::new(alloc);
+    let mut units = Listed::new(alloc);
     for name in found.units.keys() {
         units.push(unit_of(alloc, found, name)?)?;
     }

@@ -1,10 +1,8 @@
 //! The units that each unit of a system wants.
 ghost use Rattle.std.specs.Prelude.{◌≡◌, ◌==◌, [], IfOk, OnOk, map, option_and_then};
 ghost use Rattle.std.specs.List.{flat_map, slice_split};
-ghost use Rattle.std.specs.List.Sorted.{IsStrictlySortedBy};
 ghost use Rattle.std.specs.Option.{option_copied};
 ghost use Rattle.switch_names.specs.UnitName.{template_of};
-ghost use Rattle.host_trait.specs.World.{bytes_cmp};
 ghost use Rattle.unit_defs.specs.Defs.{AddsName, AddsWanted, AreNamesOf, AreSorted, found_in, own_in, wants_for};
 ghost use Rattle.unit_defs.specs.Units.{can_be_wanted, wanted, words_in, words_of};
 
@@ -12,8 +10,7 @@ use crate::place::named;
 use crate::search::{find_template, find_unit};
 use crate::unit::{Unit, Wants};
 use std::alloc::{AllocError, Global};
-use std::collections::BTreeSet;
-use switch_names::{Listed, Text, UnitName};
+use switch_names::{Listed, Text, UnitName, UnitSet};
 use unit_text::UnitText;
 
 /// The text that a unit has of its own.
@@ -56,9 +53,9 @@ fn can_be_wanted(units: &[Unit], name: &UnitName) -> bool
 }
 
 /// Adds a unit that is wanted, where it can be.
-fn add_name(units: &[Unit], set: &mut BTreeSet<UnitName>, name: UnitName) -> Result<(), AllocError>
+fn add_name(units: &[Unit], set: &mut UnitSet, name: UnitName) -> Result<(), AllocError>
     requires { AreSorted units.now }
-    ensures { OnOk result (AddsName units.now name set.old.keys set.new.keys) }
+    ensures { OnOk result (AddsName units.now name set.old set.new) }
 {
     if can_be_wanted(units, &name) {
         set.insert(name)?;
@@ -70,11 +67,11 @@ fn add_name(units: &[Unit], set: &mut BTreeSet<UnitName>, name: UnitName) -> Res
 fn add_names(
     alloc: Global,
     units: &[Unit],
-    set: &mut BTreeSet<UnitName>,
+    set: &mut UnitSet,
     names: &[UnitName],
 ) -> Result<(), AllocError>
     requires { AreSorted units.now }
-    ensures { OnOk result (AddsWanted units.now names.now set.old.keys set.new.keys) }
+    ensures { OnOk result (AddsWanted units.now names.now set.old set.new) }
 {
     for name in names {
         add_name(units, set, name.copy(alloc)?)?;
@@ -83,14 +80,9 @@ fn add_names(
 }
 
 /// Adds the unit that a word names, where it can be wanted.
-fn add_word(
-    alloc: Global,
-    units: &[Unit],
-    set: &mut BTreeSet<UnitName>,
-    word: &str,
-) -> Result<(), AllocError>
+fn add_word(alloc: Global, units: &[Unit], set: &mut UnitSet, word: &str) -> Result<(), AllocError>
     requires { AreSorted units.now }
-    ensures { OnOk result (AddsName units.now word.now set.old.keys set.new.keys) }
+    ensures { OnOk result (AddsName units.now word.now set.old set.new) }
 {
     match named(alloc, word)? {
         Some(name) => add_name(units, set, name),
@@ -116,11 +108,11 @@ fn space_parts(alloc: Global, text: &str) -> Result<Vec<&str>, AllocError>
 fn add_tab_parts(
     alloc: Global,
     units: &[Unit],
-    set: &mut BTreeSet<UnitName>,
+    set: &mut UnitSet,
     text: &str,
 ) -> Result<(), AllocError>
     requires { AreSorted units.now }
-    ensures { OnOk result (AddsWanted units.now (slice_split (λ byte. byte == 9) text.now) set.old.keys set.new.keys) }
+    ensures { OnOk result (AddsWanted units.now (slice_split (λ byte. byte == 9) text.now) set.old set.new) }
 {
     let parts = tab_parts(alloc, text)?;
     for part in parts.as_slice() {
@@ -130,14 +122,9 @@ fn add_tab_parts(
 }
 
 /// Adds the units that the words of a text name, where they can be wanted.
-fn add_words(
-    alloc: Global,
-    units: &[Unit],
-    set: &mut BTreeSet<UnitName>,
-    text: &str,
-) -> Result<(), AllocError>
+fn add_words(alloc: Global, units: &[Unit], set: &mut UnitSet, text: &str) -> Result<(), AllocError>
     requires { AreSorted units.now }
-    ensures { OnOk result (AddsWanted units.now (words_of text.now) set.old.keys set.new.keys) }
+    ensures { OnOk result (AddsWanted units.now (words_of text.now) set.old set.new) }
 {
     let parts = space_parts(alloc, text)?;
     for part in parts.as_slice() {
@@ -150,11 +137,11 @@ fn add_words(
 fn add_values(
     alloc: Global,
     units: &[Unit],
-    set: &mut BTreeSet<UnitName>,
+    set: &mut UnitSet,
     values: &[Text],
 ) -> Result<(), AllocError>
     requires { AreSorted units.now }
-    ensures { OnOk result (AddsWanted units.now (flat_map words_of values.now) set.old.keys set.new.keys) }
+    ensures { OnOk result (AddsWanted units.now (flat_map words_of values.now) set.old set.new) }
 {
     for value in values {
         add_words(alloc, units, set, value.as_str())?;
@@ -166,29 +153,17 @@ fn add_values(
 fn add_text(
     alloc: Global,
     units: &[Unit],
-    set: &mut BTreeSet<UnitName>,
+    set: &mut UnitSet,
     text: Option<&UnitText>,
 ) -> Result<(), AllocError>
     requires { AreSorted units.now }
-    ensures { OnOk result (AddsWanted units.now (words_in (option_copied text.entry)) set.old.keys set.new.keys) }
+    ensures { OnOk result (AddsWanted units.now (words_in (option_copied text.entry)) set.old set.new) }
 {
     let Some(text) = text else {
         return Ok(());
     };
     add_values(alloc, units, set, text.values("Unit", "Wants"))?;
     add_values(alloc, units, set, text.values("Unit", "Requires"))
-}
-
-/// The names of a set in byte order.
-fn listed(alloc: Global, set: BTreeSet<UnitName>) -> Result<Listed<UnitName>, AllocError>
-    ensures names { IfOk result (λ names. names ≡ set.keys) }
-    ensures sorted { IsStrictlySortedBy bytes_cmp set.keys }
-{
-    let mut names = Listed::new(alloc);
-    for name in set {
-        names.push(name)?;
-    }
-    Ok(names)
 }
 
 /// What a unit wants, by its text and the names in its folders of units that it wants.
@@ -201,10 +176,10 @@ fn wanted(
     requires { AreSorted units.now }
     ensures { IfOk result (λ list. list ≡ wanted (own_in units.now) names.now (option_copied text.entry)) }
 {
-    let mut set = BTreeSet::new(alloc);
+    let mut set = UnitSet::new(alloc);
     add_names(alloc, units, &mut set, names)?;
     add_text(alloc, units, &mut set, text)?;
-    listed(alloc, set)
+    set.into_names(alloc)
 }
 
 /// What a unit wants in all, and what by its own text alone.
@@ -220,11 +195,11 @@ fn wants_for(alloc: Global, units: &[Unit], unit: &Unit) -> Result<Wants, AllocE
 }
 
 /// What each unit wants.
-pub fn wants_of(alloc: Global, units: &[Unit]) -> Result<Vec<Wants>, AllocError>
+pub fn wants_of(alloc: Global, units: &[Unit]) -> Result<Listed<Wants>, AllocError>
     requires { AreSorted units.now }
-    ensures { IfOk result (λ wants. wants.items ≡ map (wants_for units.now) units.now) }
+    ensures { IfOk result (λ wants. wants ≡ map (wants_for units.now) units.now) }
 {
-    let mut wants = Vec::with_capacity(alloc, units.len())?;
+    let mut wants = Listed::new(alloc);
     for unit in units {
         wants.push(wants_for(alloc, units, unit)?)?;
     }

@@ -1,22 +1,14 @@
 -- Names in sets and lists.
-use Rattle.std.proofs.Common.{◌≡◌, ◌||◌, ◌&&◌, not, Bool, true, false, cond, List, [], ◌∷◌, ◌++◌, refl, sym, ap, ◌∙◌}
+use Rattle.std.proofs.Common.{◌≡◌, ◌<◌, ◌+◌, ◌||◌, ◌&&◌, not, ℕ, Bool, true, false, cond, List, [], ◌∷◌, ◌++◌, get_or, length, take, refl, sym, ap, ◌∙◌, arith}
+use Rattle.std.specs.List.{filter}
+use Rattle.std.proofs.lemmas.List.{append-nil, take_more}
+use Rattle.std.proofs.lemmas.List.Elements.{filter_more}
 use Rattle.switch_names.specs.Names.{Name, has, is_name}
-use Rattle.unit_defs.proofs.NameLemmas.{has-append, name_exact, name_turned}
+use Rattle.unit_defs.proofs.NameLemmas.{has-append, name_exact}
 
 or_false : (b : Bool) → (b || false) ≡ b
 or_false true = refl
 or_false false = refl
-
--- a name whose copy is added stands where it stood before, or is that name
-pub has_added : (old new : List Name) (copied name unit : Name) → copied ≡ name → has new unit ≡ cond (is_name copied unit) true (has old unit) → has new unit ≡ (has old unit || is_name unit name)
-has_added old new copied name unit same added =
-    added ∙ ap (λ (n : Name). cond (is_name n unit) true (has old unit)) same ∙ ap (λ b. cond b true (has old unit)) (name_turned name unit) ∙ either (is_name unit name) (has old unit)
-  where
-    either : (b h : Bool) → cond b true h ≡ (h || b)
-    either true true = refl
-    either true false = refl
-    either false true = refl
-    either false false = refl
 
 -- one name more at the end
 pub has_pushed : (old : List Name) (name unit : Name) → has (old ++ name ∷ []) unit ≡ (has old unit || is_name unit name)
@@ -41,3 +33,57 @@ new_pushed reached left name unit new = has_pushed left name unit ∙ by (is_nam
     by : (b : Bool) → is_name unit name ≡ b → (has left unit || b) ≡ (has left unit || (b && not (has reached unit)))
     by true is = sym (ap (λ b. has left unit || not b) (has_same reached name unit is ∙ new))
     by false is = refl
+
+-- ---- a loop over items, with one item more
+
+module _ {X : Type 0} (xs : List X) (i : ℕ) (x : X) (inside : i < length xs) (is : x ≡ get_or xs i x) where
+  pub one_more : take (i + 1) xs ≡ take i xs ++ x ∷ []
+  one_more = take_more xs i x inside ∙ ap (λ y. take i xs ++ y ∷ []) (sym is)
+
+  with_one : (p : X → Bool) → filter p (take (i + 1) xs) ≡ filter p (take i xs) ++ cond (p x) (x ∷ []) []
+  with_one p = filter_more p xs i x inside ∙ ap (λ y. filter p (take i xs) ++ cond (p y) (y ∷ []) []) (sym is)
+
+  pub passed_more : (p : X → Bool) → p x ≡ true → filter p (take (i + 1) xs) ≡ filter p (take i xs) ++ x ∷ []
+  passed_more p passes = with_one p ∙ ap (λ b. filter p (take i xs) ++ cond b (x ∷ []) []) passes
+
+  pub passed_same : (p : X → Bool) → p x ≡ false → filter p (take (i + 1) xs) ≡ filter p (take i xs)
+  passed_same p fails = with_one p ∙ ap (λ b. filter p (take i xs) ++ cond b (x ∷ []) []) fails ∙ append-nil (filter p (take i xs))
+
+or_either : (a b c : Bool) → ((a || b) || c) ≡ (a || (b || c))
+or_either true b c = refl
+or_either false b c = refl
+
+-- a set that gets the name which is new in a list
+pub set_more : (start old new before after : List Name) (unit copy name : Name) → after ≡ before ++ unit ∷ [] → copy ≡ unit →
+    has new name ≡ (has old name || is_name name copy) → has old name ≡ (has start name || has before name) → has new name ≡ (has start name || has after name)
+set_more start old new before after unit copy name grown same added was =
+    added ∙ (λ k. was k || is_name name (same k)) ∙ or_either (has start name) (has before name) (is_name name unit)
+    ∙ ap (λ b. has start name || b) (sym (ap (λ (names : List Name). has names name) grown ∙ has_pushed before unit name))
+
+pub set_same : (start old before after : List Name) (name : Name) → after ≡ before → has old name ≡ (has start name || has before name) → has old name ≡ (has start name || has after name)
+set_same start old before after name stays was = was ∙ ap (λ (names : List Name). has start name || has names name) (sym stays)
+
+left_of : (left before is reached : Bool) → ((left || (before && not reached)) || (is && not (reached || before))) ≡ (left || ((before || is) && not reached))
+left_of true before is reached = refl
+left_of false true true true = refl
+left_of false true true false = refl
+left_of false true false true = refl
+left_of false true false false = refl
+left_of false false true true = refl
+left_of false false true false = refl
+left_of false false false true = refl
+left_of false false false false = refl
+
+-- what is left to walk gets the name too, where it wasn't reached
+pub left_more : (reached_first left_first reached left left_new before after : List Name) (unit name : Name) → after ≡ before ++ unit ∷ [] →
+    has left_new name ≡ (has left name || (is_name name unit && not (has reached name))) → has reached name ≡ (has reached_first name || has before name) →
+    has left name ≡ (has left_first name || (has before name && not (has reached_first name))) →
+    has left_new name ≡ (has left_first name || (has after name && not (has reached_first name)))
+left_more reached_first left_first reached left left_new before after unit name grown pushed reached_was was =
+    pushed ∙ (λ k. was k || (is_name name unit && not (reached_was k))) ∙ left_of (has left_first name) (has before name) (is_name name unit) (has reached_first name)
+    ∙ ap (λ b. has left_first name || (b && not (has reached_first name))) (sym (ap (λ (names : List Name). has names name) grown ∙ has_pushed before unit name))
+
+-- as many names are left to walk more as are reached more
+pub same_count : (first_left first_reached left reached new_left new_reached : ℕ) → left + first_reached ≡ first_left + reached → new_left + reached ≡ left + new_reached →
+    new_left + first_reached ≡ first_left + new_reached
+same_count first_left first_reached left reached new_left new_reached was is = omega arith

@@ -2,7 +2,6 @@
 #![tactic(auto)]
 
 mod pulling;
-mod sets;
 mod targets;
 
 pub use pulling::pull;

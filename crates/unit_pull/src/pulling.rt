@@ -1,26 +1,23 @@
 //! What is pulled from some units.
-ghost use Rattle.std.specs.Prelude.{◌≡◌, ◌+◌, ◌<◌, ◌^◌, ◌||◌, ◌&&◌, not, IfOk, IsTrue, OnOk, vec_len};
-ghost use Rattle.std.specs.BTreeSet.{btree_set_len};
+ghost use Rattle.std.specs.Prelude.{◌≡◌, ◌+◌, ◌<◌, ◌^◌, ◌||◌, ◌&&◌, not, IfOk, IsTrue, OnOk, length, vec_len};
 ghost use Rattle.switch_names.specs.Names.{IsListOf, Name, has, is_name};
 ghost use Rattle.unit_defs.specs.Defs.{wanted_in};
 ghost use Rattle.unit_defs.specs.Pull.{Reached};
 
-use crate::sets::listed;
 use std::alloc::{AllocError, Global};
-use std::collections::BTreeSet;
-use switch_names::{Listed, UnitName};
+use switch_names::{Listed, UnitName, UnitSet};
 use unit_defs::Defs;
 
 /// Adds a unit to those that are reached, and where it is new also to those that are left to walk.
 fn reach(
     alloc: Global,
-    reached: &mut BTreeSet<UnitName>,
+    reached: &mut UnitSet,
     left: &mut Vec<UnitName>,
     unit: &UnitName,
 ) -> Result<(), AllocError>
-    ensures added { OnOk result ((name : Name) → has reached.new.keys name ≡ (has reached.old.keys name || is_name name unit.now)) }
-    ensures pushed { OnOk result ((name : Name) → has left.new.items name ≡ (has left.old.items name || (is_name name unit.now && not (has reached.old.keys name)))) }
-    ensures as_many { OnOk result (vec_len left.new + btree_set_len reached.old ≡ vec_len left.old + btree_set_len reached.new) }
+    ensures added { OnOk result ((name : Name) → has reached.new name ≡ (has reached.old name || is_name name unit.now)) }
+    ensures pushed { OnOk result ((name : Name) → has left.new.items name ≡ (has left.old.items name || (is_name name unit.now && not (has reached.old name)))) }
+    ensures as_many { OnOk result (vec_len left.new + length reached.old ≡ vec_len left.old + length reached.new) }
 {
     if reached.insert(unit.copy(alloc)?)? {
         left.push(unit.copy(alloc)?)?;
@@ -31,14 +28,14 @@ fn reach(
 /// Adds units to those that are reached, and the new ones also to those that are left to walk.
 fn reach_all(
     alloc: Global,
-    reached: &mut BTreeSet<UnitName>,
+    reached: &mut UnitSet,
     left: &mut Vec<UnitName>,
     units: &[UnitName],
 ) -> Result<(), AllocError>
-    ensures added { OnOk result ((name : Name) → has reached.new.keys name ≡ (has reached.old.keys name || has units.now name)) }
-    ensures pushed { OnOk result ((name : Name) → has left.new.items name ≡ (has left.old.items name || (has units.now name && not (has reached.old.keys name)))) }
-    ensures as_many { OnOk result (vec_len left.new + btree_set_len reached.old ≡ vec_len left.old + btree_set_len reached.new) }
-    ensures fits { OnOk result (btree_set_len reached.new < 2 ^ 63) }
+    ensures added { OnOk result ((name : Name) → has reached.new name ≡ (has reached.old name || has units.now name)) }
+    ensures pushed { OnOk result ((name : Name) → has left.new.items name ≡ (has left.old.items name || (has units.now name && not (has reached.old name)))) }
+    ensures as_many { OnOk result (vec_len left.new + length reached.old ≡ vec_len left.old + length reached.new) }
+    ensures fits { OnOk result (length reached.new < 2 ^ 63) }
 {
     for unit in units {
         reach(alloc, reached, left, unit)?;
@@ -59,12 +56,12 @@ pub fn pull(
 ) -> Result<Listed<UnitName>, AllocError>
     ensures { IfOk result (λ pulled. IsListOf pulled (Reached (wanted_in new.now) (λ unit. IsTrue (has roots.now unit)))) }
 {
-    let mut reached = BTreeSet::new(alloc);
+    let mut reached = UnitSet::new(alloc);
     let mut left = Vec::new(alloc);
     reach_all(alloc, &mut reached, &mut left, roots.as_slice())?;
     while let Some(unit) = left.pop() {
         let wanted = new.wanted(&unit);
         reach_all(alloc, &mut reached, &mut left, wanted.as_slice())?;
     }
-    listed(alloc, reached)
+    reached.into_names(alloc)
 }

@@ -1,16 +1,13 @@
 //! The targets from which units are pulled.
 ghost use Rattle.std.specs.Prelude.{◌≡◌, ◌||◌, IfOk, OnOk, filter};
-ghost use Rattle.host_trait.specs.Manager.{is_active};
 ghost use Rattle.host_trait.specs.States.{state_of, units_of};
 ghost use Rattle.switch_names.specs.Names.{IsListOf, Name, has};
 ghost use Rattle.unit_defs.specs.Defs.{found_in};
 ghost use Rattle.unit_pull.specs.Roots.{IsRoot, is_defined_target, is_running_target, may_run};
 
-use crate::sets::{add_name, listed};
-use host_trait::{State, States, UnitState};
+use host_trait::{States, UnitState};
 use std::alloc::{AllocError, Global};
-use std::collections::BTreeSet;
-use switch_names::{Listed, UnitName};
+use switch_names::{Listed, UnitName, UnitSet};
 use unit_decide::{is_target, may_start};
 use unit_defs::Defs;
 
@@ -18,13 +15,10 @@ use unit_defs::Defs;
 fn is_defined_target(new: &Defs, unit: &UnitName) -> bool
     ensures { result ≡ is_defined_target (found_in new.now) unit.now }
 {
-    is_target(unit.kind()) && new.find(unit).is_some()
-}
-
-fn is_active(state: State) -> bool
-    ensures { result ≡ is_active state }
-{
-    matches!(state, State::Active)
+    if !is_target(unit.kind()) {
+        return false;
+    }
+    new.find(unit).is_some()
 }
 
 /// Whether a unit has a text by which a switch may start it.
@@ -41,21 +35,24 @@ fn may_run(new: &Defs, unit: &UnitName) -> bool
 fn is_running_target(new: &Defs, unit: &UnitState) -> bool
     ensures { result ≡ is_running_target (found_in new.now) unit.now }
 {
-    is_active(unit.state) && is_target(unit.unit.kind()) && may_run(new, &unit.unit)
+    if !unit.state.is_active() || !is_target(unit.unit.kind()) {
+        return false;
+    }
+    may_run(new, &unit.unit)
 }
 
 /// Adds those of some units that are Active targets and may start.
 fn add_running(
     alloc: Global,
     new: &Defs,
-    roots: &mut BTreeSet<UnitName>,
+    roots: &mut UnitSet,
     units: &[UnitState],
 ) -> Result<(), AllocError>
-    ensures { OnOk result ((name : Name) → has roots.new.keys name ≡ (has roots.old.keys name || has (units_of (filter (is_running_target (found_in new.now)) units.now)) name)) }
+    ensures { OnOk result ((name : Name) → has roots.new name ≡ (has roots.old name || has (units_of (filter (is_running_target (found_in new.now)) units.now)) name)) }
 {
     for unit in units {
         if is_running_target(new, unit) {
-            add_name(alloc, roots, &unit.unit)?;
+            roots.insert(unit.unit.copy(alloc)?)?;
         }
     }
     Ok(())
@@ -65,14 +62,14 @@ fn add_running(
 fn add_pending(
     alloc: Global,
     new: &Defs,
-    roots: &mut BTreeSet<UnitName>,
+    roots: &mut UnitSet,
     units: &[UnitName],
 ) -> Result<(), AllocError>
-    ensures { OnOk result ((name : Name) → has roots.new.keys name ≡ (has roots.old.keys name || has (filter (is_defined_target (found_in new.now)) units.now) name)) }
+    ensures { OnOk result ((name : Name) → has roots.new name ≡ (has roots.old name || has (filter (is_defined_target (found_in new.now)) units.now) name)) }
 {
     for unit in units {
         if is_defined_target(new, unit) {
-            add_name(alloc, roots, unit)?;
+            roots.insert(unit.copy(alloc)?)?;
         }
     }
     Ok(())
@@ -90,8 +87,8 @@ pub fn roots(
 ) -> Result<Listed<UnitName>, AllocError>
     ensures { IfOk result (λ roots. IsListOf roots (IsRoot (found_in new.now) (state_of states.now) starts.now)) }
 {
-    let mut roots = BTreeSet::new(alloc);
+    let mut roots = UnitSet::new(alloc);
     add_running(alloc, new, &mut roots, states.list().as_slice())?;
     add_pending(alloc, new, &mut roots, starts.as_slice())?;
-    listed(alloc, roots)
+    roots.into_names(alloc)
 }

@@ -1,5 +1,5 @@
 -- What one more assignment changes.
-use Rattle.std.proofs.Common.{◌≡◌, ℕ, ◌+◌, ◌<◌, Bool, true, false, not, cond, ◌&&◌, ◌||◌, List, [], ◌∷◌, ◌++◌, length, get_or, take, map, refl, sym, ap, ◌∙◌}
+use Rattle.std.proofs.Common.{◌≡◌, Bor, ℕ, ◌+◌, ◌<◌, Bool, true, false, not, cond, ◌&&◌, ◌||◌, List, [], ◌∷◌, ◌++◌, length, get_or, take, map, refl, sym, ap, ◌∙◌}
 use Rattle.std.specs.List.{filter, list_any}
 use Rattle.std.specs.List.Sorted.{ties, IsStableBy}
 use Rattle.std.specs.Ordering.{is_lt, ordering_reverse}
@@ -95,3 +95,23 @@ values_stable text ordered key h =
     let one : Assignment = record { at = key; value = [] } in
     let of_key : (xs : List Assignment) → filter (ties is_lower one) xs ≡ filter (λ a. is_same_key key a.at) xs = λ xs. λ i. filter (λ a. ties_same one a i) xs in
     ap (λ (xs : List Assignment). after_last_empty (map (λ (a : Assignment). a.value) xs)) (sym (of_key ordered) ∙ h one ∙ of_key text)
+
+-- ---- assignments behind references
+
+abbrev pub referred : List (Bor Assignment) → List Assignment
+referred refs = map (λ (one : Bor Assignment). one.now) refs
+
+filter_referred : (test : Assignment → Bool) (refs : List (Bor Assignment)) → filter test (referred refs) ≡ referred (filter (λ one. test one.now) refs)
+filter_referred test [] = refl
+filter_referred test (one ∷ refs) = ap (λ xs. cond (test one.now) (one.now ∷ xs) xs) (filter_referred test refs) ∙ by (test one.now)
+  where
+    by : (b : Bool) → cond b (one.now ∷ referred (filter (λ r. test r.now) refs)) (referred (filter (λ r. test r.now) refs)) ≡ referred (cond b (one ∷ filter (λ r. test r.now) refs) (filter (λ r. test r.now) refs))
+    by true = refl
+    by false = refl
+
+-- references in a stable order refer to assignments in a stable order
+pub stable_referred : (refs ordered : List (Bor Assignment)) → IsStableBy (λ a b. is_lower a.now b.now) refs ordered → IsStableBy is_lower (referred refs) (referred ordered)
+stable_referred refs ordered stable one =
+    filter_referred (ties is_lower one) ordered
+    ∙ ap referred (stable (record { ref_ptr = (0, 0); now = one }))
+    ∙ sym (filter_referred (ties is_lower one) refs)

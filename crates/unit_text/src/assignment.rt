@@ -1,5 +1,5 @@
 //! Assignments of a unit file.
-ghost use Rattle.std.specs.Prelude.{◌≡◌, IfOk};
+ghost use Rattle.std.specs.Prelude.{◌≡◌, IfOk, map};
 
 use crate::unit_key::UnitKey;
 use std::alloc::{AllocError, Global};
@@ -39,4 +39,11 @@ pub fn copies(alloc: Global, assignments: &[Assignment]) -> Result<Vec<Assignmen
         copied.push(assignment.copy(alloc)?)?;
     }
     Ok(copied)
+}
+
+/// The assignments, one reference each.
+pub fn lent(alloc: Global, assignments: &[Assignment]) -> Result<Vec<&Assignment>, AllocError>
+    ensures { IfOk result (λ lent. map (λ one. one.now) lent.items ≡ assignments.now) }
+{
+    assignments.iter().collect(alloc)
 }

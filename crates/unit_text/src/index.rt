@@ -5,7 +5,7 @@ ghost use Rattle.unit_text.specs.declared.assignment.Assignment.{Assignment};
 ghost use Rattle.unit_text.specs.UnitKey.{key_cmp, key_of};
 ghost use Rattle.unit_text.specs.Index.{IsIndexOf, IsPlaceFor};
 
-use crate::assignment::{Assignment, copies};
+use crate::assignment::{Assignment, lent};
 use crate::unit_key::UnitKey;
 use std::alloc::{AllocError, Global};
 use switch_names::{Listed, Text};
@@ -40,7 +40,7 @@ impl Index {
     pub fn of(alloc: Global, assignments: &[Assignment]) -> Result<Index, AllocError>
         ensures { IfOk result (λ index. IsIndexOf assignments.now index) }
     {
-        let mut ordered = copies(alloc, assignments)?;
+        let mut ordered = lent(alloc, assignments)?;
         ordered.sort_by(|one, other| one.at.cmp(&other.at))?;
         let mut index = Index::new(alloc);
         for assignment in ordered.as_slice() {

@@ -16,13 +16,33 @@ use std::alloc::Global;
 use switch_names::Text;
 
 /// The assignments so far, and the section that stands.
-#[derive(Drop)]
 pub struct Body {
     section: Option<Text>,
     assignments: Vec<Assignment>,
 }
 
+/// One call: a derived drop is proved anew in each function that lets one go.
+impl Drop for Body {
+    fn drop(self) {
+        let Body {
+            section: _,
+            assignments: _,
+        } = self;
+    }
+}
+
 impl Body {
+    /// The assignments so far, without a copy.
+    fn into_assignments(self) -> Vec<Assignment>
+        ensures { result.items ≡ self.assignments.items }
+    {
+        let Body {
+            section: _,
+            assignments,
+        } = self;
+        assignments
+    }
+
     fn begin_section(&mut self, alloc: Global, number: u64, text: &str) -> Result<(), TextFault>
         requires some { is_empty text.now ≡ false }
         requires section { begins_section text.now ≡ true }
@@ -70,20 +90,40 @@ impl Body {
 }
 
 /// What was read of a joined line that goes on.
-#[derive(Drop)]
 pub struct Part {
     first: u64,
     last: u64,
     text: String,
 }
 
+/// One call: a derived drop is proved anew in each function that lets one go.
+impl Drop for Part {
+    fn drop(self) {
+        let Part {
+            first: _,
+            last: _,
+            text: _,
+        } = self;
+    }
+}
+
 /// What was read of a file.
-#[derive(Drop)]
 pub struct Reader {
     /// The first line that isn't UTF-8.
     bad: Option<u64>,
     part: Option<Part>,
     body: Body,
+}
+
+/// One call: a derived drop is proved anew in each function that lets one go.
+impl Drop for Reader {
+    fn drop(self) {
+        let Reader {
+            bad: _,
+            part: _,
+            body: _,
+        } = self;
+    }
 }
 
 impl Reader {
@@ -202,7 +242,7 @@ impl Reader {
         let Reader { bad, part: _, body } = self;
         match bad {
             Some(bad) => Err(TextFault::Utf8(capped(bad))),
-            None => Ok(body.assignments),
+            None => Ok(body.into_assignments()),
         }
     }
 }

@@ -2,7 +2,7 @@
 use bstr::ByteVec;
 use std::alloc::Global;
 use std::test::Fail;
-use switch_names::Bytes;
+use switch_names::{Bytes, Listed};
 
 /// The bytes of a field: none for `\e`, and else those of its text, in which `\n` and the like are bytes.
 fn field_of(alloc: Global, text: &str) -> Result<Bytes, Fail> {
@@ -17,11 +17,11 @@ fn field_of(alloc: Global, text: &str) -> Result<Bytes, Fail> {
 ///
 /// Fails where a field is empty: one without bytes is `\e`.
 pub fn fields_of(alloc: Global, line: &str) -> Result<Vec<Bytes>, Fail> {
-    let mut fields = Vec::new(alloc);
+    let mut fields = Listed::new(alloc);
     for text in line.split(" | ") {
         fields.push(field_of(alloc, text)?)?;
     }
-    Ok(fields)
+    Ok(fields.into_vec())
 }
 
 /// The text of a field.

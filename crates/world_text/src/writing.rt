@@ -5,11 +5,17 @@ use std::alloc::{AllocError, Global};
 use std::test::Fail;
 use switch_names::Path;
 
+/// Appends a text with another before it and another after it.
+fn push_between(out: &mut String, before: &str, text: &str, after: &str) -> Result<(), AllocError> {
+    out.push_str(before)?;
+    out.push_str(text)?;
+    out.push_str(after)?;
+    Ok(())
+}
+
 /// Appends a file: its place on a line, and its bytes as text.
 fn push_file(out: &mut String, at: &Path, bytes: &[u8]) -> Result<(), Fail> {
-    out.push_str("tree/")?;
-    out.push_str(at.as_str())?;
-    out.push('\n')?;
+    push_between(out, "tree/", at.as_str(), "\n")?;
     out.push_str(std::str::from_utf8(bytes)?)?;
     Ok(())
 }
@@ -71,9 +77,7 @@ fn act_word(act: Act) -> &'static str {
 /// Appends the states of units, a line each.
 fn push_units(out: &mut String, states: &[UnitState]) -> Result<(), AllocError> {
     for one in states {
-        out.push_str(state_word(one.state))?;
-        out.push_str(one.unit.as_str())?;
-        out.push('\n')?;
+        push_between(out, state_word(one.state), one.unit.as_str(), "\n")?;
     }
     Ok(())
 }
@@ -81,9 +85,7 @@ fn push_units(out: &mut String, states: &[UnitState]) -> Result<(), AllocError> 
 /// Appends entries, a line each.
 fn push_entries(out: &mut String, entries: &[Entry]) -> Result<(), AllocError> {
     for one in entries {
-        out.push_str(act_word(one.act))?;
-        out.push_str(one.unit.as_str())?;
-        out.push(' ')?;
+        push_between(out, act_word(one.act), one.unit.as_str(), " ")?;
         out.push_str(one.loaded.as_str())?;
         out.push('\n')?;
     }
@@ -92,9 +94,7 @@ fn push_entries(out: &mut String, entries: &[Entry]) -> Result<(), AllocError> {
 
 /// Appends what the manager has loaded and the states of its units, as the first lines of its text.
 pub fn push_states(out: &mut String, world: &World) -> Result<(), AllocError> {
-    out.push_str("loaded ")?;
-    out.push_str(world.loaded().as_str())?;
-    out.push('\n')?;
+    push_between(out, "loaded ", world.loaded().as_str(), "\n")?;
     push_units(out, world.states().list().as_slice())
 }
 

@@ -1,4 +1,5 @@
-use Rattle.std.proofs.Common.{sym, ◌∙◌}
+use Rattle.std.proofs.lemmas.Grind.{common_steps}
+use Rattle.std.proofs.Common.{sym, ◌∙◌, arith}
 use Rattle.generations.proofs.Lists.{previous_chosen, previous_passed}
 use Rattle.generations.proofs.gens.previous.Goals as goal
 use Rattle.generations.proofs.gens.previous.Goals.{then-is_earlier, else-is_earlier}
@@ -15,3 +16,6 @@ loop-generation-preserved c =
           w.latest-is ∙ c.loop-generation.invariant
           ∙ sym (previous_passed list at current gen c.loop-generation-test.true c.generation-item.is (sym c.is_earlier.ensures ∙ w.if-is_earlier.false))
     ]
+
+pub returns : goal.returns
+returns c = grind (arith, common_steps)

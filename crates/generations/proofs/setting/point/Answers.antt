@@ -2,7 +2,7 @@ use Rattle.std.proofs.Common.{◌≡◌, refl, sym, ap, subst, ◌∙◌, inl}
 use Rattle.std.proofs.lemmas.Result.{on_ok_weaker}
 use Rattle.host_trait.specs.declared.leaf.LeafKind.TheVariants.{Link}
 use Rattle.host_trait.specs.World.{seen, stage, with_leaf}
-use Rattle.host_trait.proofs.Moments.{started, leads_as}
+use Rattle.host_trait.proofs.Moments.{started, leads_as, passes_as}
 use Rattle.tree_put.specs.Put.{AreApart, IsOldOrNew}
 use Rattle.generations.specs.Places.{link_name, profile, with_profile}
 use Rattle.generations.proofs.Apart.{profile_apart}
@@ -21,3 +21,7 @@ pub returns-clause-ok : goal.returns-clause-ok
 returns-clause-ok g c =
     on_ok_weaker c.put.result (λ ok. leads_as ok (λ w v. seen v ≡ seen (with_profile c.args.number w))
     (λ w v is new. new ∙ ap (λ p. seen (with_leaf p c.in_ok-link.link w)) c.in_ok-at.ensures ∙ ap (λ l. seen (with_leaf profile l w)) c.in_ok-link.ensures)) c.put.ensures.ok
+
+pub returns-clause-moments : goal.returns-clause-moments
+returns-clause-moments g c = passes_as c.put.ensures.moments (IsOldOrNew profile (Link (link_name c.args.number))) (λ w m is moment.
+    subst (λ l. IsOldOrNew profile l w m) c.in_ok-link.ensures (subst (λ p. IsOldOrNew p c.in_ok-link.link w m) c.in_ok-at.ensures moment))

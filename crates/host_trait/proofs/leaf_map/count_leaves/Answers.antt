@@ -1,3 +1,4 @@
+use Rattle.std.proofs.lemmas.Grind.{common_steps}
 use Rattle.std.proofs.Common.{◌≡◌, ◌+◌, ◌<◌, ℕ, Bool, true, cond, List, [], ◌∷◌, length, ap, sym, subst, count_by, ◌∙◌, arith}
 use Rattle.std.proofs.lemmas.List.Sums.{count_by-le-length, sum_by-cons}
 use Rattle.std.specs.Map.{keys_of}
@@ -30,3 +31,6 @@ overflow_add-count c =
     let less : c.loop-path.count < length (keys_of c.args.leaves.now.entries) = counts_less is_elsewhere _ _ _ _ _ c.in-Some.ensures.steps (sym c.is_elsewhere.ensures ∙ c.if-is_elsewhere.true) c.loop-path.invariant in
     let len = ap (λ ks. length ks) (sym c.keys-path-items.ensures.rest) ∙ c.keys-path-items.ensures.len in
     omega (arith, less, len, c.keys-path-items.ensures.fits)
+
+pub loop-path-preserved-then-is_elsewhere : goal.loop-path-preserved-then-is_elsewhere
+loop-path-preserved-then-is_elsewhere c = grind (arith, common_steps)

@@ -1,7 +1,7 @@
 use Rattle.std.proofs.Common.{Result, OnOk, OnErr, Ok, Err, sym, subst}
 use Rattle.std.proofs.lemmas.Result.{on_ok_weaker}
 use Rattle.host_trait.specs.States.{IsSortedList}
-use Rattle.host_trait.proofs.StateLists.{put_at_place, set_at_place}
+use Rattle.host_trait.proofs.StateLists.{place_within, put_at_place, set_at_place}
 use Rattle.host_trait.proofs.states.put_into.Goals as goal
 
 either : {T E P Q R : Type 0} (r : Result T E) → (P → R) → (Q → R) → OnOk r P → OnErr r Q → R
@@ -28,3 +28,6 @@ returns-in-Err-clause-sorted c =
     (λ now. (put_at_place _ _ _ (record { unit = c.args.unit; state = c.args.state }) c.requires.sorted c.in-Err.ensures.missing now c.as_str-name.ensures.is_name c.requires.other).1)
     (λ same. subst IsSortedList (sym same) c.requires.sorted)
     c.insert.ensures.ok c.insert.ensures.err
+
+pub replace-was-requires : goal.replace-was-requires
+replace-was-requires c = place_within c.args.list.now c.in-Ok.at c.args.unit c.in-Ok.ensures.found

@@ -1,4 +1,5 @@
-use Rattle.std.proofs.Common.{◌≡◌, ◌++◌, ◌∷◌, [], ℕ, List, length, min, ◌+◌, ◌==◌, false, true, refl, sym, ap, ◌∙◌, subst, append_assoc, arith}
+use Rattle.std.proofs.Common.{◌≡◌, ◌++◌, ◌∷◌, [], ℕ, List, length, min, ◌+◌, ◌<◌, ◌==◌, false, true, refl, sym, ap, ◌∙◌, subst, append_assoc, arith}
+use Rattle.std.proofs.lemmas.Grind.{common_steps}
 use Rattle.std.proofs.lemmas.List.{append-nil}
 use Rattle.manager_core.specs.Placing.{stands, with_line}
 use Rattle.manager_core.specs.StateText.{IsFirstFault, IsLineFault, IsReadable, IsTextOf, line_max, state_lines, state_text}
@@ -40,6 +41,14 @@ loop-line-init c =
       readable = begun.readable;
       counted = sym (ap (λ n. min n line_max) begun.single);
     }
+
+shorter : (rest line after : List ℕ) → rest ≡ line ++ 10 ∷ after → length after < length rest
+shorter rest line after is = grind (arith, common_steps)
+
+pub loop-line-smaller : goal.loop-line-smaller
+loop-line-smaller c =
+    shorter c.loop-line.rest.now c.in-Some-parted.line.now c.in-Some-parted.after.now
+    (parted_parts 10 c.loop-line.rest.now (c.in-Some-parted.line.now, c.in-Some-parted.after.now) (sym c.in-Some-parted.ensures)).0
 
 -- one line more, or none, in a number that stands still at its end
 one_more : (count lines next : ℕ) → count ≡ min lines line_max → next ≡ min (count + 1) 4294967295 → next ≡ min (lines + 1) line_max

@@ -1,7 +1,9 @@
-use Rattle.std.proofs.Common.{List, map, subst, ◌++◌}
+use Rattle.std.proofs.lemmas.Grind.{common_steps}
+use Rattle.std.proofs.Common.{List, map, subst, sym, ◌++◌, arith}
 use Rattle.std.specs.List.{AllByRecursion}
 use Rattle.host_trait.specs.declared.entry.Bad.{Bad}
 use Rattle.host_trait.specs.declared.entry.Entry.{Entry}
+use Rattle.host_trait.specs.Manager.{IsPlain}
 use Rattle.host_trait.specs.States.{listed_states}
 use Rattle.manager_core.specs.StateText.{IsLine, IsReadable}
 use Rattle.manager_core.specs.declared.line.Line.TheVariants as line
@@ -21,3 +23,12 @@ readable c =
 
 pub returns-clause-readable : goal.returns-clause-readable
 returns-clause-readable c = readable c
+
+pub returns-clause-text : goal.returns-clause-text
+returns-clause-text c = grind (arith, common_steps)
+
+pub write_journal-requires : goal.write_journal-requires
+write_journal-requires c = subst (AllByRecursion (λ (one : Entry). IsPlain one.loaded)) (sym c.as_slice-3.ensures) c.requires.journal
+
+pub write_all_bad-requires : goal.write_all_bad-requires
+write_all_bad-requires c = subst (AllByRecursion (λ (one : Bad). IsPlain one.loaded)) (sym c.as_slice-2.ensures) c.requires.bad

@@ -1,6 +1,6 @@
 use Rattle.std.proofs.Common.{refl}
 use Rattle.host_trait.specs.Change.{IsSame}
-use Rattle.host_trait.proofs.Moments.{same_then}
+use Rattle.host_trait.proofs.Moments.{same_then, told_before}
 use Rattle.owed_lists.proofs.loading.load.Goals as goal
 
 pub returns-in_err-restarts-clause-moments : goal.returns-in_err-restarts-clause-moments
@@ -15,3 +15,9 @@ pub returns-clause-moments : goal.returns-clause-moments
 returns-clause-moments g c =
     same_then c.read_list.ensures.moments
     (same_then c.read_list-2.ensures.moments c.read_list-3.ensures.moments IsSame (λ w is. refl) (λ w m is same. same)) IsSame (λ w is. refl) (λ w m is same. same)
+
+pub returns-clause-lists : goal.returns-clause-lists
+returns-clause-lists g c =
+    let restarts = told_before c.read_list.ensures.moments c.in_ok-restarts.ensures.list in
+    let reloads = told_before c.read_list.ensures.moments (told_before c.read_list-2.ensures.moments c.in_ok-reloads.ensures.list) in
+    record { has = λ w is. record { starts = c.in_ok-starts.ensures.list.has w is; restarts = restarts.has w is; reloads = reloads.has w is } }

@@ -6,4 +6,4 @@ use Rattle.owed_plan.proofs.collecting.left.Given as goal
 
 -- the set has what the decisions so far give
 abbrev pub invariant-loop-decided : goal.invariant-loop-decided
-invariant-loop-decided l = (unit : List ℕ) → has l.set.keys unit ≡ list_any (leaves unit) (take l.decided-index l.decisions)
+invariant-loop-decided l = (unit : List ℕ) → has l.set unit ≡ list_any (leaves unit) (take l.decided-index l.decisions)

@@ -1,7 +1,7 @@
 use Rattle.std.proofs.Common.{ap, filter, map, sym, ◌∙◌}
 use Rattle.std.proofs.lemmas.List.{take_all}
 use Rattle.host_trait.specs.declared.unit_state.UnitState.{UnitState}
-use Rattle.owed_plan.specs.Lists.{is_active}
+use Rattle.host_trait.specs.Manager.{is_active}
 use Rattle.owed_plan.specs.Decisions.{decision_of, situation_of}
 use Rattle.owed_plan.proofs.LoopLemmas.{kept_more, kept_same}
 use Rattle.owed_plan.proofs.deciding.decide_units.Goals as goal

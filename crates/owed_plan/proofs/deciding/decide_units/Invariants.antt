@@ -1,5 +1,5 @@
 use Rattle.std.proofs.Common.{◌≡◌, filter, map, take}
-use Rattle.owed_plan.specs.Lists.{is_active}
+use Rattle.host_trait.specs.Manager.{is_active}
 use Rattle.owed_plan.specs.Decisions.{decision_of, situation_of}
 use Rattle.owed_plan.proofs.deciding.decide_units.Given as goal
 

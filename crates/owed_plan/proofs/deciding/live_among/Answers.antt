@@ -1,6 +1,7 @@
-use Rattle.std.proofs.Common.{sym, ◌∙◌}
+use Rattle.std.proofs.Common.{sym, ◌∙◌, arith}
 use Rattle.owed_plan.specs.Decisions.{is_live_socket, situation_of}
 use Rattle.owed_plan.proofs.LoopLemmas.{passed_more, passed_same}
+use Rattle.std.proofs.lemmas.Grind.{common_steps}
 use Rattle.owed_plan.proofs.deciding.live_among.Goals as goal
 use Rattle.owed_plan.proofs.deciding.live_among.Goals.{then-is_live_socket+in_ok-copy+in_ok-push, else-is_live_socket}
 
@@ -16,3 +17,6 @@ loop-socket-preserved c =
           ∙ passed_same (is_live_socket (situation_of c.args.known)) c.args.sockets.now c.loop-socket.socket-index c.socket-item.result _ c.loop-socket-test.true c.socket-item.is
           (sym c.is_live_socket.ensures ∙ w.if-is_live_socket.false) c.loop-socket.invariant
     ]
+
+pub returns : goal.returns
+returns c = grind (arith, common_steps)

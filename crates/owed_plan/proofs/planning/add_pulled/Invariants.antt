@@ -7,5 +7,5 @@ use Rattle.owed_plan.proofs.planning.add_pulled.Given as goal
 -- the set has what it had, and those of the units so far that come up
 abbrev pub invariant-loop-unit : goal.invariant-loop-unit
 invariant-loop-unit l = (unit : List ℕ) →
-    has l.set.keys unit
-    ≡ (has l.fn.set.keys unit || has (filter (comes_up (situation_of l.known) l.handled.stops.now.keys l.handled.reloads.now.keys l.handled.restarts.now.keys) (take l.unit-index l.pulled)) unit)
+    has l.set unit
+    ≡ (has l.fn.set unit || has (filter (comes_up (situation_of l.known) l.handled.stops.now l.handled.reloads.now l.handled.restarts.now) (take l.unit-index l.pulled)) unit)

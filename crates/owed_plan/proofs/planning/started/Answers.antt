@@ -8,8 +8,8 @@ use Rattle.owed_plan.proofs.planning.started.Goals as goal
 
 pub returns : goal.returns
 returns c =
-    IfOk-weaker c.listed.result _ _
-    (λ names same. set_list names c.add_pulled.new.set.keys _ same c.listed.ensures.sorted (λ unit.
+    IfOk-weaker c.into_names.result _ _
+    (λ names same. set_list names c.add_pulled.new.set _ same c.into_names.ensures.sorted (λ unit.
     c.in_ok-add_pulled.ensures unit
-    ∙ ap (λ b. b || has (filter (comes_up (situation_of c.args.known) c.args.handled.stops.now.keys c.args.handled.reloads.now.keys c.args.handled.restarts.now.keys) c.args.pulled.now) unit) (c.in_ok-set.ensures unit)))
-    c.listed.ensures.names
+    ∙ ap (λ b. b || has (filter (comes_up (situation_of c.args.known) c.args.handled.stops.now c.args.handled.reloads.now c.args.handled.restarts.now) c.args.pulled.now) unit) (c.in_ok-set.ensures unit)))
+    c.into_names.ensures.names

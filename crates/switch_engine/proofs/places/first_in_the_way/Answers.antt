@@ -1,4 +1,5 @@
-use Rattle.std.proofs.Common.{refl, rules, sym, ◌∙◌}
+use Rattle.std.proofs.Common.{arith, refl, rules, sym, ◌∙◌}
+use Rattle.std.proofs.lemmas.Grind.{common_steps}
 use Rattle.host_trait.specs.Change.{IsSame}
 use Rattle.host_trait.proofs.Moments.{started, told_before}
 use Rattle.switch_engine.specs.Places.{is_in_the_way}
@@ -22,6 +23,9 @@ returns-in_err-copy-clause-moments g c = same_on c.loop-place.invariant.way c.is
 
 pub returns-then-branch-clause-moments : goal.returns-then-branch-clause-moments
 returns-then-branch-clause-moments g c = same_on c.loop-place.invariant.way c.is_in_the_way.ensures.moments
+
+pub returns-then-branch-clause-first : goal.returns-then-branch-clause-first
+returns-then-branch-clause-first g c = grind (arith, common_steps)
 
 pub loop-place-preserved : goal.loop-place-preserved
 loop-place-preserved g c =

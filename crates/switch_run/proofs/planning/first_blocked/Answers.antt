@@ -1,4 +1,5 @@
-use Rattle.std.proofs.Common.{refl, rules, sym, ◌∙◌}
+use Rattle.std.proofs.Common.{arith, refl, rules, sym, ◌∙◌}
+use Rattle.std.proofs.lemmas.Grind.{common_steps}
 use Rattle.host_trait.specs.Change.{IsSame}
 use Rattle.host_trait.proofs.Moments.{same_then, started, told_before}
 use Rattle.tree_put.specs.Put.{is_blocked}
@@ -24,6 +25,9 @@ returns-in_err-copy-clause-moments g c =
 pub returns-then-branch-clause-moments : goal.returns-then-branch-clause-moments
 returns-then-branch-clause-moments g c =
     same_then c.loop-place.invariant.way c.is_blocked.ensures.moments IsSame (λ w is. refl) (λ w m is same. same)
+
+pub returns-then-branch-clause-first : goal.returns-then-branch-clause-first
+returns-then-branch-clause-first g c = grind (arith, common_steps)
 
 pub loop-place-preserved : goal.loop-place-preserved
 loop-place-preserved g c =

@@ -1,8 +1,9 @@
-use Rattle.std.proofs.Common.{◌≡◌, Err, ap, ◌∙◌}
+use Rattle.std.proofs.Common.{Err, ap, ◌∙◌}
 use Rattle.switch_engine.specs.declared.plan_fault.PlanFault.TheVariants as plan_fault
+use Rattle.switch_run.proofs.OutputLemmas.{same_refusal}
 use Rattle.switch_run.proofs.reporting.plan_units.Goals as goal
 
 pub returns-in-Err-Refused-clause-refused : goal.returns-in-Err-Refused-clause-refused
 returns-in-Err-Refused-clause-refused g c why e =
-    let same : c.in-Err-Refused.why ≡ why = cc in
+    let same = same_refusal c.in-Err-Refused.why why e in
     c.in-Err-Refused.ensures.refused why (ap (λ f. Err f) (c.in-Err-Refused.field-0-is ∙ ap plan_fault.Refused same))

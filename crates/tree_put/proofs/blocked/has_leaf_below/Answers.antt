@@ -1,4 +1,4 @@
-use Rattle.std.proofs.Common.{◌≡◌, List, ℕ, ap, ◌∙◌}
+use Rattle.std.proofs.Common.{◌≡◌, List, ℕ, ap, ◌∙◌, rules}
 use Rattle.std.specs.FinMap.{keys}
 use Rattle.std.specs.List.{list_any}
 use Rattle.switch_names.specs.Path.{is_below}
@@ -11,3 +11,6 @@ returns-clause-below g c =
     told_as c.in_ok-paths.ensures.paths (λ w. c.any_below.result ≡ list_any {X = List ℕ} (λ q. is_below q c.args.at.now) (keys w.leaves))
     (λ w is listed. c.any_below.ensures ∙ ap (list_any {X = List ℕ} (λ q. is_below q c.args.at.now)) (c.as_slice.ensures ∙ listed)
     ∙ listed_below c.args.at.now c.requires (keys w.leaves))
+
+pub returns-clause-cause : goal.returns-clause-cause
+returns-clause-cause g c = search rules

@@ -4,9 +4,9 @@ use Rattle.host_trait.proofs.Moments.{same_then, told_before}
 use Rattle.tree_put.proofs.BlockedLemmas.{blocked_below, blocked_above}
 use Rattle.tree_put.proofs.blocked.is_blocked.Goals as goal
 
-pub returns-then-branch-clause-blocked : goal.returns-then-branch-clause-blocked
-returns-then-branch-clause-blocked g c = record {
-  has = λ w is. blocked_below w.leaves c.args.at.now (sym (c.in_ok-has_leaf_below.ensures.below.has w is) ∙ c.if-branch.true);
+pub returns-then-below-clause-blocked : goal.returns-then-below-clause-blocked
+returns-then-below-clause-blocked g c = record {
+  has = λ w is. c.if-below.true ∙ blocked_below w.leaves c.args.at.now (sym (c.in_ok-below.ensures.below.has w is) ∙ c.if-below.true);
 }
 
 pub returns-in_err-above-clause-moments : goal.returns-in_err-above-clause-moments
@@ -18,7 +18,7 @@ returns-clause-blocked g c =
     let above = told_before c.has_leaf_below.ensures.moments c.in_ok-above.ensures.above in
     record {
       has = λ w is.
-          above.has w is ∙ blocked_above w.leaves c.args.at.now (sym (c.in_ok-has_leaf_below.ensures.below.has w is) ∙ c.if-branch.false);
+          above.has w is ∙ blocked_above w.leaves c.args.at.now (sym (c.in_ok-below.ensures.below.has w is) ∙ c.if-below.false);
     }
 
 pub returns-clause-moments : goal.returns-clause-moments

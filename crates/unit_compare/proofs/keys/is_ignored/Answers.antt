@@ -1,8 +1,5 @@
 use Rattle.std.proofs.Common.{rules}
 use Rattle.unit_compare.proofs.keys.is_ignored.Goals as goal
 
-pub returns-then-eq : goal.returns-then-eq
-returns-then-eq c = search rules
-
-pub returns-else-eq-2 : goal.returns-else-eq-2
-returns-else-eq-2 c = search rules
+pub returns-in_default : goal.returns-in_default
+returns-in_default c = search rules

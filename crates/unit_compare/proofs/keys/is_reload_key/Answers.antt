@@ -4,8 +4,5 @@ use Rattle.unit_compare.proofs.keys.is_reload_key.Goals as goal
 pub returns-then-is_named : goal.returns-then-is_named
 returns-then-is_named c = search rules
 
-pub returns-then-is_mount : goal.returns-then-is_mount
-returns-then-is_mount c = search rules
-
-pub returns-else-is_mount : goal.returns-else-is_mount
-returns-else-is_mount c = search rules
+pub returns-else-is_named : goal.returns-else-is_named
+returns-else-is_named c = search rules

@@ -1,6 +1,7 @@
-use Rattle.std.proofs.Common.{◌++◌, ap, ◌∙◌, filter, rules, tests}
+use Rattle.std.proofs.Common.{◌++◌, ap, ◌∙◌, filter, rules, tests, arith}
 use Rattle.std.proofs.lemmas.Iterator.Consumers.{YieldsList-at, YieldsList-end}
 use Rattle.std.proofs.lemmas.Iterator.Splits.{YieldsList-from_slice_split}
+use Rattle.std.proofs.lemmas.Grind.{common_steps}
 use Rattle.unit_text.specs.Lines.{is_blank}
 use Rattle.unit_decide.specs.Sockets.{is_socket_name}
 use Rattle.unit_decide.proofs.pairing.add_sockets.Goals as goal
@@ -13,3 +14,6 @@ returns c =
     (YieldsList-from_slice_split _ is_blank c.args.value.now (cc) (cc) split.closure (λ x b q k. search (rules, tests))))
     c.loop-word.yielded _ c.loop-word.yielded_by _ _ c.in-None.is c.next.ensures.steps in
     c.loop-word.invariant ∙ ap (λ xs. c.args.sockets.now ++ filter is_socket_name xs) end.0
+
+pub loop-word-preserved : goal.loop-word-preserved
+loop-word-preserved c = grind (arith, common_steps)

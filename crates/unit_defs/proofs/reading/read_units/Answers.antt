@@ -4,9 +4,9 @@ use Rattle.unit_defs.proofs.UnitLemmas.{sorted_units, units_all}
 use Rattle.unit_defs.proofs.reading.read_units.Goals as goal
 
 pub returns-clause-sorted : goal.returns-clause-sorted
-returns-clause-sorted g c = sorted_units c.in_ok-found.found c.in_ok-units.units.items _ c.in_ok-units.ensures.units c.units_of.ensures.ordered
+returns-clause-sorted g c = sorted_units c.in_ok-found.found c.in_ok-units.units _ c.in_ok-units.ensures.units c.units_of.ensures.ordered
 
 pub returns-clause-units : goal.returns-clause-units
 returns-clause-units g c =
-    told_as c.in_ok-found.ensures.found (λ w. AreUnitsOf w.leaves c.args.system.now c.in_ok-units.units.items)
-    (λ w is found. units_all w.leaves c.args.system.now c.in_ok-found.found found c.in_ok-units.units.items c.in_ok-units.ensures.units)
+    told_as c.in_ok-found.ensures.found (λ w. AreUnitsOf w.leaves c.args.system.now c.in_ok-units.units)
+    (λ w is found. units_all w.leaves c.args.system.now c.in_ok-found.found found c.in_ok-units.units c.in_ok-units.ensures.units)

@@ -6,5 +6,5 @@ use Rattle.unit_defs.proofs.wanting.add_name.Goals as goal
 
 pub returns-in_ok-insert : goal.returns-in_ok-insert
 returns-in_ok-insert c = λ unit.
-    has_added c.args.set.now.keys c.insert.new.self.keys c.args.name unit (can_be_wanted (own_in c.args.units.now) c.args.name)
-    (sym c.can_be_wanted.ensures ∙ c.if-can_be_wanted.true) (c.in_ok-insert.ensures.updates.0 unit)
+    has_added c.args.set.now c.args.name unit _ (can_be_wanted (own_in c.args.units.now) c.args.name)
+    (sym c.can_be_wanted.ensures ∙ c.if-can_be_wanted.true) (c.in_ok-insert.ensures.added unit)

@@ -4,4 +4,4 @@ use Rattle.unit_defs.proofs.wanting.add_names.Given as goal
 
 -- the set has what it had, and what can be wanted of the names so far
 abbrev pub invariant-loop-name : goal.invariant-loop-name
-invariant-loop-name l = AddsWanted l.units (take l.name-index l.names) l.fn.set.keys l.set.keys
+invariant-loop-name l = AddsWanted l.units (take l.name-index l.names) l.fn.set l.set

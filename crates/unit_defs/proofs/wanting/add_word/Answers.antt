@@ -5,7 +5,7 @@ use Rattle.unit_defs.proofs.wanting.add_word.Goals as goal
 
 pub returns-in-Some : goal.returns-in-Some
 returns-in-Some c =
-    subst (λ (name : List ℕ). OnOk c.add_name.result (AddsName c.args.units.now name c.args.set.now.keys c.add_name.new.set.keys))
+    subst (λ (name : List ℕ). OnOk c.add_name.result (AddsName c.args.units.now name c.args.set.now c.add_name.new.set))
     (named_same c.args.word.now c.in-Some.name (sym c.in-Some.is ∙ c.in_ok-name.ensures)) c.add_name.ensures
 
 pub returns-in-None : goal.returns-in-None

@@ -5,4 +5,4 @@ use Rattle.unit_defs.proofs.wanting.add_words.Given as goal
 
 -- the set has what it had, and what can be wanted of the words so far
 abbrev pub invariant-loop-part : goal.invariant-loop-part
-invariant-loop-part l = AddsWanted l.units (flat_map (slice_split (λ byte. byte == 9)) (map (λ part. part.now) (take l.part-index l.part-items))) l.fn.set.keys l.set.keys
+invariant-loop-part l = AddsWanted l.units (flat_map (slice_split (λ byte. byte == 9)) (map (λ part. part.now) (take l.part-index l.part-items))) l.fn.set l.set

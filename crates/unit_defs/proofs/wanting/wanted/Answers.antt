@@ -7,6 +7,6 @@ use Rattle.unit_defs.proofs.OrderLemmas.{wanted_made}
 use Rattle.unit_defs.proofs.wanting.wanted.Goals as goal
 
 pub returns : goal.returns
-returns c = IfOk-weaker c.listed.result _ _ (λ names is. is ∙
-    wanted_made (can_be_wanted (own_in c.args.units.now)) c.args.names.now (words_in (option_copied c.args.text)) c.new-set.result.keys c.add_names.new.set.keys c.add_text.new.set.keys
-    c.new-set.ensures.empty c.listed.ensures.sorted c.in_ok-add_names.ensures c.in_ok-add_text.ensures) c.listed.ensures.names
+returns c = IfOk-weaker c.into_names.result _ _ (λ names is. is ∙
+    wanted_made (can_be_wanted (own_in c.args.units.now)) c.args.names.now (words_in (option_copied c.args.text)) c.new-set.result c.add_names.new.set c.add_text.new.set
+    c.new-set.ensures c.into_names.ensures.sorted c.in_ok-add_names.ensures c.in_ok-add_text.ensures) c.into_names.ensures.names

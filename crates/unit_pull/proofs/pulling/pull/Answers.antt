@@ -7,14 +7,14 @@ use Rattle.unit_pull.proofs.pulling.pull.Goals as goal
 
 pub loop-unit-init : goal.loop-unit-init
 loop-unit-init c = (
-  search_start (wanted_in c.args.new.now) c.args.roots.now c.as_slice.result.now c.new-reached.result.keys c.new-left.result.items c.reach_all.new.reached.keys
-      c.reach_all.new.left.items c.in_ok-reach_all.ensures.added c.in_ok-reach_all.ensures.pushed c.as_slice.ensures c.new-reached.ensures.empty c.new-left.ensures.items,
+  search_start (wanted_in c.args.new.now) c.args.roots.now c.as_slice.result.now c.new-reached.result c.new-left.result.items c.reach_all.new.reached
+      c.reach_all.new.left.items c.in_ok-reach_all.ensures.added c.in_ok-reach_all.ensures.pushed c.as_slice.ensures c.new-reached.ensures c.new-left.ensures.items,
   c.in_ok-reach_all.ensures.fits,
 )
 
 pub loop-unit-preserved : goal.loop-unit-preserved
 loop-unit-preserved c = (
-  search_turn (wanted_in c.args.new.now) c.args.roots.now c.as_slice-in-Some.result.now c.loop-unit.reached.keys c.pop.new.self.items c.reach_all-in-Some.new.reached.keys
+  search_turn (wanted_in c.args.new.now) c.args.roots.now c.as_slice-in-Some.result.now c.loop-unit.reached c.pop.new.self.items c.reach_all-in-Some.new.reached
       c.reach_all-in-Some.new.left.items c.in_ok-reach_all-2.ensures.added c.in_ok-reach_all-2.ensures.pushed c.in-Some.unit c.loop-unit.left.items c.in-Some.ensures.items
       (c.as_slice-in-Some.ensures ∙ c.wanted-wanted.ensures.wanted) c.loop-unit.invariant.0,
   c.in_ok-reach_all-2.ensures.fits,
@@ -22,7 +22,7 @@ loop-unit-preserved c = (
 
 pub returns : goal.returns
 returns c =
-    IfOk-weaker c.listed.result _ _ (λ pulled are.
-    search_end (wanted_in c.args.new.now) c.args.roots.now pulled c.loop-unit.reached.keys c.loop-unit.left.items
-    (nil_from_length c.loop-unit.left.items (sym c.loop-unit.left.ok.0 ∙ c.in_default.ensures.cases.0)) are c.listed.ensures.sorted c.loop-unit.invariant.0)
-    c.listed.ensures.names
+    IfOk-weaker c.into_names.result _ _ (λ pulled are.
+    search_end (wanted_in c.args.new.now) c.args.roots.now pulled c.loop-unit.reached c.loop-unit.left.items
+    (nil_from_length c.loop-unit.left.items (sym c.loop-unit.left.ok.0 ∙ c.in_default.ensures.cases.0)) are c.into_names.ensures.sorted c.loop-unit.invariant.0)
+    c.into_names.ensures.names

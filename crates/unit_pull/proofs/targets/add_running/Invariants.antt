@@ -9,4 +9,4 @@ use Rattle.unit_pull.proofs.targets.add_running.Given as goal
 -- the set has what it had, and the Active targets that may start of the units so far
 abbrev pub invariant-loop-unit : goal.invariant-loop-unit
 invariant-loop-unit l = (name : Name) →
-    has l.roots.keys name ≡ (has l.fn.roots.keys name || has (units_of (filter (is_running_target (found_in l.new)) (take l.unit-index l.units))) name)
+    has l.roots name ≡ (has l.fn.roots name || has (units_of (filter (is_running_target (found_in l.new)) (take l.unit-index l.units))) name)

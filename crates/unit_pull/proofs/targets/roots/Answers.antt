@@ -9,9 +9,9 @@ use Rattle.unit_pull.proofs.targets.roots.Goals as goal
 
 pub returns : goal.returns
 returns c =
-    IfOk-weaker c.listed.result _ _ (λ roots are.
-    are_roots (found_in c.args.new.now) c.args.states.now c.args.starts.now roots c.new-roots.result.keys c.add_running.new.roots.keys c.add_pending.new.roots.keys c.as_slice.result.now
-    (c.as_slice.ensures ∙ c.list.ensures.list) c.new-roots.ensures.empty c.in_ok-add_running.ensures
-    (λ unit. c.in_ok-add_pending.ensures unit ∙ ap (λ (names : List Name). has c.add_running.new.roots.keys unit || has (filter (is_defined_target (found_in c.args.new.now)) names) unit) c.as_slice-2.ensures)
-    c.listed.ensures.sorted are)
-    c.listed.ensures.names
+    IfOk-weaker c.into_names.result _ _ (λ roots are.
+    are_roots (found_in c.args.new.now) c.args.states.now c.args.starts.now roots c.new-roots.result c.add_running.new.roots c.add_pending.new.roots c.as_slice.result.now
+    (c.as_slice.ensures ∙ c.list.ensures.list) c.new-roots.ensures c.in_ok-add_running.ensures
+    (λ unit. c.in_ok-add_pending.ensures unit ∙ ap (λ (names : List Name). has c.add_running.new.roots unit || has (filter (is_defined_target (found_in c.args.new.now)) names) unit) c.as_slice-2.ensures)
+    c.into_names.ensures.sorted are)
+    c.into_names.ensures.names

@@ -1,6 +1,7 @@
-use Rattle.std.proofs.Common.{not, lit<, None, rules}
+use Rattle.std.proofs.Common.{not, lit<, None, rules, arith}
 use Rattle.std.proofs.lemmas.Bool.{and_left, and_right}
 use Rattle.std.proofs.lemmas.Str.Pattern.{split_once_first}
+use Rattle.std.proofs.lemmas.Grind.{common_steps}
 use Rattle.unit_text.specs.Statement.{begins_section, is_equals}
 use Rattle.unit_text.proofs.EndLemmas.{none_passes}
 use Rattle.unit_text.proofs.statement.key_and_value.Goals as goal
@@ -11,3 +12,6 @@ returns-in-None c =
 
 pub returns-then-is_empty : goal.returns-then-is_empty
 returns-then-is_empty c = search rules
+
+pub returns-else-is_empty : goal.returns-else-is_empty
+returns-else-is_empty c = grind (arith, common_steps)

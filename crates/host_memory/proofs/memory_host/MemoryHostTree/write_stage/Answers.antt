@@ -1,5 +1,5 @@
-use Rattle.std.proofs.Common.{sym}
-use Rattle.host_memory.proofs.Hosts.{stands_in, stood, becomes, refused_cause, cut_cause}
+use Rattle.std.proofs.Common.{refl, sym}
+use Rattle.host_memory.proofs.Hosts.{stands_in, stood, becomes, refused_cause, cut_cause, cut_does, within_fallen, admitted_does, one_at_most, within_admitted}
 use Rattle.host_memory.proofs.memory_host.MemoryHostTree.write_stage.Goals as goal
 use Rattle.host_trait.specs.Change.{Stage, finished}
 
@@ -33,3 +33,28 @@ pub returns-in_ok-cut_stage-in-Some-clause-cause : goal.returns-in_ok-cut_stage-
 returns-in_ok-cut_stage-in-Some-clause-cause c =
     cut_cause c.args.self.now.history c.cut_stage.new.history c.args.self.now.troubles c.admit.new.self c.fall.new.self c.in-Some.cut c.clock.result _
     c.in_ok-admit.ensures.new (sym c.in-Some.ensures) c.fall.ensures.new c.fall.ensures.later
+
+pub returns-in_ok-cut_stage-in-Some-clause-does : goal.returns-in_ok-cut_stage-in-Some-clause-does
+returns-in_ok-cut_stage-in-Some-clause-does c =
+    cut_does _ _ (Stage c.args.leaf.now) c.admit.new.self c.in-Some.cut c.clock.result _ c.in_ok-admit.ensures.answer c.in_ok-admit.ensures.new (sym c.in-Some.ensures)
+    c.clock.ensures c.in_ok-cut_stage-in-Some.ensures.world c.fall.ensures.new c.fall.ensures.fault
+
+pub invariant_of-self-in-Some : goal.invariant_of-self-in-Some
+invariant_of-self-in-Some c = record {
+  within =
+      within_fallen c.args.self.now.troubles c.admit.new.self c.fall.new.self c.in-Some.cut c.clock.result _ _ c.args.self.now.within c.clock.ensures
+      c.in_ok-admit.ensures.new (sym c.in-Some.ensures) c.fall.ensures.new c.cut_stage.ensures.later c.cut_stage.ensures.clock;
+}
+
+pub returns-in_ok-stage-in-None-clause-does : goal.returns-in_ok-stage-in-None-clause-does
+returns-in_ok-stage-in-None-clause-does c =
+    admitted_does _ _ (Stage c.args.leaf.now) c.admit.new.self c.clock.result c.in_ok-admit.ensures.answer c.in_ok-admit.ensures.new (sym c.in-None.ensures)
+    c.clock.ensures c.in_ok-stage-in-None.ensures.world c.in_ok-stage-in-None.ensures.clock refl
+
+pub invariant_of-self-in-None : goal.invariant_of-self-in-None
+invariant_of-self-in-None c = record {
+  within =
+      within_admitted c.args.self.now.troubles c.admit.new.self c.clock.result _ _ c.args.self.now.within c.clock.ensures
+      c.in_ok-admit.ensures.answer c.in_ok-admit.ensures.new (sym c.in-None.ensures)
+      (one_at_most c.args.self.now.history c.stage.new.self _ c.stage.ensures.clock c.stage.ensures.err);
+}

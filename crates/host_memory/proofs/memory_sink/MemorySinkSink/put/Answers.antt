@@ -1,4 +1,5 @@
-use Rattle.std.proofs.Common.{◌≡◌, ℕ, List, ◌++◌, take, drop, Some, None, sym, ap, ◌∙◌, rules}
+use Rattle.std.proofs.Common.{◌≡◌, ℕ, List, ◌++◌, take, drop, Some, None, sym, ap, ◌∙◌, rules, arith}
+use Rattle.std.proofs.lemmas.Grind.{common_steps}
 use Rattle.std.proofs.lemmas.List.{take-append-drop}
 use Rattle.host_memory.specs.MemorySink.{MemorySinkState}
 use Rattle.host_memory.proofs.memory_sink.MemorySinkSink.put.Goals as goal
@@ -21,3 +22,14 @@ returns-then-fits-bytes-clause-prefix c =
 
 pub returns-clause-fails : goal.returns-clause-fails
 returns-clause-fails c = search rules
+
+pub returns-clause-prefix : goal.returns-clause-prefix
+returns-clause-prefix c =
+    part_put _ _ c.self.inside.put.items _ c.min-fits.result
+    (ap (λ (s : MemorySinkState). Some s.bytes) (sym c.self.view_is)) (ap (λ (s : MemorySinkState). Some s.bytes) c.append.ensures)
+
+pub returns-clause-put : goal.returns-clause-put
+returns-clause-put c = grind (arith, common_steps)
+
+pub returns-clause-ok : goal.returns-clause-ok
+returns-clause-ok c = grind (arith, common_steps)

@@ -1,4 +1,6 @@
-use Rattle.std.proofs.Common.{◌≡◌, ◌-◌, length, take, Some, subst}
+use Rattle.std.proofs.Common.{◌≡◌, ◌-◌, ◌∙◌, length, take, Some, subst, sym, nat_eq}
+use Rattle.std.specs.List.{ends_with}
+use Rattle.std.proofs.lemmas.Bool.{true≢false}
 use Rattle.switch_names.specs.UnitKind.{ending_of, kind_of}
 use Rattle.switch_names.proofs.Endings.{ends-from_kind}
 use Rattle.switch_names.proofs.UnitNames.{stem_parts}
@@ -8,7 +10,9 @@ use Rattle.switch_names.proofs.unit_name.UnitName.stem.Goals as goal
 pub returns-in-None : goal.returns-in-None
 returns-in-None c =
     let ends = ends-from_kind c.self.inside.text c.self.inside.kind c.self.invariant.1 in
-    absurd (cc (ends, c.in-None.ensures))
+    let lent : ends_with nat_eq c.as_str-text.result.now c.ending.result.now ≡ ends_with nat_eq c.self.inside.text (ending_of c.self.inside.kind) =
+    λ i. ends_with nat_eq (c.as_str-text.ensures i) (c.ending.ensures i) in
+    absurd (true≢false (sym ends ∙ sym lent ∙ c.in-None.ensures))
 
 pub returns-in-Some : goal.returns-in-Some
 returns-in-Some c =

@@ -1,5 +1,6 @@
-use Rattle.std.proofs.Common.{◌≡◌, ◌<◌, ◌==◌, ◌∷◌, ◌++◌, false, length, Some, subst, sym, ap, ◌∙◌}
+use Rattle.std.proofs.Common.{◌≡◌, ◌<◌, ◌==◌, ◌∷◌, ◌++◌, false, length, Some, subst, sym, ap, ◌∙◌, arith}
 use Rattle.std.specs.List.{position_or_len, before_first, after_first}
+use Rattle.std.proofs.lemmas.Grind.{common_steps}
 use Rattle.switch_names.specs.UnitKind.{ending_of, kind_of}
 use Rattle.switch_names.specs.UnitName.{IsUnitName, is_at_sign, stem_of}
 use Rattle.switch_names.proofs.UnitNames.{template_is_name, template_of-parts}
@@ -29,3 +30,6 @@ returns c =
     let more : (length instance == 0) ≡ false = sym c.is_empty.ensures ∙ c.if-is_empty.false in
     let made : before ++ 64 ∷ ending_of kind ≡ c.in_ok-template_text.field-0 = ap (λ e. before ++ 64 ∷ e) (sym c.ending.ensures) ∙ sym c.in_ok-template_text.ensures in
     ap Some (sym made) ∙ template_of-parts name before instance kind of cut after more
+
+pub returns-in_default : goal.returns-in_default
+returns-in_default c = grind (arith, common_steps)

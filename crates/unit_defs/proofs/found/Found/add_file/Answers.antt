@@ -5,5 +5,5 @@ use Rattle.unit_defs.proofs.found.Found.add_file.Goals as goal
 
 pub returns : goal.returns
 returns c = on_ok_weaker c.put.result (λ others.
-    takes_file c.args.self.now c.take-drop_ins.new.self c.put.new.self c.args.unit (record { file = Some c.args.part; drop_ins = c.take-drop_ins.result.drop_ins; wants = c.take-drop_ins.result.wants })
-    c.take-drop_ins.ensures.others others c.args.part refl c.take-drop_ins.ensures.drop_in c.take-drop_ins.ensures.wants) c.put.ensures
+    takes_file c.args.self.now c.take-files.new.self c.put.new.self c.args.unit (record { file = Some c.args.part; drop_ins = c.take-files.result.drop_ins; wants = c.take-files.result.wants })
+    c.take-files.ensures.others others c.args.part refl c.take-files.ensures.drop_in c.take-files.ensures.wants) c.put.ensures

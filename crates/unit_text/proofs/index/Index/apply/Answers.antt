@@ -22,6 +22,12 @@ returns-in-Ok-clause-ok c text is =
     drops text c.args.assignment.now c.args.self.now c.remove.new.self is c.in-Ok.at (within _ _ _ found) found
     (ap (λ t. length t == 0) (sym c.as_str.ensures) ∙ sym c.if-is_empty.ensures) c.remove.ensures.keys c.remove.ensures.values
 
+pub remove-requires-clause-key : goal.remove-requires-clause-key
+remove-requires-clause-key c = within _ _ _ c.in-Ok.ensures.found
+
+pub remove-requires-clause-values : goal.remove-requires-clause-values
+remove-requires-clause-values c = subst (λ (n : ℕ). c.in-Ok.at < n) (sym c.requires.as_many) (within _ _ _ c.in-Ok.ensures.found)
+
 pub add_value-requires : goal.add_value-requires
 add_value-requires c = subst (λ (n : ℕ). c.in-Ok.at < n) (sym c.requires.as_many) (within _ _ _ c.in-Ok.ensures.found)
 
