@@ -4,6 +4,7 @@ use Rattle.std.proofs.Math.Seq.{drop-cons}
 use Rattle.std.proofs.lemmas.Bool.{both_ways, cases_Bool}
 use Rattle.std.specs.List.{find}
 use Rattle.std.specs.Option.{option_or, option_to_list}
+use Rattle.std.proofs.lemmas.Option.{none-some}
 use Rattle.switch_names.specs.SystemName.{system_fault, system_path}
 use Rattle.host_trait.specs.World.{Leaves, WorldState, content_of, is_in_line, stage}
 use Rattle.host_trait.proofs.Sound.{in_line_either, not_in_line}
@@ -111,14 +112,11 @@ further_of leaves gens system n is given = either (number_after leaves system) (
     either k true e = (let same : k ≡ n = cc in sym same, refl)
     either k false e = absurd (cc)
 
-some_none : {X : Type 0} (x : X) → ◌≡◌ {A = Option X} (Some x) None → ⊥
-some_none x e = cc
-
 pub full_of : (leaves : Leaves) (gens : Gens) (system : List ℕ) → IsGensOf leaves gens → number_for_in gens.list system ≡ None → nat_lt (number_after leaves system) (2 ^ 32) ≡ false
 full_of leaves gens system is given = either (nat_lt (number_after leaves system) (2 ^ 32)) (sym (number_for_world leaves gens system is) ∙ given)
   where
     either : (b : Bool) → cond b (Some (number_after leaves system)) None ≡ None → b ≡ false
-    either true e = absurd (some_none (number_after leaves system) e)
+    either true e = absurd (none-some (number_after leaves system) (sym e))
     either false e = refl
 
 -- the refusal of a set, case by case

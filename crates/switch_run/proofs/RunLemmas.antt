@@ -1,6 +1,7 @@
 -- From a command's run to that of the words which give it.
 use Rattle.std.proofs.Common.{◌≡◌, ℕ, Bool, true, false, cond, nat_eq, codes, List, [], ◌∷◌, Option, None, Some, is_none, option_and_then, refl, ap, subst, ◌∙◌, inl, inr, arith}
 use Rattle.std.specs.Cmp.Lexicographic.{pointwise}
+use Rattle.std.proofs.lemmas.Option.{none-some, same_Some}
 use Rattle.switch_names.specs.SystemName.{NamesSystem, system_fault, system_path}
 use Rattle.switch_names.proofs.StorePaths.{IsSystemPath-from_named, NamesSystem-with_slash}
 use Rattle.host_trait.specs.Host.{HasCauseOf, HostState, Leads, Told}
@@ -25,19 +26,13 @@ none_some o x none some = cc
 one_of : {X : Type 0} (o : Option X) (x y : X) → o ≡ Some x → o ≡ Some y → x ≡ y
 one_of o x y first second = cc
 
-no_some : {X : Type 0} (x : X) → ◌≡◌ {A = Option X} None (Some x) → ⊥
-no_some x e = cc
-
-some_same : {X : Type 0} (x y : X) → Some x ≡ Some y → x ≡ y
-some_same x y e = cc
-
 -- the system that words name has the name of one
 named_by : (word s : List ℕ) → system_of word ≡ Some s → NamesSystem s s
 named_by word s is = either (system_fault word) refl is
   where
     either : (f : Option Rattle.switch_names.specs.declared.name_fault.NameFault.NameFault) → system_fault word ≡ f → cond (is_none f) (Some (system_path word)) None ≡ Some s → NamesSystem s s
-    either None fault some = subst (λ p. NamesSystem p p) (some_same (system_path word) s some) (IsSystemPath-from_named word fault)
-    either (Some f) fault some = absurd (no_some s some)
+    either None fault some = subst (λ p. NamesSystem p p) (same_Some (system_path word) s some) (IsSystemPath-from_named word fault)
+    either (Some f) fault some = absurd (none-some s some)
 
 -- the word `boot` gives the boot of the system alone, and no other word does
 boot_system : (verb t s : List ℕ) → command_for verb t ≡ Some (Boot s) → t ≡ s
@@ -53,7 +48,7 @@ boot_names : (verb word s : List ℕ) → option_and_then (command_for verb) (sy
 boot_names verb word s is = either (system_of word) refl is
   where
     either : (o : Option (List ℕ)) → system_of word ≡ o → option_and_then (command_for verb) o ≡ Some (Boot s) → NamesSystem s s
-    either None named some = absurd (no_some (Boot s) some)
+    either None named some = absurd (none-some (Boot s) some)
     either (Some t) named some = named_by word s (named ∙ ap Some (boot_system verb t s some))
 
 command_names : (words : List (List ℕ)) (s : List ℕ) → command_of words ≡ Some (Boot s) → NamesSystem s s
