@@ -7,3 +7,4 @@ pub mod Seen
 pub mod Sound
 pub mod StateLists
 pub mod StoreTexts
+pub mod UnitSets

@@ -8,9 +8,9 @@ ghost use Rattle.owed_lists.specs.Lists.{AreListsOf, IsListOf, is_unit, names_in
 ghost use Rattle.switch_names.specs.Names.{has};
 
 use crate::lists::{Lists, Which, list_path};
-use host_trait::{HostFault, Tree, content};
+use host_trait::{HostFault, Tree, UnitSet, content};
 use std::alloc::{AllocError, Global};
-use switch_names::{Bytes, Listed, NameFault, UnitName, UnitSet};
+use switch_names::{Bytes, Listed, NameFault, UnitName};
 
 /// The unit that a line names.
 fn read_name(alloc: Global, line: &[u8]) -> Result<Option<UnitName>, AllocError>

@@ -8,8 +8,9 @@ ghost use Rattle.switch_names.specs.Names.{has, is_name};
 
 use crate::deciding::UnitDecision;
 use crate::known::Known;
+use host_trait::UnitSet;
 use std::alloc::{AllocError, Global};
-use switch_names::{UnitName, UnitSet};
+use switch_names::UnitName;
 use unit_decide::Decision;
 
 /// Whether a unit is stopped, whether or not it is started then.

@@ -9,9 +9,9 @@ ghost use Rattle.unit_decide.specs.Facts.{unit_kind};
 ghost use Rattle.unit_decide.specs.Kinds.{is_kind};
 
 use crate::owed::Owed;
-use host_trait::{Act, States};
+use host_trait::{Act, States, UnitSet};
 use std::alloc::{AllocError, Global};
-use switch_names::{Listed, UnitName, UnitSet};
+use switch_names::{Listed, UnitName};
 use unit_decide::is_socket;
 
 /// A call on a unit.

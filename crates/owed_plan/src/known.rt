@@ -4,9 +4,9 @@ ghost use Rattle.host_trait.specs.Manager.{is_active};
 ghost use Rattle.owed_plan.specs.Collected.{is_socketed};
 ghost use Rattle.owed_plan.specs.Decisions.{is_live_socket, situation_of};
 
-use host_trait::States;
+use host_trait::{States, UnitSet};
 use std::alloc::{AllocError, Global};
-use switch_names::{Listed, UnitName, UnitSet};
+use switch_names::{Listed, UnitName};
 use unit_decide::{Facts, is_service, sockets};
 use unit_defs::Defs;
 

@@ -15,10 +15,10 @@ use crate::collecting::{add_defined, add_if, left, reloads, restarts, starts, st
 use crate::deciding::{UnitDecision, decide_units};
 use crate::known::Known;
 use crate::owed::Owed;
-use host_trait::States;
+use host_trait::{States, UnitSet};
 use owed_lists::Lists;
 use std::alloc::{AllocError, Global};
-use switch_names::{Listed, UnitName, UnitSet};
+use switch_names::{Listed, UnitName};
 use unit_defs::Defs;
 
 /// The units that are stopped, reloaded and restarted.

@@ -1,18 +1,8 @@
--- Names and sets of them.
-use Rattle.std.proofs.Common.{◌≡◌, ◌||◌, Bool, true, false, cond, List, refl, ap, ◌∙◌}
+-- Names in either order.
+use Rattle.std.proofs.Common.{◌≡◌}
 use Rattle.std.specs.Cmp.{eq_by_cmp_equiv}
 use Rattle.std.specs.Cmp.Lexicographic.{nat_list_cmp_total}
-use Rattle.switch_names.specs.Names.{Name, has, is_name}
+use Rattle.switch_names.specs.Names.{Name, is_name}
 
 pub name_turned : (a b : Name) → is_name a b ≡ is_name b a
 name_turned a b = (eq_by_cmp_equiv nat_list_cmp_total).symm a b
-
--- a name is added
-pub has_added : (old new : List Name) (unit name : Name) → has new name ≡ cond (is_name unit name) true (has old name) → has new name ≡ (has old name || is_name name unit)
-has_added old new unit name added = added ∙ ap (λ b. cond b true (has old name)) (name_turned unit name) ∙ either (is_name name unit) (has old name)
-  where
-    either : (b h : Bool) → cond b true h ≡ (h || b)
-    either true true = refl
-    either true false = refl
-    either false true = refl
-    either false false = refl

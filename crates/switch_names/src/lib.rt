@@ -1,4 +1,4 @@
-//! Texts, lists, sets of units, and the names of paths, units and systems that every other crate
+//! Texts, lists, and the names of paths, units and systems that every other crate
 //! speaks of.
 #![tactic(auto)]
 
@@ -10,7 +10,6 @@ mod system_name;
 mod text;
 mod unit_kind;
 mod unit_name;
-mod unit_set;
 
 pub use bytes::Bytes;
 pub use listed::Listed;
@@ -20,4 +19,3 @@ pub use system_name::SystemName;
 pub use text::Text;
 pub use unit_kind::UnitKind;
 pub use unit_name::UnitName;
-pub use unit_set::UnitSet;

@@ -9,8 +9,9 @@ ghost use Rattle.unit_defs.specs.Units.{can_be_wanted, wanted, words_in, words_o
 use crate::place::named;
 use crate::search::{find_template, find_unit};
 use crate::unit::{Unit, Wants};
+use host_trait::UnitSet;
 use std::alloc::{AllocError, Global};
-use switch_names::{Listed, Text, UnitName, UnitSet};
+use switch_names::{Listed, Text, UnitName};
 use unit_text::UnitText;
 
 /// The text that a unit has of its own.

@@ -4,8 +4,9 @@ ghost use Rattle.switch_names.specs.Names.{IsListOf, Name, has, is_name};
 ghost use Rattle.unit_defs.specs.Defs.{wanted_in};
 ghost use Rattle.unit_defs.specs.Pull.{Reached};
 
+use host_trait::UnitSet;
 use std::alloc::{AllocError, Global};
-use switch_names::{Listed, UnitName, UnitSet};
+use switch_names::{Listed, UnitName};
 use unit_defs::Defs;
 
 /// Adds a unit to those that are reached, and where it is new also to those that are left to walk.

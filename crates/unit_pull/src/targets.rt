@@ -5,9 +5,9 @@ ghost use Rattle.switch_names.specs.Names.{IsListOf, Name, has};
 ghost use Rattle.unit_defs.specs.Defs.{found_in};
 ghost use Rattle.unit_pull.specs.Roots.{IsRoot, is_defined_target, is_running_target, may_run};
 
-use host_trait::{States, UnitState};
+use host_trait::{States, UnitSet, UnitState};
 use std::alloc::{AllocError, Global};
-use switch_names::{Listed, UnitName, UnitSet};
+use switch_names::{Listed, UnitName};
 use unit_decide::{is_target, may_start};
 use unit_defs::Defs;
 

@@ -1,5 +1,5 @@
 use Rattle.std.proofs.Common.{◌≡◌, ◌++◌}
-use Rattle.switch_names.proofs.unit_set.listed.Given as goal
+use Rattle.host_trait.proofs.unit_set.listed.Given as goal
 
 -- the names so far and those that are left are all
 abbrev pub invariant-loop-name : goal.invariant-loop-name

@@ -5,11 +5,10 @@ ghost use Rattle.std.specs.List.Sorted.{IsStrictlySortedBy};
 ghost use Rattle.std.specs.Ordering.{nat_cmp};
 ghost use Rattle.switch_names.specs.Names.{Name, has, is_name};
 
-use crate::listed::Listed;
-use crate::unit_name::UnitName;
 use std::alloc::{AllocError, Global};
 use std::collections::BTreeSet;
 use std::marker::Model;
+use switch_names::{Listed, UnitName};
 
 /// Names of units in byte order, each once.
 pub struct UnitSet {

@@ -1,7 +1,7 @@
 use Rattle.std.proofs.Common.{◌||◌, List, ap, ◌∙◌}
 use Rattle.switch_names.specs.Names.{Name, has, is_name}
-use Rattle.switch_names.proofs.Names.{has_added}
-use Rattle.switch_names.proofs.unit_set.UnitSet.insert.Goals as goal
+use Rattle.host_trait.proofs.UnitSets.{has_added}
+use Rattle.host_trait.proofs.unit_set.UnitSet.insert.Goals as goal
 
 pub returns-clause-added : goal.returns-clause-added
 returns-clause-added c = λ name.
