@@ -1,5 +1,4 @@
-//! Texts, lists, and the names of paths, units and systems that every other crate
-//! speaks of.
+//! Texts, lists, and the names of paths, units and systems that every other crate speaks of.
 #![tactic(auto)]
 
 mod bytes;
