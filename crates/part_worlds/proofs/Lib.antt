@@ -1,0 +1,3 @@
+pub mod EmptyLemmas
+pub mod FallenLemmas
+pub mod NoUnitLemmas
