@@ -39,13 +39,10 @@ fn push_change(
 }
 
 /// Appends the same of the unit that a field names and two define.
-pub fn push_changed(
-    alloc: Global,
-    out: &mut String,
-    unit: &Bytes,
-    (old, new): (&Bytes, &Bytes),
-    live: &[Bytes],
-) -> Result<(), Fail> {
+pub fn push_changed(alloc: Global, out: &mut String, given: &[Bytes]) -> Result<(), Fail> {
+    let [unit, old, new, live @ ..] = given else {
+        return misread();
+    };
     let unit = UnitName::parse(alloc, text_of(unit)?)?;
     let old = parsed(alloc, old)?;
     let new = parsed(alloc, new)?;

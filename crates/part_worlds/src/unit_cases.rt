@@ -57,20 +57,21 @@ pub fn push_of_case(
     command: &str,
     given: &[Bytes],
 ) -> Result<(), Fail> {
-    match (command, given) {
-        ("values", [file]) => push_file_values(alloc, out, file.as_slice()),
-        ("merge", [first, later]) => push_merged(alloc, out, first.as_slice(), later.as_slice()),
-        ("start", [file]) => push_of_file(alloc, out, file.as_slice(), command, ""),
-        ("flags" | "sockets" | "assign", [file, asked]) => {
-            push_of_file(alloc, out, file.as_slice(), command, text_of(asked)?)
-        }
-        ("compare" | "decide", [unit, old, new, live @ ..]) => {
-            push_changed(alloc, out, unit, (old, new), live)
-        }
-        ("lists" | "record" | "owed" | "report", _) => {
-            push_on_systems(alloc, out, command, 0, given)
-        }
-        ("calls", _) => push_on_systems(alloc, out, command, 5, given),
+    match command {
+        "values" | "start" | "merge" | "flags" | "sockets" | "assign" => match given {
+            [file] if command == "values" => push_file_values(alloc, out, file.as_slice()),
+            [file] if command == "start" => push_of_file(alloc, out, file.as_slice(), command, ""),
+            [first, later] if command == "merge" => {
+                push_merged(alloc, out, first.as_slice(), later.as_slice())
+            }
+            [file, asked] if command != "start" => {
+                push_of_file(alloc, out, file.as_slice(), command, text_of(asked)?)
+            }
+            _ => misread(),
+        },
+        "compare" | "decide" => push_changed(alloc, out, given),
+        "lists" | "record" | "owed" | "report" => push_on_systems(alloc, out, command, 0, given),
+        "calls" => push_on_systems(alloc, out, command, 5, given),
         _ => push_on_systems(alloc, out, command, 1, given),
     }
 }
