@@ -1,11 +1,11 @@
 -- A text by its first and its last byte.
 use Rattle.std.proofs.Common.{◌≡◌, ◌≢◌, ℕ, ◌+◌, ◌-◌, ◌<◌, Bool, true, false, eqb, cond, not, ◌&&◌, ◌||◌, List, [], ◌∷◌, ◌++◌, length, get_or, take, drop, refl, sym, ap, ◌∙◌, suc, arith, Option, None, Some, MatchOption}
 use Rattle.std.specs.Borrow.{Bor}
-use Rattle.std.specs.List.{list_any, position_or_len}
-use Rattle.std.proofs.lemmas.Bool.{ne_eqb, eq-eqb}
+use Rattle.std.specs.List.{before_first, list_any, position_or_len}
+use Rattle.std.proofs.lemmas.Bool.{and_right, ne_eqb, eq-eqb}
 use Rattle.std.proofs.lemmas.List.{take_more, take_all, take_at, get_or_push, length_push}
 use Rattle.unit_text.specs.Lines.{IsSplitAtBackslash}
-use Rattle.unit_text.specs.Statement.{begins_section, ends_section, between_ends}
+use Rattle.unit_text.specs.Statement.{begins_section, ends_section, between_ends, is_assignment, is_empty, is_equals, key_part, trimmed}
 
 last_split : (text : List ℕ) → 0 < length text → text ≡ take (length text - 1) text ++ get_or text (length text - 1) 0 ∷ []
 last_split text some =
@@ -70,3 +70,36 @@ none_passes p (x ∷ xs) e = by (p x) refl (none_passes p xs)
     by : (b : Bool) → p x ≡ b → (position_or_len p xs ≡ length xs → list_any p xs ≡ false) → p x || list_any p xs ≡ false
     by true t rest = absurd (omega (arith, sym e ∙ ap (λ b. cond (not b) (1 + position_or_len p xs) 0) t))
     by false f rest = ap (λ b. b || list_any p xs) f ∙ rest (omega (arith, sym (ap (λ b. cond (not b) (1 + position_or_len p xs) 0) f) ∙ e))
+
+-- one passes where the first place that passes is before the end
+pub one_passes : {X : Type 0} (p : X → Bool) (xs : List X) → position_or_len p xs < length xs → list_any p xs ≡ true
+one_passes p [] lt = absurd (omega arith)
+one_passes p (x ∷ xs) lt = by (p x) refl (one_passes p xs)
+  where
+    by : (b : Bool) → p x ≡ b → (position_or_len p xs < length xs → list_any p xs ≡ true) → p x || list_any p xs ≡ true
+    by true t rest = ap (λ b. b || list_any p xs) t
+    by false f rest = ap (λ b. b || list_any p xs) f ∙ rest (omega (arith, ap (λ b. cond (not b) (1 + position_or_len p xs) 0) f))
+
+-- the key before the first `=` is empty
+pub no_key : (text before key : List ℕ) → before ≡ before_first is_equals text → key ≡ trimmed before → true ≡ is_empty key → is_assignment text ≡ false
+no_key text before key front is none =
+    and_right (not (begins_section text) && list_any is_equals text) _ (ap not (ap (λ k. is_empty (trimmed k)) (sym front) ∙ ap is_empty (sym is) ∙ sym none))
+
+-- the key before the first `=` isn't empty
+pub some_key : (text before key : List ℕ) → begins_section text ≡ false → position_or_len is_equals text < length text → before ≡ before_first is_equals text → key ≡ trimmed before → false ≡ is_empty key
+    → is_assignment text ≡ true
+some_key text before key other within front is some =
+    let passes = one_passes is_equals text within in
+    let named : is_empty (key_part text) ≡ false = ap (λ k. is_empty (trimmed k)) (sym front) ∙ ap is_empty (sym is) ∙ sym some in
+    λ i. not (other i) && passes i && not (named i)
+
+either_first : (a b c d : Bool) → ((a || b) || (c || d)) ≡ ((a || c) || (b || d))
+either_first true b c d = refl
+either_first false true true d = refl
+either_first false true false d = refl
+either_first false false c d = refl
+
+-- where one of two tests passes, one passes by the first or by the second
+pub any_either : {X : Type 0} (p q : X → Bool) (xs : List X) → list_any (λ x. p x || q x) xs ≡ (list_any p xs || list_any q xs)
+any_either p q [] = refl
+any_either p q (x ∷ xs) = ap (λ rest. (p x || q x) || rest) (any_either p q xs) ∙ either_first (p x) (q x) (list_any p xs) (list_any q xs)

@@ -3,9 +3,9 @@ use Rattle.std.proofs.Common.{◌≡◌, ℕ, ◌+◌, ◌<◌, Bool, true, fals
 use Rattle.std.specs.List.{insert, remove, slice_get}
 use Rattle.std.specs.List.Sorted.{IsStrictlySortedBy, IsStableBy}
 use Rattle.std.proofs.lemmas.Bool.{not-false, eqb-true, ne_eqb}
-use Rattle.std.proofs.lemmas.List.{map-append, length-append, length-take, length-take-le, length-drop, length-map, length_push, get_or_at, set_at, take-append-drop, take_at, drop_at, drop-drop, take-map, drop-map, nil_from_length, drop_more}
+use Rattle.std.proofs.lemmas.List.{map-append, length-append, length-take, length-take-le, length-drop, length-map, length_push, get_or-map, get_or_at, set_at, take-append-drop, take_at, drop_at, drop-drop, take-map, drop-map, nil_from_length, drop_more}
 use Rattle.std.proofs.lemmas.List.Folds.{list_any-append}
-use Rattle.std.proofs.lemmas.Option.{get_or_from_slice_get}
+use Rattle.std.proofs.lemmas.Option.{get_or_from_slice_get, slice_get_within}
 use Rattle.unit_text.specs.declared.assignment.Assignment.{Assignment}
 use Rattle.unit_text.specs.declared.index.Index.{Index}
 use Rattle.unit_text.specs.declared.unit_key.UnitKey.{UnitKey}
@@ -57,6 +57,13 @@ lacks_parts keys key at place =
 pub missing_values : (text : List Assignment) (keys : List UnitKey) (key : UnitKey) (at : ℕ) → AreKeysOf text keys → IsPlaceFor keys key at → values_of text key ≡ []
 missing_values text keys key at are place =
     nil_from_length _ (eqb-true _ 0 (not-false _ (sym (are.exact key) ∙ other_lacks keys key (lacks_parts keys key at place))))
+
+-- the values that stand at the place of a key
+pub found_values : (text : List Assignment) (keys : List UnitKey) (all : List (List (List ℕ))) (at : ℕ) (key : UnitKey) (values : List (List ℕ))
+    → all ≡ map (values_of text) keys → slice_get keys at ≡ Some key → values ≡ get_or all at values → values ≡ values_of text key
+found_values text keys all at key values are found read =
+    read ∙ ap (λ (vs : List (List (List ℕ))). get_or vs at values) are
+    ∙ get_or-map (values_of text) keys at key values (slice_get_within keys at key found) ∙ ap (values_of text) (get_or_from_slice_get keys at key key found)
 
 module _ (text : List Assignment) (one : Assignment) where
   abbrev more : List Assignment

@@ -1,5 +1,5 @@
 -- What one more line leaves to be read.
-use Rattle.std.proofs.Common.{◌≡◌, ℕ, ◌+◌, ◌<◌, ◌≤◌, Bool, true, false, cond, List, [], ◌∷◌, ◌++◌, refl, sym, ap, ◌∙◌, subst, append_assoc, arith, Option, None, Some, IfSome, unwrap_or}
+use Rattle.std.proofs.Common.{◌≡◌, ℕ, ◌+◌, ◌<◌, ◌≤◌, Bool, true, false, cond, List, [], ◌∷◌, ◌++◌, refl, sym, ap, ◌∙◌, subst, append_assoc, append-nil, arith, Option, None, Some, IfSome, unwrap_or}
 use Rattle.std.specs.Option.{option_or, option_map}
 use Rattle.std.specs.Str.{IsUtf8, is_utf8}
 use Rattle.std.proofs.lemmas.Bool.{lt-leb, le-leb}
@@ -11,7 +11,7 @@ use Rattle.unit_text.specs.Lines.{Joined, is_comment, is_continued, with_space, 
 use Rattle.unit_text.specs.Statement.{trimmed, section_after, statement_fault, assigned}
 use Rattle.unit_text.specs.TextFault.{is_reached, utf8_fault, joined_fault, first_fault}
 use Rattle.unit_text.specs.UnitText.{assignments_in}
-use Rattle.unit_text.specs.Reader.{with_part, fault_left, ended, Completes, Holds, Marks, ReadsOn}
+use Rattle.unit_text.specs.Reader.{joined_part, with_part, fault_left, assignments_left, ended, Completes, Holds, Marks, ReadsOn}
 
 abbrev IsBelow : Option ℕ → ℕ → Type 0
 IsBelow bad number = IfSome bad (λ line. line < number)
@@ -124,6 +124,11 @@ at_most : (bad : Option ℕ) (number : ℕ) → IsBelow bad number → unwrap_or
 at_most None number h = omega arith
 at_most (Some line) number h = omega arith
 
+-- a joined line that is a statement has no fault
+sound_is : (old : Reader) (whole : Joined) → is_reached old.bad whole.last ≡ false → statement_fault old.body.section whole.first (trimmed whole.text) ≡ None
+    → joined_fault old.body.section old.bad whole ≡ None
+sound_is old whole r s = ap (λ b. cond b (option_map utf8_fault old.bad) (statement_fault old.body.section whole.first (trimmed whole.text))) r ∙ s
+
 -- ---- one more line
 
 module _ (old new : Reader) (number : ℕ) (line : List ℕ) (before : IsBelow old.bad number) where
@@ -183,9 +188,6 @@ module _ (old new : Reader) (number : ℕ) (line : List ℕ) (before : IsBelow o
       ∙ ap (λ fault. option_or fault (first_fault (section_after old.body.section (trimmed whole.text)) (option_or old.bad (first_bad (number + 1) rest)) (joined (number + 1) rest)))
       (same_fault old.body.section old.bad whole (number + 1) rest (let at = last_is old.part number line in omega arith))
 
-  sound_is : (whole : Joined) → is_reached old.bad whole.last ≡ false → statement_fault old.body.section whole.first (trimmed whole.text) ≡ None → joined_fault old.body.section old.bad whole ≡ None
-  sound_is whole r s = ap (λ b. cond b (option_map utf8_fault old.bad) (statement_fault old.body.section whole.first (trimmed whole.text))) r ∙ s
-
   pub reads_ended : is_utf8 line ≡ true → is_comment line ≡ false → is_continued line ≡ false
       → Completes old new (ended old.part number line) → new.part ≡ None → ReadsOn old new number line
   reads_ended u c k h p =
@@ -193,7 +195,7 @@ module _ (old new : Reader) (number : ℕ) (line : List ℕ) (before : IsBelow o
       record {
         fault = λ rest.
             (λ i. first_fault (h.body.section i) (option_or (h.bad i) (first_bad (number + 1) rest)) (with_part (p i) (joined (number + 1) rest)))
-            ∙ sym (left_is rest u c k ∙ ap (λ fault. option_or fault (first_fault (section_after old.body.section (trimmed whole.text)) (option_or old.bad (first_bad (number + 1) rest)) (joined (number + 1) rest))) (sound_is whole h.unreached h.body.sound));
+            ∙ sym (left_is rest u c k ∙ ap (λ fault. option_or fault (first_fault (section_after old.body.section (trimmed whole.text)) (option_or old.bad (first_bad (number + 1) rest)) (joined (number + 1) rest))) (sound_is old whole h.unreached h.body.sound));
         assignments = λ rest.
             (λ i. h.body.assignments i ++ assignments_in (h.body.section i) (with_part (p i) (joined (number + 1) rest)))
             ∙ append_assoc old.body.assignments.items (assigned old.body.section (trimmed whole.text)) (assignments_in (section_after old.body.section (trimmed whole.text)) (joined (number + 1) rest))
@@ -206,3 +208,46 @@ module _ (old new : Reader) (number : ℕ) (line : List ℕ) (before : IsBelow o
   refuses_ended rest fault u c k e =
       left_is rest u c k
       ∙ ap (λ f. option_or f (first_fault (section_after old.body.section (trimmed (ended old.part number line).text)) (option_or old.bad (first_bad (number + 1) rest)) (joined (number + 1) rest))) e
+
+-- ---- the end of a joined line, and of the file
+
+-- the part that was kept is none of what a joined line is taken by
+pub completes_as : (old : Reader) (part : Option Part) (new : Reader) {line whole : Joined} → line ≡ whole
+    → Completes (record { bad = old.bad; part = part; body = old.body }) new line → Completes old new whole
+completes_as old part new same done = subst (Completes old new) same (record { unreached = done.unreached; body = done.body; bad = done.bad })
+
+or_none : (bad : Option ℕ) → option_or bad None ≡ bad
+or_none None = refl
+or_none (Some number) = refl
+
+-- a part at the end of the file is a joined line
+pub refuses_end : (reader : Reader) (part : Part) (fault : TextFault) → reader.part ≡ Some part
+    → joined_fault reader.body.section reader.bad (joined_part part) ≡ Some fault → fault_left reader 1 [] ≡ Some fault
+refuses_end reader part fault kept is =
+    (λ i. first_fault reader.body.section (or_none reader.bad i) (with_part (kept i) []))
+    ∙ ap (λ f. option_or f (first_fault (section_after reader.body.section (trimmed (joined_part part).text)) reader.bad [])) is
+
+-- what a reader has once no line is left
+pub record Finishes (old new : Reader) : Type 0 where
+  pub fault : fault_left old 1 [] ≡ option_map utf8_fault new.bad
+  pub all : new.body.assignments.items ≡ assignments_left old 1 []
+
+pub finishes_part : (old new : Reader) (part : Part) → old.part ≡ Some part → Completes old new (joined_part part) → Finishes old new
+finishes_part old new part kept done =
+    let whole = joined_part part in
+    record {
+      fault =
+          (λ i. first_fault old.body.section (or_none old.bad i) (with_part (kept i) []))
+          ∙ ap (λ f. option_or f (first_fault (section_after old.body.section (trimmed whole.text)) old.bad [])) (sound_is old whole done.unreached done.body.sound)
+          ∙ ap (option_map utf8_fault) (sym done.bad);
+      all =
+          done.body.assignments
+          ∙ sym ((λ i. old.body.assignments.items ++ assignments_in old.body.section (with_part (kept i) []))
+          ∙ ap (λ more. old.body.assignments.items ++ more) (append-nil (assigned old.body.section (trimmed whole.text))));
+    }
+
+pub finishes_alone : (old : Reader) → old.part ≡ None → Finishes old (record { bad = old.bad; part = None; body = old.body })
+finishes_alone old none = record {
+  fault = λ i. first_fault old.body.section (or_none old.bad i) (with_part (none i) []);
+  all = sym ((λ i. old.body.assignments.items ++ assignments_in old.body.section (with_part (none i) [])) ∙ append-nil old.body.assignments.items);
+}

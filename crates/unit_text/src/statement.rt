@@ -55,7 +55,7 @@ pub fn begins_section(text: &str) -> bool
 fn has_bracket(name: &[u8]) -> bool
     ensures { result ≡ list_any is_bracket name.now }
 {
-    name.iter().any(|byte| *byte == b'[' || *byte == b']')
+    name.contains(&b'[') || name.contains(&b']')
 }
 
 /// What stands between a bracket at either end.

@@ -1,11 +1,14 @@
-use Rattle.std.proofs.Common.{[], ◌∷◌, ◌++◌, ◌≡◌, ◌<◌, ◌==◌, ℕ, List, length, refl, sym, ap, ◌∙◌, subst, ⊎_elim, OnOk, Result, Ok, Err, Some}
+use Rattle.std.proofs.Common.{[], ◌∷◌, ◌++◌, ◌≡◌, ◌<◌, ◌==◌, ℕ, List, ◌≤◌, length, map, refl, sym, ap, ◌∙◌, subst, ⊎_elim, OnErr, OnOk, Result, Ok, Err, Some}
 use Rattle.std.specs.List.{insert, slice_get, slice_index_or, slice_set}
 use Rattle.std.proofs.lemmas.Bool.{cases_lt}
 use Rattle.std.proofs.lemmas.Option.{slice_get_past, none-some}
-use Rattle.std.proofs.lemmas.Result.{on_ok_weaker}
+use Rattle.std.proofs.lemmas.Result.{on_err_weaker, on_ok_weaker}
+use Rattle.unit_text.specs.declared.assignment.Assignment.{Assignment}
+use Rattle.unit_text.specs.declared.index.Index.{Index}
 use Rattle.unit_text.specs.declared.unit_key.UnitKey.{UnitKey}
 use Rattle.unit_text.specs.UnitKey.{key_of}
-use Rattle.unit_text.specs.Index.{IsPlaceFor}
+use Rattle.unit_text.specs.Index.{IsIndexOf, IsPlaceFor}
+use Rattle.unit_text.specs.UnitText.{AreKeysOf, values_of}
 use Rattle.unit_text.proofs.IndexLemmas.{drops, adds, skips, inserts}
 use Rattle.unit_text.proofs.index.Index.apply.Goals as goal
 
@@ -15,6 +18,16 @@ within xs at x e = ⊎_elim (λ h. h) (λ h. absurd (none-some x (sym (slice_get
 both : {T E P Q R : Type 0} (r : Result T E) → (P → Q → R) → OnOk r P → OnOk r Q → OnOk r R
 both (Ok x) f p q = f p q
 both (Err e) f p q = tt
+
+both_err : {T E P Q R : Type 0} (r : Result T E) → (P → Q → R) → OnErr r P → OnErr r Q → OnErr r R
+both_err (Ok x) f p q = tt
+both_err (Err e) f p q = f p q
+
+unchanged : {old new : Index} (text : List Assignment) → IsIndexOf text old → new.keys ≡ old.keys → new.values.items ≡ old.values.items → IsIndexOf text new
+unchanged text is keys values = record {
+  keys = subst (AreKeysOf text) (sym keys) is.keys;
+  values = values ∙ is.values ∙ ap (map (values_of text)) (sym keys);
+}
 
 pub returns-in-Ok-clause-ok : goal.returns-in-Ok-clause-ok
 returns-in-Ok-clause-ok c text is =
@@ -56,3 +69,16 @@ returns-in_ok-copy-in-Err-2-2-clause-ok c text is =
     (inserts text c.args.assignment.now c.args.self.now c.insert.new.self is c.in-Err.field-0 place
     (ap (λ t. length t == 0) (sym c.as_str.ensures) ∙ sym c.if-is_empty-2.ensures))
     keys values
+
+-- a value that isn't added changes nothing
+pub returns-in_ok-copy-in-Ok-2-clause-err : goal.returns-in_ok-copy-in-Ok-2-clause-err
+returns-in_ok-copy-in-Ok-2-clause-err c text is = on_err_weaker c.add_value.result (unchanged text is c.add_value.ensures.keys) c.add_value.ensures.same_values
+
+pub returns-in_ok-copy-in-Err-2-2-clause-err : goal.returns-in_ok-copy-in-Err-2-2-clause-err
+returns-in_ok-copy-in-Err-2-2-clause-err c text is = both_err c.insert.result (unchanged text is) c.insert.ensures.same_keys c.insert.ensures.same_values
+
+pub insert-requires-clause-key : goal.insert-requires-clause-key
+insert-requires-clause-key c = c.in-Err.ensures.missing.within
+
+pub insert-requires-clause-values : goal.insert-requires-clause-values
+insert-requires-clause-values c = subst (λ (n : ℕ). c.in-Err.field-0 ≤ n) (sym c.requires.as_many) c.in-Err.ensures.missing.within

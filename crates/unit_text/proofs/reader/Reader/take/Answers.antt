@@ -1,4 +1,5 @@
 use Rattle.std.proofs.Common.{rules, ℕ, List, inl, inr, ⊎_elim, OnOk, Result, Ok, Err, Some, sym, ap, ◌∙◌, subst}
+use Rattle.std.proofs.lemmas.Option.{none-some}
 use Rattle.std.proofs.lemmas.Result.{on_ok_weaker, IfErr-weaker}
 use Rattle.std.proofs.lemmas.Str.{is_utf8-from_IsUtf8}
 use Rattle.unit_text.specs.Lines.{is_continued, with_space}
@@ -65,4 +66,7 @@ returns-in-None-clause-fault c rest =
     c.end.ensures.fault
 
 pub returns-then-is_comment-clause-fault : goal.returns-then-is_comment-clause-fault
-returns-then-is_comment-clause-fault c = search rules
+returns-then-is_comment-clause-fault c rest = tt
+
+pub returns-in-Some-clause-fault : goal.returns-in-Some-clause-fault
+returns-in-Some-clause-fault c rest = IfErr-weaker c.hold.result _ _ (λ fault h. ⊎_elim inl (λ none. absurd (none-some fault none)) h) c.hold.ensures.fault
