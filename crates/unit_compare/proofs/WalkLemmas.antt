@@ -1,14 +1,19 @@
 -- Two texts side by side: the keys that are left decide the rest.
-use Rattle.std.proofs.Common.{◌≡◌, ℕ, ◌+◌, ◌<◌, Bool, true, false, not, cond, ◌&&◌, ◌||◌, List, [], ◌∷◌, ◌++◌, length, get_or, drop, map, refl, sym, ap, ◌∙◌, subst, ⊎_elim, None, Some, Option}
+use Rattle.std.proofs.Common.{◌≡◌, ℕ, ◌+◌, ◌<◌, Bool, true, false, not, cond, ◌&&◌, ◌||◌, List, [], ◌∷◌, ◌++◌, length, get_or, drop, map, refl, sym, ap, ◌∙◌, subst, ⊎_elim, ◌-◌, ◌≤◌, arith, None, Some, Option}
+use Rattle.std.specs.Borrow.{Bor}
+use Rattle.std.specs.Int.{from_bool}
 use Rattle.std.specs.List.{AllByRecursion, slice_get}
+use Rattle.std.specs.Option.{option_copied}
+use Rattle.std.specs.Slice.{IsItemAt}
+use Rattle.std.specs.declared.cmp.Ordering.{Ordering}
 use Rattle.std.specs.List.Sorted.{IsStrictlySortedBy}
 use Rattle.std.specs.declared.cmp.Ordering.TheVariants.{Less, Equal, Greater}
-use Rattle.std.specs.Ordering.{ordering_reverse}
+use Rattle.std.specs.Ordering.{is_ge, is_le, ordering_reverse}
 use Rattle.std.proofs.lemmas.Bool.{not-false, eqb-true, and_parts, true≢false}
 use Rattle.std.proofs.Math.ListN.{drop_of_length-le}
 use Rattle.std.proofs.lemmas.List.{nil_from_length, drop_more, get_or-map, length-map}
 use Rattle.std.proofs.lemmas.List.Folds.{list_any-append}
-use Rattle.std.proofs.lemmas.Option.{slice_get_cases, slice_get_within, slice_get_read, get_or_from_slice_get}
+use Rattle.std.proofs.lemmas.Option.{slice_get_cases, slice_get_past, slice_get_within, slice_get_read, get_or_from_slice_get}
 use Rattle.switch_names.specs.declared.unit_kind.UnitKind.{UnitKind}
 use Rattle.unit_text.specs.declared.assignment.Assignment.{Assignment}
 use Rattle.unit_text.specs.declared.unit_key.UnitKey.{UnitKey}
@@ -353,3 +358,40 @@ at_start kind old new of_old of_new old_are new_are = record {
         → (others : List UnitKey) → AllByRecursion (λ key. has_key keys key ≡ has_value text key) others
     each keys text exact [] = tt
     each keys text exact (key ∷ others) = (exact key, each keys text exact others)
+
+-- what `get` of a slice lends
+pub item_at : (keys : List UnitKey) (at : ℕ) (lent : Option (Bor UnitKey)) → IsItemAt keys at lent → slice_get keys at ≡ option_copied lent
+item_at keys at None is = slice_get_past keys at is.3
+item_at keys at (Some key) is = slice_get_read keys (length keys) at key.now refl is.3.0 is.1
+
+-- ---- the next places
+
+-- the text whose key is next hasn't ended
+abbrev pub IsHere : Ordering → ℕ → ℕ → ℕ → ℕ → Type 0
+IsHere Less old_at old_length new_at new_length = old_at < old_length
+IsHere Equal old_at old_length new_at new_length = (old_at < old_length) × (new_at < new_length)
+IsHere Greater old_at old_length new_at new_length = new_at < new_length
+
+pub is_here : (of_old of_new : List UnitKey) (at other : ℕ) (order : Ordering) → next_order (slice_get of_old at) (slice_get of_new other) ≡ Some order
+    → IsHere order at (length of_old) other (length of_new)
+is_here of_old of_new at other Less e = less_here of_old at _ e
+is_here of_old of_new at other Equal e = equal_here of_old of_new at other e
+is_here of_old of_new at other Greater e = greater_here of_new other _ e
+
+module _ (old_length new_length old_at new_at old_step new_step : ℕ) (of_old : old_at ≤ old_length) (of_new : new_at ≤ new_length) where
+  -- no place is past its text
+  pub places : (order : Ordering) → old_step ≡ from_bool (is_le order) → new_step ≡ from_bool (is_ge order) → IsHere order old_at old_length new_at new_length
+      → (old_at + old_step ≤ old_length) × (new_at + new_step ≤ new_length)
+  places Less old_by new_by here = (omega arith, omega arith)
+  places Equal old_by new_by here = let this = here.0 in let that = here.1 in (omega arith, omega arith)
+  places Greater old_by new_by here = (omega arith, omega arith)
+
+  -- one of the texts has a key less
+  pub fewer : (order : Ordering) → old_step ≡ from_bool (is_le order) → new_step ≡ from_bool (is_ge order) → IsHere order old_at old_length new_at new_length
+      → (old_length - (old_at + old_step)) + (new_length - (new_at + new_step)) < (old_length - old_at) + (new_length - new_at)
+  fewer Less old_by new_by here = omega arith
+  fewer Equal old_by new_by here = let this = here.0 in let that = here.1 in omega arith
+  fewer Greater old_by new_by here = omega arith
+
+pub stays : (at step : ℕ) → step ≡ 0 → at + step ≡ at
+stays at step none = omega arith

@@ -13,21 +13,21 @@ use unit_text::UnitKey;
 fn is_ignored_name(key: &str) -> bool
     ensures { result ≡ is_ignored_name key.now }
 {
-    matches!(
-        key,
-        "Description"
-            | "Documentation"
-            | "OnFailure"
-            | "OnSuccess"
-            | "OnFailureJobMode"
-            | "IgnoreOnIsolate"
-            | "StopWhenUnneeded"
-            | "RefuseManualStart"
-            | "RefuseManualStop"
-            | "AllowIsolate"
-            | "CollectMode"
-            | "SourcePath"
-    )
+    [
+        "Description",
+        "Documentation",
+        "OnFailure",
+        "OnSuccess",
+        "OnFailureJobMode",
+        "IgnoreOnIsolate",
+        "StopWhenUnneeded",
+        "RefuseManualStart",
+        "RefuseManualStop",
+        "AllowIsolate",
+        "CollectMode",
+        "SourcePath",
+    ]
+    .contains(&key)
 }
 
 /// Whether a key says nothing of a running unit.

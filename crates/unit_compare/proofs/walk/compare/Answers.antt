@@ -1,12 +1,13 @@
-use Rattle.std.proofs.Common.{◌≡◌, ◌↔◌, ◌+◌, ◌∙◌, [], ap, sym, subst, arith, Some}
+use Rattle.std.proofs.Common.{◌≡◌, ◌↔◌, ◌+◌, ◌∙◌, [], length, ap, sym, subst, arith, Some}
 use Rattle.std.specs.Ordering.{is_le, is_ge}
 use Rattle.std.specs.Int.{from_bool}
+use Rattle.std.proofs.lemmas.Grind.{common_steps}
 use Rattle.unit_compare.specs.declared.comparison.Comparison.{Comparison}
 use Rattle.unit_compare.specs.declared.comparison.Comparison.TheVariants.{Same, ReloadOnly, Changed}
 use Rattle.unit_compare.specs.Compare.{AreSame, AreReloadOnly, AreChanged, comparison}
 use Rattle.unit_compare.specs.Walk.{key_comparison, worse}
 use Rattle.unit_compare.proofs.Differing.{comparison_made, same_exact, reload_exact, changed_exact}
-use Rattle.unit_compare.proofs.WalkLemmas.{at_start, at_end, walked, less_turn, equal_turn, greater_turn, moved, lent, less_here, equal_here, greater_here, valued_here}
+use Rattle.unit_compare.proofs.WalkLemmas.{at_start, at_end, walked, less_turn, equal_turn, greater_turn, moved, lent, less_here, equal_here, greater_here, valued_here, places, fewer, is_here, stays}
 use Rattle.unit_compare.proofs.walk.compare.Goals as goal
 use Rattle.unit_compare.proofs.walk.compare.Goals.{in-Less, in-Equal, in-Greater}
 
@@ -86,24 +87,9 @@ pub loop-order-smaller : goal.loop-order-smaller
 loop-order-smaller c =
     let old_keys = c.as_slice-old_keys.result.now in
     let new_keys = c.as_slice-new_keys.result.now in
-    let order = sym c.next_order.ensures ∙ c.in-Some.is in
-    let old_step = c.from-old_at.ensures ∙ ap from_bool c.is_le.ensures in
-    let new_step = c.from-new_at.ensures ∙ ap from_bool c.is_ge.ensures in
-    elim c.match-order.branch [
-      | in-Less w ↦
-          let old_by : c.from-old_at.result ≡ 1 = old_step ∙ ap (λ r. from_bool (is_le r)) w.in-Less.is in
-          let new_by : c.from-new_at.result ≡ 0 = new_step ∙ ap (λ r. from_bool (is_ge r)) w.in-Less.is in
-          omega (arith, less_here old_keys c.loop-order.old_at _ (order ∙ ap Some w.in-Less.is), old_by, new_by)
-      | in-Equal w ↦
-          let old_by : c.from-old_at.result ≡ 1 = old_step ∙ ap (λ r. from_bool (is_le r)) w.in-Equal.is in
-          let new_by : c.from-new_at.result ≡ 1 = new_step ∙ ap (λ r. from_bool (is_ge r)) w.in-Equal.is in
-          let both = equal_here old_keys new_keys c.loop-order.old_at c.loop-order.new_at (order ∙ ap Some w.in-Equal.is) in
-          omega (arith, both.0, both.1, old_by, new_by)
-      | in-Greater w ↦
-          let old_by : c.from-old_at.result ≡ 0 = old_step ∙ ap (λ r. from_bool (is_le r)) w.in-Greater.is in
-          let new_by : c.from-new_at.result ≡ 1 = new_step ∙ ap (λ r. from_bool (is_ge r)) w.in-Greater.is in
-          omega (arith, greater_here new_keys c.loop-order.new_at _ (order ∙ ap Some w.in-Greater.is), old_by, new_by)
-    ]
+    fewer (length old_keys) (length new_keys) c.loop-order.old_at c.loop-order.new_at c.from-old_at.result c.from-new_at.result c.loop-order.invariant.of_old c.loop-order.invariant.of_new
+    c.in-Some.order (c.from-old_at.ensures ∙ ap from_bool c.is_le.ensures) (c.from-new_at.ensures ∙ ap from_bool c.is_ge.ensures)
+    (is_here old_keys new_keys c.loop-order.old_at c.loop-order.new_at c.in-Some.order (sym c.next_order.ensures ∙ c.in-Some.is))
 
 pub loop-order-preserved : goal.loop-order-preserved
 loop-order-preserved c =
@@ -120,46 +106,45 @@ loop-order-preserved c =
     let old_at = c.loop-order.old_at in
     let new_at = c.loop-order.new_at in
     let walk = c.loop-order.invariant.walk in
-    let of_old = c.loop-order.invariant.of_old in
-    let of_new = c.loop-order.invariant.of_new in
     let order = sym c.next_order.ensures ∙ c.in-Some.is in
     let old_step = c.from-old_at.ensures ∙ ap from_bool c.is_le.ensures in
     let new_step = c.from-new_at.ensures ∙ ap from_bool c.is_ge.ensures in
-    elim c.match-order.branch [
-      | in-Less w ↦
-          let turn = less_turn kind old new outcome _ old_keys new_keys old_values new_values old_at new_at walk old_keyed new_keyed (order ∙ ap Some w.in-Less.is)
-          w.index-old_keys-old_at.result w.index-old_keys-old_at.is w.index-old_values-old_at.result w.index-old_values-old_at.is in
-          let one = joined c ∙ ap (worse outcome) (w.one-is ∙ w.compare_values-one.ensures ∙ ap (λ vs. key_comparison kind w.index-old_keys-old_at.result vs []) w.as_slice.ensures) in
-          let old_by : c.from-old_at.result ≡ 1 = old_step ∙ ap (λ r. from_bool (is_le r)) w.in-Less.is in
-          let new_by : c.from-new_at.result ≡ 0 = new_step ∙ ap (λ r. from_bool (is_ge r)) w.in-Less.is in
-          record {
-            of_old = omega (arith, turn.0, old_by);
-            of_new = omega (arith, of_new, new_by);
-            walk = moved kind old new _ old_keys new_keys _ _ (old_at + 1) _ new_at _ one (ap (λ n. old_at + n) old_by) (omega (arith, new_by)) turn.1;
-          }
-      | in-Equal w ↦
-          let turn = equal_turn kind old new outcome _ old_keys new_keys old_values new_values old_at new_at walk old_keyed new_keyed (order ∙ ap Some w.in-Equal.is)
-          w.index-old_keys-old_at-in-Equal.result w.index-old_keys-old_at-in-Equal.is w.index-old_values-old_at-in-Equal.result w.index-new_values-new_at.result
-          w.index-old_values-old_at-in-Equal.is w.index-new_values-new_at.is in
-          let one = joined c ∙ ap (worse outcome) (w.one-is ∙ w.compare_values-one-in-Equal.ensures
-          ∙ (λ k. key_comparison kind w.index-old_keys-old_at-in-Equal.result (w.as_slice-in-Equal.ensures k) (w.as_slice-in-Equal-2.ensures k))) in
-          let old_by : c.from-old_at.result ≡ 1 = old_step ∙ ap (λ r. from_bool (is_le r)) w.in-Equal.is in
-          let new_by : c.from-new_at.result ≡ 1 = new_step ∙ ap (λ r. from_bool (is_ge r)) w.in-Equal.is in
-          record {
-            of_old = omega (arith, turn.0, old_by);
-            of_new = omega (arith, turn.1, new_by);
-            walk = moved kind old new _ old_keys new_keys _ _ (old_at + 1) _ (new_at + 1) _ one (ap (λ n. old_at + n) old_by) (ap (λ n. new_at + n) new_by) turn.2;
-          }
-      | in-Greater w ↦
-          let turn = greater_turn kind old new outcome _ old_keys new_keys old_values new_values old_at new_at walk old_keyed new_keyed (order ∙ ap Some w.in-Greater.is)
-          w.index-new_keys-new_at.result w.index-new_keys-new_at.is w.index-new_values-new_at-in-Greater.result w.index-new_values-new_at-in-Greater.is in
-          let one = joined c ∙ ap (worse outcome) (w.one-is ∙ w.compare_values-one-in-Greater.ensures
-          ∙ ap (λ vs. key_comparison kind w.index-new_keys-new_at.result [] vs) w.as_slice-in-Greater.ensures) in
-          let old_by : c.from-old_at.result ≡ 0 = old_step ∙ ap (λ r. from_bool (is_le r)) w.in-Greater.is in
-          let new_by : c.from-new_at.result ≡ 1 = new_step ∙ ap (λ r. from_bool (is_ge r)) w.in-Greater.is in
-          record {
-            of_old = omega (arith, of_old, old_by);
-            of_new = omega (arith, turn.0, new_by);
-            walk = moved kind old new _ old_keys new_keys _ _ old_at _ (new_at + 1) _ one (omega (arith, old_by)) (ap (λ n. new_at + n) new_by) turn.1;
-          }
-    ]
+    let kept = places (length old_keys) (length new_keys) old_at new_at c.from-old_at.result c.from-new_at.result c.loop-order.invariant.of_old c.loop-order.invariant.of_new
+    c.in-Some.order old_step new_step (is_here old_keys new_keys old_at new_at c.in-Some.order order) in
+    record {
+      of_old = kept.0;
+      of_new = kept.1;
+      walk =
+          elim c.match-order.branch [
+            | in-Less w ↦
+                let turn = less_turn kind old new outcome _ old_keys new_keys old_values new_values old_at new_at walk old_keyed new_keyed (order ∙ ap Some w.in-Less.is)
+                w.index-old_keys-old_at.result w.index-old_keys-old_at.is w.index-old_values-old_at.result w.index-old_values-old_at.is in
+                let one = joined c ∙ ap (worse outcome) (w.one-is ∙ w.compare_values-one.ensures ∙ ap (λ vs. key_comparison kind w.index-old_keys-old_at.result vs []) w.as_slice.ensures) in
+                let old_by : c.from-old_at.result ≡ 1 = old_step ∙ ap (λ r. from_bool (is_le r)) w.in-Less.is in
+                let new_by : c.from-new_at.result ≡ 0 = new_step ∙ ap (λ r. from_bool (is_ge r)) w.in-Less.is in
+                moved kind old new _ old_keys new_keys _ _ (old_at + 1) _ new_at _ one (ap (λ n. old_at + n) old_by) (stays new_at _ new_by) turn.1
+            | in-Equal w ↦
+                let turn = equal_turn kind old new outcome _ old_keys new_keys old_values new_values old_at new_at walk old_keyed new_keyed (order ∙ ap Some w.in-Equal.is)
+                w.index-old_keys-old_at-in-Equal.result w.index-old_keys-old_at-in-Equal.is w.index-old_values-old_at-in-Equal.result w.index-new_values-new_at.result
+                w.index-old_values-old_at-in-Equal.is w.index-new_values-new_at.is in
+                let one = joined c ∙ ap (worse outcome) (w.one-is ∙ w.compare_values-one-in-Equal.ensures
+                ∙ (λ k. key_comparison kind w.index-old_keys-old_at-in-Equal.result (w.as_slice-in-Equal.ensures k) (w.as_slice-in-Equal-2.ensures k))) in
+                let old_by : c.from-old_at.result ≡ 1 = old_step ∙ ap (λ r. from_bool (is_le r)) w.in-Equal.is in
+                let new_by : c.from-new_at.result ≡ 1 = new_step ∙ ap (λ r. from_bool (is_ge r)) w.in-Equal.is in
+                moved kind old new _ old_keys new_keys _ _ (old_at + 1) _ (new_at + 1) _ one (ap (λ n. old_at + n) old_by) (ap (λ n. new_at + n) new_by) turn.2
+            | in-Greater w ↦
+                let turn = greater_turn kind old new outcome _ old_keys new_keys old_values new_values old_at new_at walk old_keyed new_keyed (order ∙ ap Some w.in-Greater.is)
+                w.index-new_keys-new_at.result w.index-new_keys-new_at.is w.index-new_values-new_at-in-Greater.result w.index-new_values-new_at-in-Greater.is in
+                let one = joined c ∙ ap (worse outcome) (w.one-is ∙ w.compare_values-one-in-Greater.ensures
+                ∙ ap (λ vs. key_comparison kind w.index-new_keys-new_at.result [] vs) w.as_slice-in-Greater.ensures) in
+                let old_by : c.from-old_at.result ≡ 0 = old_step ∙ ap (λ r. from_bool (is_le r)) w.in-Greater.is in
+                let new_by : c.from-new_at.result ≡ 1 = new_step ∙ ap (λ r. from_bool (is_ge r)) w.in-Greater.is in
+                moved kind old new _ old_keys new_keys _ _ old_at _ (new_at + 1) _ one (stays old_at _ old_by) (ap (λ n. new_at + n) new_by) turn.1
+          ];
+    }
+
+pub overflow_add-new_at : goal.overflow_add-new_at
+overflow_add-new_at c = grind (arith, common_steps)
+
+pub overflow_add-old_at : goal.overflow_add-old_at
+overflow_add-old_at c = grind (arith, common_steps)
