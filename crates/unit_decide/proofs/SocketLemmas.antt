@@ -1,5 +1,6 @@
 -- Words that are names of sockets.
-use Rattle.std.proofs.Common.{◌≡◌, ◌<◌, ◌&&◌, ◌==◌, ℕ, Bool, true, false, List, [], ◌∷◌, length, filter, position, nat_lt, Option, None, Some, is_none, option_map, unwrap_or, if◌then◌else◌, refl, sym, ap, ◌∙◌, arith}
+use Rattle.std.proofs.Common.{◌≡◌, ◌<◌, ◌&&◌, ◌==◌, ℕ, Bool, true, false, List, [], ◌∷◌, length, filter, ◌++◌, not, codes, position, nat_lt, Option, None, Some, is_none, option_map, unwrap_or, if◌then◌else◌, refl, sym, ap, ◌∙◌, arith}
+use Rattle.std.specs.List.{flat_map}
 use Rattle.std.specs.Str.{IsUtf8}
 use Rattle.std.specs.Option.{option_map_or}
 use Rattle.std.specs.BTreeMap.{is_at}
@@ -23,9 +24,10 @@ use Rattle.switch_names.proofs.UnitNames.{HasParts-from_kind, IsShortName-from_n
 use Rattle.unit_decide.specs.Facts.{unit_kind}
 use Rattle.unit_decide.specs.Kinds.{is_kind}
 use Rattle.switch_names.specs.Names.{Name, has}
-use Rattle.unit_decide.specs.Sockets.{is_socket_activated, is_socket_name, own_socket, socket_words, sockets_key, sockets_of}
+use Rattle.unit_decide.specs.Sockets.{is_socket_activated, is_socket_name, own_socket, socket_words, sockets_key, sockets_of, words}
 use Rattle.unit_text.specs.declared.assignment.Assignment.{Assignment}
-use Rattle.unit_text.specs.UnitText.{has_value}
+use Rattle.unit_decide.specs.Flags.{is_not_socket_activated}
+use Rattle.unit_text.specs.UnitText.{has_value, values_of}
 
 none_from_test : {T : Type 0} (o : Option T) → is_none o ≡ true → o ≡ None
 none_from_test None is = refl
@@ -116,3 +118,29 @@ pub paired_with_own : (text : List Assignment) (unit : Name) → IsUnitName unit
 paired_with_own text unit is activated none =
     let service = and_left (is_kind (unit_kind unit) Service) _ activated in
     rw (activated, none, own_is_socket unit is (service_kind unit is service))
+
+-- the sockets of a service that sockets may start
+pub paired_by : (text : List Assignment) (unit : Name) (kind : UnitKind) → kind_of unit ≡ Some kind → true ≡ is_kind kind Service → false ≡ is_not_socket_activated text
+    → sockets_of text unit ≡ filter is_socket_name (socket_words text unit)
+paired_by text unit kind of service activated =
+    ap (λ b. if b then filter is_socket_name (socket_words text unit) else [])
+    (ap (λ k. is_kind (unwrap_or k Service) Service && not (is_not_socket_activated text)) of ∙ (λ i. sym service i && not (sym activated i)))
+
+-- whether values were found tells whether the key has one
+words_by : (text : List Assignment) (unit : Name) (values : List (List ℕ)) (none : Bool) → values ≡ values_of text sockets_key → none ≡ (length values == 0)
+    → socket_words text unit ≡ (if not none then flat_map words (values_of text sockets_key) else own_socket unit ∷ [])
+words_by text unit values none are test =
+    ap (λ b. if b then flat_map words (values_of text sockets_key) else own_socket unit ∷ [])
+    (ap (λ vs. not (length vs == 0)) (sym are) ∙ ap not (sym test))
+
+pub paired_own : (text : List Assignment) (unit : Name) (kind : UnitKind) (values : List (List ℕ)) (stem : List ℕ) → kind_of unit ≡ Some kind → true ≡ is_kind kind Service → false ≡ is_not_socket_activated text
+    → values ≡ values_of text sockets_key → true ≡ (length values == 0) → stem ≡ stem_of unit → filter is_socket_name ((stem ++ codes ".socket") ∷ []) ≡ sockets_of text unit
+paired_own text unit kind values stem of service activated are none is =
+    ap (λ s. filter is_socket_name ((s ++ codes ".socket") ∷ [])) is
+    ∙ sym (paired_by text unit kind of service activated ∙ ap (filter is_socket_name) (words_by text unit values true are none))
+
+pub paired_named : (text : List Assignment) (unit : Name) (kind : UnitKind) (values : List (List ℕ)) → kind_of unit ≡ Some kind → true ≡ is_kind kind Service → false ≡ is_not_socket_activated text
+    → values ≡ values_of text sockets_key → false ≡ (length values == 0) → filter is_socket_name (flat_map words values) ≡ sockets_of text unit
+paired_named text unit kind values of service activated are some =
+    ap (λ vs. filter is_socket_name (flat_map words vs)) are
+    ∙ sym (paired_by text unit kind of service activated ∙ ap (filter is_socket_name) (words_by text unit values false are some))

@@ -5,3 +5,7 @@ use Rattle.unit_decide.proofs.decision.decide_changed.Goals as goal
 pub returns-then-is_mount : goal.returns-then-is_mount
 unfolding decide
 returns-then-is_mount c = search rules
+
+pub returns-else-live : goal.returns-else-live
+unfolding decide
+returns-else-live c = search rules
