@@ -1,4 +1,4 @@
-use Rattle.std.proofs.Common.{◌≡◌, true, lit<, nat_eq, codes, ap, sym, ◌∙◌}
+use Rattle.std.proofs.Common.{◌≡◌, true, lit<, nat_eq, codes, ap, rules, sym, ◌∙◌}
 use Rattle.std.proofs.lemmas.Bool.{both_ways}
 use Rattle.std.proofs.lemmas.Str.Pattern.{strip_prefix_char}
 use Rattle.std.specs.List.{starts_with}
@@ -14,3 +14,6 @@ returns-in_default c =
     sym (c.if-not-starts_with.ensures.value ∙ ap (λ t. starts_with nat_eq t c.as_bytes-2.result.now) c.as_bytes.ensures.value
     ∙ ap (λ t. starts_with nat_eq c.args.target.now t) c.as_bytes-2.ensures.value) in
     absurd (both_ways _ lacks is)
+
+pub returns-in-Ok : goal.returns-in-Ok
+returns-in-Ok c = search rules steps 500000
