@@ -1,22 +1,36 @@
 -- What a cut in a call leaves is a moment of the call.
-use Rattle.std.proofs.Common.{◌≡◌, Result, Ok, Err, OnOk, refl, ap, ◌∙◌, inl, inr, ⊎_elim, rules}
+use Rattle.std.proofs.Common.{◌≡◌, ◌==◌, ℕ, if◌then◌else◌, Result, Ok, Err, OnOk, refl, sym, ap, ◌∙◌, inl, inr, ⊎_elim, arith, rules}
 use Rattle.std.specs.FinMap.{insert, remove, gets}
 use Rattle.host_memory.proofs.Histories.{unchanged}
 use Rattle.host_memory.specs.declared.history.History.{History}
-use Rattle.host_memory.specs.History.{GoesOn}
+use Rattle.host_memory.specs.History.{GoesOn, Makes, Cuts}
 use Rattle.host_trait.proofs.Moments.{passes_as}
 use Rattle.host_trait.proofs.Places.{alike}
 use Rattle.host_trait.specs.Change.{Change, Stage, IsMoment}
 use Rattle.host_trait.specs.declared.leaf.LeafKind.{LeafKind}
 use Rattle.host_trait.specs.World.{Leaves, WorldState, seen, stage}
 
-pub on_ok : {T E P Q : Type 0} (r : Result T E) → (P → Q) → OnOk r P → OnOk r Q
-on_ok (Ok x) f p = f p
-on_ok (Err e) f p = p
+-- a case is the one whose number it is
+pub first_of : {X : Type 0} (n : ℕ) (a b : X) → n ≡ 0 → a ≡ (if n == 0 then a else b)
+first_of n a b is = sym (ap (λ k. if k == 0 then a else b) is)
 
--- where nothing changed, the present world is a moment of any call
-pub nothing_yet : (history : History) (change : Change) → GoesOn history history (IsMoment change)
-nothing_yet history change = unchanged history history (IsMoment change) refl refl (inl refl)
+-- a cut before a call left the world as it was
+pub cut_before : (history : History) (change : Change) (after : WorldState) → history.world ≡ after → Cuts change after history history
+cut_before history change after is = record {
+  world = is;
+  later = omega arith;
+  clock = omega arith;
+  moments = unchanged history history (IsMoment change) refl refl (inl refl);
+}
+
+-- and one after it left it made
+pub cut_after :
+    {T E : Type 0} (old new : History) (change : Change) (world after : WorldState) (result : Result T E) →
+    OnOk result (Makes change world old new) → world ≡ after → OnOk result (Cuts change after old new)
+cut_after old new change world after (Ok x) makes is =
+    let clock = makes.clock in
+    record { world = makes.world ∙ is; later = omega arith; clock = omega arith; moments = makes.moments }
+cut_after old new change world after (Err e) makes is = tt
 
 unseen : (m : Leaves) (leaf : LeafKind) → remove (insert m stage leaf) stage ≡ remove m stage
 unseen m leaf = alike _ _ (λ q. grind (gets, rules))
@@ -32,8 +46,17 @@ any_leaf written leaf w m moment =
     rest)))
     moment
 
-pub goes_on_with_any : (old new : History) (written leaf : LeafKind) → GoesOn old new (IsMoment (Stage written)) → GoesOn old new (IsMoment (Stage leaf))
+goes_on_with_any : (old new : History) (written leaf : LeafKind) → GoesOn old new (IsMoment (Stage written)) → GoesOn old new (IsMoment (Stage leaf))
 goes_on_with_any old new written leaf way = record {
   passes = λ last then_last faults then_faults is_sure then_sure.
       passes_as (way.passes last then_last faults then_faults is_sure then_sure) (IsMoment (Stage leaf)) (λ w m is moment. any_leaf written leaf w m moment);
 }
+
+-- a cut while the stage is written left another leaf there
+pub cut_within :
+    {T E : Type 0} (old new : History) (written leaf : LeafKind) (world after : WorldState) (result : Result T E) →
+    OnOk result (Makes (Stage written) world old new) → world ≡ after → OnOk result (Cuts (Stage leaf) after old new)
+cut_within old new written leaf world after (Ok x) makes is =
+    let clock = makes.clock in
+    record { world = makes.world ∙ is; later = omega arith; clock = omega arith; moments = goes_on_with_any old new written leaf makes.moments }
+cut_within old new written leaf world after (Err e) makes is = tt

@@ -1,9 +1,10 @@
 -- How a history goes on: the worlds since a time after one more call.
-use Rattle.std.proofs.Common.{◌≡◌, ◌+◌, ◌≤◌, ◌⊎◌, ℕ, Bool, List, [], ◌∷◌, ◌++◌, length, drop, Option, None, Some, refl, sym, ap, subst, ◌∙◌, inl, inr, ⊎_elim, arith, eq-or-lt_of_le, length-append}
+use Rattle.std.proofs.Common.{◌≡◌, ◌≤◌, ◌⊎◌, ℕ, Bool, List, [], ◌∷◌, ◌++◌, length, drop, Option, None, Some, Result, Ok, Err, OnOk, OnErr, refl, sym, ap, subst, ◌∙◌, inl, inr, ⊎_elim, arith, eq-or-lt_of_le, length-append}
 use Rattle.std.proofs.lemmas.List.{drop-append-le, drop_all}
 use Rattle.host_memory.specs.declared.history.DoneCall.{DoneCall}
 use Rattle.host_memory.specs.declared.history.History.{History}
-use Rattle.host_memory.specs.History.{undone, rewound, LeftSince, memory_state, GoesOn}
+use Rattle.host_memory.specs.History.{undone, rewound, LeftSince, memory_state, GoesOn, Makes}
+use Rattle.host_trait.specs.Change.{Change, IsMoment, finished}
 use Rattle.host_trait.specs.Host.{Passes}
 use Rattle.host_trait.specs.World.{WorldState}
 
@@ -66,10 +67,6 @@ passes_more us vs u w v R last then_last faults then_faults is_sure then_sure gr
 pub one_more : (old kept new : List DoneCall) (u : DoneCall) → new ≡ kept ++ u ∷ [] → kept ≡ old → new ≡ old ++ u ∷ []
 one_more old kept new u grown same = grown ∙ ap (λ calls. calls ++ u ∷ []) same
 
--- such a record is longer by one
-pub one_longer : (old kept new : List DoneCall) (u : DoneCall) → new ≡ kept ++ u ∷ [] → kept ≡ old → length new ≡ length old + 1
-one_longer old kept new u grown same = ap (λ calls. length calls) (one_more old kept new u grown same) ∙ length-append old (u ∷ [])
-
 -- a history with one more call has gone on by it
 pub recorded :
     (old new : History) (u : DoneCall) (R : WorldState → WorldState → Type 0) →
@@ -101,3 +98,33 @@ unchanged old new R world calls now = record {
   passes = λ last then_last faults then_faults is_sure then_sure.
       passes_still old.calls.items new.calls.items old.world new.world R last then_last faults then_faults is_sure then_sure calls world now;
 }
+
+-- a call was made where it left its world, and one item more by which it is undone
+pub entered :
+    (old new : History) (u : DoneCall) (change : Change) →
+    new.calls.items ≡ old.calls.items ++ u ∷ [] → undone u new.world ≡ old.world → new.world ≡ finished change old.world →
+    Makes change (finished change old.world) old new
+entered old new u change grown back now = record {
+  world = now;
+  clock = ap (λ calls. length calls) grown ∙ length-append old.calls.items (u ∷ []);
+  moments = recorded old new u (IsMoment change) grown back (inr (inl now));
+}
+
+-- a call that left a world and one item more was made
+pub made :
+    {T E : Type 0} (old new : History) (change : Change) (world after : WorldState) (u : DoneCall) (result : Result T E) →
+    OnOk result (new.world ≡ world) → OnOk result (new.calls.items ≡ old.calls.items ++ u ∷ []) → world ≡ after →
+    (new.world ≡ world → new.calls.items ≡ old.calls.items ++ u ∷ [] → GoesOn old new (IsMoment change)) → OnOk result (Makes change after old new)
+made old new change world after u (Ok x) now grown is moments = record {
+  world = now ∙ is;
+  clock = ap (λ calls. length calls) grown ∙ length-append old.calls.items (u ∷ []);
+  moments = moments now grown;
+}
+made old new change world after u (Err e) now grown is moments = tt
+
+-- a call that failed left all as it was
+pub kept :
+    {T E : Type 0} (result : Result T E) (old new : WorldState) (us vs : List DoneCall) →
+    new ≡ old → vs ≡ us → OnErr result ((new ≡ old) × (vs ≡ us))
+kept (Ok x) old new us vs world calls = tt
+kept (Err e) old new us vs world calls = (world, calls)

@@ -9,7 +9,7 @@ use Rattle.host_memory.specs.declared.history.History.{History}
 use Rattle.host_memory.specs.Failures.{counted, is_listed}
 use Rattle.host_memory.specs.Cuts.{left_by}
 use Rattle.host_memory.specs.declared.memory_host.MemoryHost.{MemoryHost}
-use Rattle.host_memory.specs.History.{state_of}
+use Rattle.host_memory.specs.History.{state_of, Makes}
 use Rattle.host_memory.specs.MemoryHost.{Admitted, Cut, Does, Refused, clock_of, cut_or_admitted, verdict}
 use Rattle.host_memory.specs.Troubles.{IsWithin, TroublesState, admitted, due, fallen, has_fallen, is_empty, is_refused, is_sure, last_moment, refused}
 use Rattle.host_trait.specs.Change.{Change, IsMoment, IsSame, finished}
@@ -139,11 +139,11 @@ not_due one clock none is = no_cut one (sym (ap (λ b. cond b (Some one) None) (
 
 -- a call of the history counts one, or none where it fails
 pub one_at_most :
-    {T E : Type 0} (old new : History) (result : Result T E) →
-    OnOk result (length new.calls.items ≡ length old.calls.items + 1) → OnErr result ((new.world ≡ old.world) × (new.calls.items ≡ old.calls.items)) →
+    {T E : Type 0} (old new : History) (change : Change) (after : WorldState) (result : Result T E) →
+    OnOk result (Makes change after old new) → OnErr result ((new.world ≡ old.world) × (new.calls.items ≡ old.calls.items)) →
     (length old.calls.items ≤ length new.calls.items) × (length new.calls.items ≤ length old.calls.items + 1)
-one_at_most old new (Ok x) ok err = (omega arith, omega arith)
-one_at_most old new (Err e) ok (world, calls) = let same = ap (λ (us : List DoneCall). length us) calls in (omega arith, omega arith)
+one_at_most old new change after (Ok x) ok err = let clock = ok.clock in (omega arith, omega arith)
+one_at_most old new change after (Err e) ok (world, calls) = let same = ap (λ (us : List DoneCall). length us) calls in (omega arith, omega arith)
 
 -- a call that isn't cut leaves the clock where the cut lets it be
 pub within_admitted :

@@ -1,3 +1,4 @@
+pub mod Admitted
 pub mod Cutting
 pub mod Histories
 pub mod Hosts

@@ -1,5 +1,5 @@
 -- How a history goes on by each act of the manager: what undoes the act is in its record.
-use Rattle.std.proofs.Common.{◌≡◌, ◌≢◌, ℕ, ◌-◌, true, cond, List, [], ◌∷◌, ◌++◌, length, take, Option, None, Some, unwrap_or, refl, sym, ap, subst, ◌∙◌, inl, inr, arith}
+use Rattle.std.proofs.Common.{◌≡◌, ◌≢◌, ℕ, ◌-◌, true, cond, List, [], ◌∷◌, ◌++◌, length, take, Option, None, Some, Result, Ok, Err, OnOk, OnErr, unwrap_or, refl, sym, ap, subst, ◌∙◌, inl, inr, arith}
 use Rattle.std.specs.BTreeMap.{is_at}
 use Rattle.std.specs.FinMap.{get, insert, remove, gets, get_tied, get-insert, get-remove}
 use Rattle.std.specs.Ordering.{eq_by_cmp}
@@ -17,7 +17,7 @@ use Rattle.host_trait.specs.declared.unit_state.State.{State}
 use Rattle.host_trait.specs.declared.unit_state.State.TheVariants.{Active, Inactive, Failed}
 use Rattle.host_trait.specs.Manager.{acted, halted, loading, state_after}
 use Rattle.host_trait.specs.States.{AreStates, UnitStates, state_of, with_state}
-use Rattle.host_trait.specs.World.{bytes_cmp, with_manager}
+use Rattle.host_trait.specs.World.{WorldState, bytes_cmp, with_manager}
 
 -- how a state is listed
 listed : State → Option State
@@ -59,6 +59,31 @@ shorter items x =
     let long = length-append items (x ∷ []) in
     let size : length (items ++ x ∷ []) - 1 ≡ length items = omega arith in
     ap (λ n. take n (items ++ x ∷ [])) size ∙ take_at items (x ∷ []) (length items) refl
+
+on_ok : {T E P Q : Type 0} (r : Result T E) → (P → Q) → OnOk r P → OnOk r Q
+on_ok (Ok x) f p = f p
+on_ok (Err e) f p = p
+
+on_err : {T E P Q : Type 0} (r : Result T E) → (P → Q) → OnErr r P → OnErr r Q
+on_err (Ok x) f p = p
+on_err (Err e) f p = f p
+
+-- a manager that was taken out of a world and put back after a step
+module _
+    {T E : Type 0} (result : Result T E) (old middle new : WorldState) (empty was then : ManagerState)
+  where
+    stepped_to : (after : ManagerState) → was ≡ old.manager → middle ≡ with_manager empty old → new ≡ with_manager then middle → then ≡ after → new ≡ with_manager after old
+    stepped_to after taken out back is = back ∙ ap (λ (w : WorldState). with_manager then w) out ∙ ap (λ (m : ManagerState). with_manager m old) is
+
+    pub stepped :
+        (done : ManagerState → ManagerState) → was ≡ old.manager → middle ≡ with_manager empty old → new ≡ with_manager then middle →
+        OnOk result (then ≡ done was) → OnOk result (new ≡ with_manager (done old.manager) old)
+    stepped done taken out back is = on_ok result (λ now. stepped_to (done old.manager) taken out back (now ∙ ap done taken)) is
+
+    pub not_stepped :
+        was ≡ old.manager → middle ≡ with_manager empty old → new ≡ with_manager then middle →
+        OnErr result (then ≡ was) → OnErr result (new ≡ old)
+    not_stepped taken out back is = on_err result (λ now. stepped_to old.manager taken out back (now ∙ taken)) is
 
 module _ (old new : History) where
   -- something was done to a unit

@@ -1,9 +1,10 @@
 -- A world with the record of the calls that changed it, from which its earlier worlds follow.
-use Rattle.std.specs.Prelude.{◌≡◌, ◌≤◌, ◌-◌, ℕ, Bool, List, [], ◌∷◌, length, drop, take, Option, None, Some}
+use Rattle.std.specs.Prelude.{◌≡◌, ◌≤◌, ◌+◌, ◌-◌, ℕ, Bool, List, [], ◌∷◌, length, drop, take, Option, None, Some}
 use Rattle.std.specs.FinMap.{insert, remove}
 use Rattle.host_memory.specs.declared.history.DoneCall.{DoneCall}
 use Rattle.host_memory.specs.declared.history.DoneCall.TheVariants.{Staged, Renamed, Removed, Performed, Halted, Loaded}
 use Rattle.host_memory.specs.declared.history.History.{History}
+use Rattle.host_trait.specs.Change.{Change, IsMoment}
 use Rattle.host_trait.specs.declared.leaf.LeafKind.{LeafKind}
 use Rattle.host_trait.specs.Host.{HostState, Passes}
 use Rattle.host_trait.specs.declared.manager_state.ManagerState.{ManagerState}
@@ -63,3 +64,16 @@ pub record GoesOn (old new : History) (R : WorldState → WorldState → Type 0)
   pub passes :
       (last then_last : Option ℕ) (faults then_faults : ℕ) (is_sure then_sure : Bool) →
       Passes (state_of old last faults is_sure) (state_of new then_last then_faults then_sure) R
+
+-- a call was made: it left this world, and one item more in the record
+pub record Makes (change : Change) (after : WorldState) (old new : History) : Type 0 where
+  pub world : new.world ≡ after
+  pub clock : length new.calls.items ≡ length old.calls.items + 1
+  pub moments : GoesOn old new (IsMoment change)
+
+-- a call was cut: what the cut left is this world, with one item more in the record or none
+pub record Cuts (change : Change) (after : WorldState) (old new : History) : Type 0 where
+  pub world : new.world ≡ after
+  pub later : length old.calls.items ≤ length new.calls.items
+  pub clock : length new.calls.items ≤ length old.calls.items + 1
+  pub moments : GoesOn old new (IsMoment change)

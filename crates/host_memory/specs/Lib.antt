@@ -1,3 +1,4 @@
+pub mod ChangingCall
 pub mod Cuts
 pub mod Failures
 pub mod History

@@ -7,7 +7,9 @@ ghost use Rattle.host_trait.specs.Plain.{bad_is_plain_once, entry_is_plain_once}
 ghost use Rattle.std.specs.Prelude.{◌≡◌};
 
 use crate::calls::{call_of, halt_of, load_of, step_world};
+use crate::changing_call::ChangingCall;
 use host_trait::{Act, Leaf, State, World, WorldFault, stage_path};
+use manager_core::Call;
 use std::alloc::{AllocError, Global};
 use switch_names::{Path, Text, UnitName};
 
@@ -44,13 +46,15 @@ impl Drop for History {
 }
 
 impl History {
-    ghost use Rattle.std.specs.Prelude.{◌≡◌, ◌≢◌, ◌+◌, [], length, IsSome, OnOk, OnErr};
+    ghost use Rattle.std.specs.Prelude.{◌≡◌, ◌≢◌, ◌++◌, ◌∷◌, [], length, IsSome, OnOk, OnErr};
     ghost use Rattle.std.specs.FinMap.{get};
-    ghost use Rattle.host_memory.specs.History.{GoesOn};
-    ghost use Rattle.host_trait.specs.Change.{finished, IsMoment, Stage, Rename, Remove, Perform, DaemonReload};
+    ghost use Rattle.host_memory.specs.ChangingCall.{CanHappen, change_of};
+    ghost use Rattle.host_memory.specs.History.{Makes};
+    ghost use Rattle.host_trait.specs.Change.{finished, Stage, Rename, Remove, Perform, DaemonReload};
     ghost use Rattle.host_trait.specs.declared.entry.Act.TheVariants.{Restart};
     ghost use Rattle.host_trait.specs.Manager.{halted};
     ghost use Rattle.host_trait.specs.World.{IsClear, stage, with_manager};
+    ghost use Rattle.manager_core.specs.Call.{IsPlainCall, done};
 
     /// A world that no call has changed.
     pub(crate) fn new(alloc: Global, world: World) -> History
@@ -83,9 +87,7 @@ impl History {
     /// Writes a leaf at the stage.
     pub(crate) fn stage(&mut self, alloc: Global, leaf: &Leaf) -> Result<(), AllocError>
         requires { IsClear self.old.world.leaves stage }
-        ensures world { OnOk result (self.new.world ≡ finished (Stage leaf.now) self.old.world) }
-        ensures clock { OnOk result (length self.new.calls.items ≡ length self.old.calls.items + 1) }
-        ensures moments { OnOk result (GoesOn self.old self.new (IsMoment (Stage leaf.now))) }
+        ensures ok { OnOk result (Makes (Stage leaf.now) (finished (Stage leaf.now) self.old.world) self.old self.new) }
         ensures err { OnErr result ((self.new.world ≡ self.old.world) × (self.new.calls.items ≡ self.old.calls.items)) }
     {
         self.calls.reserve(1)?;
@@ -102,13 +104,11 @@ impl History {
     }
 
     /// Moves the stage's leaf to a path.
-    pub(crate) fn rename(&mut self, alloc: Global, to: &Path) -> Result<(), AllocError>
+    fn rename(&mut self, alloc: Global, to: &Path) -> Result<(), AllocError>
         requires staged { IsSome (get self.old.world.leaves stage) }
         requires clear { IsClear self.old.world.leaves to.now }
         requires other { to.now ≢ stage }
-        ensures world { OnOk result (self.new.world ≡ finished (Rename to.now) self.old.world) }
-        ensures clock { OnOk result (length self.new.calls.items ≡ length self.old.calls.items + 1) }
-        ensures moments { OnOk result (GoesOn self.old self.new (IsMoment (Rename to.now))) }
+        ensures ok { OnOk result (Makes (Rename to.now) (finished (Rename to.now) self.old.world) self.old self.new) }
         ensures err { OnErr result ((self.new.world ≡ self.old.world) × (self.new.calls.items ≡ self.old.calls.items)) }
     {
         self.calls.reserve(1)?;
@@ -120,10 +120,8 @@ impl History {
     }
 
     /// Removes the leaf at a path.
-    pub(crate) fn remove(&mut self, alloc: Global, at: &Path) -> Result<(), AllocError>
-        ensures world { OnOk result (self.new.world ≡ finished (Remove at.now) self.old.world) }
-        ensures clock { OnOk result (length self.new.calls.items ≡ length self.old.calls.items + 1) }
-        ensures moments { OnOk result (GoesOn self.old self.new (IsMoment (Remove at.now))) }
+    fn remove(&mut self, alloc: Global, at: &Path) -> Result<(), AllocError>
+        ensures ok { OnOk result (Makes (Remove at.now) (finished (Remove at.now) self.old.world) self.old self.new) }
         ensures err { OnErr result ((self.new.world ≡ self.old.world) × (self.new.calls.items ≡ self.old.calls.items)) }
     {
         self.calls.reserve(1)?;
@@ -132,6 +130,20 @@ impl History {
         self.calls.push_reserved(DoneCall::Removed(place, was));
         Ok(())
     }
+
+    /// Makes a call on the manager, and enters it.
+    fn step(&mut self, alloc: Global, call: Call, done_call: DoneCall) -> Result<(), AllocError>
+        requires { IsPlainCall call }
+        ensures world { OnOk result (self.new.world ≡ with_manager (done call self.old.world.manager) self.old.world) }
+        ensures calls { OnOk result (self.new.calls.items ≡ self.old.calls.items ++ done_call ∷ []) }
+        ensures err { OnErr result ((self.new.world ≡ self.old.world) × (self.new.calls.items ≡ self.old.calls.items)) }
+    {
+        self.calls.reserve(1)?;
+        step_world(&mut self.world, alloc, call)?;
+        self.calls.push_reserved(done_call);
+        Ok(())
+    }
+
     /// Does something to a unit, and enters it.
     pub(crate) fn perform(
         &mut self,
@@ -139,49 +151,49 @@ impl History {
         act: Act,
         unit: &UnitName,
     ) -> Result<(), AllocError>
-        ensures world { OnOk result (self.new.world ≡ finished (Perform act unit.now) self.old.world) }
-        ensures clock { OnOk result (length self.new.calls.items ≡ length self.old.calls.items + 1) }
-        ensures moments { OnOk result (GoesOn self.old self.new (IsMoment (Perform act unit.now))) }
+        ensures ok { OnOk result (Makes (Perform act unit.now) (finished (Perform act unit.now) self.old.world) self.old self.new) }
         ensures err { OnErr result ((self.new.world ≡ self.old.world) × (self.new.calls.items ≡ self.old.calls.items)) }
     {
-        self.calls.reserve(1)?;
         let name = unit.copy(alloc)?;
         let call = call_of(alloc, act, unit)?;
         let was = state_in(&self.world, unit);
-        step_world(&mut self.world, alloc, call)?;
-        self.calls.push_reserved(DoneCall::Performed(name, was));
-        Ok(())
+        self.step(alloc, call, DoneCall::Performed(name, was))
     }
 
     /// Goes half way through a restart of a unit.
     pub(crate) fn halt(&mut self, alloc: Global, unit: &UnitName) -> Result<(), AllocError>
-        ensures world { OnOk result (self.new.world ≡ with_manager (halted unit.now self.old.world.manager) self.old.world) }
-        ensures clock { OnOk result (length self.new.calls.items ≡ length self.old.calls.items + 1) }
-        ensures moments { OnOk result (GoesOn self.old self.new (IsMoment (Perform Restart unit.now))) }
+        ensures ok { OnOk result (Makes (Perform Restart unit.now) (with_manager (halted unit.now self.old.world.manager) self.old.world) self.old self.new) }
         ensures err { OnErr result ((self.new.world ≡ self.old.world) × (self.new.calls.items ≡ self.old.calls.items)) }
     {
-        self.calls.reserve(1)?;
         let name = unit.copy(alloc)?;
         let call = halt_of(alloc, unit)?;
         let was = state_in(&self.world, unit);
-        step_world(&mut self.world, alloc, call)?;
-        self.calls.push_reserved(DoneCall::Halted(name, was));
-        Ok(())
+        self.step(alloc, call, DoneCall::Halted(name, was))
     }
 
     /// Loads the definitions to which the link at their place leads.
-    pub(crate) fn load(&mut self, alloc: Global) -> Result<(), AllocError>
-        ensures world { OnOk result (self.new.world ≡ finished DaemonReload self.old.world) }
-        ensures clock { OnOk result (length self.new.calls.items ≡ length self.old.calls.items + 1) }
-        ensures moments { OnOk result (GoesOn self.old self.new (IsMoment DaemonReload)) }
+    fn load(&mut self, alloc: Global) -> Result<(), AllocError>
+        ensures ok { OnOk result (Makes DaemonReload (finished DaemonReload self.old.world) self.old self.new) }
         ensures err { OnErr result ((self.new.world ≡ self.old.world) × (self.new.calls.items ≡ self.old.calls.items)) }
     {
-        self.calls.reserve(1)?;
         let was = self.world.loaded().copy(alloc)?;
         let call = load_of(alloc, &self.world)?;
-        step_world(&mut self.world, alloc, call)?;
-        self.calls.push_reserved(DoneCall::Loaded(was));
-        Ok(())
+        self.step(alloc, call, DoneCall::Loaded(was))
+    }
+
+    /// Makes a changing call.
+    pub(crate) fn make(&mut self, alloc: Global, call: ChangingCall) -> Result<(), AllocError>
+        requires { CanHappen (change_of call) self.old.world }
+        ensures ok { OnOk result (Makes (change_of call.entry) (finished (change_of call.entry) self.old.world) self.old self.new) }
+        ensures err { OnErr result ((self.new.world ≡ self.old.world) × (self.new.calls.items ≡ self.old.calls.items)) }
+    {
+        match call {
+            ChangingCall::Stage(leaf) => self.stage(alloc, leaf),
+            ChangingCall::Rename(to) => self.rename(alloc, to),
+            ChangingCall::Remove(at) => self.remove(alloc, at),
+            ChangingCall::Perform(act, unit) => self.perform(alloc, act, unit),
+            ChangingCall::DaemonReload => self.load(alloc),
+        }
     }
 }
 

@@ -2,6 +2,7 @@
 #![tactic(auto)]
 
 mod calls;
+mod changing_call;
 mod cuts;
 mod failures;
 mod history;

@@ -3,7 +3,8 @@ ghost use Rattle.std.specs.Prelude.{length};
 ghost use Rattle.std.specs.Option.{ForSome};
 ghost use Rattle.host_memory.specs.Troubles.{IsWithin};
 
-use crate::cuts::{cut_load, cut_perform, cut_remove, cut_rename, cut_stage};
+use crate::changing_call::ChangingCall;
+use crate::cuts::cut_call;
 use crate::history::History;
 use crate::troubles::Troubles;
 use host_trait::{Act, HostFault, Leaf, Manager, States, Tree, World};
@@ -154,17 +155,7 @@ impl Tree for MemoryHost {
         ensures moments { Passes (host_of self.old) (host_of self.new) (IsMoment (Stage leaf.now)) }
         ensures cause { HasCause (host_of self.old) (host_of self.new) result }
     {
-        self.troubles.admit()?;
-        match self.troubles.due(self.history.clock()) {
-            None => {
-                self.history.stage(alloc, leaf)?;
-                Ok(())
-            }
-            Some(cut) => {
-                cut_stage(&mut self.history, alloc, leaf, cut.pick)?;
-                Err(self.troubles.fall(cut))
-            }
-        }
+        self.change(alloc, ChangingCall::Stage(leaf))
     }
 
     fn rename_stage(&mut self, alloc: Global, to: &Path) -> Result<(), HostFault>
@@ -176,17 +167,7 @@ impl Tree for MemoryHost {
         ensures moments { Passes (host_of self.old) (host_of self.new) (IsMoment (Rename to.now)) }
         ensures cause { HasCause (host_of self.old) (host_of self.new) result }
     {
-        self.troubles.admit()?;
-        match self.troubles.due(self.history.clock()) {
-            None => {
-                self.history.rename(alloc, to)?;
-                Ok(())
-            }
-            Some(cut) => {
-                cut_rename(&mut self.history, alloc, to, cut.pick)?;
-                Err(self.troubles.fall(cut))
-            }
-        }
+        self.change(alloc, ChangingCall::Rename(to))
     }
 
     fn remove(&mut self, alloc: Global, at: &Path) -> Result<(), HostFault>
@@ -195,17 +176,7 @@ impl Tree for MemoryHost {
         ensures moments { Passes (host_of self.old) (host_of self.new) (IsMoment (Remove at.now)) }
         ensures cause { HasCause (host_of self.old) (host_of self.new) result }
     {
-        self.troubles.admit()?;
-        match self.troubles.due(self.history.clock()) {
-            None => {
-                self.history.remove(alloc, at)?;
-                Ok(())
-            }
-            Some(cut) => {
-                cut_remove(&mut self.history, alloc, at, cut.pick)?;
-                Err(self.troubles.fall(cut))
-            }
-        }
+        self.change(alloc, ChangingCall::Remove(at))
     }
 
     ghost is_host = { memory_is_host };
@@ -213,25 +184,27 @@ impl Tree for MemoryHost {
 
 impl MemoryHost {
     ghost use Rattle.std.specs.Prelude.{OnOk};
+    ghost use Rattle.host_memory.specs.ChangingCall.{CanHappen, change_of};
     ghost use Rattle.host_memory.specs.MemoryHost.{Does, host_of, verdict};
-    ghost use Rattle.host_trait.specs.Change.{finished, IsMoment, Perform};
+    ghost use Rattle.host_trait.specs.Change.{finished, IsMoment};
     ghost use Rattle.host_trait.specs.Host.{Becomes, HasCause, Passes};
 
-    /// Does something to a unit, or fails, or is cut.
-    fn perform(&mut self, alloc: Global, act: Act, unit: &UnitName) -> Result<(), HostFault>
-        ensures does { Does (Perform act unit.now) (verdict self.old) self.old self.new result }
-        ensures ok { OnOk result (Becomes (host_of self.old) (host_of self.new) (finished (Perform act unit.now))) }
-        ensures moments { Passes (host_of self.old) (host_of self.new) (IsMoment (Perform act unit.now)) }
+    /// Makes a changing call, or fails, or is cut.
+    fn change(&mut self, alloc: Global, call: ChangingCall) -> Result<(), HostFault>
+        requires { CanHappen (change_of call) self.old.history.world }
+        ensures does { Does (change_of call.entry) (verdict self.old) self.old self.new result }
+        ensures ok { OnOk result (Becomes (host_of self.old) (host_of self.new) (finished (change_of call.entry))) }
+        ensures moments { Passes (host_of self.old) (host_of self.new) (IsMoment (change_of call.entry)) }
         ensures cause { HasCause (host_of self.old) (host_of self.new) result }
     {
         self.troubles.admit()?;
         match self.troubles.due(self.history.clock()) {
             None => {
-                self.history.perform(alloc, act, unit)?;
+                self.history.make(alloc, call)?;
                 Ok(())
             }
             Some(cut) => {
-                cut_perform(&mut self.history, alloc, act, unit, cut.pick)?;
+                cut_call(&mut self.history, alloc, call, cut.pick)?;
                 Err(self.troubles.fall(cut))
             }
         }
@@ -265,7 +238,7 @@ impl Manager for MemoryHost {
         ensures moments { Passes (host_of self.old) (host_of self.new) (IsMoment (Perform Stop unit.now)) }
         ensures cause { HasCause (host_of self.old) (host_of self.new) result }
     {
-        self.perform(alloc, Act::Stop, unit)
+        self.change(alloc, ChangingCall::Perform(Act::Stop, unit))
     }
 
     fn start(&mut self, alloc: Global, unit: &UnitName) -> Result<(), HostFault>
@@ -274,7 +247,7 @@ impl Manager for MemoryHost {
         ensures moments { Passes (host_of self.old) (host_of self.new) (IsMoment (Perform Start unit.now)) }
         ensures cause { HasCause (host_of self.old) (host_of self.new) result }
     {
-        self.perform(alloc, Act::Start, unit)
+        self.change(alloc, ChangingCall::Perform(Act::Start, unit))
     }
 
     fn restart(&mut self, alloc: Global, unit: &UnitName) -> Result<(), HostFault>
@@ -283,7 +256,7 @@ impl Manager for MemoryHost {
         ensures moments { Passes (host_of self.old) (host_of self.new) (IsMoment (Perform Restart unit.now)) }
         ensures cause { HasCause (host_of self.old) (host_of self.new) result }
     {
-        self.perform(alloc, Act::Restart, unit)
+        self.change(alloc, ChangingCall::Perform(Act::Restart, unit))
     }
 
     fn reload(&mut self, alloc: Global, unit: &UnitName) -> Result<(), HostFault>
@@ -293,7 +266,7 @@ impl Manager for MemoryHost {
         ensures moments { Passes (host_of self.old) (host_of self.new) (IsMoment (Perform Reload unit.now)) }
         ensures cause { HasCause (host_of self.old) (host_of self.new) result }
     {
-        self.perform(alloc, Act::Reload, unit)
+        self.change(alloc, ChangingCall::Perform(Act::Reload, unit))
     }
 
     fn daemon_reload(&mut self, alloc: Global) -> Result<(), HostFault>
@@ -302,16 +275,6 @@ impl Manager for MemoryHost {
         ensures moments { Passes (host_of self.old) (host_of self.new) (IsMoment DaemonReload) }
         ensures cause { HasCause (host_of self.old) (host_of self.new) result }
     {
-        self.troubles.admit()?;
-        match self.troubles.due(self.history.clock()) {
-            None => {
-                self.history.load(alloc)?;
-                Ok(())
-            }
-            Some(cut) => {
-                cut_load(&mut self.history, alloc, cut.pick)?;
-                Err(self.troubles.fall(cut))
-            }
-        }
+        self.change(alloc, ChangingCall::DaemonReload)
     }
 }

@@ -1,33 +1,15 @@
-use Rattle.std.proofs.Common.{sym, ap, subst, ◌∙◌, arith}
-use Rattle.host_memory.proofs.Histories.{one_longer, one_more}
+use Rattle.std.proofs.Common.{ap}
+use Rattle.host_memory.proofs.Histories.{made}
 use Rattle.host_memory.proofs.ManagerUndoing.{halved}
 use Rattle.host_memory.proofs.history.History.halt.Goals as goal
-use Rattle.host_trait.specs.World.{IsSound, WorldState, with_manager}
+use Rattle.host_trait.specs.Change.{Perform}
+use Rattle.host_trait.specs.declared.entry.Act.TheVariants.{Restart}
+use Rattle.host_trait.specs.World.{with_manager}
 
-pub returns-clause-moments : goal.returns-clause-moments
-returns-clause-moments c =
+pub returns-clause-ok : goal.returns-clause-ok
+returns-clause-ok c =
+    made _ _ (Perform Restart c.args.unit.now) _ _ _ _ c.step.ensures.world c.step.ensures.calls
+    (ap (λ manager. with_manager manager c.args.self.now.world) (c.in_ok-call.ensures.does c.args.self.now.world.manager))
+    (λ now grown.
     halved _ _ c.args.unit.now _ _ _ c.in_ok-name.ensures c.state_in-was.ensures.state c.state_in-was.ensures.are_states
-    c.in_ok-step_world.ensures.ok (c.in_ok-call.ensures.does c.args.self.now.world.manager)
-    (one_more _ _ _ _ c.push_reserved.ensures.items c.reserve.ensures.items)
-
-pub returns-clause-clock : goal.returns-clause-clock
-returns-clause-clock c = one_longer _ _ _ _ c.push_reserved.ensures.items c.reserve.ensures.items
-
-pub returns-clause-world : goal.returns-clause-world
-returns-clause-world c =
-    c.in_ok-step_world.ensures.ok ∙ ap (λ manager. with_manager manager c.args.self.now.world) (c.in_ok-call.ensures.does c.args.self.now.world.manager)
-
-pub push_reserved-requires : goal.push_reserved-requires
-push_reserved-requires c = omega (arith, c.in_ok-reserve.ensures.ok)
-
-pub invariant_of-self-2 : goal.invariant_of-self-2
-invariant_of-self-2 c = record {
-  sound = subst (λ (w : WorldState). IsSound w.leaves) (sym c.in_ok-step_world.ensures.ok) c.args.self.now.sound;
-  plain = c.step_world.ensures.plain;
-}
-
-pub invariant_of-self-in-Break-branch-4 : goal.invariant_of-self-in-Break-branch-4
-invariant_of-self-in-Break-branch-4 c = record {
-  sound = subst (λ (w : WorldState). IsSound w.leaves) (sym c.in_err-step_world.ensures.err) c.args.self.now.sound;
-  plain = c.step_world.ensures.plain;
-}
+    now (c.in_ok-call.ensures.does c.args.self.now.world.manager) grown)

@@ -1,12 +1,14 @@
-use Rattle.std.proofs.Common.{rules}
-use Rattle.host_memory.proofs.Histories.{one_more}
+use Rattle.std.proofs.Common.{sym, subst, rules}
 use Rattle.host_memory.proofs.Undoing.{removed}
 use Rattle.host_memory.proofs.history.History.remove.Goals as goal
+use Rattle.host_trait.specs.Manager.{HasPlainTexts}
+use Rattle.host_trait.specs.World.{WorldState}
 
-pub returns-clause-moments : goal.returns-clause-moments
-returns-clause-moments c =
-    removed _ _ _ _ _ c.in_ok-place.ensures c.take_leaf-was.ensures.was c.take_leaf-was.ensures.taken
-    (one_more _ _ _ _ c.push_reserved.ensures.items c.reserve.ensures.items)
+pub returns-clause-ok : goal.returns-clause-ok
+returns-clause-ok c = removed _ _ _ _ _ c.in_ok-place.ensures c.take_leaf-was.ensures.was c.take_leaf-was.ensures.taken (search rules)
 
-pub returns-clause-clock : goal.returns-clause-clock
-returns-clause-clock c = search rules
+pub invariant_of-self-2 : goal.invariant_of-self-2
+invariant_of-self-2 c = record {
+  sound = c.take_leaf-was.ensures.sound;
+  plain = subst (λ (w : WorldState). HasPlainTexts w.manager) (sym c.take_leaf-was.ensures.taken) c.args.self.now.plain;
+}

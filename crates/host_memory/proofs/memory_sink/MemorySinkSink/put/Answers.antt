@@ -1,4 +1,4 @@
-use Rattle.std.proofs.Common.{◌≡◌, ℕ, List, ◌++◌, take, drop, Some, None, sym, ap, ◌∙◌, rules, arith}
+use Rattle.std.proofs.Common.{◌≡◌, ℕ, List, ◌++◌, take, drop, Some, None, append-nil, sym, ap, ◌∙◌, rules, arith}
 use Rattle.std.proofs.lemmas.Grind.{common_steps}
 use Rattle.std.proofs.lemmas.List.{take-append-drop}
 use Rattle.host_memory.specs.MemorySink.{MemorySinkState}
@@ -33,3 +33,23 @@ returns-clause-put c = grind (arith, common_steps)
 
 pub returns-clause-ok : goal.returns-clause-ok
 returns-clause-ok c = grind (arith, common_steps)
+
+pub slice_bounds-append-end : goal.slice_bounds-append-end
+slice_bounds-append-end c = grind (arith, common_steps)
+
+pub append-requires : goal.append-requires
+append-requires c = grind (arith, common_steps)
+
+pub returns-then-fits-bytes-clause-cause : goal.returns-then-fits-bytes-clause-cause
+returns-then-fits-bytes-clause-cause c = grind (arith, common_steps)
+
+pub returns-clause-cause : goal.returns-clause-cause
+returns-clause-cause c = grind (arith, common_steps)
+
+pub returns-then-fits-bytes-clause-put : goal.returns-then-fits-bytes-clause-put
+returns-then-fits-bytes-clause-put c = grind (arith, common_steps)
+
+pub returns-then-next_fails-clause-prefix : goal.returns-then-next_fails-clause-prefix
+returns-then-next_fails-clause-prefix c =
+    part_put _ _ c.self.inside.put.items _ 0 (ap (λ (s : MemorySinkState). Some s.bytes) (sym c.self.view_is))
+    (ap (λ (s : MemorySinkState). Some s.bytes) c.fault.ensures ∙ ap (λ (b : List ℕ). Some b) (sym (append-nil c.self.inside.put.items)))
