@@ -1,2 +1,3 @@
 pub mod BlockedLemmas
+pub mod CauseLemmas
 pub mod PutLemmas

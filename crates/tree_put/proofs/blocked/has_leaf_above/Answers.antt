@@ -1,10 +1,11 @@
-use Rattle.std.proofs.Common.{◌≡◌, true, false, List, ℕ, IsSome, IfSome, refl, sym, subst, ◌∙◌, rules, inr}
+use Rattle.std.proofs.Common.{◌≡◌, true, false, List, ℕ, IsSome, IfSome, refl, sym, subst, ◌∙◌, inr}
 use Rattle.std.specs.FinMap.{keys}
 use Rattle.std.specs.List.{list_any}
 use Rattle.switch_names.specs.Path.{is_below}
 use Rattle.host_trait.specs.Change.{IsSame}
 use Rattle.host_trait.proofs.Moments.{started, same_then, told_as, told_before}
 use Rattle.tree_put.proofs.BlockedLemmas.{IsFreeBut, above_is_left, parent_above, next_above, free_next, free_last, one_passes, none_there}
+use Rattle.tree_put.proofs.CauseLemmas.{cause_ok, cause_started, cause_then}
 use Rattle.tree_put.proofs.blocked.has_leaf_above.Goals as goal
 
 pub returns-in_err-next-clause-moments : goal.returns-in_err-next-clause-moments
@@ -13,7 +14,7 @@ returns-in_err-next-clause-moments g c = started IsSame (λ w is. refl)
 pub loop-next-init : goal.loop-next-init
 loop-next-init g c = record {
   way = started IsSame (λ w is. refl);
-  cause = search rules;
+  cause = cause_started tt;
   above = parent_above c.args.at.now c.in_ok-next.next c.in_ok-next.ensures.some;
   free = record { has = λ w is q line. inr (above_is_left c.args.at.now c.in_ok-next.next c.in_ok-next.ensures.none c.in_ok-next.ensures.some q line) };
 }
@@ -47,7 +48,7 @@ loop-next-preserved g c =
     let above = subst (λ o. IfSome o (λ p. is_below c.args.at.now p ≡ true)) c.in-Some.is c.loop-next.invariant.above in
     record {
       way = same_then c.loop-next.invariant.way c.read.ensures.moments IsSame (λ w is. refl) (λ w m is same. same);
-      cause = search rules;
+      cause = cause_ok (cause_then c.loop-next.invariant.cause c.read.ensures.cause) tt;
       above = next_above c.args.at.now c.in-Some.place c.in_ok-next-2.next above c.in_ok-next-2.ensures.some;
       free = record {
         has = λ w is.
@@ -61,3 +62,9 @@ pub returns-clause-above : goal.returns-clause-above
 returns-clause-above g c =
     told_as c.loop-next.invariant.free (λ w. false ≡ list_any {X = List ℕ} (λ q. is_below c.args.at.now q) (keys w.leaves))
     (λ w is free. sym (free_last c.args.at.now w.leaves (subst (λ o. IsFreeBut c.args.at.now o w.leaves) c.in_default.is free)))
+
+pub returns-then-is_some-clause-cause : goal.returns-then-is_some-clause-cause
+returns-then-is_some-clause-cause g c = cause_ok (cause_then c.loop-next.invariant.cause c.read.ensures.cause) true
+
+pub returns-clause-cause : goal.returns-clause-cause
+returns-clause-cause g c = cause_ok c.loop-next.invariant.cause false

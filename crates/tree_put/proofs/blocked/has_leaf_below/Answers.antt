@@ -1,9 +1,10 @@
-use Rattle.std.proofs.Common.{◌≡◌, List, ℕ, ap, ◌∙◌, rules}
+use Rattle.std.proofs.Common.{◌≡◌, List, ℕ, ap, ◌∙◌}
 use Rattle.std.specs.FinMap.{keys}
 use Rattle.std.specs.List.{list_any}
 use Rattle.switch_names.specs.Path.{is_below}
 use Rattle.host_trait.proofs.Moments.{told_as}
 use Rattle.tree_put.proofs.BlockedLemmas.{listed_below}
+use Rattle.tree_put.proofs.CauseLemmas.{cause_ok}
 use Rattle.tree_put.proofs.blocked.has_leaf_below.Goals as goal
 
 pub returns-clause-below : goal.returns-clause-below
@@ -13,4 +14,4 @@ returns-clause-below g c =
     ∙ listed_below c.args.at.now c.requires (keys w.leaves))
 
 pub returns-clause-cause : goal.returns-clause-cause
-returns-clause-cause g c = search rules
+returns-clause-cause g c = cause_ok c.list.ensures.cause c.any_below.result

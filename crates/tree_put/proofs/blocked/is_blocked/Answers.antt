@@ -2,6 +2,7 @@ use Rattle.std.proofs.Common.{refl, sym, ◌∙◌}
 use Rattle.host_trait.specs.Change.{IsSame}
 use Rattle.host_trait.proofs.Moments.{same_then, told_before}
 use Rattle.tree_put.proofs.BlockedLemmas.{blocked_below, blocked_above}
+use Rattle.tree_put.proofs.CauseLemmas.{cause_ok, cause_then}
 use Rattle.tree_put.proofs.blocked.is_blocked.Goals as goal
 
 pub returns-then-below-clause-blocked : goal.returns-then-below-clause-blocked
@@ -24,3 +25,6 @@ returns-clause-blocked g c =
 pub returns-clause-moments : goal.returns-clause-moments
 returns-clause-moments g c =
     same_then c.has_leaf_below.ensures.moments c.has_leaf_above.ensures.moments IsSame (λ w is. refl) (λ w m is same. same)
+
+pub returns-clause-cause : goal.returns-clause-cause
+returns-clause-cause g c = cause_ok (cause_then c.has_leaf_below.ensures.cause c.has_leaf_above.ensures.cause) c.in_ok-above.above

@@ -2,11 +2,18 @@ use Rattle.std.proofs.Common.{IsSome}
 use Rattle.std.specs.FinMap.{get}
 use Rattle.host_trait.specs.World.{IsClear, stage}
 use Rattle.host_trait.specs.World.{seen, with_leaf}
-use Rattle.host_trait.proofs.Moments.{passes_as, goes_on, leads_then, told_after}
+use Rattle.host_trait.proofs.Moments.{passes_as, goes_on, leads_then, told_after, told_as}
 use Rattle.tree_put.specs.Put.{IsOldOrNew}
 use Rattle.tree_put.proofs.PutLemmas.{apart_ne, staged_moment, renamed_moment, renamed_world, stage_has, place_clear}
+use Rattle.tree_put.proofs.CauseLemmas.{cause_ok, cause_then}
 use Rattle.tree_put.proofs.places.put.Goals as goal
 use Rattle.std.proofs.Common.{◌≡◌, inl}
+
+pub write_stage-requires : goal.write_stage-requires
+write_stage-requires g c = told_as c.requires.can (λ w. IsClear w.leaves stage) (λ w is can. can.stage)
+
+pub rename_stage-requires-clause-other : goal.rename_stage-requires-clause-other
+rename_stage-requires-clause-other g c = apart_ne _ _ c.requires.apart
 
 pub returns-in_err-write_stage-clause-moments : goal.returns-in_err-write_stage-clause-moments
 returns-in_err-write_stage-clause-moments g c =
@@ -38,3 +45,6 @@ returns-clause-moments g c =
     goes_on c.write_stage.ensures.moments c.in_ok-write_stage.ensures.ok c.rename_stage.ensures.moments (IsOldOrNew c.args.at.now c.args.leaf.now)
     (λ w m is moment. inl (staged_moment c.args.leaf.now w m moment))
     (λ w v m is_w is_v done moment. renamed_moment c.args.at.now c.args.leaf.now w v m (apart_ne _ _ c.requires.apart) done moment)
+
+pub returns-clause-cause : goal.returns-clause-cause
+returns-clause-cause g c = cause_ok (cause_then c.write_stage.ensures.cause c.rename_stage.ensures.cause) tt

@@ -1,8 +1,9 @@
-use Rattle.std.proofs.Common.{◌≡◌, refl, sym, ap, subst, ◌∙◌, inl, rules}
+use Rattle.std.proofs.Common.{◌≡◌, true, false, refl, sym, ap, subst, ◌∙◌, inl}
 use Rattle.host_trait.specs.World.{seen, with_leaf}
-use Rattle.host_trait.proofs.Moments.{same_as, same_then, leads_as, leads_then}
+use Rattle.host_trait.proofs.Moments.{same_as, same_then, leads_as, leads_then, told_after}
 use Rattle.host_trait.proofs.Seen.{same_leaf}
-use Rattle.tree_put.specs.Put.{IsOldOrNew}
+use Rattle.tree_put.specs.Put.{CanPut, IsOldOrNew}
+use Rattle.tree_put.proofs.CauseLemmas.{cause_ok, cause_then}
 use Rattle.tree_put.proofs.places.put_if_other.Goals as goal
 
 pub returns-in_err-stands-clause-moments : goal.returns-in_err-stands-clause-moments
@@ -30,4 +31,17 @@ returns-clause-moments g c =
     same_then c.read.ensures.moments c.put.ensures.moments (IsOldOrNew c.args.at.now c.args.leaf.now) (λ w is. inl refl) (λ w m is moment. moment)
 
 pub returns-then-is_leaf-clause-put : goal.returns-then-is_leaf-clause-put
-returns-then-is_leaf-clause-put g c = search rules
+returns-then-is_leaf-clause-put g c = record { has = λ w is. sym (c.in_ok-stands.ensures.leaf.has w is) ∙ c.if-is_leaf.ensures }
+
+pub returns-then-is_leaf-clause-cause : goal.returns-then-is_leaf-clause-cause
+returns-then-is_leaf-clause-cause g c = cause_ok c.read.ensures.cause false
+
+pub returns-clause-cause : goal.returns-clause-cause
+returns-clause-cause g c = cause_ok (cause_then c.read.ensures.cause c.put.ensures.cause) true
+
+pub returns-clause-put : goal.returns-clause-put
+returns-clause-put g c = record { has = λ w is same. c.if-is_leaf.ensures (c.in_ok-stands.ensures.leaf.has w is ∙ same) }
+
+pub put-requires-clause-can : goal.put-requires-clause-can
+put-requires-clause-can g c =
+    told_after c.read.ensures.moments c.read.ensures.moments.tells (CanPut c.args.at.now) (λ w v is same. subst (λ x. CanPut c.args.at.now x) (sym same) (c.requires.can.has w is))
