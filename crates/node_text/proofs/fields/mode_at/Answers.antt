@@ -7,6 +7,9 @@ overflow_mul-result c = omega (arith, c.in_ok-first.ensures.low)
 pub overflow_mul-result-2 : goal.overflow_mul-result-2
 overflow_mul-result-2 c = omega (arith, c.in_ok-second.ensures.low)
 
+pub overflow_mul-result-3 : goal.overflow_mul-result-3
+overflow_mul-result-3 c = omega (arith, c.in_ok-third.ensures.low)
+
 pub overflow_add-result : goal.overflow_add-result
 overflow_add-result c = omega (arith, c.in_ok-first.ensures.low, c.in_ok-second.ensures.low)
 
