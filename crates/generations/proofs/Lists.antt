@@ -1,11 +1,13 @@
--- Lists of generations with one more at their end.
-use Rattle.std.proofs.Common.{◌≡◌, ◌+◌, ◌<◌, ℕ, Bool, true, false, cond, ◌&&◌, nat_lt, List, [], ◌∷◌, ◌++◌, length, take, get_or, Some, refl, sym, ap, ◌∙◌}
+-- The last of a list of generations, and lists with one more at their end.
+use Rattle.std.proofs.Common.{◌≡◌, ◌+◌, ◌<◌, ℕ, Bool, true, false, cond, ◌&&◌, nat_lt, List, [], ◌∷◌, ◌++◌, length, take, get_or, Some, None, refl, sym, ap, ◌∙◌}
 use Rattle.std.proofs.lemmas.List.{append-nil, take_more}
 use Rattle.std.proofs.lemmas.List.Elements.{filter-append}
 use Rattle.std.specs.List.{filter}
-use Rattle.std.specs.Option.{is_some}
+use Rattle.std.specs.Option.{is_some, option_map}
+use Rattle.std.specs.Prelude.{◌-◌, Option, slice_get, if◌then◌else◌, ◌^◌}
 use Rattle.generations.specs.declared.gens.Gen.{Gen}
-use Rattle.generations.specs.Gens.{last_number, previous_in}
+use Rattle.generations.specs.Gens.{is_highest_of, last_number, number_for_in, number_from, previous_in}
+use Rattle.generations.specs.Places.{is_of}
 
 last_of_more : (list : List Gen) (gen : Gen) → last_number (list ++ gen ∷ []) ≡ Some gen.number
 last_of_more [] gen = refl
@@ -33,3 +35,19 @@ module _ (list : List Gen) (i current : ℕ) (gen : Gen) (within : i < length li
   -- and else it leaves the previous one as it is
   pub previous_passed : (nat_lt gen.number current && is_some gen.target) ≡ false → previous_in (take (i + 1) list) (Some current) ≡ previous_in (take i list) (Some current)
   previous_passed may = previous_more ∙ ap (λ b. cond b (Some gen.number) (previous_in (take i list) (Some current))) may
+
+module _ (list slice : List Gen) (last : Option Gen) (system : List ℕ) (is : last ≡ slice_get slice (length slice - 1)) (same : slice ≡ list) where
+  last_of_list : last ≡ slice_get list (length list - 1)
+  last_of_list = is ∙ ap (λ (l : List Gen). slice_get l (length l - 1)) same
+
+  -- what the last generation of a list says of a system
+  pub highest_is : is_of (option_map (λ gen. gen.target) last) system ≡ is_highest_of list system
+  highest_is = ap (λ (o : Option Gen). is_of (option_map (λ gen. gen.target) o) system) last_of_list
+
+  pub number_is : number_from last system ≡ number_for_in list system
+  number_is = ap (λ o. number_from o system) last_of_list
+
+-- the highest generation keeps its number where it names the system
+pub number_kept : (gen : Gen) (system : List ℕ) → is_of (Some gen.target) system ≡ true → Some gen.number ≡ number_from (Some gen) system
+number_kept gen system names =
+    sym (ap (λ b. if b then Some gen.number else (if nat_lt (gen.number + 1) (2 ^ 32) then Some (gen.number + 1) else None)) names)

@@ -16,22 +16,13 @@ fn after<'a>(text: &'a str, front: &str) -> Option<&'a str>
     text.strip_prefix(front)
 }
 
-/// What precedes the end of a text.
-fn before<'a>(text: &'a str, end: &str) -> Option<&'a str>
-    ensures { MatchOption result
-        ((rest : List ℕ) → text.now ≢ rest ++ end.now)
-        (λ rest. text.now ≡ rest.now ++ end.now) }
-{
-    text.strip_suffix(end)
-}
-
 /// What stands between the front and the end of a text.
 fn between<'a>(text: &'a str, front: &str, end: &str) -> Option<&'a str>
     ensures { MatchOption result
         ((middle : List ℕ) → text.now ≢ front.now ++ (middle ++ end.now))
         (λ middle. text.now ≡ front.now ++ (middle.now ++ end.now)) }
 {
-    before(after(text, front)?, end)
+    after(text, front)?.strip_suffix(end)
 }
 
 /// Whether a number is a generation's, and a text is its digits.

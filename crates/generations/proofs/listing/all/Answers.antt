@@ -2,6 +2,7 @@ use Rattle.std.proofs.Common.{refl}
 use Rattle.host_trait.specs.Change.{IsSame}
 use Rattle.host_trait.proofs.Moments.{same_then, told_before}
 use Rattle.generations.proofs.Reading.{gens_of_world}
+use Rattle.tree_put.proofs.CauseLemmas.{cause_ok, cause_then}
 use Rattle.generations.proofs.listing.all.Goals as goal
 
 pub returns-in_err-linked-clause-moments : goal.returns-in_err-linked-clause-moments
@@ -22,3 +23,7 @@ returns-clause-gens g c =
 
 pub returns-clause-moments : goal.returns-clause-moments
 returns-clause-moments g c = same_then c.read_targets.ensures.moments c.read_profile.ensures.moments IsSame (λ w is. refl) (λ w m is same. same)
+
+pub returns-clause-cause : goal.returns-clause-cause
+returns-clause-cause g c =
+    cause_ok (cause_then c.read_targets.ensures.cause c.read_profile.ensures.cause) (record { list = c.in_ok-list.list; current = c.current_of-current.result })

@@ -5,6 +5,7 @@ use Rattle.host_trait.proofs.Moments.{started, told_as}
 use Rattle.generations.specs.LinkNumber.{Bears}
 use Rattle.generations.specs.Places.{profile}
 use Rattle.generations.specs.Targets.{link_to}
+use Rattle.tree_put.proofs.CauseLemmas.{cause_ok}
 use Rattle.generations.proofs.listing.read_profile.Goals as goal
 
 pub returns-in_err-path-clause-moments : goal.returns-in_err-path-clause-moments
@@ -14,3 +15,6 @@ pub returns-clause-number : goal.returns-clause-number
 returns-clause-number g c =
     told_as c.in_ok-leaf.ensures.leaf (λ w. Bears link_to (get w.leaves profile) c.in_ok-number.number)
     (λ w is leaf. subst (λ o. Bears link_to o c.in_ok-number.number) (leaf ∙ ap (get w.leaves) c.in_ok-path.ensures) c.in_ok-number.ensures)
+
+pub returns-clause-cause : goal.returns-clause-cause
+returns-clause-cause g c = cause_ok c.read.ensures.cause _

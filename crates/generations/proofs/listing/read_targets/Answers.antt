@@ -5,6 +5,7 @@ use Rattle.host_trait.specs.World.{listed}
 use Rattle.host_trait.proofs.Moments.{same_then, started, told_before}
 use Rattle.generations.proofs.Reading.{read_all}
 use Rattle.generations.specs.Places.{profiles}
+use Rattle.tree_put.proofs.CauseLemmas.{cause_then}
 use Rattle.generations.proofs.listing.read_targets.Goals as goal
 
 pub returns-in_err-folder-clause-moments : goal.returns-in_err-folder-clause-moments
@@ -20,3 +21,6 @@ returns-clause-targets g c =
 
 pub returns-clause-moments : goal.returns-clause-moments
 returns-clause-moments g c = same_then c.list.ensures.moments c.read_links.ensures.moments IsSame (λ w is. refl) (λ w m is same. same)
+
+pub returns-clause-cause : goal.returns-clause-cause
+returns-clause-cause g c = cause_then c.list.ensures.cause c.read_links.ensures.cause

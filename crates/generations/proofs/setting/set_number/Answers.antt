@@ -6,7 +6,17 @@ use Rattle.generations.specs.Places.{profile, set_end}
 use Rattle.generations.specs.Set.{IsSetMoment}
 use Rattle.generations.proofs.Numbers.{number_of_world}
 use Rattle.generations.proofs.SetLemmas.{can_point, link_is_set, profile_moment, profile_world}
+use Rattle.tree_put.proofs.CauseLemmas.{cause_ok, cause_then}
 use Rattle.generations.proofs.setting.set_number.Goals as goal
+
+pub put_generation-requires-clause-gens : goal.put_generation-requires-clause-gens
+put_generation-requires-clause-gens g c = c.requires.gens
+
+pub put_generation-requires-clause-number : goal.put_generation-requires-clause-number
+put_generation-requires-clause-number g c = c.requires.number
+
+pub put_generation-requires-clause-can : goal.put_generation-requires-clause-can
+put_generation-requires-clause-can g c = c.requires.can
 
 pub returns-in_err-put_generation-clause-moments : goal.returns-in_err-put_generation-clause-moments
 returns-in_err-put_generation-clause-moments g c =
@@ -36,3 +46,6 @@ returns-clause-moments g c =
     (λ w m is moment. link_is_set c.args.system.now w m moment)
     (λ w v m is is_v linked moment. profile_moment c.args.system.now c.args.number w v m
     (number_of_world w.leaves c.args.gens.now c.args.system.now c.args.number (c.requires.gens.has w is) c.requires.number) linked moment)
+
+pub returns-clause-cause : goal.returns-clause-cause
+returns-clause-cause g c = cause_ok (cause_then c.put_generation.ensures.cause c.point.ensures.cause) tt
