@@ -1,10 +1,12 @@
 -- Names among lines.
-use Rattle.std.proofs.Common.{◌≡◌, ◌<◌, ℕ, true, false, List, Option, None, Some, is_none, refl, arith}
+use Rattle.std.proofs.Common.{◌≡◌, ◌<◌, ℕ, true, false, List, Option, None, Some, is_none, refl, sym, ap, ◌∙◌, arith}
+use Rattle.std.specs.Prelude.{if◌then◌else◌}
 use Rattle.std.specs.Str.{IsUtf8}
 use Rattle.std.proofs.lemmas.Bool.{false_from_ne_true}
 use Rattle.std.proofs.lemmas.Bool.Decides.{nat_tests}
 use Rattle.std.proofs.lemmas.Str.{IsUtf8-from_ascii}
 use Rattle.std.proofs.lemmas.Str.Ascii.{IsAscii-from_all}
+use Rattle.switch_names.specs.declared.name_fault.NameFault.{NameFault}
 use Rattle.switch_names.specs.UnitName.{is_no_unit_byte, unit_fault}
 use Rattle.switch_names.proofs.UnitNames.{IsShortName-from_name}
 use Rattle.owed_lists.specs.Lists.{is_unit}
@@ -25,3 +27,14 @@ unit_utf8 line is =
 -- bytes that aren't UTF-8 name no unit
 pub no_unit : (line : List ℕ) → ¬ IsUtf8 line → is_unit line ≡ false
 no_unit line bad = false_from_ne_true (is_unit line) (λ is. bad (unit_utf8 line is))
+
+module _ (line text : List ℕ) where
+  -- a line that is read as a name is that unit's
+  pub read_as_named : (name : List ℕ) → text ≡ line → name ≡ text → unit_fault text ≡ None → Some name ≡ (if is_unit line then Some line else None)
+  read_as_named name same is none =
+      ap Some (is ∙ same) ∙ sym (ap (λ b. if b then Some line else None) (ap (λ l. is_unit l) (sym same) ∙ ap (λ fault. is_none fault) none))
+
+  -- and one with a fault is no unit's
+  pub read_as_none : (fault : NameFault) → text ≡ line → unit_fault text ≡ Some fault → None ≡ (if is_unit line then Some line else None)
+  read_as_none fault same some =
+      sym (ap (λ b. if b then Some line else None) (ap (λ l. is_unit l) (sym same) ∙ ap (λ fault. is_none fault) some))

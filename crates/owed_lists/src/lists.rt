@@ -1,6 +1,6 @@
 //! The three lists and their places.
 ghost use Rattle.std.specs.Prelude.{◌≡◌, IfOk};
-ghost use Rattle.owed_lists.specs.Lists.{place_of, reloads_place, restarts_place, starts_place};
+ghost use Rattle.owed_lists.specs.Lists.{place_of};
 
 use host_trait::fixed_path;
 use std::alloc::{AllocError, Global};
@@ -40,34 +40,14 @@ pub enum Which {
     Reloads,
 }
 
-#[tactic(auto, unfolding(crate::specs::Lists::starts_place))]
-fn starts_path(alloc: Global) -> Result<Path, AllocError>
-    ensures { IfOk result (λ path. path ≡ starts_place) }
-{
-    fixed_path(alloc, "run/nixos/start-list")
-}
-
-#[tactic(auto, unfolding(crate::specs::Lists::restarts_place))]
-fn restarts_path(alloc: Global) -> Result<Path, AllocError>
-    ensures { IfOk result (λ path. path ≡ restarts_place) }
-{
-    fixed_path(alloc, "run/nixos/restart-list")
-}
-
-#[tactic(auto, unfolding(crate::specs::Lists::reloads_place))]
-fn reloads_path(alloc: Global) -> Result<Path, AllocError>
-    ensures { IfOk result (λ path. path ≡ reloads_place) }
-{
-    fixed_path(alloc, "run/nixos/reload-list")
-}
-
 /// The place of a list.
+#[tactic(auto, unfolding(crate::specs::Lists::starts_place, crate::specs::Lists::restarts_place, crate::specs::Lists::reloads_place))]
 pub fn list_path(alloc: Global, which: Which) -> Result<Path, AllocError>
     ensures { IfOk result (λ path. path ≡ place_of which) }
 {
     match which {
-        Which::Starts => starts_path(alloc),
-        Which::Restarts => restarts_path(alloc),
-        Which::Reloads => reloads_path(alloc),
+        Which::Starts => fixed_path(alloc, "run/nixos/start-list"),
+        Which::Restarts => fixed_path(alloc, "run/nixos/restart-list"),
+        Which::Reloads => fixed_path(alloc, "run/nixos/reload-list"),
     }
 }

@@ -1,11 +1,10 @@
 //! Reads the three lists.
-ghost use Rattle.std.specs.Prelude.{◌≡◌, ◌==◌, ◌++◌, ◌∷◌, [], List, ℕ, Some, None, IfOk, OnOk, filter, if◌then◌else◌};
+ghost use Rattle.std.specs.Prelude.{◌≡◌, ◌==◌, ◌++◌, ◌∷◌, [], Some, None, IfOk, OnOk, filter, if◌then◌else◌};
 ghost use Rattle.std.specs.List.{slice_split};
 ghost use Rattle.host_trait.specs.Change.{IsSame};
 ghost use Rattle.host_trait.specs.Host.{Told, Passes, HasCause};
 ghost use Rattle.host_trait.specs.World.{content_of};
-ghost use Rattle.owed_lists.specs.Lists.{AreListsOf, IsListOf, is_unit, names_in, place_of};
-ghost use Rattle.switch_names.specs.Names.{has};
+ghost use Rattle.owed_lists.specs.Lists.{AreListsOf, IsListOf, is_unit, place_of};
 
 use crate::lists::{Lists, Which, list_path};
 use host_trait::{HostFault, Tree, UnitSet, content};
@@ -47,22 +46,15 @@ fn read_names(alloc: Global, bytes: &[u8]) -> Result<Listed<UnitName>, AllocErro
     Ok(names)
 }
 
-/// The unit names among the lines of a content.
-fn set_of(alloc: Global, content: Option<Bytes>) -> Result<UnitSet, AllocError>
-    ensures { IfOk result (λ set. (unit : List ℕ) → has set unit ≡ has (names_in content) unit) }
-{
-    let Some(bytes) = content else {
-        return Ok(UnitSet::new(alloc));
-    };
-    let names = read_names(alloc, bytes.as_slice())?;
-    UnitSet::of(alloc, names.as_slice())
-}
-
 /// The list that a content says.
 fn list_of(alloc: Global, content: Option<Bytes>) -> Result<Listed<UnitName>, AllocError>
     ensures { IfOk result (IsListOf content) }
 {
-    let set = set_of(alloc, content)?;
+    let Some(bytes) = content else {
+        return Ok(Listed::new(alloc));
+    };
+    let names = read_names(alloc, bytes.as_slice())?;
+    let set = UnitSet::of(alloc, names.as_slice())?;
     set.into_names(alloc)
 }
 

@@ -1,15 +1,14 @@
 //! Writes the three lists.
 ghost use Rattle.std.specs.Prelude.{◌≡◌, ◌++◌, ◌∷◌, [], IfOk, OnOk};
 ghost use Rattle.host_trait.specs.Host.{Told, Comes, Passes, HasCause};
-ghost use Rattle.host_trait.specs.World.{stage};
-ghost use Rattle.tree_put.specs.Put.{AreApart, CanPut};
+ghost use Rattle.tree_put.specs.Put.{CanPut};
 ghost use Rattle.owed_lists.specs.Lists.{place_of};
 ghost use Rattle.owed_lists.specs.Record.{CanRecord, IsOldOrList, IsRecordMoment, list_leaf, list_text, with_list, with_lists};
 
 use crate::lists::{Lists, Which, list_path};
 use host_trait::{HostFault, Leaf, Tree};
 use std::alloc::{AllocError, Global};
-use switch_names::{Bytes, Listed, Path, UnitName};
+use switch_names::{Bytes, Listed, UnitName};
 use tree_put::{drop_leaf, put};
 
 /// The mode of a list's file.
@@ -43,29 +42,7 @@ fn list_leaf(alloc: Global, names: &[UnitName]) -> Result<Leaf, AllocError>
     Ok(Leaf::file(Bytes::from_vec(out), LIST_MODE, 0, 0))
 }
 
-/// Puts the leaf of a list at a place, or removes the one there where the list is empty.
-fn put_list<T: Tree>(
-    alloc: Global,
-    host: &mut T,
-    at: &Path,
-    names: &[UnitName],
-) -> Result<(), HostFault>
-    requires apart { AreApart at.now stage }
-    requires can { Told (T.host host.old) (CanPut at.now) }
-    ensures ok { OnOk result (Comes (T.host host.old) (T.host host.new) (with_list at.now names.now)) }
-    ensures moments { Passes (T.host host.old) (T.host host.new) (IsOldOrList at.now names.now) }
-    ensures cause { HasCause (T.host host.old) (T.host host.new) result }
-{
-    if names.is_empty() {
-        drop_leaf(alloc, host, at)?;
-        return Ok(());
-    }
-    let leaf = list_leaf(alloc, names)?;
-    put(alloc, host, at, &leaf)?;
-    Ok(())
-}
-
-/// Records one of the lists.
+/// Records one of the lists: puts its leaf, or removes the old one where the list is empty.
 fn record_list<T: Tree>(
     alloc: Global,
     host: &mut T,
@@ -78,7 +55,12 @@ fn record_list<T: Tree>(
     ensures cause { HasCause (T.host host.old) (T.host host.new) result }
 {
     let at = list_path(alloc, which)?;
-    put_list(alloc, host, &at, names.as_slice())?;
+    if names.as_slice().is_empty() {
+        drop_leaf(alloc, host, &at)?;
+        return Ok(());
+    }
+    let leaf = list_leaf(alloc, names.as_slice())?;
+    put(alloc, host, &at, &leaf)?;
     Ok(())
 }
 

@@ -3,6 +3,7 @@ use Rattle.host_trait.specs.World.{without_leaf}
 use Rattle.host_trait.proofs.Moments.{started, passes_as, leads_as}
 use Rattle.tree_put.specs.Put.{IsOldOrGone}
 use Rattle.owed_lists.specs.Lists.{place_of}
+use Rattle.tree_put.proofs.CauseLemmas.{cause_ok}
 use Rattle.owed_lists.proofs.clearing.clear.Goals as goal
 
 pub returns-in_err-at-clause-moments : goal.returns-in_err-at-clause-moments
@@ -19,3 +20,6 @@ returns-clause-moments g c =
 pub returns-in_err-drop_leaf-clause-moments : goal.returns-in_err-drop_leaf-clause-moments
 returns-in_err-drop_leaf-clause-moments g c =
     passes_as c.drop_leaf.ensures.moments (IsOldOrGone (place_of c.args.which)) (λ w m is moment. subst (λ p. IsOldOrGone p w m) c.in_ok-at.ensures moment)
+
+pub returns-clause-cause : goal.returns-clause-cause
+returns-clause-cause g c = cause_ok c.drop_leaf.ensures.cause tt

@@ -6,6 +6,7 @@ use Rattle.owed_lists.specs.declared.lists.Which.TheVariants.{Starts, Restarts, 
 use Rattle.owed_lists.specs.Lists.{place_of}
 use Rattle.owed_lists.specs.Record.{IsRecordMoment, with_lists, with_restarts}
 use Rattle.owed_lists.proofs.RecordLemmas.{can_starts, can_restarts, can_reloads, first_moment, second_moment, second_world, third_moment, third_world}
+use Rattle.tree_put.proofs.CauseLemmas.{cause_ok, cause_then}
 use Rattle.owed_lists.proofs.recording.record.Goals as goal
 
 pub record_list-requires : goal.record_list-requires
@@ -65,3 +66,6 @@ returns-clause-moments g c =
     (λ w v u is is_v came then. second_world c.args.lists.now w v u came then))
     c.record_list-3.ensures.moments (IsRecordMoment c.args.lists.now) (λ w m is moment. moment)
     (λ w v m is is_v came moment. third_moment c.args.lists.now w v m came moment)
+
+pub returns-clause-cause : goal.returns-clause-cause
+returns-clause-cause g c = cause_ok (cause_then c.record_list.ensures.cause (cause_then c.record_list-2.ensures.cause c.record_list-3.ensures.cause)) tt
