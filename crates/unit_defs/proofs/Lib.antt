@@ -1,4 +1,5 @@
 pub mod AgreeLemmas
+mod CauseLemmas
 mod DropInLemmas
 mod FaultLemmas
 pub mod FirstFaultLemmas

@@ -41,6 +41,28 @@ placed_want end folder name front unit wanted is_front is_unit_name is_wanted = 
     by true false first second = absurd (both_ways false refl (ap (λ o. is_none o) second))
     by false b first second = absurd (both_ways false refl (ap (λ o. is_none o) first))
 
+-- where the unit is no name there is no drop-in
+pub no_drop_in : (folder name front stem : List ℕ) → Some front ≡ before_end (codes ".d") folder → Some stem ≡ before_end (codes ".conf") name → None ≡ named front → None ≡ drop_in folder name
+no_drop_in folder name front stem is_front is_stem none =
+    by (is_drop_in_name stem) ∙ sym (ap (λ b. cond (is_drop_in_name stem && b) (Some (DropIn front stem)) None) (not_named front none)) ∙ (λ i. drop_in_of (is_front i) (is_stem i))
+  where
+    by : (a : Bool) → None ≡ cond (a && false) (Some (DropIn front stem)) None
+    by true = refl
+    by false = refl
+
+-- where one of the two is no name there is no wanted unit
+pub no_unit_wants : (end folder name front : List ℕ) → Some front ≡ before_end end folder → None ≡ named front → None ≡ want end folder name
+no_unit_wants end folder name front is_front none =
+    sym (ap (λ b. cond (b && is_unit name) (Some (Want front name)) None) (not_named front none)) ∙ ap (λ o. want_of o name) is_front
+
+pub no_unit_wanted : (end folder name front : List ℕ) → Some front ≡ before_end end folder → None ≡ named name → None ≡ want end folder name
+no_unit_wanted end folder name front is_front none =
+    by (is_unit front) ∙ sym (ap (λ b. cond (is_unit front && b) (Some (Want front name)) None) (not_named name none)) ∙ ap (λ o. want_of o name) is_front
+  where
+    by : (a : Bool) → None ≡ cond (a && false) (Some (Want front name)) None
+    by true = refl
+    by false = refl
+
 module _ (rest : List ℕ) (none : None ≡ named rest) where
   abbrev below : Option Place
   below = place_below (before_first is_slash rest) (after_first is_slash rest)

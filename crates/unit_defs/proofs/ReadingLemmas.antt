@@ -15,9 +15,9 @@ use Rattle.unit_defs.specs.declared.part.Part.{Part}
 use Rattle.unit_defs.specs.declared.place.Place.{Place}
 use Rattle.unit_defs.specs.declared.place.Place.TheVariants.{File, DropIn, Want}
 use Rattle.unit_defs.specs.Files.{drop_in_at, want_at}
-use Rattle.unit_defs.specs.Found.{AreFilesAt, TakesPath, drop_in_in, drop_in_with, file_in, file_with, is_file, wants_in}
+use Rattle.unit_defs.specs.Found.{AreFilesAt, Takes, TakesPath, part_at, drop_in_in, drop_in_with, file_in, file_with, is_file, wants_in}
 use Rattle.unit_defs.specs.Part.{part_of}
-use Rattle.unit_defs.specs.Place.{place_after}
+use Rattle.unit_defs.specs.Place.{is_want, place_after}
 use Rattle.switch_names.specs.Names.{is_name}
 use Rattle.unit_defs.proofs.DropInLemmas.{find-append}
 use Rattle.switch_names.proofs.Names.{name_turned}
@@ -67,6 +67,24 @@ drop_in_chosen (Some (File other)) content unit name was = sym (or_none was)
 drop_in_chosen (Some (Want other other_name)) content unit name was = sym (or_none was)
 drop_in_chosen (Some (DropIn other other_name)) None unit name was = sym (or_none was)
 drop_in_chosen (Some (DropIn other other_name)) (Some content) unit name was = ap (option_or was) (sym (one_drop_in (is_name other unit) name other_name content))
+
+-- nothing stands at a path
+pub none_taken : (leaves : Leaves) (front path : List ℕ) (found : Found) → None ≡ place_after front path → TakesPath leaves front path found found
+none_taken leaves front path found none =
+    subst (λ p. Takes p (option_map part_of (content_of leaves path)) found found) none
+    (record { file = λ unit. refl; drop_in = λ unit name. refl; wants = λ unit. sym (append-nil (wants_in found unit)) })
+
+-- of a wanted unit any part may be put
+put_any : (place : Place) (part that : Option Part) (old new : Found) → part ≡ cond (is_want place) None that → Takes (Some place) part old new → Takes (Some place) that old new
+put_any (File unit) part that old new is takes = subst (λ p. Takes (Some (File unit)) p old new) is takes
+put_any (DropIn unit name) part that old new is takes = subst (λ p. Takes (Some (DropIn unit name)) p old new) is takes
+put_any (Want unit name) part that old new is takes = record { file = takes.file; drop_in = takes.drop_in; wants = takes.wants }
+
+-- what was put at the place of a path is what stands at the path
+pub path_taken : (leaves : Leaves) (front path : List ℕ) (place : Place) (part : Option Part) (old new : Found) →
+    Some place ≡ place_after front path → part ≡ part_at leaves path place → Takes (Some place) part old new → TakesPath leaves front path old new
+path_taken leaves front path place part old new is_place is_part takes =
+    subst (λ p. Takes p (option_map part_of (content_of leaves path)) old new) is_place (put_any place part (option_map part_of (content_of leaves path)) old new is_part takes)
 
 -- one path more is read
 module _ (leaves : Leaves) (front : List ℕ) (paths : List (List ℕ)) (path : List ℕ) (old new : Found) (read : AreFilesAt leaves front paths old) (takes : TakesPath leaves front path old new) where

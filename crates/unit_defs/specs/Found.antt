@@ -15,7 +15,7 @@ use Rattle.unit_defs.specs.declared.place.Place.TheVariants.{File, DropIn}
 use Rattle.unit_defs.specs.declared.unit.Unit.{Unit}
 use Rattle.unit_defs.specs.Files.{drop_in_at, drop_ins_of, file_of, own_files, want_at, wants_of}
 use Rattle.unit_defs.specs.Part.{merged, part_of}
-use Rattle.unit_defs.specs.Place.{place_after}
+use Rattle.unit_defs.specs.Place.{is_want, place_after}
 use Rattle.switch_names.specs.Names.{is_name}
 
 -- what was found of a unit
@@ -58,6 +58,10 @@ pub record Takes (place : Option Place) (part : Option Part) (old new : Found) :
   pub file : (unit : List ℕ) → file_in new unit ≡ file_with place part unit (file_in old unit)
   pub drop_in : (unit name : List ℕ) → drop_in_in new unit name ≡ drop_in_with place part unit name (drop_in_in old unit name)
   pub wants : (unit : List ℕ) → wants_in new unit ≡ wants_in old unit ++ want_at unit place
+
+-- what the leaf at a path says, where this place is no wanted unit
+abbrev pub part_at : Leaves → List ℕ → Place → Option Part
+part_at leaves path place = if is_want place then None else option_map part_of (content_of leaves path)
 
 -- what stands at a path was read
 abbrev pub TakesPath : Leaves → List ℕ → List ℕ → Found → Found → Type 0

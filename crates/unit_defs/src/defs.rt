@@ -7,9 +7,10 @@ ghost use Rattle.host_trait.specs.Change.{IsSame};
 ghost use Rattle.host_trait.specs.Host.{Told, Passes, HasCause, HasCauseOf};
 ghost use Rattle.host_trait.specs.World.{bytes_cmp};
 ghost use Rattle.unit_defs.specs.declared.defs_fault.DefsFault.TheVariants.{Text, Host};
-ghost use Rattle.unit_defs.specs.Defs.{AreDefsOf, AreNamesOf, AreSorted, found_in, own_in, wanted_in};
+ghost use Rattle.unit_defs.specs.Defs.{AreDefsOf, AreNamesOf, AreSorted, first_faulty, found_in, own_in, wanted_in};
 ghost use Rattle.unit_defs.specs.Units.{HasNoFault, IsFirstFault, can_be_wanted, first_fault_of};
 ghost use Rattle.switch_names.specs.Names.{has};
+ghost use Rattle.switch_names.specs.UnitName.{IsUnitName};
 
 use crate::defs_fault::DefsFault;
 use crate::fault::first_fault;
@@ -85,6 +86,21 @@ impl Defs {
         })
     }
 
+    /// These units, where none of them has a faulty file.
+    fn from_sound(alloc: Global, units: Listed<Unit>) -> Result<Defs, DefsFault>
+        requires { AreSorted units }
+        ensures defs { IfOk result (λ defs. defs ≡ units) }
+        ensures sound { OnOk result (None ≡ first_faulty units) }
+        ensures text { (unit : List ℕ) (line : ℕ) → IsErrOf result (Text unit line) → Some (unit, line) ≡ first_faulty units }
+        ensures named { (unit : List ℕ) (line : ℕ) → IsErrOf result (Text unit line) → IsUnitName unit }
+        ensures cause { IsErrOf result (Host Device) → ⊥ }
+    {
+        if let Some((unit, line)) = first_fault(alloc, units.as_slice())? {
+            return Err(DefsFault::Text { unit, line });
+        }
+        Ok(Defs::from_units(alloc, units)?)
+    }
+
     /// Reads the units of a system.
     ///
     /// It lists the folder of units once, and reads each unit file and drop-in once.
@@ -105,10 +121,7 @@ impl Defs {
         ensures cause { HasCauseOf (T.host host.old) (T.host host.new) (IsErrOf result (Host Device)) }
     {
         let units = read_units(alloc, host, system)?;
-        if let Some((unit, line)) = first_fault(alloc, units.as_slice())? {
-            return Err(DefsFault::Text { unit, line });
-        }
-        Ok(Defs::from_units(alloc, units)?)
+        Defs::from_sound(alloc, units)
     }
 
     /// Reads the units of a system that is in use. A file that can't be read counts as an empty one.

@@ -1,9 +1,10 @@
 //! What unit files say.
-ghost use Rattle.std.specs.Prelude.{◌≡◌, ◌++◌, IfOk, OnOk};
-ghost use Rattle.std.specs.Option.{option_or};
+ghost use Rattle.std.specs.Prelude.{◌≡◌, ◌++◌, IfOk, OnOk, option_map};
+ghost use Rattle.std.specs.Option.{option_copied, option_or};
 ghost use Rattle.unit_defs.specs.Part.{line_of, part_of};
 
 use std::alloc::{AllocError, Global};
+use switch_names::Bytes;
 use unit_text::{TextFault, UnitText, parse};
 
 /// What one file says, or several one after the other.
@@ -35,17 +36,20 @@ fn line_of(fault: &TextFault) -> u32
 }
 
 impl Part {
-    /// Reads a file.
-    pub fn read(alloc: Global, bytes: &[u8]) -> Result<Part, AllocError>
-        ensures { IfOk result (λ part. part ≡ part_of bytes.now) }
+    /// Reads a file, where it has content.
+    pub fn read(alloc: Global, content: Option<&Bytes>) -> Result<Option<Part>, AllocError>
+        ensures { IfOk result (λ part. part ≡ option_map part_of (option_copied content.entry)) }
     {
-        match parse(alloc, bytes) {
-            Ok(text) => Ok(Part { text, fault: None }),
+        let Some(bytes) = content else {
+            return Ok(None);
+        };
+        match parse(alloc, bytes.as_slice()) {
+            Ok(text) => Ok(Some(Part { text, fault: None })),
             Err(TextFault::Memory) => Err(AllocError),
-            Err(fault) => Ok(Part {
+            Err(fault) => Ok(Some(Part {
                 text: UnitText::empty(alloc),
                 fault: Some(line_of(&fault)),
-            }),
+            })),
         }
     }
 

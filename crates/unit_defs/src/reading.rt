@@ -1,32 +1,36 @@
 //! Reads the folder of a system's units.
-ghost use Rattle.std.specs.Prelude.{◌≡◌, [], ◌∷◌, ◌++◌, IfOk, OnOk, option_map};
+ghost use Rattle.std.specs.Prelude.{◌≡◌, [], ◌∷◌, ◌++◌, IfOk, OnOk};
 ghost use Rattle.host_trait.specs.Change.{IsSame};
 ghost use Rattle.host_trait.specs.Host.{Told, Passes, HasCause};
-ghost use Rattle.host_trait.specs.World.{content_of, listed};
 ghost use Rattle.unit_defs.specs.Defs.{AreSorted, AreUnitsOf};
-ghost use Rattle.unit_defs.specs.Found.{AreFilesAt, AreFilesOf, TakesPath};
-ghost use Rattle.unit_defs.specs.Part.{part_of};
+ghost use Rattle.unit_defs.specs.Found.{AreFilesAt, AreFilesOf, TakesPath, part_at};
 ghost use Rattle.unit_defs.specs.Place.{unit_folder};
 ghost use Rattle.switch_names.specs.Path.{slash};
 
 use crate::found::Found;
 use crate::part::Part;
-use crate::place::place_after;
+use crate::place::{Place, place_after};
 use crate::unit::{Unit, units_of};
 use host_trait::{HostFault, Tree, content};
 use std::alloc::{AllocError, Global};
 use switch_names::{Listed, NameFault, Path, SystemName, Text};
 
-/// What the file at a path says.
-fn read_part<T: Tree>(alloc: Global, host: &mut T, path: &Path) -> Result<Option<Part>, HostFault>
-    ensures part { IfOk result (λ part. Told (T.host host.old) (λ w. part ≡ option_map part_of (content_of w.leaves path.now))) }
+/// What the leaf at a path says, where this place is no wanted unit.
+fn read_part<T: Tree>(
+    alloc: Global,
+    host: &mut T,
+    path: &Path,
+    place: &Place,
+) -> Result<Option<Part>, HostFault>
+    ensures part { IfOk result (λ part. Told (T.host host.old) (λ w. part ≡ part_at w.leaves path.now place.now)) }
     ensures moments { Passes (T.host host.old) (T.host host.new) IsSame }
     ensures cause { HasCause (T.host host.old) (T.host host.new) result }
 {
-    let Some(bytes) = content(alloc, host, path)? else {
+    if place.is_want() {
         return Ok(None);
-    };
-    Ok(Some(Part::read(alloc, bytes.as_slice())?))
+    }
+    let bytes = content(alloc, host, path)?;
+    Ok(Part::read(alloc, bytes.as_ref())?)
 }
 
 /// Reads what stands at a path, where the folder of units and a slash are its front.
@@ -44,10 +48,7 @@ fn read_path<T: Tree>(
     let Some(place) = place_after(alloc, front, path)? else {
         return Ok(());
     };
-    if place.is_want() {
-        return Ok(place.put(alloc, None, found)?);
-    }
-    let part = read_part(alloc, host, path)?;
+    let part = read_part(alloc, host, path, &place)?;
     Ok(place.put(alloc, part, found)?)
 }
 
@@ -89,21 +90,6 @@ fn with_slash(alloc: Global, text: &str) -> Result<Text, AllocError>
     Ok(Text::from_string(made))
 }
 
-/// Reads what stands in a folder of units, where the folder and a slash are its front.
-fn read_below<T: Tree>(
-    alloc: Global,
-    host: &mut T,
-    front: &str,
-    folder: &Path,
-) -> Result<Found, HostFault>
-    ensures found { IfOk result (λ found. Told (T.host host.old) (λ w. AreFilesAt w.leaves front.now (listed folder.now w.leaves) found)) }
-    ensures moments { Passes (T.host host.old) (T.host host.new) IsSame }
-    ensures cause { HasCause (T.host host.old) (T.host host.new) result }
-{
-    let paths = host.list(alloc, folder)?;
-    read_paths(alloc, host, front, paths.as_slice())
-}
-
 /// Reads what stands in the folder of a system's units.
 fn read_folder<T: Tree>(
     alloc: Global,
@@ -116,7 +102,8 @@ fn read_folder<T: Tree>(
 {
     let folder = unit_folder(alloc, system)?;
     let front = with_slash(alloc, folder.as_str())?;
-    read_below(alloc, host, front.as_str(), &folder)
+    let paths = host.list(alloc, &folder)?;
+    read_paths(alloc, host, front.as_str(), paths.as_slice())
 }
 
 /// The units of a system, in byte order.

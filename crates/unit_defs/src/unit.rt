@@ -79,21 +79,6 @@ fn base<'a>(found: &'a Found, unit: &UnitName, template: Option<&UnitName>) -> O
     found.file(template?)
 }
 
-/// Applies the drop-ins of a template.
-fn add_inherited(
-    alloc: Global,
-    found: &Found,
-    template: Option<&UnitName>,
-    part: &mut Part,
-) -> Result<(), AllocError>
-    ensures { OnOk result (part.new ≡ added part.old (option_map_or (drop_ins_in found.now) (option_copied template.entry) [])) }
-{
-    match template {
-        Some(template) => found.add_drop_ins(alloc, template, part),
-        None => Ok(()),
-    }
-}
-
 /// Applies the drop-ins of a unit, after those of its template.
 fn add_both(
     alloc: Global,
@@ -104,7 +89,9 @@ fn add_both(
 ) -> Result<(), AllocError>
     ensures { OnOk result (part.new ≡ added (added part.old (option_map_or (drop_ins_in found.now) (option_copied template.entry) [])) (drop_ins_in found.now unit.now)) }
 {
-    add_inherited(alloc, found, template, part)?;
+    if let Some(template) = template {
+        found.add_drop_ins(alloc, template, part)?;
+    }
     found.add_drop_ins(alloc, unit, part)
 }
 

@@ -1,5 +1,5 @@
 //! The units that each unit of a system wants.
-ghost use Rattle.std.specs.Prelude.{◌≡◌, ◌==◌, [], IfOk, OnOk, map, option_and_then};
+ghost use Rattle.std.specs.Prelude.{◌≡◌, ◌==◌, ◌<◌, [], IfOk, OnOk, map, option_and_then};
 ghost use Rattle.std.specs.List.{flat_map, slice_split};
 ghost use Rattle.std.specs.Option.{option_copied};
 ghost use Rattle.switch_names.specs.UnitName.{template_of};
@@ -15,7 +15,7 @@ use switch_names::{Listed, Text, UnitName};
 use unit_text::UnitText;
 
 /// The text that a unit has of its own.
-pub fn own_text<'a>(units: &'a [Unit], name: &UnitName) -> Option<&'a UnitText>
+fn own_text<'a>(units: &'a [Unit], name: &UnitName) -> Option<&'a UnitText>
     requires { AreSorted units.now }
     ensures { option_copied result ≡ own_in units.now name.now }
 {
@@ -91,18 +91,12 @@ fn add_word(alloc: Global, units: &[Unit], set: &mut UnitSet, word: &str) -> Res
     }
 }
 
-/// The texts between the tabs of a text.
-fn tab_parts(alloc: Global, text: &str) -> Result<Vec<&str>, AllocError>
-    ensures { IfOk result (λ parts. map (λ part. part.now) parts.items ≡ slice_split (λ byte. byte == 9) text.now) }
+/// The texts between the separators in a text, which are of ASCII.
+fn parts_of(alloc: Global, text: &str, separator: char) -> Result<Vec<&str>, AllocError>
+    requires { separator < 128 }
+    ensures { IfOk result (λ parts. map (λ part. part.now) parts.items ≡ slice_split (λ byte. byte == separator) text.now) }
 {
-    text.split('\t').collect(alloc)
-}
-
-/// The texts between the spaces of a text.
-fn space_parts(alloc: Global, text: &str) -> Result<Vec<&str>, AllocError>
-    ensures { IfOk result (λ parts. map (λ part. part.now) parts.items ≡ slice_split (λ byte. byte == 32) text.now) }
-{
-    text.split(' ').collect(alloc)
+    text.split(separator).collect(alloc)
 }
 
 /// Adds the units that the parts of a text between its tabs name, where they can be wanted.
@@ -115,7 +109,7 @@ fn add_tab_parts(
     requires { AreSorted units.now }
     ensures { OnOk result (AddsWanted units.now (slice_split (λ byte. byte == 9) text.now) set.old set.new) }
 {
-    let parts = tab_parts(alloc, text)?;
+    let parts = parts_of(alloc, text, '\t')?;
     for part in parts.as_slice() {
         add_word(alloc, units, set, part)?;
     }
@@ -127,7 +121,7 @@ fn add_words(alloc: Global, units: &[Unit], set: &mut UnitSet, text: &str) -> Re
     requires { AreSorted units.now }
     ensures { OnOk result (AddsWanted units.now (words_of text.now) set.old set.new) }
 {
-    let parts = space_parts(alloc, text)?;
+    let parts = parts_of(alloc, text, ' ')?;
     for part in parts.as_slice() {
         add_tab_parts(alloc, units, set, part)?;
     }

@@ -1,5 +1,6 @@
 use Rattle.host_trait.proofs.Moments.{told_as}
 use Rattle.unit_defs.specs.Defs.{AreUnitsOf}
+use Rattle.unit_defs.proofs.CauseLemmas.{caused_ok}
 use Rattle.unit_defs.proofs.UnitLemmas.{sorted_units, units_all}
 use Rattle.unit_defs.proofs.reading.read_units.Goals as goal
 
@@ -10,3 +11,6 @@ pub returns-clause-units : goal.returns-clause-units
 returns-clause-units g c =
     told_as c.in_ok-found.ensures.found (λ w. AreUnitsOf w.leaves c.args.system.now c.in_ok-units.units)
     (λ w is found. units_all w.leaves c.args.system.now c.in_ok-found.found found c.in_ok-units.units c.in_ok-units.ensures.units)
+
+pub returns-clause-cause : goal.returns-clause-cause
+returns-clause-cause g c = caused_ok _ c.read_folder.ensures.cause
