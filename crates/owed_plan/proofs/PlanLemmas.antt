@@ -346,10 +346,25 @@ pub same_up : (situation : Situation) (pulled stops stop_keys reloads reload_key
 same_up situation pulled stops stop_keys reloads reload_keys restarts restart_keys unit one two three =
     λ i. has (filter (comes_up situation (sym one i) (sym two i) (sym three i)) pulled) unit
 
+-- a unit that stays up doesn't come up
+pub stays_up : (active stopped reloaded restarted socketed : Bool) → (active && not stopped) ≡ true → false ≡ ((not active || stopped) && not reloaded && not restarted && not socketed)
+stays_up true true reloaded restarted socketed up = absurd (both_ways false refl up)
+stays_up true false reloaded restarted socketed up = refl
+stays_up false stopped reloaded restarted socketed up = absurd (both_ways false refl up)
+
+-- nor does one that comes up otherwise
+pub comes_otherwise : (down reloaded restarted socketed : Bool) → (reloaded || restarted) ≡ true → false ≡ (down && not reloaded && not restarted && not socketed)
+comes_otherwise false reloaded restarted socketed is = refl
+comes_otherwise true true restarted socketed is = refl
+comes_otherwise true false true socketed is = refl
+comes_otherwise true false false socketed is = absurd (both_ways false refl is)
+
 -- a unit that nothing else brings up comes up where no socket starts it
 pub comes_up_by :
-    (active stopped reloaded restarted socketed a s r t k : Bool) → active ≡ a → stopped ≡ s → reloaded ≡ r → restarted ≡ t → socketed ≡ k →
-    (not active || stopped) ≡ true → reloaded ≡ false → restarted ≡ false → not socketed ≡ ((not a || s) && not r && not t && not k)
-comes_up_by active stopped reloaded restarted socketed a s r t k is_a is_s is_r is_t is_k down no_reload no_restart =
-    sym (ap (λ b. b && not r && not t && not k) (ap (λ b. not b || s) (sym is_a) ∙ ap (λ b. not active || b) (sym is_s) ∙ down)
-    ∙ ap (λ b. not b && not t && not k) (sym is_r ∙ no_reload) ∙ ap (λ b. not b && not k) (sym is_t ∙ no_restart) ∙ ap not (sym is_k))
+    (result active stopped reloaded restarted socketed : Bool) → (active && not stopped) ≡ false → (reloaded || restarted) ≡ false → result ≡ socketed →
+    not result ≡ ((not active || stopped) && not reloaded && not restarted && not socketed)
+comes_up_by result true true false false socketed up other is = ap not is
+comes_up_by result false stopped false false socketed up other is = ap not is
+comes_up_by result true false reloaded restarted socketed up other is = absurd (both_ways true up refl)
+comes_up_by result active stopped true restarted socketed up other is = absurd (both_ways true other refl)
+comes_up_by result active stopped false true socketed up other is = absurd (both_ways true other refl)

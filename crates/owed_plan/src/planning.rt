@@ -1,7 +1,8 @@
 //! Plans what a switch owes the units.
-ghost use Rattle.std.specs.Prelude.{◌≡◌, ◌||◌, List, ℕ, IfOk, OnOk, filter};
+ghost use Rattle.std.specs.Prelude.{◌≡◌, ◌&&◌, ◌||◌, List, ℕ, IfOk, OnOk, filter, not};
 ghost use Rattle.std.specs.List.{list_any};
 ghost use Rattle.std.specs.List.Sorted.{IsStrictlySortedBy};
+ghost use Rattle.host_trait.specs.Manager.{is_active};
 ghost use Rattle.host_trait.specs.States.{state_of};
 ghost use Rattle.host_trait.specs.World.{bytes_cmp};
 ghost use Rattle.owed_plan.specs.Collected.{IsCollected, IsListBy, comes_up, defined};
@@ -29,6 +30,21 @@ struct Handled<'a> {
     restarts: &'a UnitSet,
 }
 
+/// Whether a unit is Active and isn't stopped.
+fn stays_up(known: Known<'_>, handled: Handled<'_>, unit: &UnitName) -> bool
+    ensures { result ≡ (is_active ((situation_of known.entry).states unit.now) && not (has handled.entry.stops.now unit.now)) }
+{
+    let is_stopped = handled.stops.contains(unit);
+    known.is_active(unit) && !is_stopped
+}
+
+/// Whether a unit comes up by a reload or a restart.
+fn comes_otherwise(handled: Handled<'_>, unit: &UnitName) -> bool
+    ensures { result ≡ (has handled.entry.reloads.now unit.now || has handled.entry.restarts.now unit.now) }
+{
+    handled.reloads.contains(unit) || handled.restarts.contains(unit)
+}
+
 /// Whether a pulled unit is to be started: it neither stays up nor comes up otherwise.
 fn comes_up(
     alloc: Global,
@@ -38,11 +54,10 @@ fn comes_up(
 ) -> Result<bool, AllocError>
     ensures { IfOk result (λ is. is ≡ comes_up (situation_of known.entry) handled.entry.stops.now handled.entry.reloads.now handled.entry.restarts.now unit.now) }
 {
-    let is_stopped = handled.stops.contains(unit);
-    if known.is_active(unit) && !is_stopped {
+    if stays_up(known, handled, unit) {
         return Ok(false);
     }
-    if handled.reloads.contains(unit) || handled.restarts.contains(unit) {
+    if comes_otherwise(handled, unit) {
         return Ok(false);
     }
     Ok(!known.is_socketed(alloc, unit)?)

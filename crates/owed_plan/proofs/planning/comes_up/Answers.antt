@@ -1,12 +1,14 @@
-use Rattle.std.proofs.Common.{◌≡◌, ◌||◌, not, true, rules}
-use Rattle.owed_plan.proofs.PlanLemmas.{comes_up_by}
+use Rattle.std.proofs.Common.{sym, ◌∙◌}
+use Rattle.owed_plan.proofs.PlanLemmas.{comes_up_by, comes_otherwise, stays_up}
 use Rattle.owed_plan.proofs.planning.comes_up.Goals as goal
+
+pub returns-then-stays_up : goal.returns-then-stays_up
+returns-then-stays_up c = stays_up _ _ _ _ _ (sym c.stays_up.ensures ∙ c.if-stays_up.true)
+
+pub returns-then-comes_otherwise : goal.returns-then-comes_otherwise
+returns-then-comes_otherwise c = comes_otherwise _ _ _ _ (sym c.comes_otherwise.ensures ∙ c.if-comes_otherwise.true)
 
 pub returns : goal.returns
 returns c =
-    let down : (not c.is_active.result || c.contains-is_stopped.result) ≡ true = search rules in
-    comes_up_by c.is_active.result c.contains-is_stopped.result c.contains.result c.contains-else-contains.result c.in_ok-is_socketed.field-0 _ _ _ _ _
-    c.is_active.ensures c.contains-is_stopped.ensures c.contains.ensures c.contains-else-contains.ensures c.in_ok-is_socketed.ensures down c.if-contains.false c.if-contains-2.false
-
-pub returns-then-not-is_stopped : goal.returns-then-not-is_stopped
-returns-then-not-is_stopped c = search rules
+    comes_up_by c.in_ok-is_socketed.field-0 _ _ _ _ _
+    (sym c.stays_up.ensures ∙ c.if-stays_up.false) (sym c.comes_otherwise.ensures ∙ c.if-comes_otherwise.false) c.in_ok-is_socketed.ensures
