@@ -5,12 +5,14 @@
 #![tactic(auto)]
 
 mod clearing;
+mod entries;
 mod manager_file;
 mod node_file;
 mod out_sink;
 mod place;
 
 pub use clearing::clear_folder;
+pub use entries::{Entries, push_entries};
 pub use manager_file::{call_of, read_manager, step_manager};
 pub use node_file::{read_leaf, write_new};
 pub use out_sink::OutSink;

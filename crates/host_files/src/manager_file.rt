@@ -26,21 +26,14 @@ pub fn call_of(alloc: Global, act: Act, unit: &UnitName) -> Result<Call, AllocEr
     })
 }
 
-/// The error of bytes that are the text of no state, or of want of memory.
-fn error_of(fault: &StateFault) -> io::Error {
-    match fault {
-        StateFault::Memory => io::Error::from(AllocError),
-        StateFault::Line(_) => foreign(),
-    }
-}
-
 /// The state that some bytes are the text of. Any other bytes are foreign.
 fn state_of(alloc: Global, bytes: &[u8]) -> io::Result<ManagerState>
     ensures { IfOk result HasPlainTexts }
 {
     match read_state(alloc, bytes) {
         Ok(state) => Ok(state),
-        Err(fault) => Err(error_of(&fault)),
+        Err(StateFault::Memory) => Err(io::Error::from(AllocError)),
+        Err(StateFault::Line(_)) => Err(foreign()),
     }
 }
 
