@@ -53,10 +53,17 @@ impl Service {
         Ok(states?)
     }
 
-    /// Makes a call on the manager below a root.
-    fn make<R: Files>(&mut self, rt: &R, alloc: Global, root: &str, call: &Call) -> io::Result<()>
+    /// Makes a call on the manager below the root of a tree.
+    fn make<R: Files>(
+        &mut self,
+        rt: &R,
+        alloc: Global,
+        tree: &Folders,
+        call: &Call,
+    ) -> io::Result<()>
         requires { IsPlainCall call.now }
     {
+        let root = tree.root()?;
         let mut state = self.take(rt, alloc, root)?;
         step_manager(rt, alloc, root, &mut state, call)?;
         self.state = Some(state);
@@ -72,9 +79,8 @@ impl Service {
         act: Act,
         unit: &UnitName,
     ) -> io::Result<()> {
-        let root = tree.root()?;
         let call = call_of(alloc, act, unit)?;
-        self.make(rt, alloc, root, &call)
+        self.make(rt, alloc, tree, &call)
     }
 
     /// Loads the definitions to which a leaf leads, below the root of a tree.
@@ -85,8 +91,7 @@ impl Service {
         tree: &Folders,
         definitions: Option<&Leaf>,
     ) -> io::Result<()> {
-        let root = tree.root()?;
         let call = Call::DaemonReload(loaded_text(alloc, definitions)?);
-        self.make(rt, alloc, root, &call)
+        self.make(rt, alloc, tree, &call)
     }
 }

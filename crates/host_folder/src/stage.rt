@@ -25,13 +25,18 @@ fn stage_place(alloc: Global, tree: &Folders) -> io::Result<Text> {
     tree.place(alloc, &at)
 }
 
-/// Takes away what stands where a new file is to be written.
+/// Leads to where a new file is to be written, and takes away what stands there.
 fn make_room<R: Files + AllocGlobal + Clone + Drop>(
     rt: &R,
     alloc: Global,
     tree: &mut Folders,
+    stage: Stage,
     place: &str,
 ) -> io::Result<()> {
+    tree.lead_to(rt, alloc, place, Missing::IsMade)?;
+    if matches!(stage, Stage::Empty) {
+        return Ok(());
+    }
     match look(rt, place)? {
         Found::Nothing => Ok(()),
         Found::File(_) => fs::remove_file(rt, place),
@@ -51,10 +56,7 @@ fn write_at<R: Files + AllocGlobal + Clone + Drop>(
     place: &str,
     text: &[u8],
 ) -> io::Result<()> {
-    tree.lead_to(rt, alloc, place, Missing::IsMade)?;
-    if !matches!(stage, Stage::Empty) {
-        make_room(rt, alloc, tree, place)?;
-    }
+    make_room(rt, alloc, tree, *stage, place)?;
     *stage = Stage::Unseen;
     write_new(rt, place, text)?;
     *stage = Stage::Written;
@@ -99,11 +101,13 @@ fn make_way<R: Files + AllocGlobal + Clone + Drop>(
     place: &str,
 ) -> io::Result<()> {
     tree.lead_to(rt, alloc, place, Missing::IsMade)?;
-    if let Found::Folder = look(rt, place)? {
-        tree.forget();
-        clear_folder(rt, alloc, place)?;
+    match look(rt, place)? {
+        Found::Folder => {
+            tree.forget();
+            clear_folder(rt, alloc, place)
+        }
+        _ => Ok(()),
     }
-    Ok(())
 }
 
 /// Moves the stage's file from its place to another in one step.
