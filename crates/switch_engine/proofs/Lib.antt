@@ -1,5 +1,6 @@
 pub mod ActLemmas
 pub mod CallLemmas
+pub mod CauseLemmas
 pub mod DefinedLemmas
 pub mod FailedLemmas
 pub mod FinalLemmas

@@ -5,7 +5,7 @@ ghost use Rattle.switch_engine.specs.Final.{definitions_of, links_to, system_lea
 
 use host_trait::Leaf;
 use std::alloc::{AllocError, Global};
-use switch_names::{NameFault, SystemName};
+use switch_names::SystemName;
 
 /// The links to a system and to its definitions.
 pub struct Links {
@@ -29,7 +29,10 @@ impl Drop for Links {
 fn short_link(alloc: Global, target: &str) -> Result<Leaf, AllocError>
     ensures { IfOk result (λ leaf. leaf ≡ Link target.now) }
 {
-    Leaf::link(alloc, target).map_err(|_fault: NameFault| AllocError)
+    match Leaf::link(alloc, target) {
+        Ok(leaf) => Ok(leaf),
+        Err(_) => Err(AllocError),
+    }
 }
 
 /// The link to the definitions of a system.

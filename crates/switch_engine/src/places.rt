@@ -1,5 +1,5 @@
 //! The places that a switch writes, and the first that something stands in the way of.
-ghost use Rattle.std.specs.Prelude.{◌≡◌, ◌++◌, None, Some, IfOk, IsErrOf, OnOk};
+ghost use Rattle.std.specs.Prelude.{◌≡◌, ◌++◌, None, Some, IfOk, IsErrOf, OnOk, false};
 ghost use Rattle.std.specs.List.{find};
 ghost use Rattle.std.specs.Prelude.{option_map};
 ghost use Rattle.host_trait.specs.declared.tree.HostFault.TheVariants.{Device};
@@ -8,8 +8,9 @@ ghost use Rattle.host_trait.specs.Host.{Told, Passes, HasCause, HasCauseOf};
 ghost use Rattle.switch_engine.specs.declared.plan_fault.PlanFault.TheVariants.{Host, Refused};
 ghost use Rattle.switch_engine.specs.declared.refusal.Refusal.{Refusal};
 ghost use Rattle.switch_engine.specs.Final.{CanSwitch};
-ghost use Rattle.switch_engine.specs.Places.{is_in_the_way, switch_places, way_refusal, written_links, written_lists};
+ghost use Rattle.switch_engine.specs.Places.{is_in_the_way, switch_places, way_refusal, written, written_links, written_lists};
 ghost use Rattle.switch_engine.specs.Reach.{AreApartFromStage};
+ghost use Rattle.switch_engine.specs.System.{current_place};
 
 use crate::plan_fault::PlanFault;
 use crate::refusal::Refusal;
@@ -19,6 +20,16 @@ use host_trait::{HostFault, Tree, definitions_path, stage_path};
 use owed_lists::{Which, list_path};
 use std::alloc::{AllocError, Global};
 use switch_names::{Listed, Path};
+
+/// The place of the link to the system in use.
+fn current_written(alloc: Global) -> Result<WrittenPlace, AllocError>
+    ensures { IfOk result (λ place. place ≡ written false current_place) }
+{
+    Ok(WrittenPlace {
+        at: current_path(alloc)?,
+        is_read: false,
+    })
+}
 
 /// Adds both links and the stage, in byte order.
 fn add_links(alloc: Global, places: &mut Listed<WrittenPlace>) -> Result<(), AllocError>
@@ -32,10 +43,7 @@ fn add_links(alloc: Global, places: &mut Listed<WrittenPlace>) -> Result<(), All
         at: stage_path(alloc)?,
         is_read: false,
     })?;
-    places.push(WrittenPlace {
-        at: current_path(alloc)?,
-        is_read: false,
-    })
+    places.push(current_written(alloc)?)
 }
 
 /// Adds the lists in byte order.

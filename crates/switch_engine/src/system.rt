@@ -10,14 +10,16 @@ ghost use Rattle.switch_engine.specs.System.{current_place, current_system, vers
 use generations::target_of;
 use host_trait::{HostFault, Leaf, Tree, content, fixed_path};
 use std::alloc::{AllocError, Global};
-use switch_names::{NameFault, Path, SystemName};
+use switch_names::{Path, SystemName};
 
 /// The file that each built system has.
 pub fn version_path(alloc: Global, system: &SystemName) -> Result<Path, AllocError>
     ensures { IfOk result (λ path. path ≡ version_path system.now) }
 {
-    let text = format!(in alloc; "{}/nixos-version", system.as_str())?;
-    Path::parse(alloc, text.as_str()).map_err(|_fault: NameFault| AllocError)
+    match system.path().join(alloc, "nixos-version") {
+        Ok(path) => Ok(path),
+        Err(_) => Err(AllocError),
+    }
 }
 
 /// Whether a system has its file.

@@ -1,10 +1,13 @@
-use Rattle.std.proofs.Common.{List, refl, sym, subst, inl}
-use Rattle.host_trait.proofs.Moments.{goes_on_same, leads_then, started}
-use Rattle.switch_engine.specs.Final.{IsSwitchMoment, IsSwitched, entries_of}
+use Rattle.std.proofs.Common.{List, refl, sym, subst, inl, ◌≡◌, ◌↔◌, IsTrue, ap, ◌∙◌}
+use Rattle.host_trait.proofs.Moments.{goes_on_same, leads_then, started, told_after}
+use Rattle.switch_engine.specs.Final.{IsSwitchMoment, IsSwitched, entries_of, HasFailed}
 use Rattle.switch_engine.proofs.DefinedLemmas.{left_failed}
 use Rattle.switch_engine.proofs.StepLemmas.{none_entered}
 use Rattle.unit_defs.specs.declared.unit.Unit.{Unit}
 use Rattle.unit_defs.specs.Defs.{AreDefsOf}
+use Rattle.std.proofs.lemmas.Result.{err_from_is_err_and}
+use Rattle.switch_engine.proofs.CauseLemmas.{cause_end, cause_on, handed}
+use Rattle.host_trait.specs.World.{WorldState}
 use Rattle.switch_engine.proofs.carrying.carry_out.Goals as goal
 
 pub returns-in_err-links-clause-moments : goal.returns-in_err-links-clause-moments
@@ -37,3 +40,20 @@ returns-clause-verdict g c = record {
       (c.in_ok-states.ensures.states.has there.0 there.1) there.2.final in
       (λ failed. both.0 (c.has_failed-failed.ensures.0 failed), λ left. c.has_failed-failed.ensures.1 (both.1 left));
 }
+
+pub returns-clause-states : goal.returns-clause-states
+returns-clause-states g c =
+    told_after c.units.ensures.moments c.units.ensures.moments.tells (λ v. c.in_ok-states.states ≡ v.manager.states)
+    (λ w v is same. c.in_ok-states.ensures.states.has w is ∙ ap (λ (x : WorldState). x.manager.states) (sym same))
+
+pub returns-clause-failed : goal.returns-clause-failed
+returns-clause-failed g c =
+    subst (λ (units : List Unit). IsTrue c.has_failed-failed.result ↔ HasFailed units c.in_ok-states.states) c.defs.ensures c.has_failed-failed.ensures
+
+pub returns-in_err-states-clause-cause : goal.returns-in_err-states-clause-cause
+returns-in_err-states-clause-cause g c =
+    let p = err_from_is_err_and c.from_residual-in_err-states.result c.from_residual-in_err-states.ensures.1 in
+    cause_on c.switch_units.ensures.cause c.in_err-states.ensures.cause (λ e. handed _ p.0 _ _ p.1 p.2 e)
+
+pub returns-clause-cause : goal.returns-clause-cause
+returns-clause-cause g c = cause_end c.switch_units.ensures.cause c.units.ensures.cause

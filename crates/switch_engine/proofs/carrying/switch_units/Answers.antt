@@ -4,6 +4,8 @@ use Rattle.host_trait.proofs.Moments.{told_after, told_as}
 use Rattle.switch_engine.specs.Plan.{lists_of}
 use Rattle.switch_engine.specs.Steps.{AreCallsOf, CanLink}
 use Rattle.switch_engine.proofs.SwitchLemmas.{can_link, ends, first_way, rest_can, second_way, stops_can, third_way}
+use Rattle.std.proofs.lemmas.Result.{err_from_is_err_and}
+use Rattle.switch_engine.proofs.CauseLemmas.{cause_end, cause_on, cause_two, handed}
 use Rattle.switch_engine.proofs.carrying.switch_units.Goals as goal
 
 pub stop_units-requires-clause-calls : goal.stop_units-requires-clause-calls
@@ -71,3 +73,16 @@ returns-clause-moments g c =
     let recorded = told_as c.requires.planned (λ w. c.recorded.result.now ≡ lists_of plan.owed) (λ w is planned. c.recorded.ensures ∙ planned.recorded) in
     third_way plan.to plan.owed c.recorded.result.now c.args.links.now c.requires.links calls.stops.now calls.reloads.now calls.restarts.now calls.starts.now told recorded
     c.stop_units.ensures.moments c.in_ok-stop_units.ensures.ok c.load_system.ensures.moments c.in_ok-load_system.ensures.ok c.give_all.ensures.moments
+
+pub returns-in_err-load_system-clause-cause : goal.returns-in_err-load_system-clause-cause
+returns-in_err-load_system-clause-cause g c =
+    let p = err_from_is_err_and c.from_residual-in_err-load_system.result c.from_residual-in_err-load_system.ensures.1 in
+    cause_on c.stop_units.ensures.cause c.in_err-load_system.ensures.cause (λ e. handed _ p.0 _ _ p.1 p.2 e)
+
+pub returns-in_err-give_all-clause-cause : goal.returns-in_err-give_all-clause-cause
+returns-in_err-give_all-clause-cause g c =
+    let p = err_from_is_err_and c.from_residual-in_err-give_all.result c.from_residual-in_err-give_all.ensures.1 in
+    cause_on (cause_two c.stop_units.ensures.cause c.load_system.ensures.cause) c.in_err-give_all.ensures.cause (λ e. handed _ p.0 _ _ p.1 p.2 e)
+
+pub returns-clause-cause : goal.returns-clause-cause
+returns-clause-cause g c = cause_end (cause_two c.stop_units.ensures.cause c.load_system.ensures.cause) c.give_all.ensures.cause

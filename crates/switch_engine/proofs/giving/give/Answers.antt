@@ -4,6 +4,8 @@ use Rattle.host_trait.proofs.Moments.{goes_on, leads_then, passes_as}
 use Rattle.owed_lists.specs.Lists.{place_of}
 use Rattle.switch_engine.specs.Steps.{IsGiving, with_given}
 use Rattle.switch_engine.proofs.StepLemmas.{given, giving}
+use Rattle.std.proofs.lemmas.Result.{err_from_is_err_and}
+use Rattle.switch_engine.proofs.CauseLemmas.{cause_end, cause_on, handed}
 use Rattle.switch_engine.proofs.giving.give.Goals as goal
 
 pub returns-in_err-call_units-clause-moments : goal.returns-in_err-call_units-clause-moments
@@ -26,3 +28,11 @@ returns-clause-moments g c =
     goes_on c.call_units.ensures.moments c.in_ok-call_units.ensures.ok c.clear.ensures.moments (IsGiving c.args.which c.args.calls.now)
     (λ w m is moment. giving c.args.which c.args.calls.now w m moment)
     (λ w v m is is_v made moment. given c.args.which c.args.calls.now w v m made moment)
+
+pub returns-in_err-clear-clause-cause : goal.returns-in_err-clear-clause-cause
+returns-in_err-clear-clause-cause g c =
+    let p = err_from_is_err_and c.from_residual-in_err-clear.result c.from_residual-in_err-clear.ensures.1 in
+    cause_on c.call_units.ensures.cause c.in_err-clear.ensures.cause (λ e. handed _ p.0 _ _ p.1 p.2 e)
+
+pub returns-clause-cause : goal.returns-clause-cause
+returns-clause-cause g c = cause_end c.call_units.ensures.cause c.clear.ensures.cause

@@ -7,6 +7,8 @@ use Rattle.switch_engine.specs.Steps.{IsGivingAll, with_all_given, with_given}
 use Rattle.switch_engine.proofs.CallLemmas.{performed-append}
 use Rattle.switch_engine.proofs.GiveLemmas.{first_all, second_all, third_all}
 use Rattle.switch_engine.proofs.StepLemmas.{can_first, can_then}
+use Rattle.std.proofs.lemmas.Result.{err_from_is_err_and}
+use Rattle.switch_engine.proofs.CauseLemmas.{cause_end, cause_on, cause_two, handed}
 use Rattle.switch_engine.proofs.giving.give_all.Goals as goal
 
 pub give-requires : goal.give-requires
@@ -75,3 +77,16 @@ returns-clause-moments g c =
     (λ w v u is is_v made then. then ∙ ap (with_given Restarts restarts) made))
     c.give-3.ensures.moments (IsGivingAll reloads restarts starts) (λ w m is moment. moment)
     (λ w v m is is_v made moment. third_all reloads restarts starts w v made m moment)
+
+pub returns-in_err-give-2-clause-cause : goal.returns-in_err-give-2-clause-cause
+returns-in_err-give-2-clause-cause g c =
+    let p = err_from_is_err_and c.from_residual-in_err-give-2.result c.from_residual-in_err-give-2.ensures.1 in
+    cause_on c.give.ensures.cause c.in_err-give-2.ensures.cause (λ e. handed _ p.0 _ _ p.1 p.2 e)
+
+pub returns-in_err-give-3-clause-cause : goal.returns-in_err-give-3-clause-cause
+returns-in_err-give-3-clause-cause g c =
+    let p = err_from_is_err_and c.from_residual-in_err-give-3.result c.from_residual-in_err-give-3.ensures.1 in
+    cause_on (cause_two c.give.ensures.cause c.give-2.ensures.cause) c.in_err-give-3.ensures.cause (λ e. handed _ p.0 _ _ p.1 p.2 e)
+
+pub returns-clause-cause : goal.returns-clause-cause
+returns-clause-cause g c = cause_end (cause_two c.give.ensures.cause c.give-2.ensures.cause) c.give-3.ensures.cause

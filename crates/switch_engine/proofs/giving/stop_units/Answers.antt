@@ -3,6 +3,8 @@ use Rattle.host_trait.specs.World.{seen}
 use Rattle.host_trait.proofs.Moments.{goes_on, leads_then, passes_as}
 use Rattle.switch_engine.specs.Steps.{IsStopping, with_stops}
 use Rattle.switch_engine.proofs.StepLemmas.{recording, stopped_world, stopping}
+use Rattle.std.proofs.lemmas.Result.{err_from_is_err_and}
+use Rattle.switch_engine.proofs.CauseLemmas.{cause_end, cause_on, handed}
 use Rattle.switch_engine.proofs.giving.stop_units.Goals as goal
 
 pub returns-in_err-record-clause-moments : goal.returns-in_err-record-clause-moments
@@ -27,3 +29,14 @@ returns-clause-moments g c =
     let lists = c.args.lists.now in let stops = c.args.stops.now in
     goes_on c.record.ensures.moments c.in_ok-record.ensures.ok c.call_units.ensures.moments (IsStopping lists stops)
     (λ w m is moment. recording lists stops w m moment) (λ w v m is is_v came moment. stopping lists stops w v m came moment)
+
+pub record-requires : goal.record-requires
+record-requires g c = c.requires.lists
+
+pub returns-in_err-call_units-clause-cause : goal.returns-in_err-call_units-clause-cause
+returns-in_err-call_units-clause-cause g c =
+    let p = err_from_is_err_and c.from_residual-in_err-call_units.result c.from_residual-in_err-call_units.ensures.1 in
+    cause_on c.record.ensures.cause c.in_err-call_units.ensures.cause (λ e. handed _ p.0 _ _ p.1 p.2 e)
+
+pub returns-clause-cause : goal.returns-clause-cause
+returns-clause-cause g c = cause_end c.record.ensures.cause c.call_units.ensures.cause

@@ -1,8 +1,9 @@
-use Rattle.std.proofs.Common.{◌≡◌, ℕ, None, Some, option_map, ap, ◌∙◌}
+use Rattle.std.proofs.Common.{◌≡◌, ℕ, None, Some, option_map, ap, ◌∙◌, Err}
 use Rattle.host_trait.proofs.Moments.{told_as}
 use Rattle.switch_names.specs.Names.{Name}
 use Rattle.switch_engine.specs.declared.refusal.Refusal.TheVariants.{UnitText}
 use Rattle.switch_engine.specs.System.{unit_refusal}
+use Rattle.switch_engine.proofs.CauseLemmas.{refused_is}
 use Rattle.switch_engine.proofs.known.read_new.Goals as goal
 
 pub returns-in-Ok-clause-not_refused : goal.returns-in-Ok-clause-not_refused
@@ -12,6 +13,5 @@ returns-in-Ok-clause-not_refused g c =
 
 pub returns-in-Err-Text-clause-refused : goal.returns-in-Err-Text-clause-refused
 returns-in-Err-Text-clause-refused g c why e =
-    told_as (c.in-Err-Text.ensures.faulty c.in-Err-Text.unit c.in-Err-Text.line (cc)) (λ w. unit_refusal w.leaves c.args.system.now ≡ Some why)
-    (λ w is fault. ap (option_map (λ (fault : Name × ℕ). UnitText fault.0 fault.1)) fault
-    ∙ ap Some (let same : UnitText c.in-Err-Text.unit c.in-Err-Text.line ≡ why = cc in same))
+    told_as (c.in-Err-Text.ensures.faulty c.in-Err-Text.unit c.in-Err-Text.line (ap (λ f. Err f) c.in-Err-Text.field-0-is)) (λ w. unit_refusal w.leaves c.args.system.now ≡ Some why)
+    (λ w is fault. ap (option_map (λ (fault : Name × ℕ). UnitText fault.0 fault.1)) fault ∙ ap Some (refused_is (UnitText c.in-Err-Text.unit c.in-Err-Text.line) why e))

@@ -6,6 +6,8 @@ use Rattle.tree_put.specs.Put.{CanPut}
 use Rattle.switch_engine.specs.Steps.{with_links}
 use Rattle.switch_engine.specs.System.{current_place}
 use Rattle.switch_engine.proofs.StepLemmas.{can_current, linked_world, linking_on}
+use Rattle.std.proofs.lemmas.Result.{err_from_is_err_and}
+use Rattle.switch_engine.proofs.CauseLemmas.{cause_end, cause_on, handed}
 use Rattle.switch_engine.proofs.linking.put_links.Goals as goal
 
 pub put_definitions-requires : goal.put_definitions-requires
@@ -26,3 +28,11 @@ returns-clause-ok g c =
 
 pub returns-clause-moments : goal.returns-clause-moments
 returns-clause-moments g c = linking_on c.put_definitions.ensures.moments c.put_current.ensures.moments
+
+pub returns-in_err-put_current-clause-cause : goal.returns-in_err-put_current-clause-cause
+returns-in_err-put_current-clause-cause g c =
+    let p = err_from_is_err_and c.from_residual-in_err-put_current.result c.from_residual-in_err-put_current.ensures.1 in
+    cause_on c.put_definitions.ensures.cause c.in_err-put_current.ensures.cause (λ e. handed _ p.0 _ _ p.1 p.2 e)
+
+pub returns-clause-cause : goal.returns-clause-cause
+returns-clause-cause g c = cause_end c.put_definitions.ensures.cause c.put_current.ensures.cause

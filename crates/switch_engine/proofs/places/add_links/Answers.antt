@@ -9,5 +9,5 @@ unfolding written_links
 returns c =
     on_ok_weaker c.push-3.result (λ pushed.
     three_more _ _ _ _ _ _ _ c.in_ok-push.ensures.ok c.in_ok-push-2.ensures.ok pushed
-    ∙ (λ i. c.args.places.now ++ written false (c.in_ok-definitions_path.ensures i) ∷ written false (c.in_ok-stage_path.ensures i) ∷ written false (c.in_ok-current_path.ensures i) ∷ []))
+    ∙ (λ i. c.args.places.now ++ written false (c.in_ok-definitions_path.ensures i) ∷ written false (c.in_ok-stage_path.ensures i) ∷ c.in_ok-current_written.ensures i ∷ []))
     c.push-3.ensures.ok

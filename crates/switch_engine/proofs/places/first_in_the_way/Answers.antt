@@ -40,3 +40,9 @@ loop-place-preserved g c =
             (sym (told.has w is) ∙ c.if-branch.false) ∙ c.loop-place.invariant.first.has w is;
       };
     }
+
+pub is_in_the_way-requires : goal.is_in_the_way-requires
+is_in_the_way-requires g c = grind (arith, common_steps)
+
+pub returns-clause-first : goal.returns-clause-first
+returns-clause-first g c = grind (arith, common_steps)

@@ -1,10 +1,12 @@
 use Rattle.std.proofs.Common.{◌≡◌, Err, None, Some, sym, ap, ◌∙◌}
 use Rattle.std.proofs.lemmas.Result.{err_from_is_err_and}
 use Rattle.host_trait.proofs.Moments.{told_as, told_before}
-use Rattle.switch_engine.specs.declared.plan_fault.PlanFault.TheVariants.{Refused}
+use Rattle.switch_engine.specs.declared.plan_fault.PlanFault.TheVariants.{Refused, Host}
 use Rattle.switch_engine.specs.Plan.{IsPlanOf}
 use Rattle.switch_engine.specs.Refusals.{switch_refusal}
 use Rattle.switch_engine.proofs.KnownLemmas.{plan_is, same_fault, same_on, units_refused, way_refused}
+use Rattle.host_trait.specs.declared.tree.HostFault.TheVariants.{Device, Memory}
+use Rattle.switch_engine.proofs.CauseLemmas.{cause_of, causes, handed, host_no_refusal, memory_no_device, no_err}
 use Rattle.switch_engine.proofs.planning.plan_switch.Goals as goal
 
 pub returns-in_err-check_way-clause-refused : goal.returns-in_err-check_way-clause-refused
@@ -47,3 +49,29 @@ returns-clause-not_refused g c =
 
 pub returns-clause-moments : goal.returns-clause-moments
 returns-clause-moments g c = same_on (same_on c.has_version.ensures.moments c.check_way.ensures.moments) c.read_known.ensures.moments
+
+pub returns-in_err-check_way-clause-cause : goal.returns-in_err-check_way-clause-cause
+returns-in_err-check_way-clause-cause g c =
+    let p = err_from_is_err_and c.from_residual-in_err-check_way.result c.from_residual-in_err-check_way.ensures.1 in
+    causes (cause_of c.has_version.ensures.cause) c.in_err-check_way.ensures.cause (λ e. handed _ p.0 _ _ p.1 p.2 e)
+
+pub returns-in_err-known-clause-cause : goal.returns-in_err-known-clause-cause
+returns-in_err-known-clause-cause g c =
+    let p = err_from_is_err_and c.from_residual-in_err-known.result c.from_residual-in_err-known.ensures.1 in
+    causes (causes (cause_of c.has_version.ensures.cause) c.check_way.ensures.cause (λ e. e)) c.in_err-known.ensures.cause (λ e. handed _ p.0 _ _ p.1 p.2 e)
+
+pub returns-in_err-plan-clause-cause : goal.returns-in_err-plan-clause-cause
+returns-in_err-plan-clause-cause g c =
+    let p = err_from_is_err_and c.from_residual-in_err-plan.result c.from_residual-in_err-plan.ensures.1 in
+    causes (causes (cause_of c.has_version.ensures.cause) c.check_way.ensures.cause (λ e. e)) c.read_known.ensures.cause (λ e. absurd (memory_no_device c.from_residual-in_err-plan.result p.0 p.1 p.2 e))
+
+pub returns-in_err-plan-clause-refused : goal.returns-in_err-plan-clause-refused
+returns-in_err-plan-clause-refused g c why e =
+    let p = err_from_is_err_and c.from_residual-in_err-plan.result c.from_residual-in_err-plan.ensures.1 in
+    absurd (host_no_refusal c.from_residual-in_err-plan.result p.0 Memory why p.1 p.2 e)
+
+pub returns-clause-refused : goal.returns-clause-refused
+returns-clause-refused g c why e = absurd (no_err c.in_ok-plan.plan (Refused why) e)
+
+pub returns-clause-cause : goal.returns-clause-cause
+returns-clause-cause g c = causes (causes (cause_of c.has_version.ensures.cause) c.check_way.ensures.cause (λ e. e)) c.read_known.ensures.cause (λ e. absurd (no_err c.in_ok-plan.plan (Host Device) e))
