@@ -1,6 +1,6 @@
 -- The lines of the units that have failed, one after another.
-use Rattle.std.proofs.Common.{◌≡◌, ℕ, ◌+◌, ◌++◌, false, cond, List, [], ◌∷◌, Some, ap, codes, drop, filter, map, subst, sym, take, ◌∙◌}
-use Rattle.std.proofs.lemmas.List.{map-append, take-append-drop, take_more}
+use Rattle.std.proofs.Common.{◌≡◌, ℕ, ◌+◌, ◌++◌, true, false, cond, List, [], ◌∷◌, Some, ap, codes, drop, filter, map, subst, sym, take, ◌∙◌}
+use Rattle.std.proofs.lemmas.List.{append-nil, map-append, take-append-drop, take_more}
 use Rattle.std.proofs.lemmas.List.Concat.{flat_map-append}
 use Rattle.std.proofs.lemmas.List.Elements.{filter-append}
 use Rattle.std.proofs.lemmas.Option.{get_or_from_slice_get, slice_get_within}
@@ -71,3 +71,9 @@ lines_part defs states part = first_part (failed_lines defs (listed_states state
 -- a unit that hasn't failed has no line
 pub none_failed : (defs : List Unit) (one : UnitState) → is_failed_of defs one ≡ false → [] ≡ failed_lines defs (one ∷ [])
 none_failed defs one is = sym (ap (λ b. flat_map (line (codes "failed")) (map (λ (o : UnitState). o.unit) (cond b (one ∷ []) []))) is)
+
+-- a unit that has failed has its line
+pub one_failed : (defs : List Unit) (one : UnitState) → is_failed_of defs one ≡ true → line (codes "failed") one.unit ≡ failed_lines defs (one ∷ [])
+one_failed defs one is =
+    sym (append-nil (line (codes "failed") one.unit))
+    ∙ sym (ap (λ b. flat_map (line (codes "failed")) (map (λ (o : UnitState). o.unit) (cond b (one ∷ []) []))) is)

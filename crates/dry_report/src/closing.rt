@@ -22,8 +22,7 @@ fn put_failed<S: Sink>(out: &mut S, unit: &UnitName) -> Result<(), SinkFault>
 {
     out.put(b"failed ")?;
     out.put(unit.as_str().as_bytes())?;
-    out.put(b"\n")?;
-    Ok(())
+    out.put(b"\n")
 }
 
 /// Puts the line of a unit, where that has failed and the system defines it.

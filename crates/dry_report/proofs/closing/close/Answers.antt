@@ -1,4 +1,5 @@
-use Rattle.std.proofs.Common.{◌∙◌}
+use Rattle.std.proofs.Common.{arith, ◌∙◌}
+use Rattle.std.proofs.lemmas.Grind.{common_steps}
 use Rattle.dry_report.proofs.CloseLemmas.{closing_part, lines_part, same_lines}
 use Rattle.dry_report.proofs.PutLemmas.{same_part, same_text}
 use Rattle.dry_report.proofs.closing.close.Goals as goal
@@ -17,3 +18,6 @@ pub returns-in_err-put_all_failed-clause-prefix : goal.returns-in_err-put_all_fa
 returns-in_err-put_all_failed-clause-prefix g c =
     let lines = same_lines c.defs.ensures (c.as_slice.ensures ∙ c.list.ensures.list) in
     lines_part c.args.plan.now.defs c.args.outcome.now.states (same_part lines c.put_all_failed.ensures.prefix)
+
+pub returns-clause-ok : goal.returns-clause-ok
+returns-clause-ok g c = grind (arith, common_steps) steps 500000

@@ -4,3 +4,6 @@ use Rattle.dry_report.proofs.reporting.write_left.Goals as goal
 
 pub loop-unit-preserved : goal.loop-unit-preserved
 loop-unit-preserved c = grind (arith, common_steps)
+
+pub returns : goal.returns
+returns c = grind (arith, common_steps)
