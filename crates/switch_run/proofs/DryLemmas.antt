@@ -4,9 +4,7 @@ use Rattle.std.proofs.lemmas.List.{append-nil}
 use Rattle.host_trait.specs.declared.tree.HostFault.TheVariants.{Memory, Device}
 use Rattle.host_trait.specs.Host.{HasCauseOf, HostState}
 use Rattle.host_trait.specs.Sink.{IsPrefixOf}
-use Rattle.host_trait.specs.States.{state_of}
 use Rattle.host_trait.specs.World.{WorldState, seen}
-use Rattle.owed_plan.specs.Calls.{calls_of}
 use Rattle.switch_engine.specs.declared.command.Command.TheVariants.{Test, DryActivate}
 use Rattle.switch_engine.specs.declared.plan.Plan.{Plan}
 use Rattle.switch_engine.specs.Plan.{IsPlanOf}

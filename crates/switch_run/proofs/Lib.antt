@@ -1,3 +1,4 @@
+pub mod CauseLemmas
 pub mod DryLemmas
 pub mod LawLemmas
 pub mod OutputLemmas

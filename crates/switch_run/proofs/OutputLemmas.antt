@@ -1,13 +1,13 @@
 -- What is put out, one text after another.
-use Rattle.std.proofs.Common.{◌≡◌, ℕ, List, [], ◌++◌, Result, Err, IsErrOf, refl, sym, ap, subst, ◌∙◌, inl, inr}
-use Rattle.host_trait.specs.Sink.{IsPrefixOf}
+use Rattle.std.proofs.Common.{◌≡◌, ℕ, List, [], ◌++◌, Result, Ok, Err, IsErrOf, OnOk, refl, sym, ap, subst, ◌∙◌, inl, inr}
+use Rattle.host_trait.specs.Sink.{IsPrefixOf, Puts, SinkState}
 use Rattle.switch_engine.specs.declared.refusal.Refusal.{Refusal}
 use Rattle.dry_report.specs.Close.{closing}
 use Rattle.switch_run.specs.declared.run_fault.RunFault.{RunFault}
 use Rattle.switch_run.specs.declared.run_fault.RunFault.TheVariants as fault
 use Rattle.switch_run.specs.Outcomes.{IsBootOutput}
 use Rattle.switch_run.specs.Run.{IsHostFault}
-use Rattle.dry_report.proofs.PutLemmas.{first_prefix}
+use Rattle.dry_report.proofs.PutLemmas.{both_texts, first_prefix, then_part}
 pub use Rattle.dry_report.proofs.PutLemmas.{puts_as, puts_nothing, puts_then}
 
 -- a beginning of the report is one of all that is put
@@ -45,3 +45,10 @@ pub nothing_output : (y : RunFault) (text : List ℕ) → IsBootOutput (Err y) t
 nothing_output (fault.Refused why) text = refl
 nothing_output (fault.Host why) text = inl refl
 nothing_output fault.Sink text = (text ++ closing, refl)
+
+-- the report was put, and then the closing text or a beginning of it
+pub boot_output : {a b c : SinkState} (r : Result (Unit {0}) RunFault) (text : List ℕ) → Puts a b (λ more. more ≡ text) → OnOk r (Puts b c (λ more. more ≡ closing)) →
+    Puts b c (IsPrefixOf closing) → ((y : RunFault) → IsErrOf r y → y ≡ fault.Sink) → Puts a c (IsBootOutput r text)
+boot_output (Ok x) text first whole part only = both_texts text closing first whole
+boot_output (Err y) text first whole part only =
+    puts_as (then_part text closing first part) (IsBootOutput (Err y) text) (λ more is. sink_output (Err y) y text more refl (only y refl) is)

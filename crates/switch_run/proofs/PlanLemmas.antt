@@ -36,6 +36,15 @@ pub apart_next : (places : List (List ℕ)) (i : ℕ) (place : List ℕ) → i <
 apart_next places i place inside is apart =
     let both : AreApartFromStage (place ∷ drop (i + 1) places) = subst AreApartFromStage (from_here places i place inside is) apart in both.1
 
+pub apart_here : (places : List (List ℕ)) (i : ℕ) (place : List ℕ) → i < length places → place ≡ get_or places i place → AreApartFromStage (drop i places) → is_in_line stage place ≡ false
+apart_here places i place inside is apart =
+    let both : AreApartFromStage (place ∷ drop (i + 1) places) = subst AreApartFromStage (from_here places i place inside is) apart in both.0
+
+-- the first of them that passes a test, where the place from here does
+pub first_here : (test : List ℕ → Bool) (places : List (List ℕ)) (i : ℕ) (place : List ℕ) → i < length places → place ≡ get_or places i place → test place ≡ true → find test (drop i places) ≡ Some place
+first_here test places i place inside is blocked =
+    ap (find test) (from_here places i place inside is) ∙ ap (λ b. cond b (Some place) (find test (drop (i + 1) places))) blocked
+
 pub first_next : (test : List ℕ → Bool) (places : List (List ℕ)) (i : ℕ) (place : List ℕ) → i < length places → place ≡ get_or places i place → test place ≡ false →
     find test (drop (i + 1) places) ≡ find test (drop i places)
 first_next test places i place inside is free =

@@ -3,7 +3,6 @@ use Rattle.std.proofs.Common.{◌≡◌, ◌↔◌, ℕ, Bool, true, false, IsTr
 use Rattle.host_trait.specs.declared.tree.HostFault.TheVariants as host
 use Rattle.std.proofs.lemmas.List.{append-nil}
 use Rattle.host_trait.specs.Host.{HostState, Told}
-use Rattle.host_trait.specs.Sink.{IsPrefixOf}
 use Rattle.host_trait.specs.World.{WorldState}
 use Rattle.host_trait.proofs.Moments.{told_as}
 use Rattle.generations.specs.Places.{number_after}
@@ -13,7 +12,6 @@ use Rattle.switch_engine.specs.declared.refusal.Refusal.{Refusal}
 use Rattle.dry_report.specs.Close.{closing}
 use Rattle.switch_run.specs.declared.run_fault.RunFault.{RunFault}
 use Rattle.switch_run.specs.declared.run_fault.RunFault.TheVariants as fault
-use Rattle.switch_run.specs.declared.status.Status.{Status}
 use Rattle.switch_run.specs.declared.status.Status.TheVariants.{Done, Usage, Refused, HostFault, SinkFault, UnitsFailed, NoMemory}
 use Rattle.switch_run.specs.Boot.{boot_report}
 use Rattle.switch_run.specs.Outcomes.{IsBegun, IsBootOutput, IsDryOutput, IsEnded, IsOutputOf, IsTestOutput, IsVerdict, IsWhole, LeavesFailed}

@@ -77,6 +77,5 @@ pub fn carry_out<T: Tree, S: Sink>(
 {
     put_text(out, plan.report.as_str())?;
     set_profile(alloc, host, plan, system)?;
-    put_text(out, CLOSING)?;
-    Ok(())
+    put_text(out, CLOSING)
 }

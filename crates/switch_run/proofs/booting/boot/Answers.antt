@@ -16,6 +16,7 @@ use Rattle.switch_run.specs.Run.{IsCommandMoment}
 use Rattle.switch_run.proofs.OutputLemmas.{nothing_output, puts_as, puts_nothing, same_fault}
 use Rattle.switch_run.proofs.ResultLemmas.{on_ok_always, on_ok_as}
 use Rattle.switch_run.proofs.UnderwayLemmas.{boot_begins, boot_end, boot_moment}
+use Rattle.switch_run.proofs.CauseLemmas.{cause_then}
 use Rattle.switch_run.proofs.booting.boot.Goals as goal
 
 pub returns-in_err-plan-clause-refused_output : goal.returns-in_err-plan-clause-refused_output
@@ -103,3 +104,9 @@ returns-in_err-plan-clause-begins g c = record { has = λ w is. begins c.args.sy
 
 pub returns-clause-begins : goal.returns-clause-begins
 returns-clause-begins g c = record { has = λ w is. begins c.args.system.now c.path-path.ensures.names w }
+
+pub returns-clause-cause : goal.returns-clause-cause
+returns-clause-cause g c = cause_then c.plan_boot.ensures.cause c.carry_out.ensures.cause
+
+pub returns-clause-sink_cause : goal.returns-clause-sink_cause
+returns-clause-sink_cause g c = c.carry_out.ensures.sink_cause

@@ -6,10 +6,12 @@ use Rattle.host_trait.proofs.Moments.{started}
 use Rattle.generations.specs.Set.{IsSetMoment}
 use Rattle.switch_run.specs.Outcomes.{IsBootOutput}
 use Rattle.switch_run.specs.Run.{IsHostFault}
-use Rattle.switch_run.specs.declared.run_fault.RunFault.TheVariants.{Refused, Sink}
-use Rattle.switch_run.proofs.OutputLemmas.{host_output, no_refusal, no_sink, puts_as, report_prefix, same_fault, sink_output}
-use Rattle.dry_report.specs.Close.{closing}
-use Rattle.dry_report.proofs.PutLemmas.{both_texts, same_text, then_part}
+use Rattle.switch_run.specs.declared.run_fault.RunFault.TheVariants.{Refused, Sink, Host}
+use Rattle.switch_run.proofs.OutputLemmas.{host_output, no_refusal, no_sink, puts_as, report_prefix, same_fault, sink_output, boot_output}
+use Rattle.dry_report.proofs.PutLemmas.{same_text}
+use Rattle.switch_run.proofs.CauseLemmas.{cause_as, sink_no_host, sink_no_refusal, sink_then}
+use Rattle.host_trait.specs.declared.tree.HostFault.TheVariants.{Device}
+use Rattle.switch_run.proofs.ResultLemmas.{on_ok_always}
 use Rattle.switch_run.proofs.carrying.carry_out.Goals as goal
 
 pub returns-in_err-put_text-clause-output : goal.returns-in_err-put_text-clause-output
@@ -50,15 +52,24 @@ returns-in_err-set_profile-clause-sink_cause g c =
       rose = λ e. absurd (no_sink p.0 (subst IsHostFault (sym p.2) (c.in_err-set_profile.ensures.only c.in_err-set_profile.field-0.0 refl)) (same_fault p.0 Sink (sym p.1 ∙ e)));
     }
 
-pub returns-in_err-put_text-2-clause-sink_world : goal.returns-in_err-put_text-2-clause-sink_world
-returns-in_err-put_text-2-clause-sink_world g c e = inr c.in_ok-set_profile.ensures.ok
-
-pub returns-in_err-put_text-2-clause-output : goal.returns-in_err-put_text-2-clause-output
-returns-in_err-put_text-2-clause-output g c =
-    let p = err_from_is_err_and c.from_residual-in_err-put_text-2.result c.from_residual-in_err-put_text-2.ensures.1 in
-    let report = c.args.plan.now.report in
-    puts_as (then_part report closing (same_text c.as_str.ensures c.in_ok-put_text.ensures.ok) c.put_text-2.ensures.prefix) (IsBootOutput c.from_residual-in_err-put_text-2.result report)
-    (λ more is. sink_output c.from_residual-in_err-put_text-2.result p.0 report more p.1 (p.2 ∙ c.in_err-put_text-2.ensures.only c.in_err-put_text-2.field-0.0 refl) is)
+pub returns-clause-ok : goal.returns-clause-ok
+returns-clause-ok g c = on_ok_always c.put_text-2.result _ c.in_ok-set_profile.ensures.ok
 
 pub returns-clause-output : goal.returns-clause-output
-returns-clause-output g c = both_texts c.args.plan.now.report closing (same_text c.as_str.ensures c.in_ok-put_text.ensures.ok) c.in_ok-put_text-2.ensures.ok
+returns-clause-output g c =
+    boot_output c.put_text-2.result c.args.plan.now.report (same_text c.as_str.ensures c.in_ok-put_text.ensures.ok) c.put_text-2.ensures.ok c.put_text-2.ensures.prefix c.put_text-2.ensures.only
+
+pub returns-clause-not_refused : goal.returns-clause-not_refused
+returns-clause-not_refused g c why e = sink_no_refusal why (c.put_text-2.ensures.only (Refused why) e)
+
+pub returns-clause-sink_world : goal.returns-clause-sink_world
+returns-clause-sink_world g c e = inr c.in_ok-set_profile.ensures.ok
+
+pub returns-clause-moments : goal.returns-clause-moments
+returns-clause-moments g c = c.set_profile.ensures.moments
+
+pub returns-clause-cause : goal.returns-clause-cause
+returns-clause-cause g c = cause_as c.set_profile.ensures.cause (λ e. absurd (sink_no_host Device (c.put_text-2.ensures.only (Host Device) e)))
+
+pub returns-clause-sink_cause : goal.returns-clause-sink_cause
+returns-clause-sink_cause g c = sink_then c.put_text.ensures.cause c.put_text-2.ensures.cause

@@ -59,3 +59,6 @@ returns-clause-output g c = told_as c.in_ok-plan.ensures.plan (λ w. Puts (g.S.S
 
 pub returns-clause-cause : goal.returns-clause-cause
 returns-clause-cause g c = put_cause c.put_report.result c.plan_units.ensures.cause c.put_report.ensures.only
+
+pub returns-clause-sink_cause : goal.returns-clause-sink_cause
+returns-clause-sink_cause g c = c.put_report.ensures.sink_cause

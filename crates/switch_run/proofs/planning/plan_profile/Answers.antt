@@ -6,6 +6,7 @@ use Rattle.host_trait.proofs.Moments.{same_then, told_after, told_before}
 use Rattle.generations.specs.Gens.{IsGensOf}
 use Rattle.switch_run.specs.Boot.{IsPlanOf}
 use Rattle.switch_run.proofs.ResultLemmas.{if_ok_as}
+use Rattle.switch_run.proofs.CauseLemmas.{cause_of, cause_then}
 use Rattle.switch_run.proofs.planning.plan_profile.Goals as goal
 use Rattle.std.proofs.Common.{subst, sym}
 
@@ -22,3 +23,9 @@ returns-clause-refused g c why is = told_before c.all.ensures.moments (c.plan_se
 
 pub returns-clause-moments : goal.returns-clause-moments
 returns-clause-moments g c = same_then c.all.ensures.moments c.plan_set.ensures.moments IsSame (λ w is. refl) (λ w m is same. same)
+
+pub returns-clause-cause : goal.returns-clause-cause
+returns-clause-cause g c = cause_then (cause_of _ c.all.ensures.cause (λ e. e)) c.plan_set.ensures.cause
+
+pub returns-clause-no_output : goal.returns-clause-no_output
+returns-clause-no_output g c e = c.plan_set.ensures.no_output e

@@ -12,6 +12,7 @@ use Rattle.switch_run.specs.declared.run_fault.RunFault.{RunFault}
 use Rattle.switch_run.specs.declared.run_fault.RunFault.TheVariants.{Refused, Host, Sink}
 use Rattle.switch_run.proofs.OutputLemmas.{puts_as, puts_then, same_fault}
 use Rattle.switch_run.proofs.SwitchLemmas.{as_test, closing_begun, closing_is, ends, report_alone, same_cause, verdict, whole_is}
+use Rattle.switch_run.proofs.CauseLemmas.{cause_of, host_is, ok_no_fault, sink_after, sink_no_host, sink_no_refusal}
 use Rattle.switch_run.proofs.switching.carry_planned.Goals as goal
 
 pub returns-in_err-put_report-clause-sink_world : goal.returns-in_err-put_report-clause-sink_world
@@ -101,3 +102,33 @@ returns-clause-output g c =
 pub returns-clause-moments : goal.returns-clause-moments
 returns-clause-moments g c = passes_as c.carry_out.ensures.moments (IsCallMoment (Test c.args.plan.now.to))
     (λ w m is moment. inr (c.args.plan.now.owed, (c.requires.plan.has w is).owed, moment))
+
+pub returns-clause-sink_cause : goal.returns-clause-sink_cause
+returns-clause-sink_cause g c = sink_after _ c.put_report.ensures.sink_cause c.close.ensures.cause (λ e. absurd (ok_no_fault _ Sink e))
+
+pub returns-clause-sink_world : goal.returns-clause-sink_world
+returns-clause-sink_world g c e = absurd (ok_no_fault _ Sink e)
+
+pub returns-clause-not_refused : goal.returns-clause-not_refused
+returns-clause-not_refused g c why e = ok_no_fault _ (Refused why) e
+
+pub returns-clause-cause : goal.returns-clause-cause
+returns-clause-cause g c = cause_of _ c.carry_out.ensures.cause (λ e. absurd (ok_no_fault _ (Host Device) e))
+
+pub returns-in_err-close-clause-cause : goal.returns-in_err-close-clause-cause
+returns-in_err-close-clause-cause g c =
+    let p = err_from_is_err_and c.from_residual-in_err-close.result c.from_residual-in_err-close.ensures.1 in
+    cause_of _ c.carry_out.ensures.cause (λ e. absurd (sink_no_host Device (sym (same_fault p.0 (Host Device) (sym p.1 ∙ e)) ∙ p.2)))
+
+pub returns-in_err-close-clause-not_refused : goal.returns-in_err-close-clause-not_refused
+returns-in_err-close-clause-not_refused g c why e =
+    let p = err_from_is_err_and c.from_residual-in_err-close.result c.from_residual-in_err-close.ensures.1 in
+    sink_no_refusal why (sym (same_fault p.0 (Refused why) (sym p.1 ∙ e)) ∙ p.2)
+
+pub returns-in_err-close-clause-sink_cause : goal.returns-in_err-close-clause-sink_cause
+returns-in_err-close-clause-sink_cause g c = sink_after _ c.put_report.ensures.sink_cause c.in_err-close.ensures.cause (λ e. refl)
+
+pub returns-in_err-outcome-clause-cause : goal.returns-in_err-outcome-clause-cause
+returns-in_err-outcome-clause-cause g c =
+    let p = err_from_is_err_and c.from_residual-in_err-outcome.result c.from_residual-in_err-outcome.ensures.1 in
+    cause_of _ c.in_err-outcome.ensures.cause (λ e. ap (λ f. Err f) (host_is c.in_err-outcome.field-0.0 Device p.0 p.2 (same_fault p.0 (Host Device) (sym p.1 ∙ e))))

@@ -16,6 +16,7 @@ use Rattle.switch_run.proofs.OutputLemmas.{puts_nothing, same_fault}
 use Rattle.switch_run.proofs.ResultLemmas.{if_ok_as, on_ok_always, on_ok_as}
 use Rattle.switch_run.proofs.SwitchLemmas.{nothing_test, same_end, test_moment}
 use Rattle.switch_run.proofs.UnderwayLemmas.{test_begins}
+use Rattle.switch_run.proofs.CauseLemmas.{cause_then}
 use Rattle.switch_run.proofs.switching.test_system.Goals as goal
 
 pub returns-in_err-plan-clause-refused : goal.returns-in_err-plan-clause-refused
@@ -111,3 +112,9 @@ returns-clause-moments g c =
     (λ w is. test_begins (named_system c.args.command.now) w)
     (λ w m is moment. test_moment (named_system c.args.command.now) w m (c.in_ok-plan.ensures.not_refused.has w is)
     (subst (λ s. IsCallMoment (Test s) w m) (c.in_ok-plan.ensures.plan.has w is).to moment))
+
+pub returns-clause-cause : goal.returns-clause-cause
+returns-clause-cause g c = cause_then c.plan_units.ensures.cause c.carry_planned.ensures.cause
+
+pub returns-clause-sink_cause : goal.returns-clause-sink_cause
+returns-clause-sink_cause g c = c.carry_planned.ensures.sink_cause
