@@ -22,12 +22,14 @@ find_program "$@"
 
 # Builds the program that reads alone in a scratch copy of the crates.
 build() {
-    local crate
+    local crate part
     mkdir -p "$work/copy/crates/read_systems/src" "$work/empty"
     cp "$here/HANDLES" "$work/copy/"
-    for crate in switch_names unit_text host_trait unit_defs manager_core tree_put owed_lists node_text host_folder; do
+    for crate in switch_names unit_text host_trait unit_defs manager_core tree_put owed_lists node_text host_files host_folder; do
         mkdir "$work/copy/crates/$crate"
-        cp -r "$here/crates/$crate/src" "$here/crates/$crate/specs" "$here/crates/$crate/proofs" "$work/copy/crates/$crate/"
+        for part in src specs proofs; do
+            [ ! -d "$here/crates/$crate/$part" ] || cp -r "$here/crates/$crate/$part" "$work/copy/crates/$crate/"
+        done
         grep "^$crate:" "$here/crates.txt" >>"$work/copy/crates.txt"
     done
     echo "read_systems: host_folder owed_lists unit_defs host_trait switch_names" >>"$work/copy/crates.txt"

@@ -20,12 +20,14 @@ fi
 
 # Builds the program in a scratch copy of the crates.
 build() {
-    local crate
+    local crate part
     mkdir -p "$work/copy/crates/read_units/src" "$work/empty"
     cp "$here/HANDLES" "$work/copy/"
     for crate in switch_names unit_text; do
         mkdir "$work/copy/crates/$crate"
-        cp -r "$here/crates/$crate/src" "$here/crates/$crate/specs" "$here/crates/$crate/proofs" "$work/copy/crates/$crate/"
+        for part in src specs proofs; do
+            [ ! -d "$here/crates/$crate/$part" ] || cp -r "$here/crates/$crate/$part" "$work/copy/crates/$crate/"
+        done
         grep "^$crate:" "$here/crates.txt" >>"$work/copy/crates.txt"
     done
     echo "read_units: unit_text" >>"$work/copy/crates.txt"
