@@ -7,12 +7,8 @@ use Rattle.switch_run.specs.declared.run_fault.RunFault.{RunFault}
 use Rattle.switch_run.specs.declared.run_fault.RunFault.TheVariants as fault
 use Rattle.switch_run.specs.Outcomes.{IsBootOutput}
 use Rattle.switch_run.specs.Run.{IsHostFault}
-use Rattle.dry_report.proofs.PutLemmas.{both_texts, first_prefix, then_part}
+use Rattle.dry_report.proofs.PutLemmas.{both_texts, then_part}
 pub use Rattle.dry_report.proofs.PutLemmas.{puts_as, puts_nothing, puts_then}
-
--- a beginning of the report is one of all that is put
-pub report_prefix : (text more : List ℕ) → IsPrefixOf text more → IsPrefixOf (text ++ closing) more
-report_prefix text more is = first_prefix text closing more is
 
 -- a fault of the output
 pub sink_output : (result : Result (Unit {0}) RunFault) (y : RunFault) (text more : List ℕ) → result ≡ Err y → y ≡ fault.Sink → IsPrefixOf (text ++ closing) more → IsBootOutput result text more

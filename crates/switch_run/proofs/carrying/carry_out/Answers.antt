@@ -3,12 +3,13 @@ use Rattle.std.proofs.lemmas.Result.{err_from_is_err_and}
 use Rattle.host_trait.specs.Change.{IsSame}
 use Rattle.host_trait.specs.Sink.{IsPrefixOf}
 use Rattle.host_trait.proofs.Moments.{started}
+use Rattle.dry_report.specs.Close.{closing}
 use Rattle.generations.specs.Set.{IsSetMoment}
 use Rattle.switch_run.specs.Outcomes.{IsBootOutput}
 use Rattle.switch_run.specs.Run.{IsHostFault}
 use Rattle.switch_run.specs.declared.run_fault.RunFault.TheVariants.{Refused, Sink, Host}
-use Rattle.switch_run.proofs.OutputLemmas.{host_output, no_refusal, no_sink, puts_as, report_prefix, same_fault, sink_output, boot_output}
-use Rattle.dry_report.proofs.PutLemmas.{same_text}
+use Rattle.switch_run.proofs.OutputLemmas.{host_output, no_refusal, no_sink, puts_as, same_fault, sink_output, boot_output}
+use Rattle.dry_report.proofs.PutLemmas.{first_prefix, same_text}
 use Rattle.switch_run.proofs.CauseLemmas.{cause_as, sink_no_host, sink_no_refusal, sink_then}
 use Rattle.host_trait.specs.declared.tree.HostFault.TheVariants.{Device}
 use Rattle.switch_run.proofs.ResultLemmas.{on_ok_always}
@@ -19,7 +20,7 @@ returns-in_err-put_text-clause-output g c =
     let p = err_from_is_err_and c.from_residual.result c.from_residual.ensures.1 in
     puts_as c.put_text.ensures.prefix (IsBootOutput c.from_residual.result c.args.plan.now.report) (λ more is.
     sink_output c.from_residual.result p.0 c.args.plan.now.report more p.1 (p.2 ∙ c.in_err-put_text.ensures.only c.in_err-put_text.field-0.0 refl)
-    (report_prefix c.args.plan.now.report more (subst (λ t. IsPrefixOf t more) c.as_str.ensures is)))
+    (first_prefix c.args.plan.now.report closing more (subst (λ t. IsPrefixOf t more) c.as_str.ensures is)))
 
 pub returns-in_err-put_text-clause-sink_world : goal.returns-in_err-put_text-clause-sink_world
 returns-in_err-put_text-clause-sink_world g c sink = inl (started IsSame (λ w is. refl))
