@@ -1,3 +1,4 @@
+pub mod Causes
 pub mod Moments
 pub mod Orders
 pub mod Places

@@ -1,8 +1,9 @@
 -- A fault of several calls, one after the other, has its cause in the call that failed.
-use Rattle.std.proofs.Common.{◌≡◌, ◌≤◌, ℕ, Result, Ok, Err, IsErrOf, sym, ap, ◌∙◌, arith}
+use Rattle.std.proofs.Common.{◌≡◌, Result, Ok, Err, IsErrOf, sym, ap, ◌∙◌, arith}
 use Rattle.host_trait.specs.declared.tree.HostFault.{HostFault}
 use Rattle.host_trait.specs.declared.tree.HostFault.TheVariants.{Device, Memory}
-use Rattle.host_trait.specs.Host.{HasCause, HasCauseOf, HostState, Rose}
+use Rattle.host_trait.specs.Host.{HasCause, HasCauseOf, HostState}
+use Rattle.host_trait.proofs.Causes.{cause_ok, cause_then, rose_then}
 use Rattle.switch_engine.specs.declared.plan_fault.PlanFault.{PlanFault}
 use Rattle.switch_engine.specs.declared.plan_fault.PlanFault.TheVariants.{Host, Refused}
 use Rattle.switch_engine.specs.declared.refusal.Refusal.{Refusal}
@@ -31,21 +32,9 @@ memory_no_device r x is from e = cc
 pub host_device : {T U : Type 0} (r : Result T PlanFault) (x : PlanFault) (f : HostFault) → r ≡ Err x → x ≡ Host f → IsErrOf r (Host Device) → IsErrOf {T = U} (Err f) Device
 host_device r x f is from e = let same : f ≡ Device = cc in ap (λ f. Err f) same
 
-rose_on : (a b c : ℕ) → a ≤ b → Rose b c → Rose a c
-rose_on a b c later rose = omega arith
-
 module _ {a b : HostState} where
   pub cause_of : {T : Type 0} {r : Result T HostFault} → HasCause a b r → HasCauseOf a b (IsErrOf r Device)
   cause_of cause = record { later = cause.later; rose = cause.rose; stays_sure = cause.stays_sure; never_sure = cause.never_sure; same_last = cause.same_last }
-
-  pub cause_same : {T U : Type 0} {r : Result T HostFault} {x : U} → HasCause a b r → HasCause a b (Ok x)
-  cause_same {x = x} cause = record {
-    later = cause.later;
-    rose = λ e. absurd (no_err x Device e);
-    stays_sure = cause.stays_sure;
-    never_sure = λ sure e. no_err x Device e;
-    same_last = cause.same_last;
-  }
 
 module _ {a b c : HostState} where
   -- a stretch without a fault, and then a call that may have one
@@ -54,7 +43,7 @@ module _ {a b c : HostState} where
       let early = first.later in let late = second.later in
       record {
         later = omega arith;
-        rose = λ fault. rose_on a.faults b.faults c.faults first.later (second.rose (from fault));
+        rose = λ fault. rose_then a.faults b.faults c.faults first.later (second.rose (from fault));
         stays_sure = λ sure. second.stays_sure (first.stays_sure sure);
         never_sure = λ sure fault. second.never_sure (first.stays_sure sure) (from fault);
         same_last = second.same_last ∙ first.same_last;
@@ -66,7 +55,4 @@ module _ {a b c : HostState} where
       record { later = both.later; rose = both.rose; stays_sure = both.stays_sure; never_sure = both.never_sure; same_last = both.same_last }
 
   pub cause_end : {T U V : Type 0} {r : Result T HostFault} {s : Result U HostFault} {x : V} → HasCause a b r → HasCause b c s → HasCause a c (Ok x)
-  cause_end {x = x} first second = cause_on first second (λ e. absurd (no_err x Device e))
-
-  pub cause_two : {T U : Type 0} {r : Result T HostFault} {s : Result U HostFault} → HasCause a b r → HasCause b c s → HasCause a c s
-  cause_two {s = s} first second = cause_on {t = s} first second (λ e. e)
+  cause_end {x = x} first second = cause_ok (cause_then first second) x

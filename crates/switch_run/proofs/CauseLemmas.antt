@@ -1,11 +1,12 @@
 -- The causes of faults, from one call to the next.
 use Rattle.std.proofs.Common.{◌≡◌, ◌≤◌, ◌∙◌, ℕ, IsErr, IsErrOf, Result, Ok, Err, arith}
-use Rattle.std.proofs.lemmas.Grind.{common_steps}
 use Rattle.host_trait.specs.declared.tree.HostFault.{HostFault}
 use Rattle.host_trait.specs.declared.tree.HostFault.TheVariants.{Memory, Device}
-use Rattle.host_trait.specs.Host.{HasCause, HasCauseOf, HostState, Rose}
+use Rattle.host_trait.specs.Host.{HasCause, HasCauseOf, HostState}
 use Rattle.host_trait.specs.declared.sink.SinkFault.{SinkFault}
 use Rattle.host_trait.specs.Sink.{HasSinkCause, SinkState}
+use Rattle.host_trait.proofs.Causes.{rose_then}
+use Rattle.switch_engine.proofs.CauseLemmas.{causes}
 use Rattle.switch_engine.specs.declared.refusal.Refusal.{Refusal}
 use Rattle.switch_run.specs.declared.run_fault.RunFault.{RunFault}
 use Rattle.switch_run.specs.declared.run_fault.RunFault.TheVariants as fault
@@ -31,21 +32,9 @@ cause_of r cause was = record {
   same_last = cause.same_last;
 }
 
-rises : (n : ℕ) {k m : ℕ} → n ≤ k → Rose k m → Rose n m
-rises n early rose = grind (arith, common_steps)
-
 -- a later fault has its cause since the beginning
 pub cause_then : {P Q : Type 0} {a b c : HostState} → HasCauseOf a b P → HasCauseOf b c Q → HasCauseOf a c Q
-cause_then {a = a} {c = c} first then =
-    let early = first.later in
-    let late = then.later in
-    record {
-      later = omega arith;
-      rose = λ q. rises a.faults early (then.rose q);
-      stays_sure = λ sure. then.stays_sure (first.stays_sure sure);
-      never_sure = λ sure q. then.never_sure (first.stays_sure sure) q;
-      same_last = then.same_last ∙ first.same_last;
-    }
+cause_then first then = causes first then (λ q. q)
 
 pub sink_then : {P Q : Type 0} {a b c : SinkState} → IsSinkCaused a b P → IsSinkCaused b c Q → IsSinkCaused a c Q
 sink_then {a = a} {c = c} first then =
@@ -53,7 +42,7 @@ sink_then {a = a} {c = c} first then =
     let late = then.later in
     record {
       later = omega arith;
-      rose = λ q. rises a.faults early (then.rose q);
+      rose = λ q. rose_then a.faults _ _ early (then.rose q);
     }
 
 -- a fault of a later put has its cause since the beginning
@@ -63,7 +52,7 @@ sink_after {a = a} {c = c} r first then was =
     let late = then.later in
     record {
       later = omega arith;
-      rose = λ q. rises a.faults early (then.rose (was q));
+      rose = λ q. rose_then a.faults _ _ early (then.rose (was q));
     }
 
 -- which fault a result is, and which it isn't

@@ -1,3 +1,2 @@
 pub mod BlockedLemmas
-pub mod CauseLemmas
 pub mod PutLemmas

@@ -1,5 +1,4 @@
 pub mod AgreeLemmas
-mod CauseLemmas
 mod DropInLemmas
 mod FaultLemmas
 pub mod FirstFaultLemmas

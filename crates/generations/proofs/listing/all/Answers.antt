@@ -2,7 +2,7 @@ use Rattle.std.proofs.Common.{refl}
 use Rattle.host_trait.specs.Change.{IsSame}
 use Rattle.host_trait.proofs.Moments.{same_then, told_before}
 use Rattle.generations.proofs.Reading.{gens_of_world}
-use Rattle.tree_put.proofs.CauseLemmas.{cause_ok, cause_then}
+use Rattle.host_trait.proofs.Causes.{cause_ok, cause_then}
 use Rattle.generations.proofs.listing.all.Goals as goal
 
 pub returns-in_err-linked-clause-moments : goal.returns-in_err-linked-clause-moments

@@ -1,7 +1,7 @@
 use Rattle.std.proofs.Common.{refl}
 use Rattle.host_trait.specs.Change.{IsSame}
 use Rattle.host_trait.proofs.Moments.{started}
-use Rattle.tree_put.proofs.CauseLemmas.{cause_ok}
+use Rattle.host_trait.proofs.Causes.{cause_ok}
 use Rattle.generations.proofs.listing.read_link.Goals as goal
 
 pub returns-in_err-number-clause-moments : goal.returns-in_err-number-clause-moments

@@ -4,7 +4,7 @@ use Rattle.host_trait.specs.Change.{IsSame}
 use Rattle.host_trait.proofs.Moments.{same_then, started, told_as, told_before}
 use Rattle.generations.proofs.Reading.{read_more, read_none}
 use Rattle.generations.specs.Targets.{AreTargetsAt}
-use Rattle.tree_put.proofs.CauseLemmas.{cause_ok, cause_started, cause_then}
+use Rattle.host_trait.proofs.Causes.{cause_ok, cause_started, cause_then}
 use Rattle.generations.proofs.listing.read_links.Goals as goal
 
 pub loop-path-init : goal.loop-path-init

@@ -5,7 +5,7 @@ use Rattle.host_trait.proofs.Moments.{started, told_as}
 use Rattle.generations.specs.LinkNumber.{Bears}
 use Rattle.generations.specs.Places.{profile}
 use Rattle.generations.specs.Targets.{link_to}
-use Rattle.tree_put.proofs.CauseLemmas.{cause_ok}
+use Rattle.host_trait.proofs.Causes.{cause_ok}
 use Rattle.generations.proofs.listing.read_profile.Goals as goal
 
 pub returns-in_err-path-clause-moments : goal.returns-in_err-path-clause-moments

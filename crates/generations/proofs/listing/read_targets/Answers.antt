@@ -5,7 +5,7 @@ use Rattle.host_trait.specs.World.{listed}
 use Rattle.host_trait.proofs.Moments.{same_then, started, told_before}
 use Rattle.generations.proofs.Reading.{read_all}
 use Rattle.generations.specs.Places.{profiles}
-use Rattle.tree_put.proofs.CauseLemmas.{cause_then}
+use Rattle.host_trait.proofs.Causes.{cause_then}
 use Rattle.generations.proofs.listing.read_targets.Goals as goal
 
 pub returns-in_err-folder-clause-moments : goal.returns-in_err-folder-clause-moments

@@ -6,7 +6,7 @@ use Rattle.generations.specs.Places.{profile, set_end}
 use Rattle.generations.specs.Set.{IsSetMoment}
 use Rattle.generations.proofs.Numbers.{number_of_world}
 use Rattle.generations.proofs.SetLemmas.{can_point, link_is_set, profile_moment, profile_world}
-use Rattle.tree_put.proofs.CauseLemmas.{cause_ok, cause_then}
+use Rattle.host_trait.proofs.Causes.{cause_ok, cause_then}
 use Rattle.generations.proofs.setting.set_number.Goals as goal
 
 pub put_generation-requires-clause-gens : goal.put_generation-requires-clause-gens

@@ -3,7 +3,7 @@ use Rattle.host_trait.specs.World.{without_leaf}
 use Rattle.host_trait.proofs.Moments.{started, passes_as, leads_as}
 use Rattle.tree_put.specs.Put.{IsOldOrGone}
 use Rattle.owed_lists.specs.Lists.{place_of}
-use Rattle.tree_put.proofs.CauseLemmas.{cause_ok}
+use Rattle.host_trait.proofs.Causes.{cause_ok}
 use Rattle.owed_lists.proofs.clearing.clear.Goals as goal
 
 pub returns-in_err-at-clause-moments : goal.returns-in_err-at-clause-moments

@@ -1,7 +1,7 @@
 use Rattle.std.proofs.Common.{refl}
 use Rattle.host_trait.specs.Change.{IsSame}
 use Rattle.host_trait.proofs.Moments.{same_then, told_before}
-use Rattle.tree_put.proofs.CauseLemmas.{cause_ok, cause_then}
+use Rattle.host_trait.proofs.Causes.{cause_ok, cause_then}
 use Rattle.owed_lists.proofs.loading.load.Goals as goal
 
 pub returns-in_err-restarts-clause-moments : goal.returns-in_err-restarts-clause-moments

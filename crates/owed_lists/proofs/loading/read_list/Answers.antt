@@ -3,7 +3,7 @@ use Rattle.host_trait.specs.Change.{IsSame}
 use Rattle.host_trait.specs.World.{content_of}
 use Rattle.host_trait.proofs.Moments.{started, told_as}
 use Rattle.owed_lists.specs.Lists.{IsListOf, place_of}
-use Rattle.tree_put.proofs.CauseLemmas.{cause_ok}
+use Rattle.host_trait.proofs.Causes.{cause_ok}
 use Rattle.owed_lists.proofs.loading.read_list.Goals as goal
 
 pub returns-in_err-at-clause-moments : goal.returns-in_err-at-clause-moments

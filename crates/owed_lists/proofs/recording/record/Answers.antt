@@ -6,7 +6,7 @@ use Rattle.owed_lists.specs.declared.lists.Which.TheVariants.{Starts, Restarts, 
 use Rattle.owed_lists.specs.Lists.{place_of}
 use Rattle.owed_lists.specs.Record.{IsRecordMoment, with_lists, with_restarts}
 use Rattle.owed_lists.proofs.RecordLemmas.{can_starts, can_restarts, can_reloads, first_moment, second_moment, second_world, third_moment, third_world}
-use Rattle.tree_put.proofs.CauseLemmas.{cause_ok, cause_then}
+use Rattle.host_trait.proofs.Causes.{cause_ok, cause_then}
 use Rattle.owed_lists.proofs.recording.record.Goals as goal
 
 pub record_list-requires : goal.record_list-requires

@@ -2,7 +2,7 @@ use Rattle.std.proofs.Common.{◌≡◌, ◌==◌, List, ℕ, length, refl, sym,
 use Rattle.host_trait.specs.World.{seen, stage, with_leaf, without_leaf}
 use Rattle.host_trait.proofs.Moments.{started, leads_as, passes_as, told_as}
 use Rattle.tree_put.specs.Put.{AreApart, CanPut, IsOldOrGone, IsOldOrNew}
-use Rattle.tree_put.proofs.CauseLemmas.{cause_ok}
+use Rattle.host_trait.proofs.Causes.{cause_ok}
 use Rattle.owed_lists.specs.Lists.{place_of}
 use Rattle.owed_lists.specs.Record.{IsOldOrList, list_leaf, with_list}
 use Rattle.owed_lists.proofs.RecordLemmas.{gone_moment, list_gone, list_put, place_apart, put_moment}

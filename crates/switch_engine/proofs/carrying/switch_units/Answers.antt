@@ -5,7 +5,8 @@ use Rattle.switch_engine.specs.Plan.{lists_of}
 use Rattle.switch_engine.specs.Steps.{AreCallsOf, CanLink}
 use Rattle.switch_engine.proofs.SwitchLemmas.{can_link, ends, first_way, rest_can, second_way, stops_can, third_way}
 use Rattle.std.proofs.lemmas.Result.{err_from_is_err_and}
-use Rattle.switch_engine.proofs.CauseLemmas.{cause_end, cause_on, cause_two, handed}
+use Rattle.host_trait.proofs.Causes.{cause_then}
+use Rattle.switch_engine.proofs.CauseLemmas.{cause_end, cause_on, handed}
 use Rattle.switch_engine.proofs.carrying.switch_units.Goals as goal
 
 pub stop_units-requires-clause-calls : goal.stop_units-requires-clause-calls
@@ -82,7 +83,7 @@ returns-in_err-load_system-clause-cause g c =
 pub returns-in_err-give_all-clause-cause : goal.returns-in_err-give_all-clause-cause
 returns-in_err-give_all-clause-cause g c =
     let p = err_from_is_err_and c.from_residual-in_err-give_all.result c.from_residual-in_err-give_all.ensures.1 in
-    cause_on (cause_two c.stop_units.ensures.cause c.load_system.ensures.cause) c.in_err-give_all.ensures.cause (λ e. handed _ p.0 _ _ p.1 p.2 e)
+    cause_on (cause_then c.stop_units.ensures.cause c.load_system.ensures.cause) c.in_err-give_all.ensures.cause (λ e. handed _ p.0 _ _ p.1 p.2 e)
 
 pub returns-clause-cause : goal.returns-clause-cause
-returns-clause-cause g c = cause_end (cause_two c.stop_units.ensures.cause c.load_system.ensures.cause) c.give_all.ensures.cause
+returns-clause-cause g c = cause_end (cause_then c.stop_units.ensures.cause c.load_system.ensures.cause) c.give_all.ensures.cause

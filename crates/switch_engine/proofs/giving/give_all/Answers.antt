@@ -8,7 +8,8 @@ use Rattle.switch_engine.proofs.CallLemmas.{performed-append}
 use Rattle.switch_engine.proofs.GiveLemmas.{first_all, second_all, third_all}
 use Rattle.switch_engine.proofs.StepLemmas.{can_first, can_then}
 use Rattle.std.proofs.lemmas.Result.{err_from_is_err_and}
-use Rattle.switch_engine.proofs.CauseLemmas.{cause_end, cause_on, cause_two, handed}
+use Rattle.host_trait.proofs.Causes.{cause_then}
+use Rattle.switch_engine.proofs.CauseLemmas.{cause_end, cause_on, handed}
 use Rattle.switch_engine.proofs.giving.give_all.Goals as goal
 
 pub give-requires : goal.give-requires
@@ -86,7 +87,7 @@ returns-in_err-give-2-clause-cause g c =
 pub returns-in_err-give-3-clause-cause : goal.returns-in_err-give-3-clause-cause
 returns-in_err-give-3-clause-cause g c =
     let p = err_from_is_err_and c.from_residual-in_err-give-3.result c.from_residual-in_err-give-3.ensures.1 in
-    cause_on (cause_two c.give.ensures.cause c.give-2.ensures.cause) c.in_err-give-3.ensures.cause (λ e. handed _ p.0 _ _ p.1 p.2 e)
+    cause_on (cause_then c.give.ensures.cause c.give-2.ensures.cause) c.in_err-give-3.ensures.cause (λ e. handed _ p.0 _ _ p.1 p.2 e)
 
 pub returns-clause-cause : goal.returns-clause-cause
-returns-clause-cause g c = cause_end (cause_two c.give.ensures.cause c.give-2.ensures.cause) c.give-3.ensures.cause
+returns-clause-cause g c = cause_end (cause_then c.give.ensures.cause c.give-2.ensures.cause) c.give-3.ensures.cause

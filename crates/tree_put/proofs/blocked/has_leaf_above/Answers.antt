@@ -5,7 +5,7 @@ use Rattle.switch_names.specs.Path.{is_below}
 use Rattle.host_trait.specs.Change.{IsSame}
 use Rattle.host_trait.proofs.Moments.{started, same_then, told_as, told_before}
 use Rattle.tree_put.proofs.BlockedLemmas.{IsFreeBut, above_is_left, parent_above, next_above, free_next, free_last, one_passes, none_there}
-use Rattle.tree_put.proofs.CauseLemmas.{cause_ok, cause_started, cause_then}
+use Rattle.host_trait.proofs.Causes.{cause_ok, cause_started, cause_then}
 use Rattle.tree_put.proofs.blocked.has_leaf_above.Goals as goal
 
 pub returns-in_err-next-clause-moments : goal.returns-in_err-next-clause-moments

@@ -4,7 +4,7 @@ use Rattle.std.specs.List.{list_any}
 use Rattle.switch_names.specs.Path.{is_below}
 use Rattle.host_trait.proofs.Moments.{told_as}
 use Rattle.tree_put.proofs.BlockedLemmas.{listed_below}
-use Rattle.tree_put.proofs.CauseLemmas.{cause_ok}
+use Rattle.host_trait.proofs.Causes.{cause_ok}
 use Rattle.tree_put.proofs.blocked.has_leaf_below.Goals as goal
 
 pub returns-clause-below : goal.returns-clause-below

@@ -2,7 +2,7 @@ use Rattle.std.proofs.Common.{refl, sym, ◌∙◌}
 use Rattle.host_trait.specs.Change.{IsSame}
 use Rattle.host_trait.proofs.Moments.{same_then, told_before}
 use Rattle.tree_put.proofs.BlockedLemmas.{blocked_below, blocked_above}
-use Rattle.tree_put.proofs.CauseLemmas.{cause_ok, cause_then}
+use Rattle.host_trait.proofs.Causes.{cause_ok, cause_then}
 use Rattle.tree_put.proofs.blocked.is_blocked.Goals as goal
 
 pub returns-then-below-clause-blocked : goal.returns-then-below-clause-blocked

@@ -1,7 +1,7 @@
 use Rattle.std.proofs.Common.{inl, inr, ⊎_elim}
 use Rattle.host_trait.proofs.Moments.{passes_as}
 use Rattle.tree_put.specs.Put.{IsOldOrGone}
-use Rattle.tree_put.proofs.CauseLemmas.{cause_ok}
+use Rattle.host_trait.proofs.Causes.{cause_ok}
 use Rattle.tree_put.proofs.places.drop_leaf.Goals as goal
 
 pub returns-in_err-remove-clause-moments : goal.returns-in_err-remove-clause-moments

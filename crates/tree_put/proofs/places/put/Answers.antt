@@ -5,7 +5,7 @@ use Rattle.host_trait.specs.World.{seen, with_leaf}
 use Rattle.host_trait.proofs.Moments.{passes_as, goes_on, leads_then, told_after, told_as}
 use Rattle.tree_put.specs.Put.{IsOldOrNew}
 use Rattle.tree_put.proofs.PutLemmas.{apart_ne, staged_moment, renamed_moment, renamed_world, stage_has, place_clear}
-use Rattle.tree_put.proofs.CauseLemmas.{cause_ok, cause_then}
+use Rattle.host_trait.proofs.Causes.{cause_ok, cause_then}
 use Rattle.tree_put.proofs.places.put.Goals as goal
 use Rattle.std.proofs.Common.{◌≡◌, inl}
 

@@ -3,7 +3,7 @@ use Rattle.host_trait.specs.World.{seen, with_leaf}
 use Rattle.host_trait.proofs.Moments.{same_as, same_then, leads_as, leads_then, told_after}
 use Rattle.host_trait.proofs.Seen.{same_leaf}
 use Rattle.tree_put.specs.Put.{CanPut, IsOldOrNew}
-use Rattle.tree_put.proofs.CauseLemmas.{cause_ok, cause_then}
+use Rattle.host_trait.proofs.Causes.{cause_ok, cause_then}
 use Rattle.tree_put.proofs.places.put_if_other.Goals as goal
 
 pub returns-in_err-stands-clause-moments : goal.returns-in_err-stands-clause-moments

@@ -1,7 +1,7 @@
 use Rattle.std.proofs.Common.{refl, sym, ◌∙◌}
 use Rattle.host_trait.specs.Change.{IsSame}
 use Rattle.host_trait.proofs.Moments.{started}
-use Rattle.unit_defs.proofs.CauseLemmas.{caused_ok}
+use Rattle.host_trait.proofs.Causes.{cause_ok}
 use Rattle.unit_defs.proofs.FaultLemmas.{none_left}
 use Rattle.unit_defs.proofs.ReadingLemmas.{none_taken, path_taken}
 use Rattle.unit_defs.proofs.reading.read_path.Goals as goal
@@ -34,4 +34,4 @@ returns-clause-found g c = record {
 }
 
 pub returns-clause-cause : goal.returns-clause-cause
-returns-clause-cause g c = caused_ok _ c.read_part.ensures.cause
+returns-clause-cause g c = cause_ok c.read_part.ensures.cause _

@@ -1,6 +1,6 @@
 use Rattle.host_trait.proofs.Moments.{told_as}
 use Rattle.unit_defs.specs.Defs.{AreUnitsOf}
-use Rattle.unit_defs.proofs.CauseLemmas.{caused_ok}
+use Rattle.host_trait.proofs.Causes.{cause_ok}
 use Rattle.unit_defs.proofs.UnitLemmas.{sorted_units, units_all}
 use Rattle.unit_defs.proofs.reading.read_units.Goals as goal
 
@@ -13,4 +13,4 @@ returns-clause-units g c =
     (λ w is found. units_all w.leaves c.args.system.now c.in_ok-found.found found c.in_ok-units.units c.in_ok-units.ensures.units)
 
 pub returns-clause-cause : goal.returns-clause-cause
-returns-clause-cause g c = caused_ok _ c.read_folder.ensures.cause
+returns-clause-cause g c = cause_ok c.read_folder.ensures.cause _

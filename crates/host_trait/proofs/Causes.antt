@@ -7,7 +7,8 @@ use Rattle.host_trait.specs.Host.{HostState, HasCause, Rose}
 ok_no_fault : {T : Type 0} (x : T) → IsErrOf {T = T} (Ok x) Device → ⊥
 ok_no_fault x is = cc
 
-rose_then : (a b c : ℕ) → a ≤ b → Rose b c → Rose a c
+-- a count that rises later has risen since the beginning
+pub rose_then : (a b c : ℕ) → a ≤ b → Rose b c → Rose a c
 rose_then a b c later rose = omega (arith, later, rose)
 
 -- where nothing was called, nothing has failed
