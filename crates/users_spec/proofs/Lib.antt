@@ -1,0 +1,5 @@
+pub mod Handed
+pub mod Lists
+pub mod SoundReads
+pub mod Sound
+pub mod Values
