@@ -1,0 +1,7 @@
+pub mod FirstLemmas
+pub mod FieldLemmas
+pub mod LineLemmas
+pub mod RowLemmas
+pub mod SoundLemmas
+pub mod BackLemmas
+pub mod OrderLemmas
