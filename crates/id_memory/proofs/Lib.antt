@@ -1,0 +1,4 @@
+mod FreeLemmas
+mod LineFeedLemmas
+mod MemberLemmas
+mod RowLemmas

@@ -1,0 +1,16 @@
+//! The ids that accounts had, kept for the accounts that come back, and the search for a free one.
+#![tactic(auto)]
+
+mod free;
+mod id_fault;
+mod id_map;
+mod id_row;
+mod members;
+mod rows;
+#[cfg(test)]
+mod tests;
+
+pub use free::free_id;
+pub use id_fault::IdFault;
+pub use id_map::IdMap;
+pub use id_row::IdRow;
