@@ -1,0 +1,221 @@
+#!/bin/bash
+# Measures how long it takes and how much memory it needs to read and write the account tables, and reads
+# tables beside pwck and grpck.
+#
+# bench/accounts.sh [ROWS [BYTES]]
+#
+# Needs bash 5, awk, the coreutils, /usr/bin/time and the toolchain's rt, by which it builds a small program
+# over account_text. The program stands in this script, and is built in a scratch copy of the crates that it
+# uses: a crate of its own in crates.txt would be proved, built and run at each run of the gate. Where pwck
+# and grpck aren't there, the second part is left out.
+#
+# It makes each table with that many rows (65,536), once with short rows and once so that the file has that many
+# bytes (16,000,000), and prints for each the milliseconds of the quickest of five runs that only read the bytes,
+# that read the rows, and that write them again too, and the peak memory beside a plain read, as so many times the
+# bytes. Then it reads this machine's own tables, where they can be read, and some wrong ones, and prints what the program
+# and pwck -r or grpck -r say of each. It ends with 1 where a table isn't read whole or isn't written as it
+# was. It is no part of the gate.
+. "$(dirname "$0")/common.sh"
+rows=${1:-65536}
+bytes=${2:-16000000}
+if [ ! -x /usr/bin/time ]; then
+    echo "no /usr/bin/time" >&2
+    exit 1
+fi
+
+# Builds the program in a scratch copy of the crates.
+build() {
+    local crate part
+    mkdir -p "$work/copy/crates/read_tables/src"
+    : >"$work/empty"
+    cp "$here/HANDLES" "$work/copy/"
+    for crate in switch_names account_text; do
+        mkdir "$work/copy/crates/$crate"
+        for part in src specs proofs; do
+            [ ! -d "$here/crates/$crate/$part" ] || cp -r "$here/crates/$crate/$part" "$work/copy/crates/$crate/"
+        done
+        grep "^$crate:" "$here/crates.txt" >>"$work/copy/crates.txt"
+    done
+    echo "read_tables: account_text switch_names" >>"$work/copy/crates.txt"
+    cat >"$work/copy/crates/read_tables/src/main.rt"
+    if ! (cd "$work/copy/crates/read_tables" && rt run -- plain passwd "$work/empty") >"$work/build" 2>&1; then
+        cat "$work/build"
+        return 1
+    fi
+    program=$work/copy/crates/read_tables/out/read_tables
+}
+
+# make_table KIND WIDTH: a table whose rows have a text of this width.
+make_table() {
+    awk -v kind="$1" -v rows="$rows" -v width="$2" 'BEGIN {
+        text = sprintf("%" width "s", "")
+        gsub(/ /, "t", text)
+        for (number = 1; number <= rows; number++) {
+            if (kind == "passwd")
+                print "user-" number ":x:" number ":100:" text ":/home/user-" number ":/bin/sh"
+            else if (kind == "group")
+                print "group-" number ":x:" number ":" text ",user-" number
+            else
+                print "user-" number ":" text ":19000:0:99999:7:::"
+        }
+    }' >"$work/table"
+}
+
+# measure WORD KIND WANTED: sets `micros` to the microseconds of the quickest run, and `peak` to its kilobytes.
+measure() {
+    local from spent found
+    micros=
+    for _ in 1 2 3 4 5; do
+        from=${EPOCHREALTIME/./}
+        found=$("$program" "$1" "$2" "$work/table")
+        spent=$((${EPOCHREALTIME/./} - from))
+        if [ "$found" != "$3" ]; then
+            echo "$1 $2 gave $found in place of $3"
+            exit 1
+        fi
+        if [ -z "$micros" ] || [ "$spent" -lt "$micros" ]; then
+            micros=$spent
+        fi
+    done
+    peak=$(/usr/bin/time -f %M "$program" "$1" "$2" "$work/table" 2>&1 >"$work/stdout" | tail -n 1)
+}
+
+# told KIND WIDTH: measures a table and prints a line.
+told() {
+    local size plain plain_peak read read_peak
+    make_table "$1" "$2"
+    size=$(stat -c %s "$work/table")
+    measure plain "$1" "$size"
+    plain=$micros
+    plain_peak=$peak
+    measure read "$1" "$rows"
+    read=$micros
+    read_peak=$peak
+    measure write "$1" "$size"
+    awk -v kind="$1" -v size="$size" -v plain="$plain" -v read="$read" -v write="$micros" -v a="$plain_peak" -v b="$read_peak" -v c="$peak" 'BEGIN {
+        printf "%-6s %9d bytes: read alone %6.1f ms, rows %6.1f ms, written too %6.1f ms; memory %5.1f MB, rows %5.1f MB more (x%.2f), written too %5.1f MB more\n",
+            kind, size, plain / 1000, read / 1000, write / 1000, a / 1000, (b - a) / 1000, (b - a) * 1024 / size, (c - a) / 1000
+    }'
+}
+
+# beside KIND FILE NAME [USERS]: what the program and the system's own checker say of a table.
+beside() {
+    local kind=$1 file=$2 name=$3 users=${4:-$work/users} ours theirs status
+    ours=$("$program" read "$kind" "$file")
+    case $kind in
+    passwd) theirs=$(pwck -r "$file" </dev/null 2>&1) ;;
+    group) theirs=$(grpck -r "$file" </dev/null 2>&1) ;;
+    *) theirs=$(pwck -r "$users" "$file" </dev/null 2>&1) ;;
+    esac
+    status=$?
+    theirs=$(grep -v 'directory\|no changes\|delete\|add user\|program' <<<"$theirs" | tr '\n' ' ' | cut -c 1-90)
+    printf '%-6s %-28s ours: %-8s its checker: %s %s\n' "$kind" "$name" "$ours" "$status" "$theirs"
+}
+
+# wrong KIND NAME TEXT: the same, of this text.
+wrong() {
+    printf '%b' "$3" >"$work/wrong"
+    beside "$1" "$work/wrong" "$2"
+}
+
+build <<'RATTLE' || exit 1
+//! Reads a file and prints how many bytes it has, how many rows, or how many bytes are written of them, or the
+//! line that is no row.
+#![tactic(auto)]
+
+use account_text::{RowFault, read_group, read_passwd, read_shadow, write_group, write_passwd, write_shadow};
+use std::alloc::Global;
+use std::{env, fs, io};
+
+/// The number to print for a passwd table.
+fn passwd(alloc: Global, is_writing: bool, bytes: &[u8]) -> Result<usize, RowFault> {
+    let rows = read_passwd(alloc, bytes)?;
+    if is_writing {
+        return Ok(write_passwd(alloc, &rows)?.as_slice().len());
+    }
+    Ok(rows.as_slice().len())
+}
+
+/// The number to print for a group table.
+fn group(alloc: Global, is_writing: bool, bytes: &[u8]) -> Result<usize, RowFault> {
+    let rows = read_group(alloc, bytes)?;
+    if is_writing {
+        return Ok(write_group(alloc, &rows)?.as_slice().len());
+    }
+    Ok(rows.as_slice().len())
+}
+
+/// The number to print for a shadow table.
+fn shadow(alloc: Global, is_writing: bool, bytes: &[u8]) -> Result<usize, RowFault> {
+    let rows = read_shadow(alloc, bytes)?;
+    if is_writing {
+        return Ok(write_shadow(alloc, &rows)?.as_slice().len());
+    }
+    Ok(rows.as_slice().len())
+}
+
+fn main(rt: HostRuntime) -> io::Result<()> {
+    let mut arguments = env::args(&rt)?;
+    let _program = arguments.next();
+    let (Some(word), Some(kind), Some(file)) = (arguments.next(), arguments.next(), arguments.next())
+    else {
+        return Ok(());
+    };
+    let bytes = fs::read(&rt, file.as_str())?;
+    if word.as_str() == "plain" {
+        let len = bytes.len();
+        println!(rt; "{len}")?;
+        return Ok(());
+    }
+    let is_writing = word.as_str() == "write";
+    let found = match kind.as_str() {
+        "passwd" => passwd(rt.alloc(), is_writing, bytes.as_slice()),
+        "group" => group(rt.alloc(), is_writing, bytes.as_slice()),
+        _ => shadow(rt.alloc(), is_writing, bytes.as_slice()),
+    };
+    match found {
+        Ok(number) => println!(rt; "{number}")?,
+        Err(RowFault::Line(number)) => println!(rt; "line {number}")?,
+        Err(RowFault::Memory) => println!(rt; "no memory")?,
+    }
+    Ok(())
+}
+RATTLE
+echo "$rows rows"
+for kind in passwd group shadow; do
+    told "$kind" 8
+    told "$kind" $(((bytes - rows * 50) / rows))
+done
+if ! command -v pwck >"$work/stdout" || ! command -v grpck >"$work/stdout"; then
+    exit 0
+fi
+echo "beside pwck -r and grpck -r"
+printf 'a:x:1:1::/:/bin/sh\n' >"$work/users"
+for kind in passwd group shadow; do
+    [ ! -r "/etc/$kind" ] || beside "$kind" "/etc/$kind" "this machine's" /etc/passwd
+done
+wrong passwd 'six fields' 'a:x:1:1::/\n'
+wrong passwd 'eight fields' 'a:x:1:1::/:/bin/sh:\n'
+wrong passwd 'an empty name' ':x:1:1::/:/bin/sh\n'
+wrong passwd 'an empty line' 'a:x:1:1::/:\n\nb:x:2:1::/:\n'
+wrong passwd 'one name twice' 'a:x:1:1::/:\na:x:2:1::/:\n'
+wrong passwd 'one id twice' 'a:x:1:1::/:\nb:x:1:1::/:\n'
+wrong passwd 'an id past the greatest' 'a:x:4294967295:1::/:\n'
+wrong passwd 'an id of eleven digits' 'a:x:00000000001:1::/:\n'
+wrong passwd 'a sign before an id' 'a:x:+1:1::/:\n'
+wrong passwd 'a blank before an id' 'a:x: 1:1::/:\n'
+wrong passwd 'a compatibility entry' '+::::::\n'
+wrong passwd 'a comment' '# users\n'
+wrong passwd 'a name with a blank' 'a b:x:1:1::/:\n'
+wrong passwd 'bytes that are no UTF-8' 'a:x:1:1:\xff:/:\n'
+wrong group 'three fields' 'g:x:5\n'
+wrong group 'five fields' 'g:x:5::\n'
+wrong group 'an empty member' 'g:x:5:root,,root\n'
+wrong group 'a member that is no user' 'g:x:5:nobody-at-all\n'
+wrong group 'one name twice' 'g:x:5:\ng:x:6:\n'
+wrong group 'no id' 'g:x::\n'
+wrong shadow 'eight fields' 'a:!:1:::::\n'
+wrong shadow 'ten fields' 'a:!:1:::::::\n'
+wrong shadow 'letters for a day' 'a:!:x::::::\n'
+wrong shadow 'one name twice' 'a:!:1::::::\na:!:1::::::\n'
+wrong shadow 'a name that is no user' 'a:!:1::::::\nzed:!:1::::::\n'

@@ -1,0 +1,4 @@
+pub mod Escape
+pub mod Fields
+pub mod Fstab
+pub mod FsUnit
