@@ -1,62 +1,91 @@
--- The units that a switch leaves failed, in byte order.
-use Rattle.std.proofs.Common.{◌≡◌, ◌&&◌, ◌||◌, T, ℕ, Bool, true, false, cond, List, [], ◌∷◌, Option, Some, is_some, filter, map, unwrap_or, refl, sym, ap, subst, ◌∙◌}
+-- The units that a switch leaves failed, in byte order, and the closing text of a command.
+use Rattle.std.proofs.Common.{◌≡◌, ◌&&◌, ◌||◌, T, ℕ, Bool, true, false, cond, List, [], ◌∷◌, Option, None, Some, is_some, filter, map, option_and_then, unwrap_or, refl, sym, ap, subst, ◌∙◌}
 use Rattle.std.specs.Cmp.Lexicographic.{slice_cmp}
 use Rattle.std.specs.FinMap.{entries, entries_sorted, find, get-entries}
 use Rattle.std.specs.FinMap.Entries.{below_all, is_sorted}
 use Rattle.std.specs.List.{AllByRecursion}
 use Rattle.std.specs.List.Sorted.{IsStrictlySortedBy}
 use Rattle.std.specs.Ordering.{is_lt, nat_cmp}
-use Rattle.std.specs.declared.cmp.Ordering.{Ordering}
-use Rattle.std.specs.declared.cmp.Ordering.TheVariants.{Less, Equal, Greater}
+use Rattle.std.specs.declared.cmp.Ordering.TheVariants.{Less}
 use Rattle.std.proofs.lemmas.Bool.{and_from, and_parts}
+use Rattle.unit_defs.specs.Place.{is_unit}
+use Rattle.unit_text.specs.declared.assignment.Assignment.{Assignment}
+use Rattle.std.proofs.Math.Bool.{and-false}
+use Rattle.host_trait.proofs.KeyOrder.{left_of, less_from, right_of}
 use Rattle.host_trait.specs.World.{WorldState, bytes_cmp}
-use Rattle.host_trait.specs.States.{UnitStates, state_of}
+use Rattle.host_trait.specs.States.{UnitStates, listed_states, state_of}
 use Rattle.host_trait.specs.declared.unit_state.State.{State}
-use Rattle.host_trait.specs.declared.unit_state.State.TheVariants.{Active, Inactive, Failed}
+use Rattle.host_trait.specs.declared.unit_state.State.TheVariants.{Inactive}
 use Rattle.host_trait.specs.declared.unit_state.UnitState.{UnitState}
+use Rattle.owed_lists.specs.declared.lists.Lists.{Lists}
 use Rattle.owed_plan.specs.declared.owed.Owed.{Owed}
-use Rattle.owed_plan.proofs.ListLemmas.{one_list}
+use Rattle.owed_plan.specs.Owed.{IsOwed, Reloads, Restarts, Starts, Stops}
+use Rattle.owed_plan.specs.Systems.{systems_at}
+use Rattle.owed_lists.proofs.ListLemmas.{one_list, same_lists}
+use Rattle.switch_engine.specs.declared.command.Command.{Command}
+use Rattle.switch_engine.specs.declared.command.Command.TheVariants.{Test, Boot, DryActivate}
 use Rattle.switch_engine.specs.declared.plan.Plan.{Plan}
-use Rattle.switch_engine.specs.Final.{IsFinal, IsLeftFailed, is_failed, is_failed_of}
-use Rattle.switch_engine.specs.Plan.{IsPlanOf}
+use Rattle.switch_engine.specs.Commands.{IsBoot, IsQuery}
+use Rattle.switch_engine.specs.Final.{IsFinalOf, IsLeftFailed, is_failed, is_failed_of}
+use Rattle.switch_engine.specs.Plan.{ArePlanned, IsPlanOf}
+use Rattle.switch_engine.specs.Rows.{row_of, switched_to}
 use Rattle.switch_engine.proofs.DefinedLemmas.{defined_same}
+use Rattle.switch_engine.proofs.FailedLemmas.{failed_from}
 use Rattle.switch_names.specs.Names.{IsListOf, Name, has, is_name}
+use Rattle.switch_names.specs.UnitName.{template_of}
 use Rattle.unit_defs.specs.declared.unit.Unit.{Unit}
-use Rattle.unit_defs.specs.Defs.{found_in}
+use Rattle.unit_defs.specs.Defs.{AreDefsOf, found_in, own_in}
 use Rattle.unit_defs.proofs.NameLemmas.{above_lack, name_exact}
-use Rattle.dry_report.specs.Close.{IsClosing, close_of, failed_in}
+use Rattle.unit_stage.specs.declared.unit_plan.UnitPlan.{UnitPlan}
+use Rattle.unit_stage.specs.End.{AreEndStates, state_after}
+use Rattle.unit_stage.specs.Plan.{IsOwedBy}
+use Rattle.unit_stage.specs.System.{current_system}
+use Rattle.dry_report.specs.Close.{IsClosing, IsClosingBy, IsUnitClosing, close_of, failed_in}
 use Rattle.dry_report.proofs.CloseLemmas.{failed_units}
-use Rattle.dry_report.proofs.ReportLemmas.{same_owed}
 
--- ---- a switch has one closing text
+-- ---- a command has one closing text
 
-pub one_closing : (w : WorldState) (system : Name) (one other : List ℕ) → IsClosing w system one → IsClosing w system other → one ≡ other
-one_closing w system one other is also =
-    let owed : is.owed ≡ also.owed = same_owed w system is.is_owed.0 also.is_owed.0 is.owed also.owed is.is_owed.1 also.is_owed.1 in
+-- what is owed is one, but for the units that are left
+same_end : (w : WorldState) (system : Name) (one other : Owed) → IsOwedBy w system one → IsOwedBy w system other → (unit : Name) → state_after system one w unit ≡ state_after system other w unit
+same_end w system one other is also unit =
+    let systems = systems_at w.leaves (current_system w.leaves) system in
+    let states = state_of w.manager.states in
+    let same = same_lists w.leaves is.0 also.0 is.1.listed also.1.listed in
+    let these : IsOwed systems states is.0 other = subst (λ (l : Lists). IsOwed systems states l other) (sym same) also.1.is_owed in
+    let owed : (stops reloads restarts starts : List Name) → Owed = λ stops reloads restarts starts. record { stops = stops; reloads = reloads; restarts = restarts; starts = starts; left = one.left } in
+    λ i. state_after system
+    (owed
+    (one_list one.stops other.stops (Stops systems states is.0) is.1.is_owed.stops these.stops i)
+    (one_list one.reloads other.reloads (Reloads systems states is.0) is.1.is_owed.reloads these.reloads i)
+    (one_list one.restarts other.restarts (Restarts systems states is.0) is.1.is_owed.restarts these.restarts i)
+    (one_list one.starts other.starts (Starts systems states is.0) is.1.is_owed.starts these.starts i))
+    w unit
+
+same_failed : (w : WorldState) (system : Name) (one other : Owed) → IsOwedBy w system one → IsOwedBy w system other → (unit : Name) → IsLeftFailed system other w unit → IsLeftFailed system one w unit
+same_failed w system one other is also unit left = record { failed = same_end w system one other is also unit ∙ left.failed; defined = left.defined }
+
+one_unit_closing : (system : Name) (w : WorldState) (one other : List ℕ) → IsUnitClosing system w one → IsUnitClosing system w other → one ≡ other
+one_unit_closing system w one other is also =
     is.is_text
     ∙ ap close_of (one_list is.failed also.failed (IsLeftFailed system is.owed w) is.are_failed
-    (subst (λ (o : Owed). IsListOf also.failed (IsLeftFailed system o w)) (sym owed) also.are_failed))
+    (record {
+      sorted = also.are_failed.sorted;
+      exact = λ unit. (
+        λ found. same_failed w system is.owed also.owed is.is_owed also.is_owed unit ((also.are_failed.exact unit).0 found),
+        λ left. (also.are_failed.exact unit).1 (same_failed w system also.owed is.owed also.is_owed is.is_owed unit left),
+      );
+    }))
     ∙ sym also.is_text
 
+one_by : (changes : Bool) (to : Option Name) (w : WorldState) (one other : List ℕ) → IsClosingBy changes to w one → IsClosingBy changes to w other → one ≡ other
+one_by true (Some system) w one other is also = one_unit_closing system w one other is also
+one_by true None w one other is also = is ∙ sym also
+one_by false to w one other is also = is ∙ sym also
+
+pub one_closing : (command : Command) (w : WorldState) (one other : List ℕ) → IsClosing command w one → IsClosing command w other → one ≡ other
+one_closing command w one other is also = one_by (row_of command w.leaves).changes (switched_to command w.leaves) w one other is also
+
 -- ---- the units that have failed, among the states of all
-
-less_from : (r : Ordering) → T (is_lt r) → r ≡ Less
-less_from Less is = refl
-less_from Equal is = absurd is
-less_from Greater is = absurd is
-
-left_of : (a b : Bool) → T (a && b) → T a
-left_of true b both = tt
-left_of false b both = both
-
-right_of : (a b : Bool) → T (a && b) → T b
-right_of true b both = both
-right_of false b both = absurd both
-
-failed_from : (state : State) → is_failed state ≡ true → state ≡ Failed
-failed_from Failed is = refl
-failed_from Active is = absurd cc
-failed_from Inactive is = absurd cc
 
 abbrev one_of : Name × State → UnitState
 one_of e = record { unit = e.0; state = e.1 }
@@ -125,33 +154,63 @@ module _ (units : List Unit) where
       has_failed (entries states) (entries_sorted states) unit
       ∙ ap (λ (o : Option State). is_failed (unwrap_or o Inactive) && is_some (found_in units unit)) (sym (get-entries states unit))
 
--- ---- by the units and the states after a switch
+-- ---- by the units and the states after a command
 
-left_failed : (system : Name) (w v : WorldState) (plan : Plan) → IsPlanOf system w plan → IsFinal system plan.owed w v →
-    IsListOf (failed_in plan.defs v.manager.states) (IsLeftFailed system plan.owed w)
-left_failed system w v plan planned final = record {
-  sorted = in_order plan.defs (entries v.manager.states) (entries_sorted v.manager.states);
+left_failed : (system : Name) (w : WorldState) (owed : Owed) (defs : List Unit) (states : UnitStates) → AreDefsOf w.leaves system defs → ((unit : Name) → state_of states unit ≡ state_after system owed w unit) →
+    IsListOf (failed_in defs states) (IsLeftFailed system owed w)
+left_failed system w owed defs states are final = record {
+  sorted = in_order defs (entries states) (entries_sorted states);
   exact = λ unit. (
     λ found.
-        let both = and_parts (is_failed (state_of v.manager.states unit)) (is_some (found_in plan.defs unit)) (sym (failed_is plan.defs v.manager.states unit) ∙ found) in
+        let both = and_parts (is_failed (state_of states unit)) (is_some (found_in defs unit)) (sym (failed_is defs states unit) ∙ found) in
         record {
-          failed = sym (final.states unit) ∙ failed_from (state_of v.manager.states unit) both.0;
-          defined = sym (defined_same w.leaves system plan.defs planned.defs unit) ∙ both.1;
+          failed = sym (final unit) ∙ failed_from (state_of states unit) both.0;
+          defined = sym (defined_same w.leaves system defs are unit) ∙ both.1;
         },
     λ left.
-        failed_is plan.defs v.manager.states unit
-        ∙ and_from (is_failed (state_of v.manager.states unit)) (is_some (found_in plan.defs unit))
-        (ap is_failed (final.states unit ∙ left.failed))
-        (defined_same w.leaves system plan.defs planned.defs unit ∙ left.defined),
+        failed_is defs states unit
+        ∙ and_from (is_failed (state_of states unit)) (is_some (found_in defs unit))
+        (ap is_failed (final unit ∙ left.failed))
+        (defined_same w.leaves system defs are unit ∙ left.defined),
   );
 }
 
-pub states_close : (system : Name) (w v : WorldState) (plan : Plan) → IsPlanOf system w plan → IsFinal system plan.owed w v →
-    IsClosing w system (close_of (failed_in plan.defs v.manager.states))
-states_close system w v plan planned final = record {
-  owed = plan.owed;
-  is_owed = planned.owed;
-  failed = failed_in plan.defs v.manager.states;
-  are_failed = left_failed system w v plan planned final;
+units_close : (system : Name) (w : WorldState) (defs : List Unit) (states now : UnitStates) → AreDefsOf w.leaves system defs → AreEndStates system w (state_of now) → states ≡ now → IsUnitClosing system w (close_of (failed_in defs states))
+units_close system w defs states now are end same = record {
+  owed = end.0;
+  is_owed = end.1;
+  failed = failed_in defs states;
+  are_failed = left_failed system w end.0 defs states are (λ unit. ap (λ (s : UnitStates). state_of s unit) same ∙ end.2 unit);
   is_text = refl;
 }
+
+no_text : (o : Option Name) → option_and_then (own_in []) o ≡ None
+no_text None = refl
+no_text (Some name) = refl
+
+none_kept : (unit : Name) → found_in [] unit ≡ None
+none_kept unit = by (is_unit unit) refl
+  where
+    by : (b : Bool) → is_unit unit ≡ b → found_in [] unit ≡ None
+    by true is = rw (is, no_text (template_of unit))
+    by false is = rw is
+
+-- no unit has failed that a system without units defines
+none_failed_of : (one : UnitState) → is_failed_of [] one ≡ false
+none_failed_of one = ap (λ (o : Option (List Assignment)). is_failed one.state && is_some o) (none_kept one.unit) ∙ and-false (is_failed one.state)
+
+none_defined : (list : List UnitState) → failed_units [] list ≡ []
+none_defined [] = refl
+none_defined (one ∷ list) =
+    ap (λ b. map (λ (o : UnitState). o.unit) (cond b (one ∷ filter (is_failed_of []) list) (filter (is_failed_of []) list))) (none_failed_of one) ∙ none_defined list
+
+states_close_by : (command : Command) (plan : Plan) (states : UnitStates) (w v : WorldState) → ArePlanned command w plan → (IsQuery command → ⊥) → IsFinalOf command w v →
+    ((IsBoot command → ⊥) → states ≡ v.manager.states) → IsClosing command w (close_of (failed_in plan.units.defs states))
+states_close_by (Test system) plan states w v planned changes final now = units_close system w plan.units.defs states v.manager.states planned.0.defs final.units.0 (now (λ never. never))
+states_close_by (Boot system) plan states w v planned changes final now =
+    ap (λ (units : UnitPlan). close_of (failed_in units.defs states)) planned.0 ∙ ap close_of (none_defined (listed_states states))
+states_close_by (DryActivate system) plan states w v planned changes final now = absurd (changes tt)
+
+pub states_close : (plan : Plan) (states : UnitStates) (w v : WorldState) → IsPlanOf w plan → (IsQuery plan.command → ⊥) → IsFinalOf plan.command w v →
+    ((IsBoot plan.command → ⊥) → states ≡ v.manager.states) → IsClosing plan.command w (close_of (failed_in plan.units.defs states))
+states_close plan states w v planned changes final now = states_close_by plan.command plan states w v planned.planned changes final now

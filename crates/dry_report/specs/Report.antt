@@ -1,6 +1,8 @@
--- What a switch says before it changes anything: the lines of switch-to-configuration, NixOS manual, "Unit handling".
-use Rattle.std.specs.Prelude.{◌≡◌, ℕ, ◌++◌, List, [], ◌∷◌, Option, None, Some, codes, filter, not}
+-- What a command says before it changes anything: the lines of switch-to-configuration, NixOS manual, "Unit handling".
+use Rattle.std.specs.Prelude.{◌≡◌, ℕ, ◌++◌, Bool, true, false, List, [], ◌∷◌, Option, None, Some, codes, filter, not}
+use Rattle.std.specs.Fmt.{decimal}
 use Rattle.std.specs.List.{flat_map}
+use Rattle.generations.specs.Places.{number_after}
 use Rattle.host_trait.specs.declared.entry.Act.{Act}
 use Rattle.host_trait.specs.declared.entry.Act.TheVariants.{Stop, Reload, Restart, Start}
 use Rattle.host_trait.specs.States.{state_of}
@@ -9,10 +11,12 @@ use Rattle.owed_lists.specs.declared.lists.Lists.{Lists}
 use Rattle.owed_plan.specs.declared.duty.Duty.{Duty}
 use Rattle.owed_plan.specs.declared.owed.Owed.{Owed}
 use Rattle.owed_plan.specs.Calls.{calls_of}
-use Rattle.switch_engine.specs.Owes.{is_stop}
-use Rattle.switch_engine.specs.Plan.{IsOwedIn}
-use Rattle.switch_engine.specs.System.{current_system}
+use Rattle.switch_engine.specs.declared.command.Command.{Command}
+use Rattle.switch_engine.specs.Rows.{row_of}
 use Rattle.switch_names.specs.Names.{Name}
+use Rattle.unit_stage.specs.Owes.{is_stop}
+use Rattle.unit_stage.specs.Plan.{IsPlannedIn}
+use Rattle.unit_stage.specs.System.{current_system}
 
 -- a line of two words
 abbrev pub line : List ℕ → List ℕ → List ℕ
@@ -51,9 +55,22 @@ report_of from to duties left =
     ++ flat_map (line (codes "leave")) left
     ++ other_lines duties
 
--- the report of a switch to a system, from a world
-pub record IsReport (w : WorldState) (system : Name) (text : List ℕ) : Type 0 where
+-- the report of a switch of the units to a system, from a world
+pub record IsUnitReport (system : Name) (w : WorldState) (text : List ℕ) : Type 0 where
   pub lists : Lists
   pub owed : Owed
-  pub is_owed : IsOwedIn w system lists owed
+  pub planned : IsPlannedIn w system lists owed
   pub is_text : text ≡ report_of (current_system w.leaves) system (calls_of owed (state_of w.manager.states)) owed.left
+
+-- the report of a set of the profile: the system, and the number of its generation
+abbrev pub profile_report : Name → ℕ → List ℕ
+profile_report system number = line (codes "to") system ++ line (codes "generation") (decimal number)
+
+-- the report about a system, to which the units are switched, or which the profile is set to
+abbrev pub IsReportBy : Bool → Name → WorldState → List ℕ → Type 0
+IsReportBy true system w text = IsUnitReport system w text
+IsReportBy false system w text = text ≡ profile_report system (number_after w.leaves system)
+
+-- the report of a command, from a world
+abbrev pub IsReport : Command → WorldState → List ℕ → Type 0
+IsReport command w text = IsReportBy (row_of command w.leaves).switches (row_of command w.leaves).system w text

@@ -1,4 +1,4 @@
-//! Puts the closing text of a switch out.
+//! Puts the closing text of a command out.
 ghost use Rattle.std.specs.Prelude.{◌≡◌, [], ◌∷◌, OnOk, codes, filter, map};
 ghost use Rattle.std.specs.List.{flat_map};
 ghost use Rattle.host_trait.specs.Sink.{HasSinkCause, IsPrefixOf, Puts};
@@ -12,7 +12,7 @@ use switch_names::UnitName;
 use unit_defs::Defs;
 
 /// The last line of a run that has come to its end.
-pub const CLOSING: &str = "done\n";
+const CLOSING: &str = "done\n";
 
 /// Puts the line of a unit that has failed.
 fn put_failed<S: Sink>(out: &mut S, unit: &UnitName) -> Result<(), SinkFault>
@@ -49,13 +49,13 @@ fn put_all_failed<S: Sink>(out: &mut S, defs: &Defs, list: &[UnitState]) -> Resu
     Ok(())
 }
 
-/// Puts the closing text of a switch: a line for each unit that has failed and that the system
-/// defines, in byte order, and the last line. It takes no memory.
+/// Puts the closing text of a command that was carried out: a line for each unit that has failed and
+/// that the system defines, in byte order, and the last line. It takes no memory.
 ///
 /// Source: the lines of switch-to-configuration, NixOS manual, "What happens during a system switch?".
 pub fn close<S: Sink>(out: &mut S, plan: &Plan, outcome: &Outcome) -> Result<(), SinkFault>
-    ensures ok { OnOk result (Puts (S.sink out.old) (S.sink out.new) (λ more. more ≡ close_of (failed_in plan.now.defs outcome.now.states))) }
-    ensures prefix { Puts (S.sink out.old) (S.sink out.new) (IsPrefixOf (close_of (failed_in plan.now.defs outcome.now.states))) }
+    ensures ok { OnOk result (Puts (S.sink out.old) (S.sink out.new) (λ more. more ≡ close_of (failed_in plan.now.units.defs outcome.now.states))) }
+    ensures prefix { Puts (S.sink out.old) (S.sink out.new) (IsPrefixOf (close_of (failed_in plan.now.units.defs outcome.now.states))) }
     ensures cause { HasSinkCause (S.sink out.old) (S.sink out.new) result }
 {
     put_all_failed(out, plan.defs(), outcome.states.list().as_slice())?;

@@ -1,24 +1,28 @@
 //! What holds of every report and of every closing text.
 ghost use Rattle.std.specs.Prelude.{◌≡◌, ℕ, List};
+ghost use Rattle.host_trait.specs.States.{UnitStates};
 ghost use Rattle.host_trait.specs.World.{WorldState};
+ghost use Rattle.switch_engine.specs.declared.command.Command.{Command};
 ghost use Rattle.switch_engine.specs.declared.plan.Plan.{Plan};
-ghost use Rattle.switch_engine.specs.Final.{IsFinal};
+ghost use Rattle.switch_engine.specs.Commands.{IsBoot, IsQuery};
+ghost use Rattle.switch_engine.specs.Final.{IsFinalOf};
 ghost use Rattle.switch_engine.specs.Plan.{IsPlanOf};
-ghost use Rattle.switch_names.specs.Names.{Name};
 ghost use Rattle.dry_report.specs.Close.{IsClosing, close_of, failed_in};
 ghost use Rattle.dry_report.specs.Report.{IsReport};
 
-/// From a world, a switch to a system has one report.
+/// From a world, a command has one report.
 pub fn one_report_is_made()
-    ensures { (w : WorldState) (system : Name) (one other : List ℕ) → IsReport w system one → IsReport w system other → one ≡ other }
+    ensures { (command : Command) (w : WorldState) (one other : List ℕ) → IsReport command w one → IsReport command w other → one ≡ other }
 {}
 
-/// From a world, a switch to a system has one closing text.
+/// From a world, a command has one closing text.
 pub fn one_closing_is_made()
-    ensures { (w : WorldState) (system : Name) (one other : List ℕ) → IsClosing w system one → IsClosing w system other → one ≡ other }
+    ensures { (command : Command) (w : WorldState) (one other : List ℕ) → IsClosing command w one → IsClosing command w other → one ≡ other }
 {}
 
-/// The closing text by the units and the states after a switch is that of its world.
-pub fn states_after_a_switch_close_it()
-    ensures { (system : Name) (w v : WorldState) (plan : Plan) → IsPlanOf system w plan → IsFinal system plan.owed w v → IsClosing w system (close_of (failed_in plan.defs v.manager.states)) }
+/// The closing text by the units and the states after a command that changes something is that of its
+/// world. After a boot any states do, since it looks at no units.
+pub fn states_at_the_end_close_it()
+    ensures { (plan : Plan) (states : UnitStates) (w v : WorldState) → IsPlanOf w plan → (IsQuery plan.command → ⊥) → IsFinalOf plan.command w v
+        → ((IsBoot plan.command → ⊥) → states ≡ v.manager.states) → IsClosing plan.command w (close_of (failed_in plan.units.defs states)) }
 {}

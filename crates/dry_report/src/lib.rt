@@ -1,9 +1,9 @@
-//! The report of a switch, from its plan, and its closing text, from how it ended.
+//! The report of a command, from its plan, and its closing text, from how it ended.
 #![tactic(auto)]
 
 mod closing;
 pub mod laws;
 mod reporting;
 
-pub use closing::{CLOSING, close};
+pub use closing::close;
 pub use reporting::report;

@@ -1,9 +1,12 @@
-//! Writes the report of a switch.
+//! Writes the report of a command.
 ghost use Rattle.std.specs.Prelude.{◌≡◌, ◌++◌, ◌∷◌, [], codes, IfOk, OnOk};
 ghost use Rattle.std.specs.List.{flat_map};
 ghost use Rattle.std.specs.Option.{option_copied};
-ghost use Rattle.switch_engine.specs.Owes.{is_stop};
-ghost use Rattle.dry_report.specs.Report.{act_word, line, other_lines, report_of, stop_lines, system_text};
+ghost use Rattle.host_trait.specs.World.{Leaves, WorldState};
+ghost use Rattle.switch_engine.specs.Commands.{new_system};
+ghost use Rattle.switch_engine.specs.Plan.{IsPlanOf};
+ghost use Rattle.unit_stage.specs.Owes.{is_stop};
+ghost use Rattle.dry_report.specs.Report.{IsReport, act_word, line, other_lines, profile_report, report_of, stop_lines, system_text};
 
 use host_trait::Act;
 use owed_plan::Duty;
@@ -101,12 +104,11 @@ fn system_text(system: Option<&SystemName>) -> &str
     }
 }
 
-/// The report of a switch: the two systems, the stops, the changed units that get nothing, and the
-/// other calls, a line each.
-///
-/// Source: the lines of switch-to-configuration, NixOS manual, "Unit handling".
-pub fn report(alloc: Global, plan: &Plan) -> Result<Bytes, AllocError>
-    ensures { IfOk result (λ text. text ≡ report_of plan.now.from plan.now.to plan.now.duties plan.now.owed.left) }
+/// The report of a switch of the units: the two systems, the stops, the changed units that get
+/// nothing, and the other calls, a line each.
+fn unit_report(alloc: Global, plan: &Plan) -> Result<Bytes, AllocError>
+    ensures { IfOk result (λ text. (leaves : Leaves)
+        → text ≡ report_of plan.now.units.from (new_system plan.now.command leaves) plan.now.units.duties plan.now.units.owed.left) }
 {
     let mut out = Vec::new(alloc);
     write_line(&mut out, "from", system_text(plan.from()))?;
@@ -115,4 +117,27 @@ pub fn report(alloc: Global, plan: &Plan) -> Result<Bytes, AllocError>
     write_left(&mut out, plan.left().as_slice())?;
     write_others(&mut out, plan.duties().as_slice())?;
     Ok(Bytes::from_vec(out))
+}
+
+/// The report of a set of the profile: the system, and the number of its generation.
+fn profile_report(alloc: Global, system: &SystemName, number: u32) -> Result<Bytes, AllocError>
+    ensures { IfOk result (λ text. text ≡ profile_report system.now number) }
+{
+    let mut out = Vec::new(alloc);
+    let digits = format!(in alloc; "{number}")?;
+    write_line(&mut out, "to", system.as_str())?;
+    write_line(&mut out, "generation", digits.as_str())?;
+    Ok(Bytes::from_vec(out))
+}
+
+/// The report of a planned command: what it does to the units, or the generation that it makes.
+///
+/// Source: the lines of switch-to-configuration, NixOS manual, "Unit handling".
+pub fn report(alloc: Global, plan: &Plan) -> Result<Bytes, AllocError>
+    ensures { IfOk result (λ text. (w : WorldState) → IsPlanOf w plan.now → IsReport plan.now.command w text) }
+{
+    match plan.number() {
+        Some(number) => profile_report(alloc, plan.to(), number),
+        None => unit_report(alloc, plan),
+    }
 }

@@ -7,10 +7,7 @@ use Rattle.switch_names.specs.Path.{is_below}
 use Rattle.host_trait.specs.World.{is_path, stage}
 use Rattle.tree_put.specs.Put.{AreApart}
 use Rattle.generations.specs.Places.{link_name, link_path, profile}
-
-and_false : (b : Bool) → b && false ≡ false
-and_false true = refl
-and_false false = refl
+use Rattle.std.proofs.Math.Bool.{and-false}
 
 not_shorter : (m n : ℕ) → n ≤ m → nat_lt m n ≡ false
 not_shorter m n h = grind arith
@@ -29,7 +26,7 @@ link_length n = omega arith
 
 link_not_below_stage : (n : ℕ) → is_below (link_path n) stage ≡ false
 unfolding link_path stage
-link_not_below_stage n = and_false _
+link_not_below_stage n = and-false _
 
 stage_short : length stage ≡ 23
 unfolding stage
@@ -51,7 +48,7 @@ link_apart n = record {
 
 link_not_below_profile : (n : ℕ) → is_below (link_path n) profile ≡ false
 unfolding link_path profile
-link_not_below_profile n = and_false _
+link_not_below_profile n = and-false _
 
 link_not_profile : (n : ℕ) → is_path (link_path n) profile ≡ false
 unfolding link_path profile

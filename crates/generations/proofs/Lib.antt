@@ -4,6 +4,10 @@ pub mod LinkNumbers
 pub mod Lists
 pub mod NamesLaws
 pub mod Numbers
+pub mod PlacesLemmas
+pub mod ProfileApart
+pub mod ProfileLemmas
+pub mod ProfilePlaces
 pub mod Reading
 pub mod SetLaws
 pub mod SetLemmas

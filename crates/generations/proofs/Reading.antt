@@ -12,10 +12,10 @@ use Rattle.std.specs.FinMap.{contains_key-keys, get, keys}
 use Rattle.std.specs.List.{list_any}
 use Rattle.std.specs.List.Sorted.{IsStrictlySortedBy}
 use Rattle.std.specs.Map.{lookup}
-use Rattle.std.specs.Ordering.{eq_by_cmp, nat_cmp}
+use Rattle.std.specs.Ordering.{nat_cmp}
 use Rattle.host_trait.specs.declared.leaf.LeafKind.{LeafKind}
 use Rattle.host_trait.specs.declared.leaf.LeafKind.TheVariants.{Link}
-use Rattle.host_trait.specs.World.{Leaves, bytes_cmp, is_listed, is_path, listed, stage}
+use Rattle.host_trait.specs.World.{Leaves, is_listed, is_path, listed, stage}
 use Rattle.host_trait.proofs.Moments.{none_or_some}
 use Rattle.host_trait.proofs.Places.{none_or_present}
 use Rattle.generations.proofs.Apart.{one_link, one_link_path}
@@ -112,10 +112,6 @@ read_more leaves paths i path gen before after within is read at with =
     subst (λ ps. AreTargetsAt leaves ps after) (sym (take_more paths i path within ∙ ap (λ p. take i paths ++ p ∷ []) (sym is)))
     (read_and leaves (take i paths) path before after read gen at with)
 
-any_alike : (p q : List ℕ → Bool) → ((x : List ℕ) → p x ≡ q x) → (xs : List (List ℕ)) → list_any p xs ≡ list_any q xs
-any_alike p q same [] = refl
-any_alike p q same (x ∷ xs) = ap (λ b. b || list_any p xs) (same x) ∙ ap (λ b. q x || b) (any_alike p q same xs)
-
 longer : (n : ℕ) → nat_lt (length profiles) (length (link_path n)) ≡ true
 unfolding link_path profiles
 longer n = lt-ltb 20 (length (codes "nix/var/nix/profiles/" ++ link_name n)) (omega (arith, length-append (codes "nix/var/nix/profiles/") (link_name n)))
@@ -132,7 +128,7 @@ listed_alike n q same = subst (λ p. is_listed profiles p ≡ true) ((bytes_eq-D
 link_among : (leaves : Leaves) (n : ℕ) → IsSome (get leaves (link_path n)) → list_any (is_path (link_path n)) (listed profiles leaves) ≡ true
 link_among leaves n is =
     any-filter_same (is_path (link_path n)) (is_listed profiles) true (listed_alike n) (keys leaves)
-    ∙ any_alike (is_path (link_path n)) (eq_by_cmp bytes_cmp (link_path n)) (texts_ties (link_path n)) (keys leaves)
+    ∙ (λ i. list_any (λ path. texts_ties (link_path n) path i) (keys leaves))
     ∙ sym (contains_key-keys leaves (link_path n)) ∙ is
 
 -- what is read at all listed paths is all

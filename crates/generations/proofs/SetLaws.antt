@@ -21,14 +21,14 @@ use Rattle.generations.proofs.SetLemmas.{kept_generation, new_generation}
 stands : (n : ℕ) (o : Option LeafKind) → Option (Option (List ℕ))
 stands n o = cond (is_number n) (option_map target_of o) None
 
-generation_of : (m n : Leaves) (k : ℕ) → get m (link_path k) ≡ get n (link_path k) → generation_at m k ≡ generation_at n k
+pub generation_of : (m n : Leaves) (k : ℕ) → get m (link_path k) ≡ get n (link_path k) → generation_at m k ≡ generation_at n k
 generation_of m n k same = ap (λ o. cond (is_number k) (option_map target_of o) None) same
 
 -- worlds that are equal but for the stage have the same generations
 pub generation_seen : (m w : WorldState) (k : ℕ) → seen m ≡ seen w → generation_at m.leaves k ≡ generation_at w.leaves k
 generation_seen m w k is = generation_of m.leaves w.leaves k (seen_at m w is (link_path k) (apart_ne _ _ (link_apart k)))
 
-number_same : (m n : Leaves) (system : List ℕ) → ((k : ℕ) → generation_at m k ≡ generation_at n k) → number_after m system ≡ number_after n system
+pub number_same : (m n : Leaves) (system : List ℕ) → ((k : ℕ) → generation_at m k ≡ generation_at n k) → number_after m system ≡ number_after n system
 number_same m n system same =
     let top = highest_same m n same in
     ap (λ o. cond (is_of o system) (highest m) (highest m + 1)) (same (highest m))

@@ -1,11 +1,10 @@
 -- What a set leaves, world by world.
 use Rattle.std.proofs.Common.{◌≡◌, ℕ, true, false, cond, List, sym, ap, subst, ◌∙◌, inl, inr, ⊎_elim}
-use Rattle.std.proofs.lemmas.Bool.{cases_Bool, both_ways}
 use Rattle.host_trait.specs.declared.leaf.LeafKind.{LeafKind}
 use Rattle.host_trait.specs.declared.leaf.LeafKind.TheVariants.{Link}
 use Rattle.host_trait.specs.World.{WorldState, IsClear, is_in_line, seen, stage, with_leaf}
 use Rattle.host_trait.proofs.Seen.{seen_with_leaf, clear_seen, stage_clear_seen}
-use Rattle.host_trait.proofs.Sound.{clear_insert, get_other}
+use Rattle.host_trait.proofs.Sound.{clear_insert, line_turned}
 use Rattle.tree_put.specs.Put.{CanPut, IsOldOrNew}
 use Rattle.generations.specs.Places.{generation_at, highest, is_of, link_name, link_path, link_target, number_after, profile, set_end, with_generation, with_profile}
 use Rattle.generations.specs.Set.{CanSet, IsLinkMoment, IsSetMoment, link_end}
@@ -36,7 +35,7 @@ can_put_link system n at w place number other can = record {
 pub can_point : (system : List ℕ) (w v : WorldState) → CanSet system w → seen v ≡ link_end system w → CanPut profile v
 can_point system w v can is = record {
   stage = stage_clear_seen v u is (clear_with_generation system n w stage (link_apart n).line can.stage);
-  place = clear_seen v u profile (in_line_other profile stage profile_apart.line) is (clear_with_generation system n w profile (link_profile n).line can.profile);
+  place = clear_seen v u profile (line_turned profile stage profile_apart.line) is (clear_with_generation system n w profile (link_profile n).line can.profile);
 }
   where
     n : ℕ
@@ -44,12 +43,6 @@ can_point system w v can is = record {
 
     u : WorldState
     u = with_generation system n w
-
-    in_line_other : (p q : List ℕ) → is_in_line p q ≡ false → is_in_line q p ≡ false
-    in_line_other p q none = elim (cases_Bool (is_in_line q p)) [
-      | inl is ↦ absurd (both_ways _ none (Rattle.host_trait.proofs.Sound.in_line_either q p is))
-      | inr is ↦ is
-    ]
 
 -- a put of the generation's link
 pub link_moment : (system : List ℕ) (n : ℕ) (at : List ℕ) (leaf : LeafKind) (w m : WorldState) → at ≡ link_path n → leaf ≡ Link (link_target system) → n ≡ number_after w.leaves system →

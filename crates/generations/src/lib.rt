@@ -2,11 +2,18 @@
 #![tactic(auto)]
 
 mod gens;
+mod laws;
 mod link_number;
 mod listing;
+mod places;
 mod setting;
 
 pub use gens::{Gen, Gens, is_highest_of, number_for, previous};
+pub use laws::{
+    a_set_can_be_made_where_its_part_is_free, a_set_leaves_its_part_at_its_end,
+    each_moment_of_a_set_is_one_of_its_part, the_profile_is_a_part,
+};
 pub use link_number::{number_of_name, number_of_path};
 pub use listing::{all, target_of};
-pub use setting::{SetFault, generation_path, point, profile_path, set};
+pub use places::profile_places;
+pub use setting::{SetFault, generation_path, point, profile_path, set, set_number};

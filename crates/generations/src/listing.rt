@@ -3,8 +3,8 @@ ghost use Rattle.std.specs.Prelude.{◌≡◌, ℕ, IfOk, IfSome, OnOk, IsSome, 
 ghost use Rattle.std.specs.FinMap.{get};
 ghost use Rattle.std.specs.List.Sorted.{IsStrictlySortedBy};
 ghost use Rattle.std.specs.Ordering.{nat_cmp};
-ghost use Rattle.host_trait.specs.Change.{IsSame};
-ghost use Rattle.host_trait.specs.Host.{Told, Passes, HasCause};
+ghost use Rattle.host_trait.specs.Host.{Told};
+ghost use Rattle.host_trait.specs.Reading.{IsReading};
 ghost use Rattle.generations.specs.Gens.{IsGensOf, listed_at};
 ghost use Rattle.generations.specs.LinkNumber.{Bears};
 ghost use Rattle.generations.specs.Places.{profile, system_of, target_of};
@@ -58,8 +58,7 @@ fn number_of_leaf(alloc: Global, leaf: Option<Leaf>) -> Result<Option<u32>, Allo
 /// The generation whose link has a path, where it stands.
 fn read_link<T: Tree>(alloc: Global, host: &mut T, path: &Path) -> Result<Option<Gen>, HostFault>
     ensures generation { IfOk result (λ generation. Told (T.host host.old) (λ w. IsGenAt w.leaves path.now generation)) }
-    ensures moments { Passes (T.host host.old) (T.host host.new) IsSame }
-    ensures cause { HasCause (T.host host.old) (T.host host.new) result }
+    ensures reads { IsReading (T.host host.old) (T.host host.new) result }
 {
     let Some(number) = number_of_path(alloc, path.as_str())? else {
         return Ok(None);
@@ -84,8 +83,7 @@ fn put_target(targets: &mut Targets, generation: Option<Gen>) -> Result<(), Allo
 /// The targets of the generations whose links have these paths.
 fn read_links<T: Tree>(alloc: Global, host: &mut T, paths: &[Path]) -> Result<Targets, HostFault>
     ensures targets { IfOk result (λ targets. Told (T.host host.old) (λ w. AreTargetsAt w.leaves paths.now targets)) }
-    ensures moments { Passes (T.host host.old) (T.host host.new) IsSame }
-    ensures cause { HasCause (T.host host.old) (T.host host.new) result }
+    ensures reads { IsReading (T.host host.old) (T.host host.new) result }
 {
     let mut targets = BTreeMap::new(alloc);
     for path in paths {
@@ -99,8 +97,7 @@ fn read_links<T: Tree>(alloc: Global, host: &mut T, paths: &[Path]) -> Result<Ta
 #[tactic(auto, unfolding(crate::specs::Places::profiles))]
 fn read_targets<T: Tree>(alloc: Global, host: &mut T) -> Result<Targets, HostFault>
     ensures targets { IfOk result (λ targets. Told (T.host host.old) (λ w. AreTargetsOf w.leaves targets)) }
-    ensures moments { Passes (T.host host.old) (T.host host.new) IsSame }
-    ensures cause { HasCause (T.host host.old) (T.host host.new) result }
+    ensures reads { IsReading (T.host host.old) (T.host host.new) result }
 {
     let folder = fixed_path(alloc, "nix/var/nix/profiles")?;
     let paths = host.list(alloc, &folder)?;
@@ -110,8 +107,7 @@ fn read_targets<T: Tree>(alloc: Global, host: &mut T) -> Result<Targets, HostFau
 /// The number of the generation to which the profile's leaf is a link.
 fn read_profile<T: Tree>(alloc: Global, host: &mut T) -> Result<Option<u32>, HostFault>
     ensures number { IfOk result (λ number. Told (T.host host.old) (λ w. Bears link_to (get w.leaves profile) number)) }
-    ensures moments { Passes (T.host host.old) (T.host host.new) IsSame }
-    ensures cause { HasCause (T.host host.old) (T.host host.new) result }
+    ensures reads { IsReading (T.host host.old) (T.host host.new) result }
 {
     let path = profile_path(alloc)?;
     let leaf = host.read(alloc, &path)?;
@@ -145,8 +141,7 @@ fn into_list(alloc: Global, targets: Targets) -> Result<Listed<Gen>, AllocError>
 /// It lists the profiles' folder once, and reads each generation's link and the profile's once.
 pub fn all<T: Tree>(alloc: Global, host: &mut T) -> Result<Gens, HostFault>
     ensures gens { IfOk result (λ gens. Told (T.host host.old) (λ w. IsGensOf w.leaves gens)) }
-    ensures moments { Passes (T.host host.old) (T.host host.new) IsSame }
-    ensures cause { HasCause (T.host host.old) (T.host host.new) result }
+    ensures reads { IsReading (T.host host.old) (T.host host.new) result }
 {
     let targets = read_targets(alloc, host)?;
     let linked = read_profile(alloc, host)?;

@@ -113,8 +113,10 @@ fn put_generation<T: Tree>(
     put(alloc, host, &at, &link)
 }
 
-/// Puts both links of a set: first the generation's, then the profile's.
-fn set_number<T: Tree>(
+/// Puts both links of a set with the number that it gives: first the generation's, then the profile's.
+///
+/// A cut leaves neither link put, the generation's alone, or both.
+pub fn set_number<T: Tree>(
     alloc: Global,
     host: &mut T,
     gens: &Gens,

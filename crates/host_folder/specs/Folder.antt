@@ -19,6 +19,7 @@ pub silent_is_host : (faults : ℕ) → IsHost (silent_state faults)
 silent_is_host faults = record {
   sound = λ w is. absurd (none-some w is);
   plain = λ w is. absurd (none-some w is);
+  states = λ w is. absurd (none-some w is);
   counts_now = λ t m early is. absurd (none-some m is);
   only_now = λ m left. absurd left;
   ends = λ n is. absurd (none-some n is);

@@ -1,8 +1,8 @@
 -- What a call leaves that was admitted, where no cut fell on it.
-use Rattle.std.proofs.Common.{◌≡◌, ◌≤◌, ◌↔◌, ℕ, false, cond, List, length, Option, None, Some, Result, Ok, Err, IsErrOf, IsErrAnd, IfOk, IsTrue, refl, sym, ap, subst, ◌∙◌, inl, arith}
+use Rattle.std.proofs.Common.{◌≡◌, ◌≤◌, ◌↔◌, ℕ, true, false, cond, List, length, Option, None, Some, Result, Ok, Err, IsErrOf, IsErrAnd, IfOk, IsTrue, refl, sym, ap, subst, ◌∙◌, inl, arith}
 use Rattle.std.proofs.lemmas.Bool.{both_ways}
 use Rattle.std.specs.Option.{ForSome}
-use Rattle.host_memory.proofs.Hosts.{host_at, becomes}
+use Rattle.host_memory.proofs.Hosts.{host_at, becomes, refused_cause, stands}
 use Rattle.host_memory.specs.declared.cuts.ArmedCut.{ArmedCut}
 use Rattle.host_memory.specs.declared.history.DoneCall.{DoneCall}
 use Rattle.host_memory.specs.declared.history.History.{History}
@@ -13,7 +13,11 @@ use Rattle.host_trait.specs.Change.{Change}
 use Rattle.host_trait.specs.declared.tree.HostFault.{HostFault}
 use Rattle.host_trait.specs.declared.tree.HostFault.TheVariants.{Memory, Device}
 use Rattle.host_trait.specs.Host.{Becomes, HasCause, Told}
+use Rattle.host_trait.specs.Reading.{IsReading}
 use Rattle.host_trait.specs.World.{WorldState}
+use Rattle.host_trait.proofs.Moments.{one_world}
+use Rattle.host_trait.proofs.Causes.{ok_no_device}
+use Rattle.host_trait.proofs.Readings.{no_device}
 
 -- the answer of a call that wanted memory
 abbrev pub Starves : {T : Type 0} → Result T HostFault → Type 0
@@ -22,12 +26,6 @@ Starves result = IsErrAnd result (λ fault. fault ≡ Memory)
 starved : {T : Type 0} (result : Result T HostFault) → Starves result → IsErrOf result Memory
 starved (Ok x) never = absurd never
 starved (Err fault) is = ap (λ f. Err f) is
-
-not_device : {T : Type 0} (result : Result T HostFault) → Starves result → IsErrOf result Device → ⊥
-not_device result is device = let memory = starved result is in cc
-
-ok_not_device : {T : Type 0} (x : T) → IsErrOf {T = T} {E = HostFault} (Ok x) Device → ⊥
-ok_not_device x device = cc
 
 -- it says nothing of what it would have answered
 pub no_answer : {T : Type 0} (result : Result T HostFault) (P : T → Type 0) → Starves result → IfOk result P
@@ -49,13 +47,27 @@ caused old new now then result first never =
 
 -- a call that finished has its cause
 pub done_cause : {T : Type 0} (old new : History) (now then : TroublesState) (x : T) → then ≡ admitted now → HasCause (host_at old now) (host_at new then) (Ok x)
-done_cause old new now then x first = caused old new now then (Ok x) first (ok_not_device x)
+done_cause old new now then x first = caused old new now then (Ok x) first (ok_no_device x)
 
 -- and so has one that wanted memory
 pub starved_cause :
     {T : Type 0} (old new : History) (now then : TroublesState) (result : Result T HostFault) →
     then ≡ admitted now → Starves result → HasCause (host_at old now) (host_at new then) result
-starved_cause old new now then result first is = caused old new now then result first (not_device result is)
+starved_cause old new now then result first is = caused old new now then result first (no_device result is)
+
+-- a call that reads and finishes, wants memory or is refused
+pub done_reads : {T : Type 0} (history : History) (now then : TroublesState) (x : T) → then ≡ admitted now → IsReading (host_at history now) (host_at history then) (Ok x)
+done_reads history now then x first = record { moments = stands history now then; cause = done_cause history history now then x first }
+
+pub starved_reads :
+    {T : Type 0} (history : History) (now then : TroublesState) (result : Result T HostFault) →
+    then ≡ admitted now → Starves result → IsReading (host_at history now) (host_at history then) result
+starved_reads history now then result first is = record { moments = stands history now then; cause = starved_cause history history now then result first is }
+
+pub refused_reads :
+    {T : Type 0} (history : History) (now then : TroublesState) (result : Result T HostFault) →
+    is_refused now ≡ true → then ≡ refused now → now.faults ≤ then.faults → IsReading (host_at history now) (host_at history then) result
+refused_reads history now then result is after later = record { moments = stands history now then; cause = refused_cause history now then result is after later }
 
 by_due :
     (change : Change) (cut : Option ArmedCut) (old new : MemoryHost) (result : Result (Unit {0}) HostFault) →
@@ -93,12 +105,9 @@ begun_at now counts clock was within time first = λ one is.
 pub still : (history : History) (now then : TroublesState) → Becomes (host_at history now) (host_at history then) (λ w. w)
 still history now then = becomes history history now then (λ w. w) refl
 
-some_is : {X : Type 0} (x y : X) → Some x ≡ Some y → x ≡ y
-some_is x y e = cc
-
 -- and tells of the present one
 pub told : (history : History) (now : TroublesState) (P : WorldState → Type 0) → P history.world → Told (host_at history now) P
-told history now P has = record { has = λ w is. subst P (some_is history.world w is) has }
+told history now P has = record { has = λ w is. subst P (one_world (Some history.world) history.world w refl is) has }
 
 module _ (host : MemoryHost) (calm : false ≡ is_refusing host) where
   -- it is counted
@@ -107,4 +116,4 @@ module _ (host : MemoryHost) (calm : false ≡ is_refusing host) where
 
   -- and not refused
   pub not_refused : {T : Type 0} (x : T) → IsErrOf {T = T} {E = HostFault} (Ok x) Device ↔ IsTrue (is_refusing host)
-  not_refused x = (λ device. absurd (ok_not_device x device), λ is. absurd (both_ways (is_refusing host) (sym calm) is))
+  not_refused x = (λ device. absurd (ok_no_device x device), λ is. absurd (both_ways (is_refusing host) (sym calm) is))

@@ -7,6 +7,7 @@ use Rattle.host_memory.specs.History.{undone, rewound, LeftSince, memory_state, 
 use Rattle.host_trait.specs.Change.{Change, IsMoment, finished}
 use Rattle.host_trait.specs.Host.{Passes}
 use Rattle.host_trait.specs.World.{WorldState}
+use Rattle.host_trait.proofs.Moments.{one_world}
 
 rewound_more : (us : List DoneCall) (u : DoneCall) (v : WorldState) → rewound (us ++ u ∷ []) v ≡ rewound us (undone u v)
 rewound_more [] u v = refl
@@ -14,9 +15,6 @@ rewound_more (x ∷ us) u v = ap (undone x) (rewound_more us u v)
 
 some_or_none : {X : Type 0} (x : X) → Some x ≡ None → ⊥
 some_or_none x e = cc
-
-some_is : {X : Type 0} (x y : X) → Some x ≡ Some y → x ≡ y
-some_is x y e = cc
 
 -- after one more call, the worlds since a time are those before it and the present one
 left_before :
@@ -59,7 +57,7 @@ passes_more us vs u w v R last then_last faults then_faults is_sure then_sure gr
           ⊎_elim (λ before. inl before) (λ is. inr (w, refl, subst (λ x. R w x) (sym is) now))
           (left_after us u w v t m back (subst (λ calls. LeftSince calls v t m) grown left));
       keeps = λ t m early left. subst (λ calls. LeftSince calls v t m) (sym grown) (left_before us u w v t m back left);
-      tells = record { to = λ x is. (v, refl, subst (λ y. R y v) (some_is w x is) now) };
+      tells = record { to = λ x is. (v, refl, subst (λ y. R y v) (one_world (Some w) w x refl is) now) };
       silent = λ none. absurd (some_or_none w none);
     }
 
@@ -86,7 +84,7 @@ passes_still us vs w v R last then_last faults then_faults is_sure then_sure cal
       later = omega arith;
       nothing_else = λ t m early left. inl (subst (λ x. LeftSince us x t m) world (subst (λ xs. LeftSince xs v t m) calls left));
       keeps = λ t m early left. subst (λ xs. LeftSince xs v t m) (sym calls) (subst (λ x. LeftSince us x t m) (sym world) left);
-      tells = record { to = λ x is. (v, refl, subst (λ y. R y v) (some_is w x is) now) };
+      tells = record { to = λ x is. (v, refl, subst (λ y. R y v) (one_world (Some w) w x refl is) now) };
       silent = λ none. absurd (some_or_none w none);
     }
 

@@ -1,43 +1,23 @@
 -- How a history goes on by each act of the manager: what undoes the act is in its record.
-use Rattle.std.proofs.Common.{◌≡◌, ◌≢◌, ℕ, ◌-◌, true, cond, List, [], ◌∷◌, ◌++◌, length, take, Option, None, Some, Result, Ok, Err, OnOk, OnErr, unwrap_or, refl, sym, ap, subst, ◌∙◌, inl, inr, arith}
-use Rattle.std.specs.BTreeMap.{is_at}
-use Rattle.std.specs.FinMap.{get, insert, remove, gets, get_tied, get-insert, get-remove}
+use Rattle.std.proofs.Common.{◌≡◌, ℕ, ◌-◌, cond, List, [], ◌∷◌, ◌++◌, length, take, Result, Ok, Err, OnOk, OnErr, refl, sym, ap, subst, ◌∙◌, inl, inr, arith}
+use Rattle.std.specs.FinMap.{get}
 use Rattle.std.specs.Ordering.{eq_by_cmp}
 use Rattle.std.proofs.lemmas.List.{length-append, take_at}
 use Rattle.host_memory.proofs.Histories.{recorded}
 use Rattle.host_memory.specs.declared.history.DoneCall.TheVariants.{Performed, Halted, Loaded}
 use Rattle.host_memory.specs.declared.history.History.{History}
 use Rattle.host_memory.specs.History.{GoesOn, undone, without_last}
-use Rattle.host_trait.proofs.Places.{bytes_total, alike, same_or_other}
+use Rattle.host_trait.proofs.Places.{alike, same_or_other, itself}
+use Rattle.host_trait.proofs.StateMaps.{after_with, listed, listed_again}
 use Rattle.host_trait.specs.Change.{finished, IsMoment, Perform, DaemonReload, definitions_place, loaded_from}
 use Rattle.host_trait.specs.declared.entry.Act.{Act}
 use Rattle.host_trait.specs.declared.entry.Act.TheVariants.{Restart}
 use Rattle.host_trait.specs.declared.manager_state.ManagerState.{ManagerState}
 use Rattle.host_trait.specs.declared.unit_state.State.{State}
-use Rattle.host_trait.specs.declared.unit_state.State.TheVariants.{Active, Inactive, Failed}
+use Rattle.host_trait.specs.declared.unit_state.State.TheVariants.{Inactive}
 use Rattle.host_trait.specs.Manager.{acted, halted, loading, state_after}
 use Rattle.host_trait.specs.States.{AreStates, UnitStates, state_of, with_state}
 use Rattle.host_trait.specs.World.{WorldState, bytes_cmp, with_manager}
-
--- how a state is listed
-listed : State → Option State
-listed Active = Some Active
-listed Inactive = None
-listed Failed = Some Failed
-
-after_with : (states : UnitStates) (unit : List ℕ) (state : State) (q : List ℕ) →
-    get (with_state unit state states) q ≡ cond (eq_by_cmp bytes_cmp q unit) (listed state) (get states q)
-unfolding listed
-after_with states unit Active q = get-insert bytes_total states unit Active q
-after_with states unit Inactive q = get-remove bytes_total states unit q
-after_with states unit Failed q = get-insert bytes_total states unit Failed q
-
-listed_again : (o : Option State) → o ≢ Some Inactive → listed (unwrap_or o Inactive) ≡ o
-unfolding listed
-listed_again None other = refl
-listed_again (Some Active) other = refl
-listed_again (Some Inactive) other = absurd (other refl)
-listed_again (Some Failed) other = refl
 
 -- a unit is put back into its state
 unit_back : (states : UnitStates) (unit : List ℕ) (state : State) → AreStates states → with_state unit (state_of states unit) (with_state unit state states) ≡ states
@@ -50,9 +30,6 @@ unit_back states unit state are = alike _ _ (λ q.
           (ap (λ b. cond b (listed (state_of states unit)) (cond b (listed state) (get states unit))) (itself unit) ∙ listed_again (get states unit) (are.others unit))
       | inr other ↦ ap (λ b. cond b (listed (state_of states unit)) (cond b (listed state) (get states q))) other
     ])
-  where
-    itself : (p : List ℕ) → eq_by_cmp bytes_cmp p p ≡ true
-    itself p = (Rattle.std.specs.Cmp.eq_by_cmp_equiv bytes_total).refl p
 
 shorter : {X : Type 0} (items : List X) (x : X) → without_last (items ++ x ∷ []) ≡ items
 shorter items x =

@@ -1,5 +1,5 @@
 -- How a history goes on by each call: what undoes the call is in its record.
-use Rattle.std.proofs.Common.{◌≡◌, ◌≢◌, ℕ, true, false, List, [], ◌∷◌, ◌++◌, Option, None, Some, IsSome, refl, sym, ap, subst, ◌∙◌, inl, inr, rules}
+use Rattle.std.proofs.Common.{◌≡◌, ◌≢◌, ℕ, true, false, List, [], ◌∷◌, ◌++◌, Option, None, Some, IsSome, sym, ap, subst, ◌∙◌, inl, inr, rules}
 use Rattle.std.specs.FinMap.{get, insert, remove, gets, get_tied}
 use Rattle.std.specs.Ordering.{eq_by_cmp}
 use Rattle.std.specs.Cmp.{eq_by_cmp_equiv}
@@ -7,7 +7,7 @@ use Rattle.host_memory.proofs.Histories.{entered}
 use Rattle.host_memory.specs.declared.history.DoneCall.TheVariants.{Staged, Renamed, Removed}
 use Rattle.host_memory.specs.declared.history.History.{History}
 use Rattle.host_memory.specs.History.{Makes, with_at, undone}
-use Rattle.host_trait.proofs.Places.{bytes_total, alike, same_or_other, at_same, none_or_present}
+use Rattle.host_trait.proofs.Places.{bytes_total, alike, same_or_other, at_same, none_or_present, some_of}
 use Rattle.host_trait.specs.Change.{finished, Stage, Rename, Remove}
 use Rattle.host_trait.specs.declared.leaf.LeafKind.{LeafKind}
 use Rattle.host_trait.specs.World.{IsClear, IsInTheWay, Leaves, bytes_cmp, is_in_line, moved, with_moved, with_leaf, without_leaf, stage}
@@ -57,10 +57,6 @@ moved_back m from to leaf was other there is =
     ∙ ap (λ (n : Leaves). with_at n to was) (moved_leaf (insert (remove m from) to leaf) to from leaf (is_there m from to leaf))
     ∙ brought_to m from to leaf was other there is
 
-present : {X : Type 0} (o : Option X) → IsSome o → (x : X) × (o ≡ Some x)
-present {X = X} None is = absurd (none_or_present {X = X} None refl is)
-present (Some x) is = (x, refl)
-
 -- nothing stands in the way of a path that is clear
 pub blocked_clear : (leaves : Leaves) (to at : List ℕ) → IsClear leaves to → at ≡ to → IsInTheWay leaves at → ⊥
 blocked_clear leaves to at clear is (q, line, stands) =
@@ -100,7 +96,7 @@ module _ (old new : History) where
   renamed from to place was begins same other there is now grown =
       let after : new.world ≡ finished (Rename to) old.world = now ∙ ap (λ x. record old.world { leaves = moved old.world.leaves x to }) begins in
       let apart : eq_by_cmp bytes_cmp to stage ≡ false = elim (same_or_other to stage) [ inl equal ↦ absurd (other equal) | inr is_apart ↦ is_apart ] in
-      let leaf = present (get old.world.leaves stage) there in
+      let leaf = some_of (get old.world.leaves stage) there in
       entered old new (Renamed place was) (Rename to) grown
       (ap (λ x. undone (Renamed x was) new.world) same ∙ ap (undone (Renamed to was)) after
       ∙ ap (λ (m : Leaves). record old.world { leaves = m }) (moved_back old.world.leaves stage to leaf.0 was apart leaf.1 (sym is)))

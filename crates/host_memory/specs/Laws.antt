@@ -10,10 +10,9 @@ use Rattle.host_memory.specs.MemoryHost.{host_of}
 use Rattle.host_memory.specs.Troubles.{IsWithin, last_moment}
 use Rattle.host_trait.specs.Host.{IsHost}
 use Rattle.host_trait.specs.Manager.{HasPlainTexts}
+use Rattle.host_trait.specs.States.{AreStates}
 use Rattle.host_trait.specs.World.{WorldState, IsSound}
-
-some_is : {X : Type 0} (x y : X) → Some x ≡ Some y → x ≡ y
-some_is x y e = cc
+use Rattle.host_trait.proofs.Moments.{one_world}
 
 at_end : (calls : List DoneCall) (w : WorldState) (k : ℕ) → length calls ≤ k → rewound (drop k calls) w ≡ w
 at_end calls w k late = ap (λ rest. rewound rest w) (drop_all k calls late)
@@ -26,13 +25,14 @@ only_now calls w m (k, early, late, is) = is ∙ at_end calls w k early
 
 ends_by : (cut : Option ArmedCut) (clock n : ℕ) → ((c : ArmedCut) → cut ≡ Some c → IsWithin c clock) → last_moment cut ≡ Some n → clock ≤ n
 ends_by None clock n within is = absurd (let no : None ≡ Some n = is in cc)
-ends_by (Some c) clock n within is = let w = within c refl in let e = some_is _ _ is in let ends = w.ends in omega arith
+ends_by (Some c) clock n within is = let w = within c refl in let e = one_world _ _ _ refl is in let ends = w.ends in omega arith
 
 pub memory_is_host : (h : MemoryHost) → IsHost (host_of h)
 memory_is_host h = record {
-  sound = λ w is. subst (λ (x : WorldState). IsSound x.leaves) (some_is _ _ is) h.history.sound;
-  plain = λ w is. subst (λ (x : WorldState). HasPlainTexts x.manager) (some_is _ _ is) h.history.plain;
-  counts_now = λ t m early is. subst (λ x. LeftSince h.history.calls.items h.history.world t x) (some_is _ _ is) (now_counts _ _ t early);
+  sound = λ w is. subst (λ (x : WorldState). IsSound x.leaves) (one_world _ _ _ refl is) h.history.sound;
+  plain = λ w is. subst (λ (x : WorldState). HasPlainTexts x.manager) (one_world _ _ _ refl is) h.history.plain;
+  states = λ w is. subst (λ (x : WorldState). AreStates x.manager.states) (one_world _ _ _ refl is) h.history.states;
+  counts_now = λ t m early is. subst (λ x. LeftSince h.history.calls.items h.history.world t x) (one_world _ _ _ refl is) (now_counts _ _ t early);
   only_now = λ m left. ap (λ (x : WorldState). Some x) (sym (only_now _ _ m left));
   ends = λ n is. ends_by h.troubles.cut (length h.history.calls.items) n h.within is;
 }

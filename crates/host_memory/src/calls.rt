@@ -4,6 +4,7 @@ ghost use Rattle.std.specs.FinMap.{get};
 ghost use Rattle.host_trait.specs.Change.{definitions_place, loaded_from};
 ghost use Rattle.host_trait.specs.declared.manager_state.ManagerState.{ManagerState};
 ghost use Rattle.host_trait.specs.Manager.{HasPlainTexts, acted, halted, loading};
+ghost use Rattle.host_trait.specs.States.{AreStates};
 ghost use Rattle.host_trait.specs.World.{with_manager};
 ghost use Rattle.manager_core.specs.Call.{IsPlainCall, done};
 
@@ -49,9 +50,12 @@ pub(crate) fn step_world(world: &mut World, alloc: Global, call: Call) -> Result
     ensures ok { OnOk result (world.new ≡ with_manager (done call world.old.manager) world.old) }
     ensures err { OnErr result (world.new ≡ world.old) }
     ensures plain { HasPlainTexts world.new.manager }
+    ensures are_states { AreStates world.new.manager.states }
 {
     let mut manager = world.swap_manager(ManagerState::new(alloc));
     let answer = step(alloc, &mut manager, &call);
     let _empty = world.swap_manager(manager);
+    // The states are asked for what they say of the world: that they are in one form.
+    let _states = world.states();
     answer
 }

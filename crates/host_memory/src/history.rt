@@ -36,6 +36,7 @@ pub(crate) struct History {
     calls: Vec<DoneCall>,
     ghost sound: { IsSound world.leaves },
     ghost plain: { HasPlainTexts world.manager } by { Prim.hlevel (props, bad_is_plain_once, entry_is_plain_once) },
+    ghost states: { AreStates world.manager.states } by { Prim.hlevel props },
 }
 
 /// One call: a derived drop is proved anew in each function that lets one go.
@@ -61,9 +62,11 @@ impl History {
         ensures world { result.world ≡ world }
         ensures calls { result.calls.items ≡ [] }
     {
-        // These are asked for what they say of the world: that it is sound, and its texts plain.
+        // These are asked for what they say of the world: that it is sound, its texts plain, and the
+        // states of its units in one form.
         let _count = world.leaf_count();
         let _loaded = world.loaded();
+        let _states = world.states();
         History {
             world,
             calls: Vec::new(alloc),
@@ -199,11 +202,7 @@ impl History {
 
 /// The state of a unit in a world.
 fn state_in(world: &World, unit: &UnitName) -> State
-    ensures state { result ≡ state_of world.now.manager.states unit.now }
-    ensures are_states { AreStates world.now.manager.states }
+    ensures { result ≡ state_of world.now.manager.states unit.now }
 {
-    let states = world.states();
-    // The list is asked for what it says of the states: that none of them is inactive.
-    let _list = states.list();
-    states.of(unit)
+    world.states().of(unit)
 }

@@ -114,9 +114,10 @@ impl Tree for MemoryHost {
     ghost use Rattle.std.specs.FinMap.{get};
     ghost use Rattle.host_memory.specs.Laws.{memory_is_host};
     ghost use Rattle.host_memory.specs.MemoryHost.{Does, after_read, host_of, is_refusing, troubles_of, verdict};
-    ghost use Rattle.host_trait.specs.Change.{finished, IsMoment, IsSame, Stage, Rename, Remove};
+    ghost use Rattle.host_trait.specs.Change.{finished, IsMoment, Stage, Rename, Remove};
     ghost use Rattle.host_trait.specs.declared.tree.HostFault.TheVariants.{Device};
     ghost use Rattle.host_trait.specs.Host.{Told, Becomes, Passes, HasCause};
+    ghost use Rattle.host_trait.specs.Reading.{IsReading};
     ghost use Rattle.host_trait.specs.World.{IsClear, listed, stage};
 
     ghost host = { host_of };
@@ -126,8 +127,7 @@ impl Tree for MemoryHost {
         ensures troubles { troubles_of self.new ≡ after_read self.old }
         ensures leaf { IfOk result (λ leaf. Told (host_of self.old) (λ w. leaf ≡ get w.leaves at.now)) }
         ensures same { Becomes (host_of self.old) (host_of self.new) (λ w. w) }
-        ensures moments { Passes (host_of self.old) (host_of self.new) IsSame }
-        ensures cause { HasCause (host_of self.old) (host_of self.new) result }
+        ensures reads { IsReading (host_of self.old) (host_of self.new) result }
     {
         self.troubles.admit()?;
         match self.history.world().leaf(at) {
@@ -141,8 +141,7 @@ impl Tree for MemoryHost {
         ensures troubles { troubles_of self.new ≡ after_read self.old }
         ensures paths { IfOk result (λ paths. Told (host_of self.old) (λ w. paths ≡ listed under.now w.leaves)) }
         ensures same { Becomes (host_of self.old) (host_of self.new) (λ w. w) }
-        ensures moments { Passes (host_of self.old) (host_of self.new) IsSame }
-        ensures cause { HasCause (host_of self.old) (host_of self.new) result }
+        ensures reads { IsReading (host_of self.old) (host_of self.new) result }
     {
         self.troubles.admit()?;
         Ok(self.history.world().list(alloc, under)?)
@@ -214,19 +213,19 @@ impl MemoryHost {
 impl Manager for MemoryHost {
     ghost use Rattle.std.specs.Prelude.{◌≡◌, ◌↔◌, IfOk, OnOk, IsErrOf, IsTrue};
     ghost use Rattle.host_memory.specs.MemoryHost.{Does, after_read, host_of, is_refusing, troubles_of, verdict};
-    ghost use Rattle.host_trait.specs.Change.{finished, IsMoment, IsSame, Perform, DaemonReload};
+    ghost use Rattle.host_trait.specs.Change.{finished, IsMoment, Perform, DaemonReload};
     ghost use Rattle.host_trait.specs.declared.entry.Act.TheVariants.{Stop, Reload, Restart, Start};
     ghost use Rattle.host_trait.specs.declared.tree.HostFault.TheVariants.{Device};
     ghost use Rattle.host_trait.specs.declared.unit_state.State.TheVariants.{Active};
     ghost use Rattle.host_trait.specs.Host.{Told, Becomes, Passes, HasCause};
+    ghost use Rattle.host_trait.specs.Reading.{IsReading};
     ghost use Rattle.host_trait.specs.States.{state_of};
 
     fn units(&mut self, alloc: Global) -> Result<States, HostFault>
         ensures device { IsErrOf result Device ↔ IsTrue (is_refusing self.old) }
         ensures troubles { troubles_of self.new ≡ after_read self.old }
         ensures states { IfOk result (λ states. Told (host_of self.old) (λ w. states ≡ w.manager.states)) }
-        ensures moments { Passes (host_of self.old) (host_of self.new) IsSame }
-        ensures cause { HasCause (host_of self.old) (host_of self.new) result }
+        ensures reads { IsReading (host_of self.old) (host_of self.new) result }
     {
         self.troubles.admit()?;
         Ok(self.history.world().states().copy(alloc)?)

@@ -1,11 +1,14 @@
 pub mod Causes
+pub mod KeyOrder
 pub mod Moments
 pub mod Orders
 pub mod Places
 pub mod Plain
+pub mod Readings
 pub mod SameLeaves
 pub mod Seen
 pub mod Sound
 pub mod StateLists
+pub mod StateMaps
 pub mod StoreTexts
 pub mod UnitSets

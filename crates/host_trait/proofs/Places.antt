@@ -1,5 +1,5 @@
 -- A map of leaves, place by place.
-use Rattle.std.proofs.Common.{◌≡◌, ◌⊎◌, ℕ, Bool, false, cond, List, [], ◌∷◌, ◌++◌, length, map, Option, None, Some, IsSome, refl, sym, ap, subst, ◌∙◌, inl, inr, rules, arith}
+use Rattle.std.proofs.Common.{◌≡◌, ◌⊎◌, ℕ, Bool, true, false, cond, List, [], ◌∷◌, ◌++◌, length, map, Option, None, Some, IsSome, refl, sym, ap, subst, ◌∙◌, inl, inr, rules, arith}
 use Rattle.std.specs.BTreeMap.{is_at}
 use Rattle.std.specs.Cmp.{IsTotalOrder, eq_by_cmp_equiv}
 use Rattle.std.specs.Cmp.Lexicographic.{nat_list_cmp_total}
@@ -85,9 +85,16 @@ same_or_other p q =
       | Greater ↦ λ e. inr refl
     ] refl
 
+pub itself : (p : List ℕ) → eq_by_cmp bytes_cmp p p ≡ true
+itself p = (eq_by_cmp_equiv bytes_total).refl p
+
 -- what has a value has one
 pub none_or_present : {X : Type 0} (o : Option X) → o ≡ None → IsSome o → ⊥
 none_or_present o e is = cc
+
+pub some_of : {X : Type 0} (o : Option X) → IsSome o → (x : X) × (o ≡ Some x)
+some_of {X = X} None is = absurd (none_or_present {X = X} None refl is)
+some_of (Some x) is = (x, refl)
 
 -- a loop over items is at its end where none are left
 pub filtered_all : {X : Type 0} (p : X → Bool) (out rest all : List X) → rest ≡ [] → out ++ filter p rest ≡ all → out ≡ all

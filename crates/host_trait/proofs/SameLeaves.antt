@@ -8,7 +8,7 @@ use Rattle.std.specs.Map.{lookup, keys_of}
 use Rattle.std.specs.Ordering.{eq_by_cmp}
 use Rattle.host_trait.specs.declared.leaf.LeafKind.{LeafKind}
 use Rattle.host_trait.specs.World.{Leaves, IsSameAt, bytes_cmp, stage}
-use Rattle.host_trait.proofs.Places.{alike, found, none_or_present, same_or_other}
+use Rattle.host_trait.proofs.Places.{alike, found, itself, none_or_present, same_or_other}
 
 -- what holds of each key holds of each place that has a value
 key_has : (P : List ℕ → Type 0) (es : List (List ℕ × LeafKind)) → AllByRecursion P (keys_of es) → (q : List ℕ) → IsSome (lookup (is_at (bytes_cmp q)) es) → P q
@@ -42,9 +42,6 @@ module _ (es fs : List (List ℕ × LeafKind)) where
     | inr other ↦ removed_other m q other ∙ at_other q (λ same. both_ways _ other (subst (λ p. eq_by_cmp bytes_cmp q p ≡ true) same (itself q))) ∙ sym (removed_other n q other)
   ])
     where
-      itself : (q : List ℕ) → eq_by_cmp bytes_cmp q q ≡ true
-      itself q = (Rattle.std.specs.Cmp.eq_by_cmp_equiv Rattle.host_trait.proofs.Places.bytes_total).refl q
-
       at_other : (q : List ℕ) → q ≢ stage → get m q ≡ get n q
       at_other q ne = elim (get n q) as (λ o. get n q ≡ o → get m q ≡ get n q) [
         | Some leaf ↦ λ is. key_has (IsSameAt m n) fs second q (subst IsSome (sym (sym (found fs q) ∙ is)) refl) ne

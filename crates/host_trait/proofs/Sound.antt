@@ -2,7 +2,6 @@
 use Rattle.std.proofs.Common.{◌≡◌, ◌≢◌, ◌⊎◌, ℕ, ◌<◌, ◌≤◌, Bool, true, false, cond, ◌&&◌, ◌||◌, not, nat_lt, nat_eq, List, [], ◌∷◌, ◌++◌, length, Option, None, Some, IsSome, IsTrue, Result, Ok, Err, OnOk, MatchBool, refl, sym, ap, subst, ◌∙◌, inl, inr, rules, arith}
 use Rattle.std.proofs.lemmas.Bool.{cases_Bool, both_ways}
 use Rattle.std.specs.BTreeMap.{is_at}
-use Rattle.std.specs.Cmp.{eq_by_cmp_equiv}
 use Rattle.std.specs.FinMap.{get, insert, remove, from_entries, gets, get-empty, get_tied, empty}
 use Rattle.std.specs.List.{list_any}
 use Rattle.std.specs.Map.{lookup, keys_of}
@@ -10,7 +9,7 @@ use Rattle.std.specs.Ordering.{eq_by_cmp}
 use Rattle.switch_names.specs.Path.{IsPath, is_below}
 use Rattle.host_trait.specs.declared.leaf.LeafKind.{LeafKind}
 use Rattle.host_trait.specs.World.{Leaves, bytes_cmp, is_in_line, IsClear, IsInTheWay, IsSound, moved, with_moved}
-use Rattle.host_trait.proofs.Places.{bytes_total, alike, found, same_or_other, none_or_present}
+use Rattle.host_trait.proofs.Places.{bytes_total, alike, found, same_or_other, none_or_present, itself}
 
 or_comm : (a b : Bool) → a || b ≡ b || a
 or_comm true true = refl
@@ -21,15 +20,15 @@ or_comm false false = refl
 pub in_line_either : (p q : List ℕ) → is_in_line p q ≡ true → is_in_line q p ≡ true
 in_line_either p q is = or_comm (is_below q p) (is_below p q) ∙ is
 
+pub line_turned : (p q : List ℕ) → is_in_line p q ≡ false → is_in_line q p ≡ false
+line_turned p q none = or_comm (is_below q p) (is_below p q) ∙ none
+
 not_longer : (n : ℕ) → nat_lt n n ≡ false
 not_longer n = grind arith
 
 -- no path lies below itself
 pub not_in_line : (p : List ℕ) → is_in_line p p ≡ false
 not_in_line p = rw (not_longer (length p))
-
-itself : (k : List ℕ) → is_at (bytes_cmp k) k ≡ true
-itself k = (eq_by_cmp_equiv bytes_total).refl k
 
 module _ {X : Type 0} where
   -- a key that passes a test has a value

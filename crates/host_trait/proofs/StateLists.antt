@@ -18,7 +18,7 @@ use Rattle.host_trait.specs.declared.unit_state.State.TheVariants.{Active, Inact
 use Rattle.host_trait.specs.declared.unit_state.UnitState.{UnitState}
 use Rattle.host_trait.specs.States.{AreStates, IsPlaceFor, IsSortedList, UnitStates, listed_states, state_of, states_of, units_of, with_state}
 use Rattle.host_trait.proofs.Orders.{AreAbove, AreBelow, less_other, none_sorted, sorted_above, sorted_below, sorted_insert, sorted_remove}
-use Rattle.host_trait.proofs.Places.{bytes_total, alike, found, given, gone, ordered_entries, same_or_other, none_or_present}
+use Rattle.host_trait.proofs.Places.{bytes_total, alike, found, given, gone, ordered_entries, same_or_other, some_of}
 
 abbrev pub pair_of : UnitState → List ℕ × State
 pair_of one = (one.unit, one.state)
@@ -53,10 +53,6 @@ listed_has P (one ∷ list) h q state is = elim (same_or_other q one.unit) [
       (one, h.0, sym same, let e : one.state ≡ state = cc in e)
   | inr other ↦ listed_has P list h.1 q state (sym (ap (λ b. cond b (Some one.state) (look list q)) other) ∙ is)
 ]
-
-some_of : {X : Type 0} (o : Option X) → IsSome o → (x : X) × (o ≡ Some x)
-some_of {X = X} None is = absurd (none_or_present {X = X} None refl is)
-some_of (Some x) is = (x, refl)
 
 -- the states of a list in order are states
 pub are_states : (list : List UnitState) → IsSortedList list → AreStates (states_of list)

@@ -3,6 +3,7 @@ use Rattle.std.specs.Prelude.{◌≡◌, ◌≤◌, ◌+◌, ◌-◌, ◌^◌, �
 use Rattle.host_trait.specs.declared.tree.HostFault.{HostFault}
 use Rattle.host_trait.specs.declared.tree.HostFault.TheVariants.{Device}
 use Rattle.host_trait.specs.Manager.{HasPlainTexts}
+use Rattle.host_trait.specs.States.{AreStates}
 use Rattle.host_trait.specs.World.{WorldState, IsSound, seen}
 
 -- the five meanings of a host
@@ -74,6 +75,7 @@ pub record HasCauseOf (old new : HostState) (fault : Type 0) : Type 0 where
 pub record IsHost (host : HostState) : Type 0 where
   pub sound : (w : WorldState) → host.world ≡ Some w → IsSound w.leaves
   pub plain : (w : WorldState) → host.world ≡ Some w → HasPlainTexts w.manager
+  pub states : (w : WorldState) → host.world ≡ Some w → AreStates w.manager.states
   pub counts_now : (t : ℕ) (m : WorldState) → t ≤ host.clock → host.world ≡ Some m → host.left_since t m
   pub only_now : (m : WorldState) → host.left_since host.clock m → host.world ≡ Some m
   pub ends : (n : ℕ) → host.last ≡ Some n → host.clock ≤ n

@@ -5,6 +5,7 @@ pub mod Leaf
 pub mod LeafMap
 pub mod Manager
 pub mod Plain
+pub mod Reading
 pub mod Sink
 pub mod States
 pub mod World

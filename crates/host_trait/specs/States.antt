@@ -23,6 +23,10 @@ states_code state = map_of.code (coded_list coded_ℕ) state
 abbrev pub state_of : UnitStates → List ℕ → State
 state_of states unit = unwrap_or (get states unit) Inactive
 
+-- each unit is in the same state by both
+abbrev pub AreAlike : UnitStates → UnitStates → Type 0
+AreAlike states other = (unit : List ℕ) → state_of states unit ≡ state_of other unit
+
 -- the states with one unit in this one
 abbrev pub with_state : List ℕ → State → UnitStates → UnitStates
 with_state unit Inactive states = remove states unit

@@ -2,9 +2,10 @@
 ghost use Rattle.std.specs.Prelude.{◌≡◌, IfOk, OnOk};
 ghost use Rattle.host_trait.specs.declared.entry.Act.TheVariants.{Stop, Reload, Restart, Start};
 ghost use Rattle.host_trait.specs.declared.unit_state.State.TheVariants.{Active};
-ghost use Rattle.host_trait.specs.Change.{finished, IsMoment, IsSame};
+ghost use Rattle.host_trait.specs.Change.{finished, IsMoment};
 ghost use Rattle.host_trait.specs.Change.{Perform, DaemonReload};
 ghost use Rattle.host_trait.specs.Host.{Told, Becomes, Passes, HasCause};
+ghost use Rattle.host_trait.specs.Reading.{IsReading};
 ghost use Rattle.host_trait.specs.States.{state_of};
 
 use crate::states::States;
@@ -20,8 +21,7 @@ pub trait Manager: Tree {
     /// The units that aren't inactive, with their states.
     fn units(&mut self, alloc: Global) -> Result<States, HostFault>
         ensures states { IfOk result (λ states. Told (Self.host self.old) (λ w. states ≡ w.manager.states)) }
-        ensures moments { Passes (Self.host self.old) (Self.host self.new) IsSame }
-        ensures cause { HasCause (Self.host self.old) (Self.host self.new) result };
+        ensures reads { IsReading (Self.host self.old) (Self.host self.new) result };
 
     /// Stops a unit.
     fn stop(&mut self, alloc: Global, unit: &UnitName) -> Result<(), HostFault>

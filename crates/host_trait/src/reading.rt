@@ -1,7 +1,7 @@
 //! What a path contains.
 ghost use Rattle.std.specs.Prelude.{◌≡◌, IfOk};
-ghost use Rattle.host_trait.specs.Change.{IsSame};
-ghost use Rattle.host_trait.specs.Host.{Told, Passes, HasCause};
+ghost use Rattle.host_trait.specs.Host.{Told};
+ghost use Rattle.host_trait.specs.Reading.{IsReading};
 ghost use Rattle.host_trait.specs.World.{content_of, file_bytes, file_at, store_place};
 
 use crate::leaf::{Leaf, LeafKind};
@@ -46,8 +46,7 @@ fn file_content<T: Tree>(
     place: Option<Path>,
 ) -> Result<Option<Bytes>, HostFault>
     ensures content { IfOk result (λ bytes. Told (T.host host.old) (λ w. bytes ≡ file_at w.leaves place)) }
-    ensures moments { Passes (T.host host.old) (T.host host.new) IsSame }
-    ensures cause { HasCause (T.host host.old) (T.host host.new) result }
+    ensures reads { IsReading (T.host host.old) (T.host host.new) result }
 {
     let Some(at) = place else {
         return Ok(None);
@@ -61,8 +60,7 @@ fn file_content<T: Tree>(
 /// One link is followed, and only into the store.
 pub fn content<T: Tree>(alloc: Global, host: &mut T, at: &Path) -> Result<Option<Bytes>, HostFault>
     ensures content { IfOk result (λ bytes. Told (T.host host.old) (λ w. bytes ≡ content_of w.leaves at.now)) }
-    ensures moments { Passes (T.host host.old) (T.host host.new) IsSame }
-    ensures cause { HasCause (T.host host.old) (T.host host.new) result }
+    ensures reads { IsReading (T.host host.old) (T.host host.new) result }
 {
     let Some(leaf) = host.read(alloc, at)? else {
         return Ok(None);

@@ -1,7 +1,7 @@
 //! The states of units.
 ghost use Rattle.std.specs.Prelude.{◌≡◌, ◌≢◌, ◌↔◌, IfOk, IfErr, OnOk, OnErr, IsTrue, Some, slice_get};
 ghost use Rattle.std.specs.FinMap as map;
-ghost use Rattle.host_trait.specs.States.{AreStates, IsPlaceFor, IsSortedList, listed_states, state_of, states_of, units_of, with_state};
+ghost use Rattle.host_trait.specs.States.{AreAlike, AreStates, IsPlaceFor, IsSortedList, listed_states, state_of, states_of, units_of, with_state};
 
 use crate::unit_state::{State, UnitState};
 use std::alloc::{AllocError, Global};
@@ -160,7 +160,8 @@ impl States {
 
     /// Whether the two have each unit in the same state.
     pub fn same(&self, other: &States) -> bool
-        ensures { IsTrue result ↔ (self.now ≡ other.now) }
+        ensures equal { IsTrue result ↔ (self.now ≡ other.now) }
+        ensures alike { IsTrue result ↔ AreAlike self.now other.now }
     {
         are_same_lists(self.list.as_slice(), other.list.as_slice())
     }

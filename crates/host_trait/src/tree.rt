@@ -2,9 +2,10 @@
 ghost use Rattle.std.specs.Prelude.{◌≡◌, ◌≢◌, IfOk, OnOk, IsSome, map};
 ghost use Rattle.std.specs.FinMap.{get};
 ghost use Rattle.host_trait.specs.declared.tree.HostFault.TheVariants.{Memory};
-ghost use Rattle.host_trait.specs.Change.{Change, finished, IsMoment, IsSame};
+ghost use Rattle.host_trait.specs.Change.{Change, finished, IsMoment};
 ghost use Rattle.host_trait.specs.Change.{Stage, Rename, Remove};
 ghost use Rattle.host_trait.specs.Host.{HostState, Told, Becomes, Passes, HasCause, IsHost};
+ghost use Rattle.host_trait.specs.Reading.{IsReading};
 ghost use Rattle.host_trait.specs.World.{IsClear, listed, stage};
 
 use crate::leaf::Leaf;
@@ -50,14 +51,12 @@ pub trait Tree {
     /// The leaf at a path.
     fn read(&mut self, alloc: Global, at: &Path) -> Result<Option<Leaf>, HostFault>
         ensures leaf { IfOk result (λ leaf. Told (host self.old) (λ w. leaf ≡ get w.leaves at.now)) }
-        ensures moments { Passes (host self.old) (host self.new) IsSame }
-        ensures cause { HasCause (host self.old) (host self.new) result };
+        ensures reads { IsReading (host self.old) (host self.new) result };
 
     /// The paths of the leaves at or below a path, in byte order, without the stage.
     fn list(&mut self, alloc: Global, under: &Path) -> Result<Listed<Path>, HostFault>
         ensures paths { IfOk result (λ paths. Told (host self.old) (λ w. paths ≡ listed under.now w.leaves)) }
-        ensures moments { Passes (host self.old) (host self.new) IsSame }
-        ensures cause { HasCause (host self.old) (host self.new) result };
+        ensures reads { IsReading (host self.old) (host self.new) result };
 
     /// Writes a leaf at the stage. A cut may leave any leaf or none there.
     fn write_stage(&mut self, alloc: Global, leaf: &Leaf) -> Result<(), HostFault>

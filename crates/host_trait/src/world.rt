@@ -3,7 +3,7 @@ ghost use Rattle.std.specs.Prelude.{◌≡◌, ◌≢◌, ◌++◌, ◌∷◌, [
 ghost use Rattle.std.specs.FinMap as map;
 ghost use Rattle.std.specs.Option.{option_copied};
 ghost use Rattle.host_trait.specs.Manager.{HasPlainTexts, IsPlain, loading};
-ghost use Rattle.host_trait.specs.States.{with_state};
+ghost use Rattle.host_trait.specs.States.{AreStates, with_state};
 ghost use Rattle.host_trait.specs.World.{IsClear, IsInTheWay, IsSound, empty_world, leaf_count, listed, moved, shown, with_leaf, with_manager, without_leaf};
 
 use crate::entry::{Bad, Entry};
@@ -127,9 +127,13 @@ impl World {
     }
     /// The units that aren't inactive, with their states.
     pub fn states(&self) -> &States
-        ensures { result.now ≡ self.now.manager.states }
+        ensures states { result.now ≡ self.now.manager.states }
+        ensures are_states { AreStates self.now.manager.states }
     {
-        &self.manager.states
+        let states = &self.manager.states;
+        // The list is asked for what it says of the states: that they are in one form.
+        let _list = states.list();
+        states
     }
 
     /// Where the definitions lie that the manager has loaded.

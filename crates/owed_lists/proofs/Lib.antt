@@ -1,2 +1,5 @@
+pub mod ListLemmas
 pub mod NameLemmas
+pub mod OrderLemmas
 pub mod RecordLemmas
+pub mod RecordedLemmas

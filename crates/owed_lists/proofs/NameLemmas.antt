@@ -11,7 +11,7 @@ use Rattle.switch_names.specs.UnitName.{is_no_unit_byte, unit_fault}
 use Rattle.switch_names.proofs.UnitNames.{IsShortName-from_name}
 use Rattle.owed_lists.specs.Lists.{is_unit}
 
-none_from_test : {T : Type 0} (o : Option T) → is_none o ≡ true → o ≡ None
+pub none_from_test : {T : Type 0} (o : Option T) → is_none o ≡ true → o ≡ None
 none_from_test None is = refl
 none_from_test (Some x) is = absurd cc
 

@@ -1,11 +1,10 @@
 -- What a record leaves, world by world.
 use Rattle.std.proofs.Common.{arith, ◌≡◌, ◌==◌, ℕ, true, false, List, [], ◌∷◌, length, refl, sym, ap, ◌∙◌, inl, inr, ⊎_elim, rules}
-use Rattle.std.proofs.lemmas.Bool.{cases_Bool, both_ways}
 use Rattle.std.specs.FinMap.{remove, gets}
 use Rattle.host_trait.specs.World.{Leaves, WorldState, IsClear, is_in_line, seen, stage, with_leaf, without_leaf}
 use Rattle.host_trait.proofs.Places.{alike}
 use Rattle.host_trait.proofs.Seen.{clear_seen, seen_with_leaf, stage_clear_seen}
-use Rattle.host_trait.proofs.Sound.{clear_insert, clear_remove, in_line_either}
+use Rattle.host_trait.proofs.Sound.{clear_insert, clear_remove, line_turned}
 use Rattle.tree_put.specs.Put.{AreApart, CanPut, IsOldOrGone, IsOldOrNew}
 use Rattle.owed_lists.specs.declared.lists.Lists.{Lists}
 use Rattle.owed_lists.specs.declared.lists.Which.{Which}
@@ -43,12 +42,6 @@ restarts_reloads : is_in_line restarts_place reloads_place ≡ false
 unfolding restarts_place reloads_place
 restarts_reloads = refl
 
-line_turned : (p q : List ℕ) → is_in_line p q ≡ false → is_in_line q p ≡ false
-line_turned p q none = elim (cases_Bool (is_in_line q p)) [
-  | inl is ↦ absurd (both_ways _ none (in_line_either q p is))
-  | inr is ↦ is
-]
-
 -- an empty list has no leaf, and another one has
 pub list_gone : (at : List ℕ) (names : List (List ℕ)) (w : WorldState) → length names == 0 ≡ true → with_list at names w ≡ without_leaf at w
 list_gone at [] w is = refl
@@ -67,7 +60,7 @@ pub put_moment : (at : List ℕ) (names : List (List ℕ)) (w m : WorldState) �
 put_moment at names w m some moment =
     ⊎_elim (λ old. inl old) (λ new. inr (new ∙ ap seen (sym (list_put at names w some)))) moment
 
-seen_without_leaf : (at : List ℕ) (v w : WorldState) → seen v ≡ seen w → seen (without_leaf at v) ≡ seen (without_leaf at w)
+pub seen_without_leaf : (at : List ℕ) (v w : WorldState) → seen v ≡ seen w → seen (without_leaf at v) ≡ seen (without_leaf at w)
 seen_without_leaf at v w is =
     let leaves : remove (remove v.leaves at) stage ≡ remove (remove w.leaves at) stage =
     swap v.leaves ∙ ap (λ (l : Leaves). remove l at) (ap (λ (x : WorldState). x.leaves) is) ∙ sym (swap w.leaves) in

@@ -1,12 +1,15 @@
 -- What is left where the lists are recorded: NixOS manual, "Unit handling".
-use Rattle.std.specs.Prelude.{◌≡◌, ◌⊎◌, ℕ, List, [], ◌∷◌, ◌++◌}
-use Rattle.std.specs.List.{flat_map}
+use Rattle.std.specs.Prelude.{◌≡◌, ◌⊎◌, ℕ, List, [], ◌∷◌, ◌++◌, Option, None, Some}
+use Rattle.std.specs.FinMap.{get}
+use Rattle.std.specs.List.{AllByRecursion, flat_map}
+use Rattle.std.specs.List.Sorted.{IsStrictlySortedBy}
 use Rattle.host_trait.specs.declared.leaf.LeafKind.{LeafKind}
 use Rattle.host_trait.specs.declared.leaf.LeafKind.TheVariants.{File}
-use Rattle.host_trait.specs.World.{WorldState, IsClear, seen, stage, with_leaf, without_leaf}
+use Rattle.host_trait.specs.World.{Leaves, WorldState, IsClear, bytes_cmp, content_of, seen, stage, with_leaf, without_leaf}
 use Rattle.owed_lists.specs.declared.lists.Lists.{Lists}
 use Rattle.owed_lists.specs.declared.lists.Which.TheVariants.{Starts, Restarts, Reloads}
-use Rattle.owed_lists.specs.Lists.{place_of}
+use Rattle.owed_lists.specs.Lists.{IsListOf, place_of}
+use Rattle.switch_names.specs.UnitName.{IsUnitName}
 
 -- a list as it is written: one name a line
 abbrev pub list_text : List (List ℕ) → List ℕ
@@ -15,6 +18,11 @@ list_text names = flat_map (λ name. name ++ 10 ∷ []) names
 -- the leaf of a list: a file of mode 0644 that root owns
 abbrev pub list_leaf : List (List ℕ) → LeafKind
 list_leaf names = File (list_text names) 420 0 0
+
+-- what stands where a list is recorded: an empty list has no leaf
+abbrev pub leaf_of_list : List (List ℕ) → Option LeafKind
+leaf_of_list [] = None
+leaf_of_list (name ∷ names) = Some (list_leaf (name ∷ names))
 
 -- the world with a list at a place: an empty list has no leaf
 abbrev pub with_list : List ℕ → List (List ℕ) → WorldState → WorldState
@@ -48,3 +56,9 @@ pub record CanRecord (w : WorldState) : Type 0 where
   pub starts : IsClear w.leaves (place_of Starts)
   pub restarts : IsClear w.leaves (place_of Restarts)
   pub reloads : IsClear w.leaves (place_of Reloads)
+
+-- where the leaf of a list of unit names in byte order stands, these names are read
+abbrev pub RecordedLaw : Type 0
+RecordedLaw =
+    (leaves : Leaves) (place : List ℕ) (names : List (List ℕ)) →
+    IsStrictlySortedBy bytes_cmp names → AllByRecursion IsUnitName names → get leaves place ≡ leaf_of_list names → IsListOf (content_of leaves place) names

@@ -3,6 +3,7 @@
 #![tactic(auto)]
 
 mod clearing;
+pub mod laws;
 mod lists;
 mod loading;
 mod recording;

@@ -1,8 +1,8 @@
 //! Reads the three lists.
 ghost use Rattle.std.specs.Prelude.{◌≡◌, ◌==◌, ◌++◌, ◌∷◌, [], Some, None, IfOk, OnOk, filter, if◌then◌else◌};
 ghost use Rattle.std.specs.List.{slice_split};
-ghost use Rattle.host_trait.specs.Change.{IsSame};
-ghost use Rattle.host_trait.specs.Host.{Told, Passes, HasCause};
+ghost use Rattle.host_trait.specs.Host.{Told};
+ghost use Rattle.host_trait.specs.Reading.{IsReading};
 ghost use Rattle.host_trait.specs.World.{content_of};
 ghost use Rattle.owed_lists.specs.Lists.{AreListsOf, IsListOf, is_unit, place_of};
 
@@ -65,8 +65,7 @@ fn read_list<T: Tree>(
     which: Which,
 ) -> Result<Listed<UnitName>, HostFault>
     ensures list { IfOk result (λ list. Told (T.host host.old) (λ w. IsListOf (content_of w.leaves (place_of which)) list)) }
-    ensures moments { Passes (T.host host.old) (T.host host.new) IsSame }
-    ensures cause { HasCause (T.host host.old) (T.host host.new) result }
+    ensures reads { IsReading (T.host host.old) (T.host host.new) result }
 {
     let at = list_path(alloc, which)?;
     let bytes = content(alloc, host, &at)?;
@@ -78,8 +77,7 @@ fn read_list<T: Tree>(
 /// A list without a leaf is empty, and a line that is no unit name is passed over.
 pub fn load<T: Tree>(alloc: Global, host: &mut T) -> Result<Lists, HostFault>
     ensures lists { IfOk result (λ lists. Told (T.host host.old) (λ w. AreListsOf w.leaves lists)) }
-    ensures moments { Passes (T.host host.old) (T.host host.new) IsSame }
-    ensures cause { HasCause (T.host host.old) (T.host host.new) result }
+    ensures reads { IsReading (T.host host.old) (T.host host.new) result }
 {
     let starts = read_list(alloc, host, Which::Starts)?;
     let restarts = read_list(alloc, host, Which::Restarts)?;

@@ -4,8 +4,6 @@ use Rattle.std.specs.FinMap.{entries, entries_sorted, find, get-entries}
 use Rattle.std.specs.FinMap.Entries.{below_all, is_sorted}
 use Rattle.std.specs.List.{list_any}
 use Rattle.std.specs.Ordering.{is_lt}
-use Rattle.std.specs.declared.cmp.Ordering.{Ordering}
-use Rattle.std.specs.declared.cmp.Ordering.TheVariants.{Less, Equal, Greater}
 use Rattle.std.proofs.lemmas.Bool.{or_cases, or_left, or_right}
 use Rattle.host_trait.specs.World.{bytes_cmp}
 use Rattle.host_trait.specs.States.{UnitStates, listed_states, state_of}
@@ -13,6 +11,7 @@ use Rattle.host_trait.specs.declared.unit_state.State.{State}
 use Rattle.host_trait.specs.declared.unit_state.State.TheVariants.{Active, Inactive}
 use Rattle.host_trait.specs.declared.unit_state.UnitState.{UnitState}
 use Rattle.host_trait.specs.Manager.{is_active}
+use Rattle.owed_lists.proofs.OrderLemmas.{left_of, less_from, right_of}
 use Rattle.owed_plan.specs.Decisions.{Situation, decision_of, decisions_of}
 use Rattle.owed_plan.specs.declared.deciding.UnitDecision.{UnitDecision}
 use Rattle.owed_plan.proofs.CoreLemmas.{active_from_test}
@@ -20,24 +19,11 @@ use Rattle.owed_plan.proofs.NameLemmas.{any_from_has}
 use Rattle.switch_names.specs.Names.{Name, has, is_name}
 use Rattle.unit_defs.proofs.NameLemmas.{less_is_other, name_exact, name_itself}
 
-abbrev units_with : List UnitState → List Name
+abbrev pub units_with : List UnitState → List Name
 units_with list = map (λ one. one.unit) (filter (λ one. is_active one.state) list)
 
 abbrev listed : List (Name × State) → List UnitState
 listed es = map (λ e. record { unit = e.0; state = e.1 }) es
-
-less_from : (r : Ordering) → T (is_lt r) → r ≡ Less
-less_from Less is = refl
-less_from Equal is = absurd is
-less_from Greater is = absurd is
-
-left_of : (a b : Bool) → T (a && b) → T a
-left_of true b both = tt
-left_of false b both = both
-
-right_of : (a b : Bool) → T (a && b) → T b
-right_of true b both = both
-right_of false b both = absurd both
 
 chosen : (b : Bool) (one : UnitState) (rest : List UnitState) (unit : Name) → has (map (λ (one : UnitState). one.unit) (cond b (one ∷ rest) rest)) unit ≡ ((b && is_name unit one.unit) || has (map (λ (one : UnitState). one.unit) rest) unit)
 chosen true one rest unit = refl
@@ -72,7 +58,7 @@ found_active (e ∷ es) unit sorted =
     (found_active es unit (right_of (below_all bytes_cmp e.0 es) _ sorted))
 
 -- a unit is among the active ones where it is active
-active_listed : (states : UnitStates) (unit : Name) → has (units_with (listed_states states)) unit ≡ is_active (state_of states unit)
+pub active_listed : (states : UnitStates) (unit : Name) → has (units_with (listed_states states)) unit ≡ is_active (state_of states unit)
 active_listed states unit = found_active (entries states) unit (entries_sorted states) ∙ ap (λ (o : Option State). is_active (unwrap_or o Inactive)) (sym (get-entries states unit))
 
 any_of : (p : UnitDecision → Bool) (f : Name → UnitDecision) (list : List UnitState) → list_any p (map (λ (one : UnitState). f one.unit) list) ≡ list_any (λ unit. p (f unit)) (map (λ (one : UnitState). one.unit) list)

@@ -20,7 +20,7 @@ use Rattle.unit_decide.specs.declared.decision.Decision.TheVariants.{Nothing, Re
 use Rattle.unit_decide.specs.declared.facts.Facts.{Facts}
 use Rattle.unit_decide.specs.Decision.{decide}
 use Rattle.switch_names.specs.Names.{Name, has}
-use Rattle.unit_decide.proofs.TableLemmas.{reload_same, restart_same, socket_nothing, socket_start_either, socket_start_more, socket_start_service, start_defined, start_same, stop_same, stop_start_defined, stop_start_either, stop_start_less, target_not_stopped, target_started, target_stop_started}
+use Rattle.unit_decide.proofs.TableLemmas.{reload_defined, reload_same, restart_defined, restart_same, socket_nothing, socket_start_either, socket_start_more, socket_start_service, start_defined, start_same, stop_same, stop_start_defined, stop_start_either, stop_start_less, target_not_stopped, target_started, target_stop_started}
 
 no_service : (kind : UnitKind) → kind ≡ Target → kind ≡ Service → ⊥
 no_service kind target service = cc
@@ -53,7 +53,7 @@ module _ (systems : Systems) (states : Name → State) (lists : Lists) where
       any_from_has (λ other. (systems.facts other).in_new && is_live states lists other) (systems.sockets service) socket counts.0
       (and_from (systems.facts socket).in_new (is_live states lists socket) counts.1 live)
 
-  stops_active : (unit : Name) → Stops systems states lists unit → states unit ≡ Active
+  pub stops_active : (unit : Name) → Stops systems states lists unit → states unit ≡ Active
   stops_active unit (Stops.ByStop decides) = decides.active
   stops_active unit (Stops.ByStopStart decides) = decides.active
   stops_active unit (Stops.BySocketStart decides) = decides.active
@@ -73,7 +73,7 @@ module _ (systems : Systems) (states : Name → State) (lists : Lists) where
   restart_not_stopped : (unit : Name) → IsSound systems → Decides systems states lists unit Restart → Stops systems states lists unit → ⊥
   restart_not_stopped unit sound decides stops = not_stopped unit Restart (λ e. cc e) (λ e. cc e) (λ e. cc e) (λ e. cc e) sound decides stops
 
-  -- what is started is defined
+  -- what is started, reloaded or restarted is defined
   root_defined : (unit : Name) → IsRoot systems states lists unit → IsDefined systems unit
   root_defined unit (Running defined target active may) = defined
   root_defined unit (Pending defined target listed) = defined
@@ -82,12 +82,34 @@ module _ (systems : Systems) (states : Name → State) (lists : Lists) where
   pulled_defined sound unit (FromRoot _ root) = root_defined unit root
   pulled_defined sound unit (FromWant _ by reached wanted) = sound.wanted by unit wanted
 
-  starts_defined : IsSound systems → (unit : Name) → Starts systems states lists unit → IsDefined systems unit
+  pub starts_defined : IsSound systems → (unit : Name) → Starts systems states lists unit → IsDefined systems unit
   starts_defined sound unit (Starts.ByStart decides) = start_defined (systems.facts unit) (has_live systems states lists unit) decides.row
   starts_defined sound unit (Starts.ByStopStart decides) = stop_start_defined (systems.facts unit) (has_live systems states lists unit) decides.row
   starts_defined sound unit (Starts.ByService service activates) = activates.1.1
   starts_defined sound unit (Starts.ByStartList listed defined) = defined
   starts_defined sound unit (Starts.ByPull pulled stops reloads restarts socketed) = pulled_defined sound unit pulled
+
+  pub reloads_defined : (unit : Name) → Reloads systems states lists unit → IsDefined systems unit
+  reloads_defined unit (Reloads.ByReload decides) = reload_defined (systems.facts unit) (has_live systems states lists unit) decides.row
+  reloads_defined unit (Reloads.ByReloadList listed defined) = defined
+
+  pub restarts_defined : (unit : Name) → Restarts systems states lists unit → IsDefined systems unit
+  restarts_defined unit (Restarts.ByRestart decides) = restart_defined (systems.facts unit) (has_live systems states lists unit) decides.row
+  restarts_defined unit (Restarts.ByRestartList listed defined) = defined
+
+  -- a target that is started is pulled
+  pub start_pulled : IsSound systems → (unit : Name) → (systems.facts unit).kind ≡ Target → Starts systems states lists unit → Pulled systems states lists unit
+  start_pulled sound unit target (Starts.ByStart decides) =
+      let row = decides.row in
+      let live = has_live systems states lists unit in
+      FromRoot unit (Running (start_defined (systems.facts unit) live row) target decides.active (target_started (systems.facts unit) live row))
+  start_pulled sound unit target (Starts.ByStopStart decides) =
+      let row = decides.row in
+      let live = has_live systems states lists unit in
+      FromRoot unit (Running (stop_start_defined (systems.facts unit) live row) target decides.active (target_stop_started (systems.facts unit) live target row))
+  start_pulled sound unit target (Starts.ByService service activates) = absurd (no_socket (systems.facts unit).kind target (sound.sockets service unit activates.1.0))
+  start_pulled sound unit target (Starts.ByStartList listed defined) = FromRoot unit (Pending defined target listed)
+  start_pulled sound unit target (Starts.ByPull pulled stops reloads restarts socketed) = pulled
 
   -- a defined socket that is stopped is started again
   stopped_socket_starts : (socket : Name) → IsDefined systems socket → (systems.facts socket).kind ≡ Socket → Stops systems states lists socket → Starts systems states lists socket
@@ -121,20 +143,9 @@ module _ (systems : Systems) (states : Name → State) (lists : Lists) (later : 
   pull_to unit (FromRoot _ root) = FromRoot unit (root_kept unit root)
   pull_to unit (FromWant _ by reached wanted) = FromWant unit by (pull_to by reached) wanted
 
-  -- a target that is started was in the pull
-  pub start_pulled : (unit : Name) → IsDefined systems unit → (systems.facts unit).kind ≡ Target → Starts systems states lists unit → Pulled systems states lists unit
-  start_pulled unit defined target (Starts.ByStart decides) =
-      FromRoot unit (Running defined target decides.active (target_started (systems.facts unit) (has_live systems states lists unit) decides.row))
-  start_pulled unit defined target (Starts.ByStopStart decides) =
-      FromRoot unit (Running defined target decides.active (target_stop_started (systems.facts unit) (has_live systems states lists unit) target decides.row))
-  start_pulled unit defined target (Starts.ByService service activates) =
-      absurd (no_socket (systems.facts unit).kind target (sound.sockets service unit activates.1.0))
-  start_pulled unit defined target (Starts.ByStartList listed _) = FromRoot unit (Pending defined target listed)
-  start_pulled unit defined target (Starts.ByPull pulled stops reloads restarts socketed) = pulled
-
   root_pulled : (unit : Name) → IsRoot systems later kept unit → Pulled systems states lists unit
   root_pulled unit (Running defined target active may) = FromRoot unit (Running defined target (partly.before unit active) may)
-  root_pulled unit (Pending defined target listed) = start_pulled unit defined target (partly.starts_from unit listed defined)
+  root_pulled unit (Pending defined target listed) = start_pulled systems states lists sound unit target (partly.starts_from unit listed defined)
 
   pub pull_from : (unit : Name) → Pulled systems later kept unit → Pulled systems states lists unit
   pull_from unit (FromRoot _ root) = root_pulled unit root

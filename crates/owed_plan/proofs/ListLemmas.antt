@@ -1,16 +1,14 @@
 -- The law in lists, and that what is owed is one collection of lists.
 use Rattle.std.proofs.Common.{◌≡◌, ◌↔◌, Bool, true, List, filter, sym, ap, ◌∙◌}
-use Rattle.std.specs.Cmp.{both_ways}
 use Rattle.std.specs.Cmp.Lexicographic.{slice_cmp}
 use Rattle.std.specs.Ordering.{nat_cmp}
-use Rattle.std.proofs.lemmas.Map.Lookups.{btree_set_from_contains, exact_bytes}
 use Rattle.std.proofs.lemmas.List.Kept.{IsStrictlySortedBy-filter}
 use Rattle.std.proofs.lemmas.Bool.{and_from, and_parts}
 use Rattle.host_trait.specs.declared.unit_state.State.{State}
-use Rattle.host_trait.proofs.Places.{bytes_total}
 use Rattle.owed_plan.specs.Law.{ListLaw, SameOwed, rest_of}
 use Rattle.host_trait.specs.Manager.{is_active}
 use Rattle.owed_lists.specs.declared.lists.Lists.{Lists}
+use Rattle.owed_lists.proofs.ListLemmas.{one_list}
 use Rattle.owed_plan.specs.Owed.{IsOwed, IsPlan, Stops}
 use Rattle.owed_plan.specs.declared.owed.Owed.{Owed}
 use Rattle.switch_names.specs.Names.{IsListOf, Name, has}
@@ -18,13 +16,6 @@ use Rattle.owed_plan.specs.Systems.{Systems}
 use Rattle.owed_plan.proofs.CoreLemmas.{active_from_test}
 use Rattle.owed_plan.proofs.NameLemmas.{has-filter}
 use Rattle.owed_plan.proofs.PrefixLemmas.{law}
-
--- a set of names has one list
-pub one_list : (names others : List Name) (P : Name → Type 0) → IsListOf names P → IsListOf others P → names ≡ others
-one_list names others P one other =
-    btree_set_from_contains bytes_total (record { keys = names }) (record { keys = others }) one.sorted other.sorted
-    (λ unit. both_ways (has names unit) (has others unit) (λ found. (other.exact unit).1 ((one.exact unit).0 found)) (λ found. (one.exact unit).1 ((other.exact unit).0 found)))
-    exact_bytes
 
 pub one_owed : (systems : Systems) (states : Name → State) (lists : Lists) (one other : Owed) → IsPlan systems states lists one → IsPlan systems states lists other → one ≡ other
 one_owed systems states lists one other is also =

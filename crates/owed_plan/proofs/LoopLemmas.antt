@@ -49,14 +49,12 @@ or_either : (a b c : Bool) → ((a || b) || c) ≡ (a || (b || c))
 or_either true b c = refl
 or_either false b c = refl
 
--- an item adds what it gives in two ways
-pub either_more :
-    {X : Type 0} (p : X → Bool) (xs : List X) (i : ℕ) (x : X) (first second old mid new : Bool) →
-    i < length xs → x ≡ get_or xs i x → p x ≡ (first || second) → old ≡ list_any p (take i xs) → mid ≡ (old || first) → new ≡ (mid || second) →
-    new ≡ list_any p (take (i + 1) xs)
-either_more p xs i x first second old mid new inside is both was one two =
-    two ∙ ap (λ b. b || second) (one ∙ ap (λ b. b || first) was) ∙ or_either (list_any p (take i xs)) first second
-    ∙ ap (λ b. list_any p (take i xs) || b) (sym both) ∙ ap (λ y. list_any p (take i xs) || p y) is ∙ sym (list_any_more p xs i x inside)
+-- an item adds what it gives
+pub given_more :
+    {X : Type 0} (p : X → Bool) (xs : List X) (i : ℕ) (x : X) (old new : Bool) → i < length xs → x ≡ get_or xs i x →
+    old ≡ list_any p (take i xs) → new ≡ (old || p x) → new ≡ list_any p (take (i + 1) xs)
+given_more p xs i x old new inside is was grown =
+    grown ∙ ap (λ b. b || p x) was ∙ ap (λ y. list_any p (take i xs) || p y) is ∙ sym (list_any_more p xs i x inside)
 
 has_chosen : (b : Bool) (name unit : Name) → has (cond b (name ∷ []) []) unit ≡ (b && is_name unit name)
 has_chosen true name unit = by (is_name unit name)

@@ -1,32 +1,25 @@
 -- Names in lists, and tests that hold of one of them.
-use Rattle.std.proofs.Common.{◌≡◌, ◌⊎◌, ◌&&◌, ◌++◌, ◌∷◌, ℕ, zero, suc, Bool, true, List, [], filter, take, inl, inr, refl, sym, ap, ◌∙◌}
+use Rattle.std.proofs.Common.{◌≡◌, ◌&&◌, ◌||◌, ◌++◌, ◌∷◌, ℕ, zero, suc, Bool, true, false, not, List, [], filter, take, inl, inr, refl, sym, ap, ◌∙◌}
 use Rattle.std.specs.BTreeMap.{is_at}
 use Rattle.std.specs.Cmp.Lexicographic.{slice_cmp}
 use Rattle.std.specs.List.{list_any}
 use Rattle.std.specs.Ordering.{nat_cmp}
 use Rattle.std.proofs.lemmas.Bool.{or_cases, or_left, or_right}
 use Rattle.std.proofs.lemmas.List.Folds.{list_any-append}
-use Rattle.std.proofs.lemmas.Map.Text.{is_eq-slice_cmp}
 use Rattle.std.proofs.lemmas.Map.Views.{any-filter_same}
-use Rattle.std.proofs.lemmas.Slice.Eq.{bytes_eq-Decides}
-use Rattle.switch_names.specs.Names.{Name, has}
-
--- a name is found at itself alone
-abbrev is_name : Name → Name → Bool
-is_name unit other = is_at (slice_cmp nat_cmp unit) other
-
-same_name : (unit other : Name) → is_name unit other ≡ true → unit ≡ other
-same_name unit other is = (bytes_eq-Decides unit other).0 (sym (is_eq-slice_cmp unit other) ∙ is)
-
-own_name : (unit : Name) → is_name unit unit ≡ true
-own_name unit = is_eq-slice_cmp unit unit ∙ (bytes_eq-Decides unit unit).1 refl
+use Rattle.owed_plan.specs.Owed.{sockets_first}
+use Rattle.switch_names.specs.declared.unit_kind.UnitKind.{UnitKind}
+use Rattle.switch_names.specs.declared.unit_kind.UnitKind.TheVariants.{Socket}
+use Rattle.switch_names.specs.Names.{Name, has, is_name}
+use Rattle.unit_decide.specs.Kinds.{is_kind}
+use Rattle.unit_defs.proofs.NameLemmas.{name_exact, name_itself}
 
 -- a test that holds of a name in the list holds of one in it
 pub any_from_has : (test : Name → Bool) (names : List Name) (unit : Name) → has names unit ≡ true → test unit ≡ true → list_any test names ≡ true
 any_from_has test [] unit found holds = absurd cc
 any_from_has test (name ∷ names) unit found holds =
     elim (or_cases (is_name unit name) (has names unit) found) [
-      | inl is ↦ or_left (test name) (list_any test names) (ap test (sym (same_name unit name is)) ∙ holds)
+      | inl is ↦ or_left (test name) (list_any test names) (ap test (sym (name_exact unit name is)) ∙ holds)
       | inr more ↦ or_right (test name) (list_any test names) (any_from_has test names unit more holds)
     ]
 
@@ -35,7 +28,7 @@ pub any_more : (test weaker : Name → Bool) (names : List Name) → ((unit : Na
 any_more test weaker [] each found = absurd cc
 any_more test weaker (name ∷ names) each found =
     elim (or_cases (test name) (list_any test names) found) [
-      | inl holds ↦ or_left (weaker name) (list_any weaker names) (each name (or_left (is_name name name) (has names name) (own_name name)) holds)
+      | inl holds ↦ or_left (weaker name) (list_any weaker names) (each name (or_left (is_name name name) (has names name) (name_itself name)) holds)
       | inr more ↦ or_right (weaker name) (list_any weaker names) (any_more test weaker names (λ unit among. each unit (or_right (is_name unit name) (has names unit) among)) more)
     ]
 
@@ -49,12 +42,9 @@ has-take (suc count) (name ∷ names) unit found =
       | inr more ↦ or_right (is_name unit name) (has names unit) (has-take count names unit more)
     ]
 
-pub has-append : (names more : List Name) (unit : Name) → has (names ++ more) unit ≡ true → (has names unit ≡ true) ⊎ (has more unit ≡ true)
-has-append names more unit found = or_cases (has names unit) (has more unit) (sym (list_any-append (is_at (slice_cmp nat_cmp unit)) names more) ∙ found)
-
 pub has-filter : (test : Name → Bool) (names : List Name) (unit : Name) → has (filter test names) unit ≡ (test unit && has names unit)
 has-filter test names unit =
-    any-filter_same (is_at (slice_cmp nat_cmp unit)) test (test unit) (λ other same. ap test (sym (same_name unit other same))) names
+    any-filter_same (is_at (slice_cmp nat_cmp unit)) test (test unit) (λ other same. ap test (sym (name_exact unit other same))) names
 
 -- a beginning of two lists with a name that isn't in the first has all of the first
 pub take_two : (first more : List Name) (count : ℕ) (unit other : Name) → (has first unit ≡ true → ⊥) → has (take count (first ++ more)) unit ≡ true → has first other ≡ true → has (take count (first ++ more)) other ≡ true
@@ -70,3 +60,16 @@ take_two (name ∷ first) more (suc count) unit other without found among =
             (take_two first more count unit other (λ in_first. without (or_right (is_name unit name) (has first unit) in_first)) later rest)
       ]
     ]
+
+either : (test listed : Bool) → (test && listed || not test && listed) ≡ listed
+either true true = refl
+either true false = refl
+either false true = refl
+either false false = refl
+
+-- names of which the sockets come first are the same names
+pub has-sockets_first : (kind : Name → UnitKind) (names : List Name) (unit : Name) → has (sockets_first kind names) unit ≡ has names unit
+has-sockets_first kind names unit =
+    list_any-append (is_name unit) (filter (λ u. is_kind (kind u) Socket) names) (filter (λ u. not (is_kind (kind u) Socket)) names)
+    ∙ (λ i. has-filter (λ u. is_kind (kind u) Socket) names unit i || has-filter (λ u. not (is_kind (kind u) Socket)) names unit i)
+    ∙ either (is_kind (kind unit) Socket) (has names unit)

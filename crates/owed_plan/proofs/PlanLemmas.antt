@@ -1,9 +1,7 @@
 -- What is collected is what is owed.
 use Rattle.std.proofs.Common.{◌≡◌, ◌↔◌, ◌||◌, ◌&&◌, Bool, true, false, List, [], filter, not, if◌then◌else◌, refl, sym, ap, subst, ◌∙◌, inl, inr}
 use Rattle.std.specs.List.{list_any}
-use Rattle.std.specs.List.Sorted.{IsStrictlySortedBy}
 use Rattle.std.proofs.lemmas.Bool.{and_from, and_parts, false_from_ne_true, both_ways, not-true, not_from_false, or_cases, or_left, or_right}
-use Rattle.host_trait.specs.World.{bytes_cmp}
 use Rattle.host_trait.specs.States.{UnitStates, state_of}
 use Rattle.host_trait.specs.declared.unit_state.State.TheVariants.{Active}
 use Rattle.owed_lists.specs.declared.lists.Lists.{Lists}
@@ -20,14 +18,13 @@ use Rattle.owed_plan.proofs.ActiveLemmas.{one_of, decision_from, decision_to}
 use Rattle.owed_plan.proofs.CoreLemmas.{active_from_test}
 use Rattle.owed_plan.proofs.NameLemmas.{any_from_has, has-filter}
 use Rattle.switch_names.specs.Names.{IsListOf, Name, has, is_name}
-use Rattle.switch_names.specs.declared.unit_kind.UnitKind.{UnitKind}
 use Rattle.switch_names.specs.declared.unit_kind.UnitKind.TheVariants.{Service, Target}
 use Rattle.unit_decide.specs.Decision.{decide}
 use Rattle.unit_decide.specs.Kinds.{is_kind, is_same}
 use Rattle.unit_decide.specs.declared.decision.Decision.{Decision}
 use Rattle.unit_decide.specs.declared.decision.Decision.TheVariants.{Nothing, Reload, Restart, SocketStart, Start, Stop, StopStart}
 use Rattle.unit_decide.specs.declared.facts.Facts.{Facts}
-use Rattle.unit_decide.proofs.TableLemmas.{socket_start_more}
+use Rattle.unit_decide.proofs.TableLemmas.{service_from_test, socket_start_more}
 use Rattle.unit_defs.proofs.NameLemmas.{name_exact, name_itself}
 
 -- the systems, the states, and what the lists say
@@ -50,12 +47,8 @@ nothing_from : (d : Decision) → is_nothing d ≡ true → d ≡ Nothing
 nothing_from Nothing is = refl
 nothing_from _ is = absurd cc
 
-service_from : (kind : UnitKind) → is_kind kind Service ≡ true → kind ≡ Service
-service_from Service is = refl
-service_from _ is = absurd cc
-
 -- a name is found among those that pass a test
-filter_parts : (test : Name → Bool) (names : List Name) (unit : Name) → has (filter test names) unit ≡ true → (test unit ≡ true) × (has names unit ≡ true)
+pub filter_parts : (test : Name → Bool) (names : List Name) (unit : Name) → has (filter test names) unit ≡ true → (test unit ≡ true) × (has names unit ≡ true)
 filter_parts test names unit found = and_parts (test unit) (has names unit) (sym (has-filter test names unit) ∙ found)
 
 filter_from : (test : Name → Bool) (names : List Name) (unit : Name) → test unit ≡ true → has names unit ≡ true → has (filter test names) unit ≡ true
@@ -190,7 +183,7 @@ module _ (systems : Systems) (states : UnitStates) (lists : Lists) where
   socketed_from unit is =
       let parts = and_parts (is_kind (systems.facts unit).kind Service) (list_any (λ socket. (systems.facts socket).in_new) (systems.sockets unit)) is in
       let one = one_of (λ socket. (systems.facts socket).in_new) (systems.sockets unit) parts.1 in
-      (service_from (systems.facts unit).kind parts.0, (one.0, (one.1, one.2)))
+      (service_from_test (systems.facts unit).kind parts.0, (one.0, (one.1, one.2)))
 
   socketed_to : (unit : Name) → IsSocketed systems unit → is_socketed systems unit ≡ true
   socketed_to unit is =
@@ -332,39 +325,3 @@ planned systems states lists waiting pulled decisions owed is_pulled same made i
     is_plan systems states lists pulled owed is_pulled
     (subst (λ situation. IsCollected situation (decisions_of situation states) lists pulled owed) (seen systems states lists waiting same)
     (subst (λ all. IsCollected (record { systems = systems; states = state_of states; waits = has waiting }) all lists pulled owed) made is))
-
--- the names of a set in order
-pub set_list : (names keys : List Name) (test : Name → Bool) → names ≡ keys → IsStrictlySortedBy bytes_cmp keys → ((unit : Name) → has keys unit ≡ test unit) → IsListBy names test
-set_list names keys test same sorted exact = record {
-  sorted = subst (IsStrictlySortedBy bytes_cmp) (sym same) sorted;
-  exact = λ unit. ap (λ (all : List Name). has all unit) same ∙ exact unit;
-}
-
--- what comes up is the same by the lists and by the sets
-pub same_up : (situation : Situation) (pulled stops stop_keys reloads reload_keys restarts restart_keys : List Name) (unit : Name) → stops ≡ stop_keys → reloads ≡ reload_keys → restarts ≡ restart_keys →
-    has (filter (comes_up situation stop_keys reload_keys restart_keys) pulled) unit ≡ has (filter (comes_up situation stops reloads restarts) pulled) unit
-same_up situation pulled stops stop_keys reloads reload_keys restarts restart_keys unit one two three =
-    λ i. has (filter (comes_up situation (sym one i) (sym two i) (sym three i)) pulled) unit
-
--- a unit that stays up doesn't come up
-pub stays_up : (active stopped reloaded restarted socketed : Bool) → (active && not stopped) ≡ true → false ≡ ((not active || stopped) && not reloaded && not restarted && not socketed)
-stays_up true true reloaded restarted socketed up = absurd (both_ways false refl up)
-stays_up true false reloaded restarted socketed up = refl
-stays_up false stopped reloaded restarted socketed up = absurd (both_ways false refl up)
-
--- nor does one that comes up otherwise
-pub comes_otherwise : (down reloaded restarted socketed : Bool) → (reloaded || restarted) ≡ true → false ≡ (down && not reloaded && not restarted && not socketed)
-comes_otherwise false reloaded restarted socketed is = refl
-comes_otherwise true true restarted socketed is = refl
-comes_otherwise true false true socketed is = refl
-comes_otherwise true false false socketed is = absurd (both_ways false refl is)
-
--- a unit that nothing else brings up comes up where no socket starts it
-pub comes_up_by :
-    (result active stopped reloaded restarted socketed : Bool) → (active && not stopped) ≡ false → (reloaded || restarted) ≡ false → result ≡ socketed →
-    not result ≡ ((not active || stopped) && not reloaded && not restarted && not socketed)
-comes_up_by result true true false false socketed up other is = ap not is
-comes_up_by result false stopped false false socketed up other is = ap not is
-comes_up_by result true false reloaded restarted socketed up other is = absurd (both_ways true up refl)
-comes_up_by result active stopped true restarted socketed up other is = absurd (both_ways true other refl)
-comes_up_by result active stopped false true socketed up other is = absurd (both_ways true other refl)

@@ -9,7 +9,7 @@ use Rattle.owed_plan.specs.declared.owed.Owed.{Owed}
 use Rattle.owed_plan.specs.Owed.{IsOwed, Reloads, Restarts, Stops, stop_order}
 use Rattle.owed_plan.specs.Systems.{Systems}
 use Rattle.owed_plan.proofs.CoreLemmas.{same_owed}
-use Rattle.owed_plan.proofs.NameLemmas.{has-append, has-filter, has-take, take_two}
+use Rattle.owed_plan.proofs.NameLemmas.{has-filter, has-sockets_first, has-take, take_two}
 use Rattle.owed_plan.proofs.PartLemmas.{IsPartly}
 use Rattle.switch_names.specs.declared.unit_kind.UnitKind.{UnitKind}
 use Rattle.switch_names.specs.declared.unit_kind.UnitKind.TheVariants.{Service, Socket}
@@ -17,7 +17,7 @@ use Rattle.unit_decide.specs.Kinds.{is_kind}
 use Rattle.switch_names.specs.Names.{Name, has}
 
 -- what is active afterwards wasn't stopped
-was_active : (found : Bool) (before after : State) → after ≡ (if found then Inactive else before) → after ≡ Active → (found ≡ true → ⊥) × (before ≡ Active)
+pub was_active : (found : Bool) (before after : State) → after ≡ (if found then Inactive else before) → after ≡ Active → (found ≡ true → ⊥) × (before ≡ Active)
 was_active true before after is active = absurd (cc (sym is ∙ active))
 was_active false before after is active = ((λ e. absurd (cc e)), sym is ∙ active)
 
@@ -28,14 +28,6 @@ active_or_stopped false before after is active = inl (is ∙ active)
 
 service_no_socket : (kind : UnitKind) → kind ≡ Service → is_kind kind Socket ≡ true → ⊥
 service_no_socket kind service socket = cc (sym socket ∙ ap (λ k. is_kind k Socket) service)
-
--- the order has only names of the stops
-has-stop_order : (systems : Systems) (stops : List Name) (unit : Name) → has (stop_order systems stops) unit ≡ true → has stops unit ≡ true
-has-stop_order systems stops unit found =
-    elim (has-append (filter (λ u. is_kind (systems.facts u).kind Socket) stops) (filter (λ u. not (is_kind (systems.facts u).kind Socket)) stops) unit found) [
-      | inl first ↦ (and_parts (is_kind (systems.facts unit).kind Socket) (has stops unit) (sym (has-filter (λ u. is_kind (systems.facts u).kind Socket) stops unit) ∙ first)).1
-      | inr more ↦ (and_parts (not (is_kind (systems.facts unit).kind Socket)) (has stops unit) (sym (has-filter (λ u. not (is_kind (systems.facts u).kind Socket)) stops unit) ∙ more)).1
-    ]
 
 -- where a service is among the first stops, all sockets of the stops are
 sockets_first : (systems : Systems) (stops : List Name) (count : ℕ) (service socket : Name) → (systems.facts service).kind ≡ Service → (systems.facts socket).kind ≡ Socket → has stops socket ≡ true → has (take count (stop_order systems stops)) service ≡ true → has (take count (stop_order systems stops)) socket ≡ true
@@ -62,7 +54,8 @@ module _ (systems : Systems) (states later : Name → State) (lists kept : Lists
   taken = take count (stop_order systems owed.stops)
 
   taken_stops : (unit : Name) → has taken unit ≡ true → Stops systems states lists unit
-  taken_stops unit found = (is_owed.stops.exact unit).0 (has-stop_order systems owed.stops unit (has-take count (stop_order systems owed.stops) unit found))
+  taken_stops unit found =
+      (is_owed.stops.exact unit).0 (sym (has-sockets_first (λ u. (systems.facts u).kind) owed.stops unit) ∙ has-take count (stop_order systems owed.stops) unit found)
 
   before : (unit : Name) → later unit ≡ Active → states unit ≡ Active
   before unit active = (was_active (has taken unit) (states unit) (later unit) (are_stopped unit) active).1

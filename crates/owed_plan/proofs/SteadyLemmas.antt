@@ -1,5 +1,5 @@
 -- What was steady is so after some of the stops.
-use Rattle.std.proofs.Common.{◌≡◌, Bool, IsTrue, inl, inr, arith}
+use Rattle.std.proofs.Common.{◌≡◌, IsTrue, inl, inr}
 use Rattle.host_trait.specs.declared.unit_state.State.{State}
 use Rattle.owed_plan.specs.Law.{IsSound}
 use Rattle.owed_plan.specs.Lists.{pending}
@@ -11,33 +11,23 @@ use Rattle.owed_plan.proofs.CoreLemmas.{pull_from, start_pulled}
 use Rattle.owed_plan.proofs.PartLemmas.{IsPartly}
 use Rattle.owed_plan.proofs.PrefixLemmas.{is_partly}
 use Rattle.switch_names.specs.declared.unit_kind.UnitKind.TheVariants.{Target}
-use Rattle.unit_decide.specs.declared.decision.Decision.TheVariants.{Reload, Restart}
-use Rattle.unit_decide.specs.declared.facts.Facts.{Facts}
-use Rattle.unit_decide.specs.Decision.{decide}
+use Rattle.unit_decide.proofs.TableLemmas.{target_not_reloaded, target_not_restarted}
 use Rattle.switch_names.specs.Names.{Name, has}
 
 -- no target is reloaded or restarted
-target_not_reloaded : (f : Facts) (live : Bool) → f.kind ≡ Target → decide f live ≡ Reload → ⊥
-unfolding decide
-target_not_reloaded f live target is = grind arith
-
-target_not_restarted : (f : Facts) (live : Bool) → f.kind ≡ Target → decide f live ≡ Restart → ⊥
-unfolding decide
-target_not_restarted f live target is = grind arith
-
 module _ (systems : Systems) (states : Name → State) (lists : Lists) where
-  reload_no_target : IsSteady systems states lists → (unit : Name) → (systems.facts unit).kind ≡ Target → Reloads systems states lists unit → ⊥
+  pub reload_no_target : IsSteady systems states lists → (unit : Name) → (systems.facts unit).kind ≡ Target → Reloads systems states lists unit → ⊥
   reload_no_target steady unit target (Reloads.ByReload decides) = target_not_reloaded (systems.facts unit) (has_live systems states lists unit) target decides.row
   reload_no_target steady unit target (Reloads.ByReloadList listed defined) = steady.reloads unit listed target
 
-  restart_no_target : IsSteady systems states lists → (unit : Name) → (systems.facts unit).kind ≡ Target → Restarts systems states lists unit → ⊥
+  pub restart_no_target : IsSteady systems states lists → (unit : Name) → (systems.facts unit).kind ≡ Target → Restarts systems states lists unit → ⊥
   restart_no_target steady unit target (Restarts.ByRestart decides) = target_not_restarted (systems.facts unit) (has_live systems states lists unit) target decides.row
   restart_no_target steady unit target (Restarts.ByRestartList listed defined) = steady.restarts unit listed target
 
 module _ (systems : Systems) (states : Name → State) (lists : Lists) (later : Name → State) (kept : Lists) (sound : IsSound systems) (partly : IsPartly systems states lists later kept) (steady : IsSteady systems states lists) where
   pending_steady : (unit : Name) → IsTrue (has (pending kept) unit) → IsStoppedForGood systems unit → ⊥
   pending_steady unit listed for_good =
-      steady.pull unit (start_pulled systems states lists later kept sound partly unit for_good.0 for_good.1 (partly.starts_from unit listed for_good.0)) for_good
+      steady.pull unit (start_pulled systems states lists sound unit for_good.1 (partly.starts_from unit listed for_good.0)) for_good
 
   reloads_steady : (unit : Name) → IsTrue (has kept.reloads unit) → (systems.facts unit).kind ≡ Target → ⊥
   reloads_steady unit listed target =

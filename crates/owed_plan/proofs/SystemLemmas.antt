@@ -1,15 +1,16 @@
 -- Systems are sound, and those that are kept are those that stand in the leaves.
-use Rattle.std.proofs.Common.{◌≡◌, ◌&&◌, Bool, true, false, List, [], Option, None, Some, is_none, is_some, option_and_then, if◌then◌else◌, refl, ap, ◌∙◌}
+use Rattle.std.proofs.Common.{◌≡◌, ◌&&◌, Bool, true, false, List, [], Option, None, Some, is_some, option_and_then, if◌then◌else◌, refl, ap, ◌∙◌}
 use Rattle.std.specs.Option.{option_map_or}
 use Rattle.host_trait.specs.World.{Leaves}
+use Rattle.owed_lists.proofs.NameLemmas.{none_from_test}
 use Rattle.owed_plan.specs.Law.{IsSound}
-use Rattle.owed_plan.specs.Systems.{AreOldDefs, systems_at, systems_in, systems_of, text_at}
+use Rattle.owed_plan.specs.Systems.{AreOldDefs, Texts, systems_at, systems_in, systems_of, text_at}
 use Rattle.switch_names.specs.declared.unit_kind.UnitKind.TheVariants.{Socket}
 use Rattle.switch_names.specs.Names.{Name, has}
 use Rattle.switch_names.specs.UnitName.{IsUnitName, template_of, unit_fault}
 use Rattle.unit_decide.specs.Facts.{facts_of, unit_kind}
 use Rattle.unit_decide.specs.Sockets.{sockets_of}
-use Rattle.unit_decide.proofs.SocketLemmas.{paired_kind}
+use Rattle.unit_decide.proofs.SocketLemmas.{none_found, paired_kind}
 use Rattle.unit_defs.specs.declared.unit.Unit.{Unit}
 use Rattle.unit_defs.specs.Defs.{AreDefsOf, found_in, names_in, own_in, wanted_in}
 use Rattle.unit_defs.specs.Files.{wants_of}
@@ -18,19 +19,13 @@ use Rattle.unit_defs.specs.Units.{find_text, own_text, text_of, wanted_of}
 use Rattle.unit_defs.proofs.OrderLemmas.{wanted_each}
 use Rattle.unit_text.specs.declared.assignment.Assignment.{Assignment}
 
-abbrev Texts : Type 0
-Texts = Name → Option (List Assignment)
-
-none_found : (unit : Name) → has [] unit ≡ true → ⊥
-none_found unit found = cc
-
 -- ---- units are paired with sockets, and what is wanted is defined
 
 paired : (text : Option (List Assignment)) (unit socket : Name) → has (option_map_or (λ t. sockets_of t unit) text []) socket ≡ true → unit_kind socket ≡ Socket
 paired None unit socket found = absurd (none_found socket found)
 paired (Some text) unit socket found = paired_kind text unit socket found
 
-guarded : (named : Bool) (names : List Name) (unit : Name) → has (if named then names else []) unit ≡ true → has names unit ≡ true
+pub guarded : (named : Bool) (names : List Name) (unit : Name) → has (if named then names else []) unit ≡ true → has names unit ≡ true
 guarded true names unit found = found
 guarded false names unit found = absurd (none_found unit found)
 
@@ -55,10 +50,6 @@ sound_at leaves old new =
     (λ by unit found. left_of (is_some (text_of leaves new unit)) _ (wanted_each (own_text leaves new) (wants_of leaves new by) (text_of leaves new by) unit found))
 
 -- ---- the systems that are kept are those that stand in the leaves
-
-none_from_test : {T : Type 0} (o : Option T) → is_none o ≡ true → o ≡ None
-none_from_test None is = refl
-none_from_test (Some x) is = absurd cc
 
 -- what is the same of each unit name is the same of each text, where others have nothing
 same_named : {T : Type 0} (none : T) (name : Name) (one other : T) → (IsUnitName name → one ≡ other) → (if is_unit name then one else none) ≡ (if is_unit name then other else none)

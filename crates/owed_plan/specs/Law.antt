@@ -15,6 +15,10 @@ use Rattle.switch_names.specs.Names.{Name, has}
 abbrev pub stopped : List Name → (Name → State) → Name → State
 stopped units states unit = if has units unit then Inactive else states unit
 
+-- the lists of what is owed, as they are recorded
+abbrev pub lists_of : Owed → Lists
+lists_of owed = record { starts = owed.starts; restarts = owed.restarts; reloads = owed.reloads }
+
 -- the start list is the owed one, each of the others is the owed one or still the old
 pub record IsRecorded (owed : Owed) (old new : Lists) : Type 0 where
   pub starts : new.starts ≡ owed.starts

@@ -1,9 +1,13 @@
+pub mod Called
 pub mod Calls
 pub mod Collected
 pub mod Decisions
+pub mod FinalStates
 pub mod Law
+pub mod Linked
 pub mod Lists
 pub mod Owed
 pub mod Pull
 pub mod Steady
+pub mod Store
 pub mod Systems

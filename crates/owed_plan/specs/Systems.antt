@@ -13,6 +13,10 @@ use Rattle.unit_defs.specs.Place.{is_unit}
 use Rattle.unit_defs.specs.Units.{text_of, wanted_of}
 use Rattle.unit_text.specs.declared.assignment.Assignment.{Assignment}
 
+-- the texts of the units of a system
+abbrev pub Texts : Type 0
+Texts = Name → Option (List Assignment)
+
 -- of each unit: what the table of decisions reads, the sockets that it is paired with, and what it wants
 pub record Systems : Type 0 where
   pub facts : Name → Facts
@@ -20,7 +24,7 @@ pub record Systems : Type 0 where
   pub wanted : Name → List Name
 
 -- the systems in which the units have these texts and want these units
-abbrev pub systems_of : (Name → Option (List Assignment)) → (Name → Option (List Assignment)) → (Name → List Name) → Systems
+abbrev pub systems_of : Texts → Texts → (Name → List Name) → Systems
 systems_of old new wants = record {
   facts = λ unit. facts_of (old unit) (new unit) unit;
   sockets = λ unit. option_map_or (λ text. sockets_of text unit) (new unit) [];

@@ -1,9 +1,8 @@
-//! Collects the units to stop, reload, restart and start, and those that are left.
-ghost use Rattle.std.specs.Prelude.{◌≡◌, ◌&&◌, ◌||◌, List, ℕ, IfOk, OnOk, filter};
-ghost use Rattle.std.specs.List.{list_any};
+//! What a decision or a list adds to a set of units.
+ghost use Rattle.std.specs.Prelude.{◌≡◌, ◌&&◌, ◌||◌, List, ℕ, OnOk, filter};
 ghost use Rattle.owed_plan.specs.Collected.{defined};
 ghost use Rattle.host_trait.specs.Manager.{is_active};
-ghost use Rattle.owed_plan.specs.Decisions.{is_reloaded, is_restarted, is_started, is_stopped, leaves, reloads, restarts, situation_of, starts, stops};
+ghost use Rattle.owed_plan.specs.Decisions.{is_reloaded, is_restarted, is_started, is_stopped, reloads, restarts, situation_of, starts, stops};
 ghost use Rattle.switch_names.specs.Names.{has, is_name};
 
 use crate::deciding::UnitDecision;
@@ -89,74 +88,49 @@ pub fn add_defined(
     Ok(())
 }
 
-/// The units that are stopped: by their own decision, and the Active sockets of services that are
-/// left to them.
-pub fn stops(
+/// Adds what a decision stops: its unit, and the Active ones of the sockets to which the unit is left.
+pub fn add_stops(
     alloc: Global,
     known: Known<'_>,
-    decisions: &[UnitDecision],
-) -> Result<UnitSet, AllocError>
-    ensures { IfOk result (λ set. (unit : List ℕ) → has set unit ≡ list_any (stops (situation_of known.entry) unit) decisions.now) }
+    set: &mut UnitSet,
+    decided: &UnitDecision,
+) -> Result<(), AllocError>
+    ensures { OnOk result ((unit : List ℕ) → has set.new unit ≡ (has set.old unit || stops (situation_of known.entry) unit decided.now)) }
 {
-    let mut set = UnitSet::new(alloc);
-    for decided in decisions {
-        add_if(alloc, &mut set, &decided.unit, is_stopped(decided.decision))?;
-        add_active(alloc, known, &mut set, decided.live.as_slice())?;
-    }
-    Ok(set)
+    add_if(alloc, set, &decided.unit, is_stopped(decided.decision))?;
+    add_active(alloc, known, set, decided.live.as_slice())
 }
 
-/// The units that are started by what is decided on Active units.
-pub fn starts(alloc: Global, decisions: &[UnitDecision]) -> Result<UnitSet, AllocError>
-    ensures { IfOk result (λ set. (unit : List ℕ) → has set unit ≡ list_any (starts unit) decisions.now) }
+/// Adds what a decision starts: its unit, and the live sockets to which the unit is left.
+pub fn add_starts(
+    alloc: Global,
+    set: &mut UnitSet,
+    decided: &UnitDecision,
+) -> Result<(), AllocError>
+    ensures { OnOk result ((unit : List ℕ) → has set.new unit ≡ (has set.old unit || starts unit decided.now)) }
 {
-    let mut set = UnitSet::new(alloc);
-    for decided in decisions {
-        add_if(alloc, &mut set, &decided.unit, is_started(decided.decision))?;
-        set.insert_all(alloc, decided.live.as_slice())?;
-    }
-    Ok(set)
+    add_if(alloc, set, &decided.unit, is_started(decided.decision))?;
+    set.insert_all(alloc, decided.live.as_slice())
 }
 
-/// The Active units that are reloaded by their own decision.
-pub fn reloads(alloc: Global, decisions: &[UnitDecision]) -> Result<UnitSet, AllocError>
-    ensures { IfOk result (λ set. (unit : List ℕ) → has set unit ≡ list_any (reloads unit) decisions.now) }
+/// Adds what a decision reloads.
+pub fn add_reloads(
+    alloc: Global,
+    set: &mut UnitSet,
+    decided: &UnitDecision,
+) -> Result<(), AllocError>
+    ensures { OnOk result ((unit : List ℕ) → has set.new unit ≡ (has set.old unit || reloads unit decided.now)) }
 {
-    let mut set = UnitSet::new(alloc);
-    for decided in decisions {
-        add_if(
-            alloc,
-            &mut set,
-            &decided.unit,
-            is_reloaded(decided.decision),
-        )?;
-    }
-    Ok(set)
+    add_if(alloc, set, &decided.unit, is_reloaded(decided.decision))
 }
 
-/// The Active units that are restarted by their own decision.
-pub fn restarts(alloc: Global, decisions: &[UnitDecision]) -> Result<UnitSet, AllocError>
-    ensures { IfOk result (λ set. (unit : List ℕ) → has set unit ≡ list_any (restarts unit) decisions.now) }
+/// Adds what a decision restarts.
+pub fn add_restarts(
+    alloc: Global,
+    set: &mut UnitSet,
+    decided: &UnitDecision,
+) -> Result<(), AllocError>
+    ensures { OnOk result ((unit : List ℕ) → has set.new unit ≡ (has set.old unit || restarts unit decided.now)) }
 {
-    let mut set = UnitSet::new(alloc);
-    for decided in decisions {
-        add_if(
-            alloc,
-            &mut set,
-            &decided.unit,
-            is_restarted(decided.decision),
-        )?;
-    }
-    Ok(set)
-}
-
-/// The changed units that get nothing.
-pub fn left(alloc: Global, decisions: &[UnitDecision]) -> Result<UnitSet, AllocError>
-    ensures { IfOk result (λ set. (unit : List ℕ) → has set unit ≡ list_any (leaves unit) decisions.now) }
-{
-    let mut set = UnitSet::new(alloc);
-    for decided in decisions {
-        add_if(alloc, &mut set, &decided.unit, decided.is_left)?;
-    }
-    Ok(set)
+    add_if(alloc, set, &decided.unit, is_restarted(decided.decision))
 }

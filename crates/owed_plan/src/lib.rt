@@ -9,6 +9,7 @@ mod known;
 pub mod laws;
 mod owed;
 mod planning;
+mod sets;
 
 pub use duty::{Duty, calls};
 pub use owed::Owed;

@@ -19,7 +19,7 @@ fn push_command(
         ["run", put, words] => push_case_run(rt.alloc(), out, case, put, words),
         ["fail", words] => push_troubles(rt.alloc(), out, case, ("fail", words), 60),
         ["again", words] => push_troubles(rt.alloc(), out, case, ("again", words), 60),
-        ["cut", words] => push_troubles(rt.alloc(), out, case, ("cut", words), 15),
+        ["cut", words] => push_troubles(rt.alloc(), out, case, ("cut", words), 60),
         ["folder", root, words] => push_folder(rt, out, root, words),
         ["faults"] => push_faults(rt.alloc(), out),
         _ => Err(Fail::new("a line is no command")),

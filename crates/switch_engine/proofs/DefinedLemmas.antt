@@ -5,7 +5,8 @@ use Rattle.host_trait.specs.World.{Leaves, WorldState}
 use Rattle.owed_plan.specs.declared.owed.Owed.{Owed}
 use Rattle.owed_plan.specs.Systems.{Systems}
 use Rattle.owed_plan.proofs.SystemLemmas.{systems_same}
-use Rattle.switch_engine.specs.Final.{HasFailed, IsFinal, IsLeftFailed}
+use Rattle.switch_engine.specs.Final.{HasFailed, IsLeftFailed}
+use Rattle.unit_stage.specs.End.{IsBrought}
 use Rattle.switch_names.specs.Names.{Name}
 use Rattle.unit_defs.specs.declared.unit.Unit.{Unit}
 use Rattle.unit_defs.specs.Defs.{AreDefsOf, found_in}
@@ -18,7 +19,7 @@ defined_same leaves system units are unit = ap (λ (systems : Systems). (systems
 
 -- a unit of the system has failed after a switch where the switch leaves one failed
 pub left_failed : (system : Name) (owed : Owed) (w v : WorldState) (units : List Unit) (states : UnitStates) → AreDefsOf w.leaves system units →
-    states ≡ v.manager.states → IsFinal system owed w v → HasFailed units states ↔ ((unit : Name) × IsLeftFailed system owed w unit)
+    states ≡ v.manager.states → IsBrought system owed w v → HasFailed units states ↔ ((unit : Name) × IsLeftFailed system owed w unit)
 left_failed system owed w v units states are now final = (
   λ failed. (
     failed.0,

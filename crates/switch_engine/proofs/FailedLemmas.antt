@@ -4,9 +4,8 @@ use Rattle.std.specs.FinMap.{entries, entries_sorted, find, get-entries}
 use Rattle.std.specs.FinMap.Entries.{below_all, is_sorted}
 use Rattle.std.specs.List.{list_any}
 use Rattle.std.specs.Ordering.{is_lt}
-use Rattle.std.specs.declared.cmp.Ordering.{Ordering}
-use Rattle.std.specs.declared.cmp.Ordering.TheVariants.{Less, Equal, Greater}
 use Rattle.std.proofs.lemmas.Bool.{and_from, or_cases, or_left, or_right}
+use Rattle.host_trait.proofs.KeyOrder.{left_of, less_from, right_of}
 use Rattle.host_trait.specs.World.{bytes_cmp}
 use Rattle.host_trait.specs.States.{UnitStates, listed_states}
 use Rattle.host_trait.specs.declared.unit_state.State.{State}
@@ -21,24 +20,12 @@ use Rattle.unit_defs.proofs.NameLemmas.{less_is_other, name_exact, name_itself}
 abbrev listed : List (Name × State) → List UnitState
 listed es = map (λ e. record { unit = e.0; state = e.1 }) es
 
-less_from : (r : Ordering) → T (is_lt r) → r ≡ Less
-less_from Less is = refl
-less_from Equal is = absurd is
-less_from Greater is = absurd is
-
-left_of : (a b : Bool) → T (a && b) → T a
-left_of true b both = tt
-left_of false b both = both
-
-right_of : (a b : Bool) → T (a && b) → T b
-right_of true b both = both
-right_of false b both = absurd both
-
 both_of : (a b : Bool) → a && b ≡ true → (a ≡ true) × (b ≡ true)
 both_of true b is = (refl, is)
 both_of false b is = absurd cc
 
-failed_from : (state : State) → is_failed state ≡ true → state ≡ Failed
+-- a state that tests as failed is that
+pub failed_from : (state : State) → is_failed state ≡ true → state ≡ Failed
 failed_from Failed is = refl
 failed_from Active is = absurd cc
 failed_from Inactive is = absurd cc

@@ -1,31 +1,23 @@
--- The places that a switch writes are apart from the stage, and where nothing is in the way of them each is clear.
-use Rattle.std.proofs.Common.{◌≡◌, ◌&&◌, ℕ, ◌<◌, ◌+◌, Bool, true, false, cond, List, [], ◌∷◌, ◌++◌, append_assoc, Option, None, Some, option_map, suc, length, get_or, drop, add-one, refl, sym, ap, subst, ◌∙◌}
-use Rattle.std.proofs.Math.Seq.{drop-cons}
-use Rattle.std.proofs.lemmas.Bool.{or_parts}
+-- Where nothing is in the way of the places that a switch of the units writes, each is clear, and its parts are free.
+use Rattle.std.proofs.Common.{◌≡◌, ◌≢◌, Bool, true, false, cond, ◌||◌, List, [], ◌∷◌, ◌++◌, append_assoc, Option, None, Some, option_map, refl, sym, ap, subst, ◌∙◌, inl, inr}
+use Rattle.std.proofs.lemmas.Bool.{both_ways, cases_Bool}
+use Rattle.std.proofs.lemmas.Option.{none-some}
+use Rattle.std.specs.FinMap.{get}
 use Rattle.std.specs.List.{find}
 use Rattle.host_trait.specs.Change.{definitions_place}
-use Rattle.host_trait.specs.World.{IsClear, Leaves, WorldState, stage}
+use Rattle.host_trait.specs.World.{IsClear, Leaves, is_in_line, is_path, stage}
 use Rattle.owed_lists.specs.Lists.{reloads_place, restarts_place, starts_place}
-use Rattle.tree_put.specs.Put.{is_blocked}
-use Rattle.tree_put.proofs.BlockedLemmas.{clear_of_free}
-use Rattle.switch_engine.specs.declared.written_place.WrittenPlace.{WrittenPlace}
-use Rattle.switch_engine.specs.Final.{CanSwitch}
-use Rattle.switch_engine.specs.Places.{is_in_the_way, lacks_content, switch_places, written, written_links, written_lists}
-use Rattle.switch_engine.specs.Reach.{AreApartFromStage}
-use Rattle.switch_engine.specs.System.{current_place}
-
--- the places from one on begin with it
-from_here : (places : List WrittenPlace) (i : ℕ) (place : WrittenPlace) → i < length places → place ≡ get_or places i place → drop i places ≡ place ∷ drop (i + 1) places
-from_here places i place inside is = drop-cons places i place inside ∙ ap (λ p. p ∷ drop (suc i) places) (sym is) ∙ ap (λ k. place ∷ drop k places) (sym (add-one i))
-
-pub apart_next : (places : List WrittenPlace) (i : ℕ) (place : WrittenPlace) → i < length places → place ≡ get_or places i place → AreApartFromStage (drop i places) → AreApartFromStage (drop (i + 1) places)
-apart_next places i place inside is apart =
-    let both : AreApartFromStage (place ∷ drop (i + 1) places) = subst AreApartFromStage (from_here places i place inside is) apart in both.1
-
-pub first_next : (test : WrittenPlace → Bool) (places : List WrittenPlace) (i : ℕ) (place : WrittenPlace) → i < length places → place ≡ get_or places i place → test place ≡ false →
-    find test (drop (i + 1) places) ≡ find test (drop i places)
-first_next test places i place inside is free =
-    sym (ap (find test) (from_here places i place inside is) ∙ ap (λ b. cond b (Some place) (find test (drop (i + 1) places))) free)
+use Rattle.switch_names.specs.Names.{Name}
+use Rattle.tree_put.specs.declared.written_place.WrittenPlace.{WrittenPlace}
+use Rattle.tree_put.specs.Put.{AreApart, is_blocked}
+use Rattle.tree_put.specs.WrittenPlace.{AreApartFromStage, in_the_way, is_in_the_way, written}
+use Rattle.tree_put.proofs.BlockedLemmas.{clear_of_free, free_of_clear}
+use Rattle.tree_put.proofs.PutLemmas.{apart_ne}
+use Rattle.tree_put.proofs.WayLemmas.{clear_first}
+use Rattle.unit_stage.specs.Owned.{owns_units, reads_units, unit_places}
+use Rattle.unit_stage.specs.System.{current_place}
+use Rattle.unit_stage.proofs.OwnedLemmas.{not_owned}
+use Rattle.switch_engine.specs.Places.{switch_places, written_links, written_lists}
 
 -- three places more
 pub three_more : (old one two new : List WrittenPlace) (a b c : WrittenPlace) → one ≡ old ++ a ∷ [] → two ≡ one ++ b ∷ [] → new ≡ two ++ c ∷ [] → new ≡ old ++ a ∷ b ∷ c ∷ []
@@ -34,42 +26,98 @@ three_more old one two new a b c first second third =
     ∙ ap (λ (places : List WrittenPlace). places ++ c ∷ []) (second ∙ ap (λ (places : List WrittenPlace). places ++ b ∷ []) first ∙ append_assoc old (a ∷ []) (b ∷ []))
     ∙ append_assoc old (a ∷ b ∷ []) (c ∷ [])
 
--- the stage is apart from each place that a switch writes
+-- the stage is apart from each place that a switch of the units writes
 pub places_apart : AreApartFromStage switch_places
 unfolding switch_places written_links written_lists definitions_place stage current_place reloads_place restarts_place starts_place
 places_apart = (refl, (refl, (refl, (refl, (refl, (refl, tt))))))
 
-none_found : (o : Option WrittenPlace) → None ≡ option_map (λ place. place.at) o → o ≡ None
-none_found None is = refl
-none_found (Some place) is = absurd cc
+-- nothing is in the way of the first place, nor of the others
+free_first : (leaves : Leaves) (place : WrittenPlace) (places : List WrittenPlace) → in_the_way (place ∷ places) leaves ≡ None → (is_in_the_way leaves place ≡ false) × (in_the_way places leaves ≡ None)
+free_first leaves place places is = elim (cases_Bool (is_in_the_way leaves place)) [
+  | inl stands ↦ absurd (none-some place.at (sym is ∙ ap (λ b. option_map (λ (one : WrittenPlace). one.at) (cond b (Some place) (find (is_in_the_way leaves) places))) stands))
+  | inr none ↦ (none, sym (ap (λ b. option_map (λ (one : WrittenPlace). one.at) (cond b (Some place) (find (is_in_the_way leaves) places))) none) ∙ is)
+]
 
--- where nothing is in the way of some places, the first is clear
-clear_first : (leaves : Leaves) (place : WrittenPlace) (places : List WrittenPlace) → find (is_in_the_way leaves) (place ∷ places) ≡ None →
-    IsClear leaves place.at × (find (is_in_the_way leaves) places ≡ None)
-clear_first leaves place places is =
-    elim (is_in_the_way leaves place) as (λ b. is_in_the_way leaves place ≡ b → cond b (Some place) (find (is_in_the_way leaves) places) ≡ None → IsClear leaves place.at × (find (is_in_the_way leaves) places ≡ None)) [
-      | true ↦ λ here none. absurd (cc)
-      | false ↦ λ here none. (clear_of_free leaves place.at (or_parts (is_blocked leaves place.at) (place.is_read && lacks_content leaves place.at) here).0, none)
-    ] refl is
+free_more : (leaves : Leaves) (place : WrittenPlace) (places : List WrittenPlace) → is_in_the_way leaves place ≡ false → in_the_way places leaves ≡ None → in_the_way (place ∷ places) leaves ≡ None
+free_more leaves place places none rest = ap (λ b. option_map (λ (one : WrittenPlace). one.at) (cond b (Some place) (find (is_in_the_way leaves) places))) none ∙ rest
 
-can_switch : (w : WorldState) → find (is_in_the_way w.leaves) switch_places ≡ None → CanSwitch w
+-- the places of a switch are that of the definitions and those of the units
+all_places : switch_places ≡ written false definitions_place ∷ unit_places
 unfolding switch_places written_links written_lists
-can_switch w is =
+all_places = refl
+
+pub units_way : (leaves : Leaves) → in_the_way switch_places leaves ≡ None → in_the_way unit_places leaves ≡ None
+units_way leaves free = (free_first leaves (written false definitions_place) unit_places (subst (λ places. in_the_way places leaves ≡ None) all_places free)).1
+
+-- each place that is written is clear
+pub record AreClear (leaves : Leaves) : Type 0 where
+  pub stage : IsClear leaves stage
+  pub definitions : IsClear leaves definitions_place
+  pub current : IsClear leaves current_place
+  pub reloads : IsClear leaves reloads_place
+  pub restarts : IsClear leaves restarts_place
+  pub starts : IsClear leaves starts_place
+
+pub all_clear : (leaves : Leaves) → in_the_way switch_places leaves ≡ None → AreClear leaves
+all_clear leaves free =
     let last : List WrittenPlace = written true starts_place ∷ [] in
     let lists : List WrittenPlace = written true restarts_place ∷ last in
     let all_lists : List WrittenPlace = written true reloads_place ∷ lists in
-    let definitions = clear_first w.leaves (written false definitions_place) (written false stage ∷ written false current_place ∷ all_lists) is in
-    let staged = clear_first w.leaves (written false stage) (written false current_place ∷ all_lists) definitions.1 in
-    let current = clear_first w.leaves (written false current_place) all_lists staged.1 in
-    let reloads = clear_first w.leaves (written true reloads_place) lists current.1 in
-    let restarts = clear_first w.leaves (written true restarts_place) last reloads.1 in
-    let starts = clear_first w.leaves (written true starts_place) [] restarts.1 in
-    record {
-      lists = record { stage = staged.0; starts = starts.0; restarts = restarts.0; reloads = reloads.0 };
-      definitions = definitions.0;
-      current = current.0;
-    }
+    let definitions = clear_first leaves (written false definitions_place) unit_places (subst (λ places. in_the_way places leaves ≡ None) all_places free) in
+    let staged = clear_first leaves (written false stage) (written false current_place ∷ all_lists) definitions.1 in
+    let current = clear_first leaves (written false current_place) all_lists staged.1 in
+    let reloads = clear_first leaves (written true reloads_place) lists current.1 in
+    let restarts = clear_first leaves (written true restarts_place) last reloads.1 in
+    let starts = clear_first leaves (written true starts_place) [] restarts.1 in
+    record { stage = staged.0; definitions = definitions.0; current = current.0; reloads = reloads.0; restarts = restarts.0; starts = starts.0 }
 
--- where no place is in the way, a switch can write all of them
-pub can_all : (w : WorldState) → None ≡ option_map (λ place. place.at) (find (is_in_the_way w.leaves) switch_places) → CanSwitch w
-can_all w is = can_switch w (none_found (find (is_in_the_way w.leaves) switch_places) is)
+-- nothing is in the way of a switch where the link to the definitions is clear and the units' places are free
+pub switch_way : (leaves : Leaves) → IsClear leaves definitions_place → in_the_way unit_places leaves ≡ None → in_the_way switch_places leaves ≡ None
+switch_way leaves clear free =
+    subst (λ places. in_the_way places leaves ≡ None) (sym all_places)
+    (free_more leaves (written false definitions_place) unit_places (ap (λ b. b || false) (free_of_clear leaves definitions_place clear)) free)
+
+-- ---- the place of the link to the definitions
+
+pub definitions_not_own : owns_units definitions_place ≡ false
+unfolding definitions_place current_place reloads_place restarts_place starts_place
+definitions_not_own = refl
+
+pub definitions_not_read : reads_units definitions_place ≡ false
+unfolding definitions_place stage current_place reloads_place restarts_place starts_place
+definitions_not_read = refl
+
+pub definitions_apart : AreApart definitions_place stage
+unfolding definitions_place stage
+definitions_apart = record { other = refl; line = refl }
+
+pub definitions_not_stage : definitions_place ≢ stage
+definitions_not_stage = apart_ne definitions_place stage definitions_apart
+
+pub definitions_itself : is_path definitions_place definitions_place ≡ true
+unfolding definitions_place
+definitions_itself = refl
+
+current_definitions : is_in_line current_place definitions_place ≡ false
+unfolding definitions_place current_place
+current_definitions = refl
+
+reloads_definitions : is_in_line reloads_place definitions_place ≡ false
+unfolding definitions_place reloads_place
+reloads_definitions = refl
+
+restarts_definitions : is_in_line restarts_place definitions_place ≡ false
+unfolding definitions_place restarts_place
+restarts_definitions = refl
+
+starts_definitions : is_in_line starts_place definitions_place ≡ false
+unfolding definitions_place starts_place
+starts_definitions = refl
+
+pub stage_definitions : is_in_line stage definitions_place ≡ false
+unfolding definitions_place stage
+stage_definitions = refl
+
+-- what lies above or below it isn't owned
+pub near_not_own : (q : Name) → is_in_line q definitions_place ≡ true → owns_units q ≡ false
+near_not_own q line = not_owned (λ p. is_in_line p definitions_place) q line current_definitions reloads_definitions restarts_definitions starts_definitions

@@ -1,11 +1,8 @@
-pub mod Acts
 pub mod Commands
 pub mod Final
-pub mod Known
-pub mod Owes
+pub mod Moments
+pub mod Owing
 pub mod Places
 pub mod Plan
-pub mod Reach
-pub mod Refusals
-pub mod Steps
+pub mod Rows
 pub mod System

@@ -1,41 +1,38 @@
--- The places that a switch writes, and what stands in the way of one: path_resolution(7).
-use Rattle.std.specs.Prelude.{◌&&◌, ◌||◌, ◌++◌, Bool, true, false, List, [], ◌∷◌, Option, is_none, is_some, option_map}
-use Rattle.std.specs.FinMap.{get}
-use Rattle.std.specs.List.{find}
+-- The places that commands write: NixOS manual, "What happens during a system switch?".
+use Rattle.std.specs.Prelude.{◌∷◌, ◌++◌, ◌||◌, false, true, List, [], None, Some}
 use Rattle.host_trait.specs.Change.{definitions_place}
-use Rattle.host_trait.specs.World.{Leaves, content_of, stage}
+use Rattle.host_trait.specs.declared.leaf.LeafKind.TheVariants.{Link}
+use Rattle.host_trait.specs.World.{stage}
 use Rattle.owed_lists.specs.Lists.{reloads_place, restarts_place, starts_place}
-use Rattle.switch_engine.specs.declared.refusal.Refusal.{Refusal}
-use Rattle.switch_engine.specs.declared.refusal.Refusal.TheVariants.{InTheWay}
-use Rattle.switch_engine.specs.declared.written_place.WrittenPlace.{WrittenPlace}
-use Rattle.switch_engine.specs.System.{current_place}
+use Rattle.switch_engine.specs.declared.links.Links.{Links}
 use Rattle.switch_names.specs.Names.{Name}
-use Rattle.tree_put.specs.Put.{is_blocked}
+use Rattle.switch_parts.specs.Leaves.{is_among, is_near, leaf_part}
+use Rattle.switch_parts.specs.Part.{Part}
+use Rattle.tree_put.specs.declared.written_place.WrittenPlace.{WrittenPlace}
+use Rattle.tree_put.specs.WrittenPlace.{written}
+use Rattle.unit_stage.specs.System.{current_place, definitions_of, system_leaf}
 
--- a place that is written, and whether its content is read before
-abbrev pub written : Bool → Name → WrittenPlace
-written is_read at = record { at = at; is_read = is_read }
+-- the place of the link to the definitions, and the stage
+unfoldable pub definitions_places : List WrittenPlace
+definitions_places = written false definitions_place ∷ written false stage ∷ []
 
 -- both links and the stage
 unfoldable pub written_links : List WrittenPlace
 written_links = written false definitions_place ∷ written false stage ∷ written false current_place ∷ []
 
--- the lists, which are read
+-- the lists, which are read before
 unfoldable pub written_lists : List WrittenPlace
 written_lists = written true reloads_place ∷ written true restarts_place ∷ written true starts_place ∷ []
 
--- the places that a switch writes, in byte order
+-- the places that a switch of the units writes, in byte order
 unfoldable pub switch_places : List WrittenPlace
 switch_places = written_links ++ written_lists
 
--- a leaf without content stands at a place
-abbrev pub lacks_content : Leaves → Name → Bool
-lacks_content leaves at = is_some (get leaves at) && is_none (content_of leaves at)
+-- the part that puts the link to the definitions of a system
+abbrev pub definitions_part : Name → Part
+definitions_part system = leaf_part (is_among (definitions_place ∷ [])) (λ q. is_among (definitions_place ∷ []) q || is_near definitions_places q)
+    (λ leaves. definitions_places) (λ leaves. None) (λ leaves q. Some (Link (definitions_of system)))
 
--- a leaf stands strictly above or below the place, or one without content where a content is read
-abbrev pub is_in_the_way : Leaves → WrittenPlace → Bool
-is_in_the_way leaves place = is_blocked leaves place.at || (place.is_read && lacks_content leaves place.at)
-
--- what stands in the way of a switch, or nothing: the first such place
-abbrev pub way_refusal : Leaves → Option Refusal
-way_refusal leaves = option_map (λ place. InTheWay place.at) (find (is_in_the_way leaves) switch_places)
+-- the links that a switch of the units to a system puts
+abbrev pub links_to : Name → Links
+links_to system = record { definitions = Link (definitions_of system); current = system_leaf system }

@@ -1,35 +1,41 @@
--- What a switch to a system does to the units: NixOS manual, "What happens during a system switch?".
-use Rattle.std.specs.Prelude.{◌≡◌, ℕ, List}
-use Rattle.host_trait.specs.States.{state_of}
-use Rattle.host_trait.specs.World.{WorldState}
-use Rattle.owed_lists.specs.declared.lists.Lists.{Lists}
-use Rattle.owed_lists.specs.Lists.{AreListsOf}
-use Rattle.owed_plan.specs.declared.owed.Owed.{Owed}
-use Rattle.owed_plan.specs.Calls.{calls_of}
-use Rattle.owed_plan.specs.Owed.{IsPlan}
-use Rattle.owed_plan.specs.Systems.{systems_at}
-use Rattle.unit_defs.specs.Defs.{AreDefsOf}
+-- What is planned for a command: NixOS manual, "What happens during a system switch?".
+use Rattle.std.specs.Prelude.{◌≡◌, Option, None, Some}
+use Rattle.generations.specs.declared.gens.Gens.{Gens}
+use Rattle.generations.specs.Gens.{IsGensOf, number_for_in}
+use Rattle.generations.specs.Places.{number_after}
+use Rattle.host_trait.specs.World.{Leaves, WorldState}
+use Rattle.switch_engine.specs.declared.command.Command.{Command}
+use Rattle.switch_engine.specs.declared.command.Command.TheVariants.{Test, Boot, DryActivate}
 use Rattle.switch_engine.specs.declared.plan.Plan.{Plan}
-use Rattle.switch_engine.specs.System.{current_system}
+use Rattle.switch_engine.specs.declared.plan.ProfilePlan.{ProfilePlan}
+use Rattle.switch_engine.specs.Commands.{new_system}
+use Rattle.switch_engine.specs.Rows.{refusal}
+use Rattle.switch_names.specs.SystemName.{IsSystemPath}
+use Rattle.switch_names.specs.Names.{Name}
+use Rattle.unit_stage.specs.Plan.{IsUnitPlanOf, no_units}
 
--- what a switch to a system owes the units of a world, given the lists that stand there
-pub record IsOwedIn (w : WorldState) (system : List ℕ) (lists : Lists) (owed : Owed) : Type 0 where
-  pub listed : AreListsOf w.leaves lists
-  pub planned : IsPlan (systems_at w.leaves (current_system w.leaves) system) (state_of w.manager.states) lists owed
+-- the generations that stand, and the number that a set gives the system
+pub record IsProfilePlanOf (system : Name) (w : WorldState) (plan : ProfilePlan) : Type 0 where
+  pub gens : IsGensOf w.leaves plan.gens
+  pub number : plan.number ≡ number_after w.leaves system
 
--- what a switch to a system owes the units of a world
-abbrev pub IsOwedBy : WorldState → List ℕ → Owed → Type 0
-IsOwedBy w system owed = (lists : Lists) × IsOwedIn w system lists owed
+-- what is planned for the profile, or nothing
+abbrev pub IsMaybeProfilePlan : Name → WorldState → Option ProfilePlan → Type 0
+IsMaybeProfilePlan system w None = ⊥
+IsMaybeProfilePlan system w (Some plan) = IsProfilePlanOf system w plan
 
--- the lists that a switch records of what it owes
-abbrev pub lists_of : Owed → Lists
-lists_of owed = record { starts = owed.starts; restarts = owed.restarts; reloads = owed.reloads }
+-- the parts that are planned for a command
+abbrev pub ArePlanned : Command → WorldState → Plan → Type 0
+ArePlanned (Test system) w plan = IsUnitPlanOf system w plan.units × (plan.profile ≡ None)
+ArePlanned (DryActivate system) w plan = IsUnitPlanOf system w plan.units × (plan.profile ≡ None)
+ArePlanned (Boot system) w plan = (plan.units ≡ no_units) × IsMaybeProfilePlan system w plan.profile
 
--- the plan of a switch to a system: the units that it defines, what is owed, and the calls by which it is given
-pub record IsPlanOf (system : List ℕ) (w : WorldState) (plan : Plan) : Type 0 where
-  pub from : plan.from ≡ current_system w.leaves
-  pub to : plan.to ≡ system
-  pub defs : AreDefsOf w.leaves system plan.defs
-  pub owed : IsOwedBy w system plan.owed
-  pub recorded : plan.recorded ≡ lists_of plan.owed
-  pub duties : plan.duties ≡ calls_of plan.owed (state_of w.manager.states)
+-- the number for the profile, where that is set, is the one that its generations give the system
+abbrev pub IsNumbered : Plan → Type 0
+IsNumbered plan = (leaves : Leaves) (profile : ProfilePlan) → plan.profile ≡ Some profile → number_for_in profile.gens.list (new_system plan.command leaves) ≡ Some profile.number
+
+-- the plan of a command that isn't refused
+pub record IsPlanOf (w : WorldState) (plan : Plan) : Type 0 where
+  pub planned : ArePlanned plan.command w plan
+  pub named : IsSystemPath (new_system plan.command w.leaves)
+  pub not_refused : refusal plan.command w.leaves ≡ None

@@ -1,9 +1,11 @@
 //! How a switch that was carried out ended.
-ghost use Rattle.std.specs.Prelude.{◌≡◌, ◌↔◌, IsTrue};
+ghost use Rattle.std.specs.Prelude.{◌≡◌, ◌↔◌, false, IsTrue};
+ghost use Rattle.std.specs.FinMap.{empty};
 ghost use Rattle.std.specs.List.{list_any};
 ghost use Rattle.switch_engine.specs.Final.{HasFailed, is_failed, is_failed_of};
 
 use host_trait::{State, States, UnitState};
+use std::alloc::Global;
 use unit_defs::Defs;
 
 /// How a switch that was carried out ended.
@@ -21,6 +23,18 @@ impl Drop for Outcome {
             states: _,
             failed: _,
         } = self;
+    }
+}
+
+impl Outcome {
+    /// How a command ended that does nothing to the units: no state is told.
+    pub fn none(alloc: Global) -> Outcome
+        ensures { result ≡ record { states = empty; failed = false } }
+    {
+        Outcome {
+            states: States::new(alloc),
+            failed: false,
+        }
     }
 }
 

@@ -1,71 +1,49 @@
-//! The places that a switch writes, and the first that something stands in the way of.
-ghost use Rattle.std.specs.Prelude.{◌≡◌, ◌++◌, None, Some, IfOk, IsErrOf, OnOk, false};
-ghost use Rattle.std.specs.List.{find};
-ghost use Rattle.std.specs.Prelude.{option_map};
+//! The places that a switch of the units writes, and a look for what is in the way.
+ghost use Rattle.std.specs.Prelude.{◌≡◌, ◌++◌, None, Some, IfOk, IsErrOf, OnOk, option_map, true, false};
 ghost use Rattle.host_trait.specs.declared.tree.HostFault.TheVariants.{Device};
-ghost use Rattle.host_trait.specs.Change.{IsSame};
-ghost use Rattle.host_trait.specs.Host.{Told, Passes, HasCause, HasCauseOf};
-ghost use Rattle.switch_engine.specs.declared.plan_fault.PlanFault.TheVariants.{Host, Refused};
-ghost use Rattle.switch_engine.specs.declared.refusal.Refusal.{Refusal};
-ghost use Rattle.switch_engine.specs.Final.{CanSwitch};
-ghost use Rattle.switch_engine.specs.Places.{is_in_the_way, switch_places, way_refusal, written, written_links, written_lists};
-ghost use Rattle.switch_engine.specs.Reach.{AreApartFromStage};
-ghost use Rattle.switch_engine.specs.System.{current_place};
+ghost use Rattle.host_trait.specs.Host.{Told};
+ghost use Rattle.host_trait.specs.Reading.{IsReadingOf};
+ghost use Rattle.switch_parts.specs.declared.plan_fault.PlanFault.TheVariants.{Host, Refused};
+ghost use Rattle.switch_parts.specs.declared.refusal.Refusal.{Refusal};
+ghost use Rattle.switch_parts.specs.declared.refusal.Refusal.TheVariants.{InTheWay};
+ghost use Rattle.switch_engine.specs.Places.{switch_places, written_links, written_lists};
+ghost use Rattle.tree_put.specs.WrittenPlace.{AreApartFromStage, in_the_way, written};
 
-use crate::plan_fault::PlanFault;
-use crate::refusal::Refusal;
-use crate::system::current_path;
-use crate::written_place::{WrittenPlace, is_in_the_way};
-use host_trait::{HostFault, Tree, definitions_path, stage_path};
+use host_trait::{Tree, definitions_path, stage_path};
 use owed_lists::{Which, list_path};
 use std::alloc::{AllocError, Global};
 use switch_names::{Listed, Path};
+use switch_parts::{PlanFault, Refusal};
+use tree_put::{WrittenPlace, first_in_the_way};
+use unit_stage::current_path;
 
-/// The place of the link to the system in use.
-fn current_written(alloc: Global) -> Result<WrittenPlace, AllocError>
-    ensures { IfOk result (λ place. place ≡ written false current_place) }
+/// A place that is written, and whether its content is read before.
+fn written(at: Path, is_read: bool) -> WrittenPlace
+    ensures { result ≡ written is_read at }
 {
-    Ok(WrittenPlace {
-        at: current_path(alloc)?,
-        is_read: false,
-    })
+    WrittenPlace { at, is_read }
 }
 
 /// Adds both links and the stage, in byte order.
 fn add_links(alloc: Global, places: &mut Listed<WrittenPlace>) -> Result<(), AllocError>
     ensures { OnOk result (places.new ≡ places.old ++ written_links) }
 {
-    places.push(WrittenPlace {
-        at: definitions_path(alloc)?,
-        is_read: false,
-    })?;
-    places.push(WrittenPlace {
-        at: stage_path(alloc)?,
-        is_read: false,
-    })?;
-    places.push(current_written(alloc)?)
+    places.push(written(definitions_path(alloc)?, false))?;
+    places.push(written(stage_path(alloc)?, false))?;
+    places.push(written(current_path(alloc)?, false))
 }
 
 /// Adds the lists in byte order.
 fn add_lists(alloc: Global, places: &mut Listed<WrittenPlace>) -> Result<(), AllocError>
     ensures { OnOk result (places.new ≡ places.old ++ written_lists) }
 {
-    places.push(WrittenPlace {
-        at: list_path(alloc, Which::Reloads)?,
-        is_read: true,
-    })?;
-    places.push(WrittenPlace {
-        at: list_path(alloc, Which::Restarts)?,
-        is_read: true,
-    })?;
-    places.push(WrittenPlace {
-        at: list_path(alloc, Which::Starts)?,
-        is_read: true,
-    })
+    places.push(written(list_path(alloc, Which::Reloads)?, true))?;
+    places.push(written(list_path(alloc, Which::Restarts)?, true))?;
+    places.push(written(list_path(alloc, Which::Starts)?, true))
 }
 
-/// The places that a switch writes, in byte order.
-fn switch_places(alloc: Global) -> Result<Listed<WrittenPlace>, AllocError>
+/// The places that a switch of the units writes, in byte order.
+pub fn switch_places(alloc: Global) -> Result<Listed<WrittenPlace>, AllocError>
     ensures { IfOk result (λ places. places ≡ switch_places) }
 {
     let mut places = Listed::new(alloc);
@@ -74,35 +52,18 @@ fn switch_places(alloc: Global) -> Result<Listed<WrittenPlace>, AllocError>
     Ok(places)
 }
 
-/// The first of these places that a leaf stands in the way of.
-fn first_in_the_way<T: Tree>(
+/// Refuses where a leaf stands in the way of one of these places.
+pub fn check_way<T: Tree>(
     alloc: Global,
     host: &mut T,
     places: &[WrittenPlace],
-) -> Result<Option<Path>, HostFault>
+) -> Result<(), PlanFault>
     requires { AreApartFromStage places.now }
-    ensures first { IfOk result (λ at. Told (T.host host.old) (λ w. at ≡ option_map (λ place. place.at) (find (is_in_the_way w.leaves) places.now))) }
-    ensures moments { Passes (T.host host.old) (T.host host.new) IsSame }
-    ensures cause { HasCause (T.host host.old) (T.host host.new) result }
+    ensures free { OnOk result (Told (T.host host.old) (λ w. in_the_way places.now w.leaves ≡ None)) }
+    ensures refused { (why : Refusal) → IsErrOf result (Refused why) → Told (T.host host.old) (λ w. option_map InTheWay (in_the_way places.now w.leaves) ≡ Some why) }
+    ensures reads { IsReadingOf (T.host host.old) (T.host host.new) (IsErrOf result (Host Device)) }
 {
-    for place in places {
-        if is_in_the_way(alloc, host, place)? {
-            return Ok(Some(place.at.copy(alloc)?));
-        }
-    }
-    Ok(None)
-}
-
-/// Refuses where a leaf stands in the way of a place that a switch writes.
-pub fn check_way<T: Tree>(alloc: Global, host: &mut T) -> Result<(), PlanFault>
-    ensures can { OnOk result (Told (T.host host.old) CanSwitch) }
-    ensures not_refused { OnOk result (Told (T.host host.old) (λ w. way_refusal w.leaves ≡ None)) }
-    ensures refused { (why : Refusal) → IsErrOf result (Refused why) → Told (T.host host.old) (λ w. way_refusal w.leaves ≡ Some why) }
-    ensures moments { Passes (T.host host.old) (T.host host.new) IsSame }
-    ensures cause { HasCauseOf (T.host host.old) (T.host host.new) (IsErrOf result (Host Device)) }
-{
-    let places = switch_places(alloc)?;
-    match first_in_the_way(alloc, host, places.as_slice())? {
+    match first_in_the_way(alloc, host, places)? {
         Some(at) => Err(PlanFault::Refused(Refusal::InTheWay(at))),
         None => Ok(()),
     }

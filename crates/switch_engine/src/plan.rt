@@ -1,104 +1,128 @@
-//! What a switch to a system does.
-ghost use Rattle.std.specs.Prelude.{◌≡◌};
+//! What a command does.
+ghost use Rattle.std.specs.Prelude.{◌≡◌, ◌↔◌, IsTrue, option_map};
 ghost use Rattle.std.specs.Option.{option_copied};
+ghost use Rattle.host_trait.specs.World.{Leaves};
+ghost use Rattle.switch_engine.specs.Commands.{IsBoot, new_system};
 
-use owed_lists::Lists;
-use owed_plan::{Duty, Owed};
+use crate::command::Command;
+use generations::Gens;
+use owed_plan::Duty;
 use switch_names::{Listed, SystemName, UnitName};
 use unit_defs::Defs;
+use unit_stage::UnitPlan;
 
-/// What a switch to a system does.
+/// What a set of the profile does.
+pub struct ProfilePlan {
+    /// The generations that stand.
+    pub gens: Gens,
+    /// The number of the generation that the system gets.
+    pub number: u32,
+}
+
+/// One call: a derived drop is proved anew in each function that lets one go.
+impl Drop for ProfilePlan {
+    fn drop(self) {
+        let ProfilePlan { gens: _, number: _ } = self;
+    }
+}
+
+/// What a command does, by the parts that it has.
 pub struct Plan {
-    from: Option<SystemName>,
-    to: SystemName,
-    defs: Defs,
-    owed: Owed,
-    recorded: Lists,
-    duties: Listed<Duty>,
+    command: Command,
+    units: UnitPlan,
+    profile: Option<ProfilePlan>,
 }
 
 /// One call: a derived drop is proved anew in each function that lets one go.
 impl Drop for Plan {
     fn drop(self) {
         let Plan {
-            from: _,
-            to: _,
-            defs: _,
-            owed: _,
-            recorded: _,
-            duties: _,
+            command: _,
+            units: _,
+            profile: _,
         } = self;
     }
 }
 
 impl Plan {
     /// A plan of these parts.
-    pub(crate) fn new(
-        from: Option<SystemName>,
-        to: SystemName,
-        defs: Defs,
-        owed: Owed,
-        recorded: Lists,
-        duties: Listed<Duty>,
-    ) -> Plan
-        ensures { result ≡ record { from = from; to = to; defs = defs; owed = owed; recorded = recorded; duties = duties } }
+    pub(crate) fn new(command: Command, units: UnitPlan, profile: Option<ProfilePlan>) -> Plan
+        ensures { result ≡ record { command = command; units = units; profile = profile } }
     {
         Plan {
-            from,
-            to,
-            defs,
-            owed,
-            recorded,
-            duties,
+            command,
+            units,
+            profile,
         }
     }
 
-    /// The system that is in use, where there is one.
+    /// The command that is planned.
+    pub fn command(&self) -> &Command
+        ensures { result.now ≡ self.now.command }
+    {
+        &self.command
+    }
+
+    /// What is done to the units.
+    pub fn units(&self) -> &UnitPlan
+        ensures { result.now ≡ self.now.units }
+    {
+        &self.units
+    }
+
+    /// What is done to the profile, where that is set.
+    pub(crate) fn profile(&self) -> Option<&ProfilePlan>
+        ensures { option_copied result ≡ self.now.profile }
+    {
+        self.profile.as_ref()
+    }
+
+    /// The system that is in use, where there is one and the units are switched.
     pub fn from(&self) -> Option<&SystemName>
-        ensures { option_copied result ≡ self.now.from }
+        ensures { option_copied result ≡ self.now.units.from }
     {
-        self.from.as_ref()
+        self.units.from()
     }
 
-    /// The system that comes into use.
+    /// The system that comes into use, now or at the next boot.
     pub fn to(&self) -> &SystemName
-        ensures { result.now ≡ self.now.to }
+        ensures { (leaves : Leaves) → result.now ≡ new_system self.now.command leaves }
     {
-        &self.to
+        self.command.system()
     }
 
-    /// The units that it defines.
+    /// The number of the generation that the system gets, where the profile is set.
+    pub fn number(&self) -> Option<u32>
+        ensures { result ≡ option_map (λ plan. plan.number) self.now.profile }
+    {
+        self.profile.as_ref().map(|plan| plan.number)
+    }
+
+    /// The units that the system defines, where they are switched to it.
     pub fn defs(&self) -> &Defs
-        ensures { result.now ≡ self.now.defs }
+        ensures { result.now ≡ self.now.units.defs }
     {
-        &self.defs
-    }
-
-    /// What is owed.
-    pub(crate) fn owed(&self) -> &Owed
-        ensures { result.now ≡ self.now.owed }
-    {
-        &self.owed
-    }
-
-    /// The lists that are recorded.
-    pub(crate) fn recorded(&self) -> &Lists
-        ensures { result.now ≡ self.now.recorded }
-    {
-        &self.recorded
+        self.units.defs()
     }
 
     /// The calls on units, in their order.
     pub fn duties(&self) -> &Listed<Duty>
-        ensures { result.now ≡ self.now.duties }
+        ensures { result.now ≡ self.now.units.duties }
     {
-        &self.duties
+        self.units.duties()
     }
 
     /// The changed units that get nothing, in byte order.
     pub fn left(&self) -> &Listed<UnitName>
-        ensures { result.now ≡ self.now.owed.left }
+        ensures { result.now ≡ self.now.units.owed.left }
     {
-        &self.owed.left
+        self.units.left()
+    }
+
+    /// Whether the plan is that of a boot, which does nothing to the units.
+    pub fn boot_only(&self) -> bool
+        ensures { IsTrue result ↔ IsBoot self.now.command }
+    {
+        matches!(self.command, Command::Boot(_))
     }
 }

@@ -1,10 +1,4 @@
-pub mod CauseLemmas
-pub mod DryLemmas
-pub mod LawLemmas
-pub mod OutputLemmas
-pub mod PlanLemmas
-pub mod ResultLemmas
+pub mod EndingLemmas
+pub mod MomentLemmas
 pub mod RunLemmas
-pub mod StatusLemmas
-pub mod SwitchLemmas
-pub mod UnderwayLemmas
+pub mod WordLemmas

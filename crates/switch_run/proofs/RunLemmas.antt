@@ -1,156 +1,221 @@
--- From a command's run to that of the words which give it.
-use Rattle.std.proofs.Common.{◌≡◌, ℕ, Bool, true, false, cond, nat_eq, codes, List, [], ◌∷◌, Option, None, Some, is_none, option_and_then, refl, ap, subst, ◌∙◌, inl, inr, arith}
-use Rattle.std.specs.Cmp.Lexicographic.{pointwise}
-use Rattle.std.proofs.lemmas.Option.{none-some, same_Some}
-use Rattle.switch_names.specs.SystemName.{NamesSystem, system_fault, system_path}
-use Rattle.switch_names.proofs.StorePaths.{IsSystemPath-from_named, NamesSystem-with_slash}
-use Rattle.host_trait.specs.Host.{HasCauseOf, HostState, Leads, Told}
+-- From how a run ended to its status, and what that tells.
+use Rattle.std.proofs.Common.{◌≡◌, ◌⊎◌, ◌↔◌, ◌++◌, ℕ, Bool, true, false, IsTrue, List, [], Option, None, Some, Result, Ok, Err, refl, sym, ap, subst, ◌∙◌, inl, inr, ⊎_elim}
+use Rattle.std.proofs.lemmas.List.{append-nil}
+use Rattle.host_trait.specs.declared.tree.HostFault.TheVariants as host
+use Rattle.host_trait.specs.Change.{IsSame}
+use Rattle.host_trait.specs.Host.{EachMoment, HostState, IsHost, Leads, Passes, Rose, Told}
 use Rattle.host_trait.specs.Sink.{Puts, SinkState}
 use Rattle.host_trait.specs.World.{WorldState}
-use Rattle.host_trait.proofs.Moments.{passes_as, started}
-use Rattle.generations.specs.Places.{system_of}
+use Rattle.host_trait.proofs.Moments.{each_moment, passes_as, told_as}
 use Rattle.switch_engine.specs.declared.command.Command.{Command}
-use Rattle.switch_engine.specs.declared.command.Command.TheVariants.{Test, Boot, DryActivate}
-use Rattle.switch_engine.specs.declared.refusal.Refusal.{Refusal}
+use Rattle.switch_engine.specs.declared.command.Command.TheVariants.{Test, DryActivate}
+use Rattle.switch_engine.specs.Commands.{IsQuery}
+use Rattle.switch_engine.specs.Final.{IsEndOf}
+use Rattle.switch_engine.specs.Rows.{refusal}
+use Rattle.switch_parts.specs.declared.refusal.Refusal.{Refusal}
+use Rattle.dry_report.specs.Report.{IsReport}
+use Rattle.dry_report.proofs.PutLemmas.{puts_as}
+use Rattle.dry_report.proofs.ReportLemmas.{one_report}
+use Rattle.switch_run.specs.declared.run_fault.RunFault.{RunFault}
+use Rattle.switch_run.specs.declared.run_fault.RunFault.TheVariants as fault
 use Rattle.switch_run.specs.declared.status.Status.{Status}
-use Rattle.switch_run.specs.declared.status.Status.TheVariants.{Usage, HostFault, NoMemory}
-use Rattle.switch_run.specs.Commands.{command_for, command_of}
-use Rattle.switch_run.specs.Outcomes.{IsBrokenOutput, IsEndOf, IsOutputOf, IsVerdict, refusal}
-use Rattle.switch_run.specs.Run.{Answers, IsAnswerTo, IsCommandMoment, IsMomentOf, IsUnchangedOrAt, Runs, RunsCommand}
-use Rattle.switch_run.proofs.OutputLemmas.{puts_nothing}
-use Rattle.switch_run.proofs.UnderwayLemmas.{boot_begins, dry_begins, test_begins}
+use Rattle.switch_run.specs.declared.status.Status.TheVariants.{Done, Usage, Refused, HostFault, SinkFault, NoMemory}
+use Rattle.switch_run.specs.Ending.{HasCome, IsDone, IsEnding}
+use Rattle.switch_run.specs.Moments.{IsMomentOf}
+use Rattle.switch_run.specs.Output.{IsBrokenOff, IsFailedOutput, IsIdle, IsPutFirst, IsWhole}
+use Rattle.switch_run.specs.Output.IsBrokenOff.{AfterReport, BeforeReport}
+use Rattle.switch_run.specs.Run.{Answers, IsAnswerTo, IsBroken, IsEnded, IsVerdict, status_of}
+use Rattle.switch_run.proofs.MomentLemmas.{begins, of_query}
+
+-- ---- which ending has a status
+
+usage_of : (ending : Result Bool RunFault) → status_of ending ≡ Usage → ending ≡ Err fault.Usage
+usage_of (Ok true) is = absurd cc
+usage_of (Ok false) is = absurd cc
+usage_of (Err fault.Usage) is = refl
+usage_of (Err (fault.Refused why)) is = absurd cc
+usage_of (Err (fault.Host host.Memory)) is = absurd cc
+usage_of (Err (fault.Host host.Device)) is = absurd cc
+usage_of (Err fault.Sink) is = absurd cc
+
+refused_of : (ending : Result Bool RunFault) (why : Refusal) → status_of ending ≡ Refused why → ending ≡ Err (fault.Refused why)
+refused_of (Ok true) why is = absurd cc
+refused_of (Ok false) why is = absurd cc
+refused_of (Err fault.Usage) why is = absurd cc
+refused_of (Err (fault.Refused other)) why is = let same : other ≡ why = cc in ap (λ w. Err (fault.Refused w)) same
+refused_of (Err (fault.Host host.Memory)) why is = absurd cc
+refused_of (Err (fault.Host host.Device)) why is = absurd cc
+refused_of (Err fault.Sink) why is = absurd cc
+
+host_of : (ending : Result Bool RunFault) → status_of ending ≡ HostFault → ending ≡ Err (fault.Host host.Device)
+host_of (Ok true) is = absurd cc
+host_of (Ok false) is = absurd cc
+host_of (Err fault.Usage) is = absurd cc
+host_of (Err (fault.Refused why)) is = absurd cc
+host_of (Err (fault.Host host.Memory)) is = absurd cc
+host_of (Err (fault.Host host.Device)) is = refl
+host_of (Err fault.Sink) is = absurd cc
+
+sink_of : (ending : Result Bool RunFault) → status_of ending ≡ SinkFault → ending ≡ Err fault.Sink
+sink_of (Ok true) is = absurd cc
+sink_of (Ok false) is = absurd cc
+sink_of (Err fault.Usage) is = absurd cc
+sink_of (Err (fault.Refused why)) is = absurd cc
+sink_of (Err (fault.Host host.Memory)) is = absurd cc
+sink_of (Err (fault.Host host.Device)) is = absurd cc
+sink_of (Err fault.Sink) is = refl
+
+broken_of : (ending : Result Bool RunFault) → IsBroken (status_of ending) → (why : Rattle.host_trait.specs.declared.tree.HostFault.HostFault) × (ending ≡ Err (fault.Host why))
+broken_of (Ok true) is = absurd is
+broken_of (Ok false) is = absurd is
+broken_of (Err fault.Usage) is = absurd is
+broken_of (Err (fault.Refused why)) is = absurd is
+broken_of (Err (fault.Host host.Memory)) is = (host.Memory, refl)
+broken_of (Err (fault.Host host.Device)) is = (host.Device, refl)
+broken_of (Err fault.Sink) is = absurd is
+
+done_of : (ending : Result Bool RunFault) → IsEnded (status_of ending) → (failed : Bool) × (ending ≡ Ok failed)
+done_of (Ok failed) is = (failed, refl)
+done_of (Err fault.Usage) is = absurd is
+done_of (Err (fault.Refused why)) is = absurd is
+done_of (Err (fault.Host host.Memory)) is = absurd is
+done_of (Err (fault.Host host.Device)) is = absurd is
+done_of (Err fault.Sink) is = absurd is
+
+verdict_of : (command : Command) (w : WorldState) (failed : Bool) → (IsTrue failed ↔ Rattle.switch_engine.specs.Final.LeavesFailed command w) → IsVerdict command w (status_of (Ok failed))
+verdict_of command w true tells = tells.0 refl
+verdict_of command w false tells = λ left. let never : false ≡ true = tells.1 left in cc
 
 none_some : {X : Type 0} (o : Option X) (x : X) → o ≡ None → o ≡ Some x → ⊥
 none_some o x none some = cc
 
-one_of : {X : Type 0} (o : Option X) (x y : X) → o ≡ Some x → o ≡ Some y → x ≡ y
-one_of o x y first second = cc
+-- ---- what its status tells of a run
 
--- the system that words name has the name of one
-named_by : (word s : List ℕ) → system_of word ≡ Some s → NamesSystem s s
-named_by word s is = either (system_fault word) refl is
-  where
-    either : (f : Option Rattle.switch_names.specs.declared.name_fault.NameFault.NameFault) → system_fault word ≡ f → cond (is_none f) (Some (system_path word)) None ≡ Some s → NamesSystem s s
-    either None fault some = subst (λ p. NamesSystem p p) (same_Some (system_path word) s some) (IsSystemPath-from_named word fault)
-    either (Some f) fault some = absurd (none-some s some)
+module _ {host_state after : HostState} {sink put : SinkState} (given : Option Command) (ending : Result Bool RunFault) (is : IsEnding given host_state after sink put ending)
+    (status : Status) (tells : status ≡ status_of ending) where
+  abbrev Come : Option Command → Result Bool RunFault → Type 0
+  Come given ending = HasCome given host_state after sink put ending
 
--- the word `boot` gives the boot of the system alone, and no other word does
-boot_system : (verb t s : List ℕ) → command_for verb t ≡ Some (Boot s) → t ≡ s
-boot_system verb t s is = either (pointwise nat_eq verb (codes "test")) (pointwise nat_eq verb (codes "boot")) (pointwise nat_eq verb (codes "dry-activate")) is
-  where
-    either : (test boot dry : Bool) → cond test (Some (Test t)) (cond boot (Some (Boot t)) (cond dry (Some (DryActivate t)) None)) ≡ Some (Boot s) → t ≡ s
-    either true boot dry some = absurd (cc)
-    either false true dry some = cc
-    either false false true some = absurd (cc)
-    either false false false some = absurd (cc)
+  come_as : (other : Option Command) (to : Result Bool RunFault) → given ≡ other → ending ≡ to → Come other to
+  come_as other to same ended = subst (λ (g : Option Command). Come g to) same (subst (λ (e : Result Bool RunFault). Come given e) ended is.come)
 
-boot_names : (verb word s : List ℕ) → option_and_then (command_for verb) (system_of word) ≡ Some (Boot s) → NamesSystem s s
-boot_names verb word s is = either (system_of word) refl is
-  where
-    either : (o : Option (List ℕ)) → system_of word ≡ o → option_and_then (command_for verb) o ≡ Some (Boot s) → NamesSystem s s
-    either None named some = absurd (none-some (Boot s) some)
-    either (Some t) named some = named_by word s (named ∙ ap Some (boot_system verb t s some))
+  pub usage : status ≡ Usage → given ≡ None
+  usage s = by given refl
+    where
+      by : (g : Option Command) → given ≡ g → given ≡ None
+      by None none = none
+      by (Some command) some = absurd (come_as (Some command) (Err fault.Usage) some (usage_of ending (sym tells ∙ s)))
 
-command_names : (words : List (List ℕ)) (s : List ℕ) → command_of words ≡ Some (Boot s) → NamesSystem s s
-command_names [] s is = absurd (cc)
-command_names (verb ∷ []) s is = absurd (cc)
-command_names (verb ∷ word ∷ []) s is = boot_names verb word s is
-command_names (verb ∷ word ∷ more ∷ rest) s is = absurd (cc)
+  -- without a command
+  without : (e : Result Bool RunFault) → Come None e → IsIdle host_state after sink put × ((status_of e ≡ Usage) ⊎ (status_of e ≡ NoMemory))
+  without (Ok failed) come = absurd come
+  without (Err fault.Usage) come = (come, inl refl)
+  without (Err (fault.Refused why)) come = absurd come
+  without (Err (fault.Host host.Memory)) come = (come, inr refl)
+  without (Err (fault.Host host.Device)) come = absurd come
+  without (Err fault.Sink) come = absurd come
 
-command_begins : (words : List (List ℕ)) (command : Command) (w : WorldState) → command_of words ≡ Some command → IsCommandMoment command w w
-command_begins words (Test s) w is = test_begins s w
-command_begins words (DryActivate s) w is = dry_begins s w
-command_begins words (Boot s) w is = let names = command_names words s is in boot_begins s w names (NamesSystem-with_slash s names)
+  pub no_command : given ≡ None → (status ≡ Usage) ⊎ (status ≡ NoMemory)
+  no_command none = ⊎_elim (λ s. inl (tells ∙ s)) (λ s. inr (tells ∙ s)) (without ending (come_as None ending none refl)).1
 
-pub begins : (words : List (List ℕ)) (w : WorldState) → IsMomentOf words w w
-begins words w = record {
-  of_command = λ command is. command_begins words command w is;
-  no_command = λ none. refl;
-}
+  pub usage_output : given ≡ None → Puts sink put (λ more. more ≡ [])
+  usage_output none = (without ending (come_as None ending none refl)).0.silent
 
-moment_of : (words : List (List ℕ)) (command : Command) (w m : WorldState) → command_of words ≡ Some command → IsCommandMoment command w m → IsMomentOf words w m
-moment_of words command w m is moment = record {
-  of_command = λ other named. subst (λ (c : Command). IsCommandMoment c w m) (one_of _ _ _ is named) moment;
-  no_command = λ none. absurd (none_some _ _ none is);
-}
+  pub refused : (why : Refusal) → status ≡ Refused why → (command : Command) → given ≡ Some command → Told host_state (λ w. refusal command w.leaves ≡ Some why)
+  refused why s command some = (come_as (Some command) (Err (fault.Refused why)) some (refused_of ending why (sym tells ∙ s))).refused
 
-nothing_broken : (w : WorldState) (command : Command) → IsBrokenOutput w command []
-nothing_broken w (Test system) = inl refl
-nothing_broken w (Boot system) = inl refl
-nothing_broken w (DryActivate system) = refl
+  pub refused_output : (why : Refusal) → status ≡ Refused why → Puts sink put (λ more. more ≡ [])
+  refused_output why s = by given refl
+    where
+      by : (g : Option Command) → given ≡ g → Puts sink put (λ more. more ≡ [])
+      by None none = absurd (come_as None (Err (fault.Refused why)) none (refused_of ending why (sym tells ∙ s)))
+      by (Some command) some = (come_as (Some command) (Err (fault.Refused why)) some (refused_of ending why (sym tells ∙ s))).idle.silent
 
-without_memory : (o : Option Refusal) (command : Command) (w : WorldState) → IsAnswerTo o command w NoMemory
-without_memory None command w = inr refl
-without_memory (Some why) command w = inr refl
+  -- where the world refuses the command
+  in_refused : (command : Command) (w : WorldState) (why : Refusal) → host_state.world ≡ Some w → refusal command w.leaves ≡ Some why → (e : Result Bool RunFault) → Come (Some command) e → IsIdle host_state after sink put
+  in_refused command w why told because (Ok failed) come = absurd (none_some (refusal command w.leaves) why (come.not_refused.has w told) because)
+  in_refused command w why told because (Err fault.Usage) come = absurd come
+  in_refused command w why told because (Err (fault.Refused other)) come = come.idle
+  in_refused command w why told because (Err (fault.Host cause)) come = by come
+    where
+      by : IsBrokenOff command host_state after sink put → IsIdle host_state after sink put
+      by (BeforeReport idle) = idle
+      by (AfterReport changes none output) = absurd (none_some (refusal command w.leaves) why (none.has w told) because)
+  in_refused command w why told because (Err fault.Sink) come = absurd (none_some (refusal command w.leaves) why (come.not_refused.has w told) because)
 
-module _ {host after : HostState} {sink put : SinkState} where
-  pub runs_of_command : (words : List (List ℕ)) (command : Command) (status : Status) → command_of words ≡ Some command → RunsCommand host after sink put command status → Runs host after sink put words status
-  runs_of_command words command status is runs = record {
-    usage = λ s. absurd (runs.not_usage s);
-    no_command = λ none. absurd (none_some _ _ none is);
-    usage_output = λ none. absurd (none_some _ _ none is);
-    refused = λ why s other named. subst (λ (c : Command). Told host (λ w. refusal w c ≡ Some why)) (one_of _ _ _ is named) (runs.refused why s);
-    refused_output = runs.refused_output;
-    ended = λ s other named. subst (λ (c : Command). Leads host after (IsEndOf c)) (one_of _ _ _ is named) (runs.ended s);
-    verdict = λ s other named. subst (λ (c : Command). Told host (λ w. IsVerdict c w status)) (one_of _ _ _ is named) (runs.verdict s);
-    ended_not_refused = λ s other named. subst (λ (c : Command). Told host (λ w. refusal w c ≡ None)) (one_of _ _ _ is named) (runs.ended_not_refused s);
-    output = λ other named. subst (λ (c : Command). Told host (λ w. Puts sink put (IsOutputOf status w c))) (one_of _ _ _ is named) runs.output;
-    cause = runs.cause;
-    sink_cause = runs.sink_cause;
-    sink_not_refused = λ s other named. subst (λ (c : Command). Told host (λ w. refusal w c ≡ None)) (one_of _ _ _ is named) (runs.sink_not_refused s);
-    sink_world = λ s other named. subst (λ (c : Command). IsUnchangedOrAt host after (IsEndOf c)) (one_of _ _ _ is named) (runs.sink_world s);
-    completes = λ no_host no_sink other named. subst (λ (c : Command). Told host (λ w. Answers c w status)) (one_of _ _ _ is named) (runs.completes no_host no_sink);
-    begins = record { has = λ w told. begins words w };
-    moments = passes_as runs.moments (IsMomentOf words) (λ w m told moment. moment_of words command w m is moment);
+  pub refused_world : (command : Command) (why : Refusal) → given ≡ Some command → Told host_state (λ w. refusal command w.leaves ≡ Some why → IsIdle host_state after sink put)
+  refused_world command why some = record { has = λ w told because. in_refused command w why told because ending (come_as (Some command) ending some refl) }
+
+  done : IsEnded status → (command : Command) → given ≡ Some command → (failed : Bool) × (ending ≡ Ok failed) × IsDone command host_state after sink put failed
+  done s command some = let it = done_of ending (subst IsEnded tells s) in (it.0, it.1, come_as (Some command) (Ok it.0) some it.1)
+
+  pub ended : IsEnded status → (command : Command) → given ≡ Some command → Leads host_state after (IsEndOf command)
+  ended s command some = (done s command some).2.led
+
+  pub verdict : IsEnded status → (command : Command) → given ≡ Some command → Told host_state (λ w. IsVerdict command w status)
+  verdict s command some =
+      let it = done s command some in
+      told_as it.2.verdict (λ w. IsVerdict command w status)
+      (λ w told says. subst (λ (s : Status). IsVerdict command w s) (ap status_of (sym it.1) ∙ sym tells) (verdict_of command w it.0 says))
+
+  pub ended_not_refused : IsEnded status → (command : Command) → given ≡ Some command → Told host_state (λ w. refusal command w.leaves ≡ None)
+  ended_not_refused s command some = (done s command some).2.not_refused
+
+  pub output : IsEnded status → (command : Command) → given ≡ Some command → Told host_state (λ w. Puts sink put (IsWhole command w))
+  output s command some = (done s command some).2.output
+
+  pub put_first : (system : List ℕ) → given ≡ Some (DryActivate system) → status ≡ Done → Told host_state (λ w. Puts sink put (IsPutFirst (Test system) w))
+  put_first system some s =
+      told_as (output (subst IsEnded (sym s) tt) (DryActivate system) some) (λ w. Puts sink put (IsPutFirst (Test system) w))
+      (λ w told put. puts_as put (IsPutFirst (Test system) w) (λ more whole. first_of w more whole))
+    where
+      first_of : (w : WorldState) (more : List ℕ) → IsWhole (DryActivate system) w more → IsPutFirst (Test system) w more
+      first_of w more dry =
+          let all : more ≡ dry.report = dry.is_all ∙ ap (λ close. dry.report ++ close) dry.is_close ∙ append-nil dry.report in (
+            subst (IsReport (Test system) w) (sym all) dry.is_report,
+            λ whole test. (test.close, test.is_all ∙ ap (λ report. report ++ test.close) (one_report (Test system) w test.report dry.report test.is_report dry.is_report ∙ sym all)),
+          )
+
+  pub queries : (command : Command) → given ≡ Some command → IsQuery command → Passes host_state after IsSame
+  queries command some query =
+      passes_as is.moments IsSame (λ w m told moment. of_query command w m query (subst (λ (g : Option Command). IsMomentOf g w m) some moment))
+
+  pub broken_off : IsBroken status → (command : Command) → given ≡ Some command → IsBrokenOff command host_state after sink put
+  broken_off s command some = let it = broken_of ending (subst IsBroken tells s) in come_as (Some command) (Err (fault.Host it.0)) some it.1
+
+  pub failed_output : status ≡ SinkFault → (command : Command) → given ≡ Some command → IsFailedOutput command host_state after sink put
+  failed_output s command some = (come_as (Some command) (Err fault.Sink) some (sink_of ending (sym tells ∙ s))).output
+
+  pub sink_not_refused : status ≡ SinkFault → (command : Command) → given ≡ Some command → Told host_state (λ w. refusal command w.leaves ≡ None)
+  sink_not_refused s command some = (come_as (Some command) (Err fault.Sink) some (sink_of ending (sym tells ∙ s))).not_refused
+
+  pub host_fault : status ≡ HostFault → Rose host_state.faults after.faults
+  host_fault s = is.cause.rose (host_of ending (sym tells ∙ s))
+
+  pub never_sure : IsTrue host_state.is_sure → status ≡ HostFault → ⊥
+  never_sure sure s = is.cause.never_sure sure (host_of ending (sym tells ∙ s))
+
+  pub sink_fault : status ≡ SinkFault → Rose sink.faults put.faults
+  sink_fault s = is.sink_cause.rose (sink_of ending (sym tells ∙ s))
+
+  no_memory : (o : Option Refusal) (command : Command) (w : WorldState) → IsAnswerTo o command w NoMemory
+  no_memory None command w = inr refl
+  no_memory (Some why) command w = inr refl
+
+  answer : (command : Command) (w : WorldState) → host_state.world ≡ Some w → (e : Result Bool RunFault) → (e ≡ Err (fault.Host host.Device) → ⊥) → (e ≡ Err fault.Sink → ⊥) → Come (Some command) e → Answers command w (status_of e)
+  answer command w told (Ok failed) no_host no_sink come =
+      subst (λ (o : Option Refusal). IsAnswerTo o command w (status_of (Ok failed))) (sym (come.not_refused.has w told)) (inl (verdict_of command w failed (come.verdict.has w told)))
+  answer command w told (Err fault.Usage) no_host no_sink come = absurd come
+  answer command w told (Err (fault.Refused why)) no_host no_sink come =
+      subst (λ (o : Option Refusal). IsAnswerTo o command w (Refused why)) (sym (come.refused.has w told)) (inl refl)
+  answer command w told (Err (fault.Host host.Memory)) no_host no_sink come = no_memory (refusal command w.leaves) command w
+  answer command w told (Err (fault.Host host.Device)) no_host no_sink come = absurd (no_host refl)
+  answer command w told (Err fault.Sink) no_host no_sink come = absurd (no_sink refl)
+
+  pub completes : ¬ Rose host_state.faults after.faults → ¬ Rose sink.faults put.faults → (command : Command) → given ≡ Some command → Told host_state (λ w. Answers command w status)
+  completes no_host no_sink command some = record {
+    has = λ w told. subst (λ (s : Status). Answers command w s) (sym tells) (answer command w told ending (λ e. no_host (is.cause.rose e)) (λ e. no_sink (is.sink_cause.rose e)) (come_as (Some command) ending some refl));
   }
 
-module _ {host : HostState} where
-  no_cause : (status : Status) → ¬ (status ≡ HostFault) → HasCauseOf host host (status ≡ HostFault)
-  no_cause status not_host = record {
-    later = omega arith;
-    rose = λ s. absurd (not_host s);
-    stays_sure = λ sure. sure;
-    never_sure = λ sure s. not_host s;
-    same_last = refl;
-  }
-
-module _ {host : HostState} {sink : SinkState} where
-  pub runs_of_none : (words : List (List ℕ)) → command_of words ≡ None → Runs host host sink sink words Usage
-  runs_of_none words none = record {
-    usage = λ s. none;
-    no_command = λ is. inl refl;
-    usage_output = λ is. puts_nothing sink (λ more. more ≡ []) refl;
-    refused = λ why s. absurd (cc);
-    refused_output = λ why s. absurd (cc);
-    ended = λ never. absurd never;
-    verdict = λ never. absurd never;
-    ended_not_refused = λ never. absurd never;
-    output = λ command named. absurd (none_some _ _ none named);
-    cause = no_cause Usage (λ s. cc);
-    sink_cause = record { later = omega arith; rose = λ s. absurd (cc) };
-    sink_not_refused = λ s. absurd (cc);
-    sink_world = λ s. absurd (cc);
-    completes = λ no_host no_sink command named. absurd (none_some _ _ none named);
-    begins = record { has = λ w told. begins words w };
-    moments = started (IsMomentOf words) (λ w told. begins words w);
-  }
-
-  pub runs_of_no_memory : (words : List (List ℕ)) → Runs host host sink sink words NoMemory
-  runs_of_no_memory words = record {
-    usage = λ s. absurd (cc);
-    no_command = λ is. inr refl;
-    usage_output = λ is. puts_nothing sink (λ more. more ≡ []) refl;
-    refused = λ why s. absurd (cc);
-    refused_output = λ why s. absurd (cc);
-    ended = λ never. absurd never;
-    verdict = λ never. absurd never;
-    ended_not_refused = λ never. absurd never;
-    output = λ command named. record { has = λ w told. puts_nothing sink (IsOutputOf NoMemory w command) (nothing_broken w command) };
-    cause = no_cause NoMemory (λ s. cc);
-    sink_cause = record { later = omega arith; rose = λ s. absurd (cc) };
-    sink_not_refused = λ s. absurd (cc);
-    sink_world = λ s. absurd (cc);
-    completes = λ no_host no_sink command named. record { has = λ w told. without_memory (refusal w command) command w };
-    begins = record { has = λ w told. begins words w };
-    moments = started (IsMomentOf words) (λ w told. begins words w);
-  }
+  pub each : IsHost host_state → EachMoment host_state after (IsMomentOf given)
+  each is_host = each_moment is_host is.moments (λ w told. begins given w)

@@ -1,7 +1,6 @@
-pub mod Boot
-pub mod BootPlaces
 pub mod Commands
-pub mod Outcomes
-pub mod Owing
+pub mod Ending
+pub mod Moments
+pub mod Output
 pub mod Run
 pub mod StatusTexts

@@ -1,8 +1,8 @@
 -- How a run ends: exit(3) takes the number, and standard error the text.
 use Rattle.std.specs.Prelude.{ℕ, List, [], ◌++◌, codes}
 use Rattle.std.specs.Fmt.{decimal}
-use Rattle.switch_engine.specs.declared.refusal.Refusal.{Refusal}
-use Rattle.switch_engine.specs.declared.refusal.Refusal.TheVariants.{NoSystem, InTheWay, UnitText, GenerationsFull}
+use Rattle.switch_parts.specs.declared.refusal.Refusal.{Refusal}
+use Rattle.switch_parts.specs.declared.refusal.Refusal.TheVariants.{NoSystem, InTheWay, UnitText, GenerationsFull}
 use Rattle.switch_run.specs.declared.status.Status.{Status}
 use Rattle.switch_run.specs.declared.status.Status.TheVariants.{Done, Usage, Refused, HostFault, SinkFault, UnitsFailed, NoMemory}
 

@@ -3,15 +3,9 @@
 //! `run` reads the words, carries their command out, and says how that ended.
 #![tactic(auto)]
 
-mod booting;
-mod carrying;
-mod dry_run;
-pub mod laws;
-mod planning;
-mod reporting;
 mod run_fault;
+mod running;
 mod status;
-mod switching;
 mod top_call;
 mod words;
 

@@ -2,15 +2,19 @@
 ghost use Rattle.std.specs.Prelude.{◌≡◌};
 ghost use Rattle.host_trait.specs.declared.tree.HostFault.TheVariants.{Memory};
 ghost use Rattle.switch_run.specs.declared.run_fault.RunFault.TheVariants.{Host, Sink};
+ghost use Rattle.switch_run.specs.Run.{fault_of};
 
 use host_trait::{HostFault, SinkFault};
 use std::alloc::AllocError;
-use switch_engine::Refusal;
+use switch_engine::{PlanFault, Refusal};
 use thiserror::Error;
 
 /// Why a run breaks off.
 #[derive(Debug, Drop, Error)]
 pub enum RunFault {
+    /// The words give no command.
+    #[error("no such command")]
+    Usage,
     /// The command is refused.
     #[error("the command is refused")]
     Refused(Refusal),
@@ -20,6 +24,17 @@ pub enum RunFault {
     /// A put has failed.
     #[error("the output has failed")]
     Sink,
+}
+
+impl From<PlanFault> for RunFault {
+    ghost from_gives = { λ fault given. given ≡ fault_of fault };
+
+    fn from(fault: PlanFault) -> RunFault {
+        match fault {
+            PlanFault::Refused(why) => RunFault::Refused(why),
+            PlanFault::Host(why) => RunFault::Host(why),
+        }
+    }
 }
 
 impl From<HostFault> for RunFault {

@@ -1,6 +1,6 @@
 //! How a run ends.
 ghost use Rattle.std.specs.Prelude.{◌≡◌, IfOk, string_bytes};
-ghost use Rattle.switch_run.specs.Run.{fault_status, status_of, switch_status};
+ghost use Rattle.switch_run.specs.Run.{fault_status, status_of};
 ghost use Rattle.switch_run.specs.StatusTexts.{refusal_text, status_number, status_text};
 
 use crate::run_fault::RunFault;
@@ -28,11 +28,12 @@ pub enum Status {
     NoMemory,
 }
 
-/// How a command that broke off so ends the run.
+/// How a run that broke off so ends.
 fn fault_status(fault: RunFault) -> Status
     ensures { result ≡ fault_status fault }
 {
     match fault {
+        RunFault::Usage => Status::Usage,
         RunFault::Refused(why) => Status::Refused(why),
         RunFault::Host(HostFault::Memory) => Status::NoMemory,
         RunFault::Host(HostFault::Device) => Status::HostFault,
@@ -40,21 +41,11 @@ fn fault_status(fault: RunFault) -> Status
     }
 }
 
-/// How a command that ended so ends the run.
-pub fn status_of(ended: Result<(), RunFault>) -> Status
-    ensures { result ≡ status_of ended }
+/// How a run that ended so ends, with a unit failed or none, or broken off.
+pub fn status_of(ending: Result<bool, RunFault>) -> Status
+    ensures { result ≡ status_of ending }
 {
-    match ended {
-        Ok(()) => Status::Done,
-        Err(fault) => fault_status(fault),
-    }
-}
-
-/// How a switch that ended so, with a unit failed or none, ends the run.
-pub fn switch_status(ended: Result<bool, RunFault>) -> Status
-    ensures { result ≡ switch_status ended }
-{
-    match ended {
+    match ending {
         Ok(true) => Status::UnitsFailed,
         Ok(false) => Status::Done,
         Err(fault) => fault_status(fault),

@@ -1,2 +1,3 @@
 pub mod BlockedLemmas
 pub mod PutLemmas
+pub mod WayLemmas

@@ -1,14 +1,14 @@
 -- What a put leaves, world by world.
-use Rattle.std.proofs.Common.{◌≡◌, ◌≢◌, ℕ, true, false, List, IsSome, refl, sym, ap, subst, ◌∙◌, inl, inr, ⊎_elim}
+use Rattle.std.proofs.Common.{◌≡◌, ◌≢◌, ℕ, true, List, IsSome, refl, sym, ap, subst, ◌∙◌, inl, inr, ⊎_elim}
 use Rattle.std.proofs.lemmas.Bool.{both_ways}
 use Rattle.std.specs.Cmp.Lexicographic.{nat_list_eq_equiv}
 use Rattle.std.specs.FinMap.{get}
 use Rattle.host_trait.specs.declared.leaf.LeafKind.{LeafKind}
 use Rattle.host_trait.specs.Change.{Stage, Rename, finished, IsMoment}
-use Rattle.host_trait.specs.World.{WorldState, IsClear, is_in_line, is_path, seen, stage, with_leaf}
+use Rattle.host_trait.specs.World.{WorldState, IsClear, is_path, seen, stage, with_leaf}
 use Rattle.host_trait.proofs.Places.{at_same}
 use Rattle.host_trait.proofs.Seen.{seen_staged, renamed}
-use Rattle.host_trait.proofs.Sound.{in_line_either, clear_insert}
+use Rattle.host_trait.proofs.Sound.{line_turned, clear_insert}
 use Rattle.tree_put.specs.Put.{AreApart, IsOldOrNew}
 
 pub apart_ne : (p q : List ℕ) → AreApart p q → p ≢ q
@@ -34,10 +34,4 @@ stage_has leaf w v is = subst (λ o. IsSome o) (sym (ap (λ (x : WorldState). ge
 
 pub place_clear : (at : List ℕ) (leaf : LeafKind) (w v : WorldState) → AreApart at stage → IsClear w.leaves at → v ≡ finished (Stage leaf) w → IsClear v.leaves at
 place_clear at leaf w v apart clear is =
-    subst (λ (x : WorldState). IsClear x.leaves at) (sym is) (clear_insert w.leaves stage at leaf (apart_line at stage apart) clear)
-  where
-    apart_line : (p q : List ℕ) → AreApart p q → is_in_line q p ≡ false
-    apart_line p q apart = elim (Rattle.std.proofs.lemmas.Bool.cases_Bool (is_in_line q p)) [
-      | inl is ↦ absurd (both_ways _ apart.line (in_line_either q p is))
-      | inr is ↦ is
-    ]
+    subst (λ (x : WorldState). IsClear x.leaves at) (sym is) (clear_insert w.leaves stage at leaf (line_turned at stage apart.line) clear)

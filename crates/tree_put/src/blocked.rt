@@ -3,8 +3,8 @@ ghost use Rattle.std.specs.Prelude.{◌≡◌, false, IfOk, List, ℕ};
 ghost use Rattle.std.specs.FinMap.{keys};
 ghost use Rattle.std.specs.List.{list_any};
 ghost use Rattle.switch_names.specs.Path.{is_below};
-ghost use Rattle.host_trait.specs.Change.{IsSame};
-ghost use Rattle.host_trait.specs.Host.{Told, Passes, HasCause};
+ghost use Rattle.host_trait.specs.Host.{Told};
+ghost use Rattle.host_trait.specs.Reading.{IsReading};
 ghost use Rattle.host_trait.specs.World.{is_in_line, stage};
 ghost use Rattle.tree_put.specs.Put.{is_blocked};
 
@@ -23,8 +23,7 @@ fn any_below(paths: &[Path], at: &Path) -> bool
 fn has_leaf_below<T: Tree>(alloc: Global, host: &mut T, at: &Path) -> Result<bool, HostFault>
     requires { is_in_line stage at.now ≡ false }
     ensures below { IfOk result (λ below. Told (T.host host.old) (λ w. below ≡ list_any (λ q. is_below q at.now) (keys w.leaves))) }
-    ensures moments { Passes (T.host host.old) (T.host host.new) IsSame }
-    ensures cause { HasCause (T.host host.old) (T.host host.new) result }
+    ensures reads { IsReading (T.host host.old) (T.host host.new) result }
 {
     let paths = host.list(alloc, at)?;
     Ok(any_below(paths.as_slice(), at))
@@ -33,8 +32,7 @@ fn has_leaf_below<T: Tree>(alloc: Global, host: &mut T, at: &Path) -> Result<boo
 /// Whether a leaf stands strictly above a place.
 fn has_leaf_above<T: Tree>(alloc: Global, host: &mut T, at: &Path) -> Result<bool, HostFault>
     ensures above { IfOk result (λ above. Told (T.host host.old) (λ w. above ≡ list_any (λ q. is_below at.now q) (keys w.leaves))) }
-    ensures moments { Passes (T.host host.old) (T.host host.new) IsSame }
-    ensures cause { HasCause (T.host host.old) (T.host host.new) result }
+    ensures reads { IsReading (T.host host.old) (T.host host.new) result }
 {
     let mut next = at.parent(alloc)?;
     while let Some(place) = next {
@@ -53,8 +51,7 @@ fn has_leaf_above<T: Tree>(alloc: Global, host: &mut T, at: &Path) -> Result<boo
 pub fn is_blocked<T: Tree>(alloc: Global, host: &mut T, at: &Path) -> Result<bool, HostFault>
     requires { is_in_line stage at.now ≡ false }
     ensures blocked { IfOk result (λ blocked. Told (T.host host.old) (λ w. blocked ≡ is_blocked w.leaves at.now)) }
-    ensures moments { Passes (T.host host.old) (T.host host.new) IsSame }
-    ensures cause { HasCause (T.host host.old) (T.host host.new) result }
+    ensures reads { IsReading (T.host host.old) (T.host host.new) result }
 {
     let below = has_leaf_below(alloc, host, at)?;
     if below {

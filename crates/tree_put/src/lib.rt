@@ -3,6 +3,8 @@
 
 mod blocked;
 mod places;
+mod written_place;
 
 pub use blocked::is_blocked;
 pub use places::{drop_leaf, put, put_if_other};
+pub use written_place::{WrittenPlace, first_in_the_way, is_in_the_way};

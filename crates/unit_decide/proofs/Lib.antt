@@ -1,2 +1,3 @@
+pub mod FactsLemmas
 pub mod SocketLemmas
 pub mod TableLemmas

@@ -25,6 +25,7 @@ use Rattle.unit_decide.specs.Facts.{unit_kind}
 use Rattle.unit_decide.specs.Kinds.{is_kind}
 use Rattle.switch_names.specs.Names.{Name, has}
 use Rattle.unit_decide.specs.Sockets.{is_socket_activated, is_socket_name, own_socket, socket_words, sockets_key, sockets_of, words}
+use Rattle.unit_decide.proofs.TableLemmas.{service_from_test}
 use Rattle.unit_text.specs.declared.assignment.Assignment.{Assignment}
 use Rattle.unit_decide.specs.Flags.{is_not_socket_activated}
 use Rattle.unit_text.specs.UnitText.{has_value, values_of}
@@ -77,10 +78,6 @@ own_is_socket unit is of =
     let kind : kind_of (own_socket unit) ≡ Some Socket = kind_of-stem (stem_of unit) Socket (HasParts-from_kind unit Service of).stem in
     rw (name, kind)
 
-service_from_test : (kind : UnitKind) → is_kind kind Service ≡ true → kind ≡ Service
-service_from_test Service is = refl
-service_from_test _ is = absurd cc
-
 kind_from_some : (kind : Option UnitKind) → is_none kind ≡ false → is_kind (unwrap_or kind Service) Service ≡ true → kind ≡ Some Service
 kind_from_some None some is = absurd cc
 kind_from_some (Some kind) some is = ap Some (service_from_test kind is)
@@ -99,7 +96,7 @@ passes : (p : Name → Bool) (names : List Name) (unit : Name) → has (filter p
 passes p names unit found =
     and_left (p unit) _ (sym (any-filter_same (is_at (slice_cmp nat_cmp unit)) p (p unit) (λ other same. ap p (sym (same_name unit other same))) names) ∙ found)
 
-none_found : (unit : Name) → has [] unit ≡ true → ⊥
+pub none_found : (unit : Name) → has [] unit ≡ true → ⊥
 none_found unit found = cc
 
 -- what a service is paired with are names of sockets

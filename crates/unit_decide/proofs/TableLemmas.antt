@@ -23,10 +23,6 @@ pub stop_start_defined : (f : Facts) (live : Bool) → decide f live ≡ StopSta
 unfolding decide
 stop_start_defined f live is = grind arith
 
-pub socket_start_defined : (f : Facts) (live : Bool) → decide f live ≡ SocketStart → f.in_new ≡ true
-unfolding decide
-socket_start_defined f live is = grind arith
-
 pub reload_defined : (f : Facts) (live : Bool) → decide f live ≡ Reload → f.in_new ≡ true
 unfolding decide
 reload_defined f live is = grind arith
@@ -79,6 +75,30 @@ pub target_stop_started : (f : Facts) (live : Bool) → f.kind ≡ Target → de
 unfolding decide
 target_stop_started f live target is = grind arith
 
+-- the row of a defined target is the same, whatever else the old system and the sockets are
+pub target_same : (f g : Facts) (live other : Bool) → is_kind f.kind Target ≡ true → f.kind ≡ g.kind → f.in_new ≡ true → f.in_new ≡ g.in_new →
+    f.stop_on_reconfiguration ≡ g.stop_on_reconfiguration → f.may_start ≡ g.may_start → decide f live ≡ decide g other
+unfolding decide
+target_same f g live other target kind defined in_new marked may = grind arith
+
+-- a defined target that is stopped is one that is stopped at each switch and may not start
+pub target_marked : (f : Facts) (live : Bool) → f.in_new ≡ true → decide f live ≡ Stop → f.stop_on_reconfiguration ≡ true
+unfolding decide
+target_marked f live defined is = grind arith
+
+pub target_barred : (f : Facts) (live : Bool) → f.in_new ≡ true → decide f live ≡ Stop → f.may_start ≡ false
+unfolding decide
+target_barred f live defined is = grind arith
+
+-- no target is reloaded or restarted
+pub target_not_reloaded : (f : Facts) (live : Bool) → f.kind ≡ Target → decide f live ≡ Reload → ⊥
+unfolding decide
+target_not_reloaded f live target is = grind arith
+
+pub target_not_restarted : (f : Facts) (live : Bool) → f.kind ≡ Target → decide f live ≡ Restart → ⊥
+unfolding decide
+target_not_restarted f live target is = grind arith
+
 is_target_started : (f : Facts) (live later : Bool) → is_kind f.kind Target ≡ true → decide f live ≡ StopStart → decide f later ≡ StopStart
 unfolding decide
 is_target_started f live later target is = grind arith
@@ -104,18 +124,18 @@ pub socket_start_either : (f : Facts) (live later : Bool) → decide f live ≡ 
 socket_start_either f live true is = inr (socket_start_more f live true (λ e. refl) is)
 socket_start_either f live false is = inl (without_sockets f live is)
 
--- a unit that is left to its sockets has a live one
-pub socket_start_live : (f : Facts) (live : Bool) → decide f live ≡ SocketStart → live ≡ true
-unfolding decide
-socket_start_live f live is = grind arith
-
 not_service : (f : Facts) (live : Bool) → is_kind f.kind Service ≡ false → decide f live ≡ SocketStart → ⊥
 unfolding decide
 not_service f live other is = grind arith
 
-service_from_test : (kind : UnitKind) → is_kind kind Service ≡ true → kind ≡ Service
+-- a kind is the one that the test tells
+pub service_from_test : (kind : UnitKind) → is_kind kind Service ≡ true → kind ≡ Service
 service_from_test Service is = refl
 service_from_test _ is = absurd cc
+
+pub target_from_test : (kind : UnitKind) → is_kind kind Target ≡ true → kind ≡ Target
+target_from_test Target is = refl
+target_from_test _ is = absurd cc
 
 -- only services are left to their sockets
 pub socket_start_service : (f : Facts) (live : Bool) → decide f live ≡ SocketStart → f.kind ≡ Service

@@ -2,7 +2,7 @@
 use Rattle.std.proofs.Common.{◌≡◌, ℕ, zero, suc, ◌==◌, ◌↔◌, not, IsTrue, Bool, true, false, cond, List, [], ◌∷◌, ◌++◌, length, map, Option, Some, option_map, refl, sym, ap, ◌∙◌, arith}
 use Rattle.std.specs.BTreeMap.{is_at}
 use Rattle.std.proofs.lemmas.Bool.{ne_eqb}
-use Rattle.std.specs.FinMap.{empty, entries, entries-insert, find, from_entries, get-from_entries, len-empty, len-entries, put}
+use Rattle.std.specs.FinMap.{entries, entries-insert, find, from_entries, get-from_entries, put}
 use Rattle.std.specs.FinMap as finite
 use Rattle.std.specs.FinMap.Entries.{by_order}
 use Rattle.std.specs.List.Sorted.{IsStrictlySortedBy}
@@ -12,29 +12,15 @@ use Rattle.std.specs.Ordering.{eq_by_cmp}
 use Rattle.std.specs.declared.cmp.Ordering.{Ordering}
 use Rattle.std.specs.declared.cmp.Ordering.TheVariants.{Less, Equal, Greater}
 use Rattle.host_trait.specs.World.{bytes_cmp}
-use Rattle.host_trait.proofs.Places.{alike, bytes_total, found}
+use Rattle.host_trait.proofs.Places.{alike, bytes_total, found, ordered_entries}
+use Rattle.host_trait.proofs.Orders.{none_sorted}
 
 pub some_more : (n : ℕ) → (suc n == 0) ≡ false
 some_more n = ne_eqb (suc n) 0 (λ e. omega arith)
 
 module _ {X : Type 0} where
-  entry_first : (k : List ℕ) (v : X) (es : List (List ℕ × X)) → IsStrictlySortedBy bytes_cmp (k ∷ keys_of es) → put bytes_cmp k v es ≡ (k, v) ∷ es
-  unfolding IsStrictlySortedBy
-  entry_first k v [] sorted = refl
-  entry_first k v (e ∷ es) sorted = rw sorted.0.0
-
-  no_entries : (es : List (List ℕ × X)) → length es ≡ 0 → es ≡ []
-  no_entries [] e = refl
-  no_entries (x ∷ es) e = absurd (omega arith)
-
   none_there : entries (from_entries {X = X} {R = bytes_cmp} []) ≡ []
-  none_there = no_entries _ (sym (len-entries empty) ∙ len-empty bytes_cmp X)
-
-  ordered_entries : (es : List (List ℕ × X)) → IsStrictlySortedBy bytes_cmp (keys_of es) → entries (from_entries {R = bytes_cmp} es) ≡ es
-  unfolding IsStrictlySortedBy
-  ordered_entries [] sorted = none_there
-  ordered_entries (e ∷ es) sorted =
-      entries-insert bytes_total (from_entries es) e.0 e.1 ∙ ap (put bytes_cmp e.0 e.1) (ordered_entries es sorted.1) ∙ entry_first e.0 e.1 es sorted
+  none_there = ordered_entries [] none_sorted
 
   values_map : (es : List (List ℕ × X)) → map (λ (e : List ℕ × X). e.1) es ≡ values_of es
   values_map [] = refl

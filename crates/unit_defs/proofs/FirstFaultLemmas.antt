@@ -17,13 +17,15 @@ use Rattle.unit_defs.specs.Files.{base_of, drop_in_at, drop_ins_of, file_of, pat
 use Rattle.unit_defs.specs.Found.{is_file}
 use Rattle.unit_defs.specs.Part.{merged, part_of}
 use Rattle.unit_defs.specs.Place.{path_of, place_of}
-use Rattle.unit_defs.specs.Units.{HasNoFault, IsFirstFault, first_fault_of, own_fault, unit_at, units_of}
+use Rattle.unit_defs.specs.Units.{HasNoFault, IsFirstFault, first_fault_of, own_fault, own_part, own_text, unit_at, units_of}
 use Rattle.unit_defs.proofs.DropInLemmas.{none_exactly, some_more}
 use Rattle.switch_names.proofs.Names.{name_turned}
-use Rattle.unit_defs.proofs.NameLemmas.{has-append, less_is_other, name_exact, name_itself, or_false}
+use Rattle.unit_defs.proofs.NameLemmas.{has-append, less_is_other, name_exact, name_itself}
 use Rattle.unit_defs.proofs.OrderLemmas.{has_in_order, in_order_sorted}
 use Rattle.unit_defs.proofs.PathLemmas.{places_named, some_same}
 use Rattle.unit_defs.proofs.WorldLemmas.{among}
+use Rattle.host_trait.proofs.Moments.{none_not_some}
+use Rattle.std.proofs.Math.Bool.{or-false}
 
 -- ---- the first of some sorted names that has a fault
 
@@ -126,7 +128,8 @@ module _ (fault : List ℕ → Option ℕ) where
 
 -- ---- the units that have a file or a drop-in
 
-has_by_test : {X : Type 0} (p : X → Bool) (f : X → List (List ℕ)) (name : List ℕ) → ((x : X) → p x ≡ true → has (f x) name ≡ true) → (xs : List X) → list_any p xs ≡ true → has (flat_map f xs) name ≡ true
+-- a name that an item which passes a test gives is given by all
+pub has_by_test : {X : Type 0} (p : X → Bool) (f : X → List (List ℕ)) (name : List ℕ) → ((x : X) → p x ≡ true → has (f x) name ≡ true) → (xs : List X) → list_any p xs ≡ true → has (flat_map f xs) name ≡ true
 has_by_test p f name gives [] some = absurd (cc)
 has_by_test p f name gives (x ∷ xs) some = has-append (f x) (flat_map f xs) name ∙ elim (or_cases (p x) (list_any p xs) some) [
   | inl first ↦ ap (λ b. b || has (flat_map f xs) name) (gives x first)
@@ -166,19 +169,24 @@ file_there : {X Y : Type 0} (x : X) (o : Option Y) → is_some (option_map (λ l
 file_there x None = refl
 file_there x (Some leaf) = refl
 
--- what has a fault has a file or drop-ins
-caused : (file : Option (Option (List ℕ))) (drop_ins : List (List ℕ)) (template : Option (List ℕ)) (all : List ℕ → List (List ℕ)) (line : ℕ) →
-    option_and_then (λ (part : Part). part.fault) (option_map (λ files. merged (map part_of files)) (option_map all (base_of file drop_ins template))) ≡ Some line →
+-- what has a part of its own has a file or drop-ins
+caused : (file : Option (Option (List ℕ))) (drop_ins : List (List ℕ)) (template : Option (List ℕ)) (all : List ℕ → List (List ℕ)) →
+    is_some (option_map (λ files. merged (map part_of files)) (option_map all (base_of file drop_ins template))) ≡ true →
     (is_some file ≡ true) ⊎ ((length drop_ins == 0) ≡ false)
-caused (Some file) drop_ins template all line is = inl refl
-caused None [] template all line is = absurd (cc)
-caused None (drop_in ∷ drop_ins) template all line is = inr (some_more (length drop_ins))
+caused (Some file) drop_ins template all is = inl refl
+caused None [] template all is = absurd (cc)
+caused None (drop_in ∷ drop_ins) template all is = inr (some_more (length drop_ins))
+
+has_part : (part : Option Part) (line : ℕ) → option_and_then (λ (p : Part). p.fault) part ≡ Some line → is_some part ≡ true
+has_part None line is = absurd (cc)
+has_part (Some part) line is = refl
+
+part_of_text : (part : Option Part) → is_some (option_map (λ (p : Part). p.text) part) ≡ is_some part
+part_of_text None = refl
+part_of_text (Some part) = refl
 
 only_name : (unit other : List ℕ) → has (other ∷ []) unit ≡ true → unit ≡ other
-only_name unit other there = name_exact unit other (sym (or_false (is_name unit other)) ∙ there)
-
-none_or_some : {X : Type 0} (o : Option X) (x : X) → o ≡ None → o ≡ Some x → ⊥
-none_or_some o x none is = cc
+only_name unit other there = name_exact unit other (sym (or-false (is_name unit other)) ∙ there)
 
 module _ (leaves : Leaves) (system : List ℕ) where
   abbrev at_path : List ℕ → List (List ℕ)
@@ -194,16 +202,22 @@ module _ (leaves : Leaves) (system : List ℕ) where
       has_by_some (λ path. drop_in_at unit (place_of system path) (content_of leaves path)) at_path unit (λ path. at_drop_in unit (place_of system path) (content_of leaves path)) (paths_of leaves system)
       (sym (none_exactly (flat_map (λ path. drop_in_at unit (place_of system path) (content_of leaves path)) (paths_of leaves system))) ∙ some)
 
-  -- a unit with a fault is among the units
-  faulty_there : (unit : List ℕ) (line : ℕ) → IsUnitName unit → own_fault leaves system unit ≡ Some line → has (units_of leaves system) unit ≡ true
-  faulty_there unit line named faulty = has_in_order (flat_map at_path (paths_of leaves system)) unit ∙ elim (by faulty) [
+  -- a unit with a part of its own is among the units
+  part_there : (unit : List ℕ) → IsUnitName unit → is_some (own_part leaves system unit) ≡ true → has (units_of leaves system) unit ≡ true
+  part_there unit named some = has_in_order (flat_map at_path (paths_of leaves system)) unit ∙ elim (by some) [
     | inl file ↦ with_file unit named file
     | inr drop_ins ↦ with_drop_ins unit drop_ins
   ]
     where
-      by : own_fault leaves system unit ≡ Some line → (is_some (file_of leaves system unit) ≡ true) ⊎ ((length (drop_ins_of leaves system unit) == 0) ≡ false)
+      by : is_some (own_part leaves system unit) ≡ true → (is_some (file_of leaves system unit) ≡ true) ⊎ ((length (drop_ins_of leaves system unit) == 0) ≡ false)
       by is = caused (file_of leaves system unit) (drop_ins_of leaves system unit) (option_and_then (λ name. option_and_then (λ file. file) (file_of leaves system name)) (template_of unit))
-          (λ file. file ∷ option_map_or (drop_ins_of leaves system) (template_of unit) [] ++ drop_ins_of leaves system unit) line is
+          (λ file. file ∷ option_map_or (drop_ins_of leaves system) (template_of unit) [] ++ drop_ins_of leaves system unit) is
+
+  pub own_there : (unit : List ℕ) → IsUnitName unit → is_some (own_text leaves system unit) ≡ true → has (units_of leaves system) unit ≡ true
+  own_there unit named some = part_there unit named (sym (part_of_text (own_part leaves system unit)) ∙ some)
+
+  faulty_there : (unit : List ℕ) (line : ℕ) → IsUnitName unit → own_fault leaves system unit ≡ Some line → has (units_of leaves system) unit ≡ true
+  faulty_there unit line named faulty = part_there unit named (has_part (own_part leaves system unit) line faulty)
 
   named_at : (unit : List ℕ) (path : List ℕ) (place : Option Place) → place_of system path ≡ place → has (unit_at place) unit ≡ true → IsUnitName unit
   named_at unit path None is there = absurd (cc)
@@ -244,10 +258,10 @@ module _ (leaves : Leaves) (system : List ℕ) where
         named = units_named unit first.there;
         faulty = first.faulty;
         earlier = λ other named less. no_fault_of other (own_fault leaves system other) refl (λ l faulty.
-            none_or_some (own_fault leaves system other) l (first.earlier other (faulty_there other l named faulty) less) faulty);
+            none_not_some (own_fault leaves system other) l (first.earlier other (faulty_there other l named faulty) less) faulty);
       }
 
   -- where none is found no file is faulty
   pub found_none : first_fault_of leaves system ≡ None → HasNoFault leaves system
   found_none is = λ unit named. no_fault_of unit (own_fault leaves system unit) refl (λ line faulty.
-      none_or_some (own_fault leaves system unit) line (none_from (own_fault leaves system) (units_of leaves system) is unit (faulty_there unit line named faulty)) faulty)
+      none_not_some (own_fault leaves system unit) line (none_from (own_fault leaves system) (units_of leaves system) is unit (faulty_there unit line named faulty)) faulty)

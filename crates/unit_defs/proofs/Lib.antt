@@ -11,6 +11,6 @@ mod PlaceLemmas
 mod ReadingLemmas
 mod SearchLemmas
 mod TextLemmas
-mod UnitLemmas
+pub mod UnitLemmas
 mod WantLemmas
 mod WorldLemmas

@@ -22,6 +22,7 @@ use Rattle.unit_defs.specs.Place.{is_unit, named}
 use Rattle.unit_defs.specs.Units.{can_be_wanted, find_text}
 use Rattle.switch_names.specs.UnitName.{IsUnitName, is_template, template_of}
 use Rattle.std.specs.Option.{option_or}
+use Rattle.std.proofs.Math.Bool.{or-false, and-true, and-false, or_assoc}
 
 pub name_itself : (a : List ℕ) → is_name a a ≡ true
 name_itself a = ap is_eq (tied_itself bytes_total a)
@@ -49,18 +50,6 @@ has-append xs ys name = list_any-append (is_name name) xs ys
 pub has-filter-append : (p : List ℕ → Bool) (xs ys : List (List ℕ)) (name : List ℕ) → has (filter p (xs ++ ys)) name ≡ (has (filter p xs) name || has (filter p ys) name)
 has-filter-append p xs ys name = ap (λ zs. has zs name) (filter-append p xs ys) ∙ has-append (filter p xs) (filter p ys) name
 
-pub or_false : (b : Bool) → (b || false) ≡ b
-or_false true = refl
-or_false false = refl
-
-and_true : (b : Bool) → (b && true) ≡ b
-and_true true = refl
-and_true false = refl
-
-and_false : (b : Bool) → (b && false) ≡ false
-and_false true = refl
-and_false false = refl
-
 pub no_template : (b is : Bool) → is ≡ true → false ≡ (b && not is)
 no_template true is same = sym (ap not same)
 no_template false is same = refl
@@ -69,22 +58,18 @@ pub other_than_template : (b is : Bool) → is ≡ false → b ≡ (b && not is)
 other_than_template true is same = sym (ap not same)
 other_than_template false is same = refl
 
-or_assoc : (a b c : Bool) → ((a || b) || c) ≡ (a || (b || c))
-or_assoc true b c = refl
-or_assoc false b c = refl
-
 -- ---- sets of names that can be wanted
 
 -- a name that passes a test is added
 pub has_added : (old : List (List ℕ)) (name unit : List ℕ) (now passes : Bool) → passes ≡ true → now ≡ (has old unit || is_name unit name) → now ≡ (has old unit || (is_name unit name && passes))
-has_added old name unit now passes is added = added ∙ ap (λ b. has old unit || b) (sym (and_true (is_name unit name)) ∙ ap (λ b. is_name unit name && b) (sym is))
+has_added old name unit now passes is added = added ∙ ap (λ b. has old unit || b) (sym (and-true (is_name unit name)) ∙ ap (λ b. is_name unit name && b) (sym is))
 
 has_filtered_one : (p : List ℕ → Bool) (name unit : List ℕ) → has (filter p (name ∷ [])) unit ≡ (is_name unit name && p name)
 has_filtered_one p name unit = by (p name) (is_name unit name)
   where
     by : (b c : Bool) → has (cond b (name ∷ []) []) unit ≡ (is_name unit name && b)
-    by true c = or_false (is_name unit name) ∙ sym (and_true (is_name unit name))
-    by false c = sym (and_false (is_name unit name))
+    by true c = or-false (is_name unit name) ∙ sym (and-true (is_name unit name))
+    by false c = sym (and-false (is_name unit name))
 
 module _ (p : List ℕ → Bool) (unit : List ℕ) where
   -- two lists of names are added one after the other
@@ -168,7 +153,7 @@ pub not_wanted : (own : List ℕ → Option (List Assignment)) (text unit : List
 not_wanted own text unit had none =
     sym (ap (λ b. had || (is_name unit text && b))
     (ap (λ f. is_some (cond f (option_or (own text) (option_and_then own (template_of text))) None) && not (is_template text)) (not_named text none))
-    ∙ ap (λ b. had || b) (and_false (is_name unit text)) ∙ or_false had)
+    ∙ ap (λ b. had || b) (and-false (is_name unit text)) ∙ or-false had)
 
 -- ---- the text of a unit
 

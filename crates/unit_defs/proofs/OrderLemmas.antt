@@ -1,13 +1,9 @@
 -- Names in byte order, each once.
-use Rattle.std.proofs.Common.{◌≡◌, ℕ, ◌||◌, ◌&&◌, T, Bool, true, false, cond, List, [], ◌∷◌, ◌++◌, map, Option, None, Some, is_some, refl, sym, ap, subst, ◌∙◌}
+use Rattle.std.proofs.Common.{◌≡◌, ℕ, ◌||◌, Bool, true, false, cond, List, [], ◌∷◌, ◌++◌, map, Option, None, Some, is_some, refl, sym, ap, subst, ◌∙◌}
 use Rattle.std.specs.BTreeMap.{is_at}
 use Rattle.std.specs.FinMap.{contains_key-keys, from_entries}
-use Rattle.std.specs.FinMap.Entries.{below_all, is_sorted}
 use Rattle.std.specs.FinMap as map
-use Rattle.std.specs.List.{AllByRecursion, filter}
-use Rattle.std.specs.Ordering.{is_lt}
-use Rattle.std.specs.declared.cmp.Ordering.{Ordering}
-use Rattle.std.specs.declared.cmp.Ordering.TheVariants.{Less, Equal, Greater}
+use Rattle.std.specs.List.{filter}
 use Rattle.std.specs.List.Sorted.{IsStrictlySortedBy}
 use Rattle.std.specs.Map.{keys_of, lookup}
 use Rattle.host_trait.specs.World.{bytes_cmp}
@@ -16,6 +12,8 @@ use Rattle.switch_names.specs.Names.{has, is_name}
 use Rattle.unit_defs.specs.Units.{can_be_wanted, in_order, wanted, words_in}
 use Rattle.unit_defs.proofs.NameLemmas.{has-filter-append, name_exact}
 use Rattle.unit_text.specs.declared.assignment.Assignment.{Assignment}
+use Rattle.host_trait.proofs.Orders.{none_sorted}
+use Rattle.host_trait.proofs.KeyOrder.{keys_sorted}
 
 abbrev Nothing : Type 0
 Nothing = Unit {0}
@@ -55,39 +53,13 @@ wanted_made p names words none one two empty sorted first second = same_in_order
     second a ∙ ap (λ b. b || has (filter p words) a) (first a ∙ ap (λ ns. has ns a || has (filter p names) a) empty)
     ∙ sym (has-filter-append p names words a))
 
-sorted_none : IsStrictlySortedBy bytes_cmp []
-unfolding IsStrictlySortedBy
-sorted_none = tt
-
 pub none_in_order : [] ≡ in_order []
-none_in_order = same_in_order [] [] sorted_none (λ a. refl)
+none_in_order = same_in_order [] [] none_sorted (λ a. refl)
 
 -- ---- what is in order is sorted, and has the same names
 
-less_from : (r : Ordering) → T (is_lt r) → r ≡ Less
-less_from Less is = refl
-less_from Equal is = absurd is
-less_from Greater is = absurd is
-
-left_of : (a b : Bool) → T (a && b) → T a
-left_of true b is = tt
-left_of false b is = absurd is
-
-right_of : (a b : Bool) → T (a && b) → T b
-right_of true b is = is
-right_of false b is = absurd is
-
-above_from : (a : List ℕ) (es : List (List ℕ × Nothing)) → T (below_all bytes_cmp a es) → AllByRecursion (λ b. bytes_cmp a b ≡ Less) (map (λ (e : List ℕ × Nothing). e.0) es)
-above_from a [] is = tt
-above_from a (e ∷ es) is = (less_from (bytes_cmp a e.0) (left_of _ _ is), above_from a es (right_of (is_lt (bytes_cmp a e.0)) _ is))
-
-sorted_from : (es : List (List ℕ × Nothing)) → T (is_sorted bytes_cmp es) → IsStrictlySortedBy bytes_cmp (map (λ (e : List ℕ × Nothing). e.0) es)
-unfolding IsStrictlySortedBy
-sorted_from [] is = tt
-sorted_from (e ∷ es) is = (above_from e.0 es (left_of _ _ is), sorted_from es (right_of (below_all bytes_cmp e.0 es) _ is))
-
 pub in_order_sorted : (names : List (List ℕ)) → IsStrictlySortedBy bytes_cmp (in_order names)
-in_order_sorted names = sorted_from (map.entries (from_entries (map pair names))) (map.entries_sorted (from_entries (map pair names)))
+in_order_sorted names = keys_sorted (from_entries (map pair names))
 
 there_chosen : (b : Bool) → is_some (chosen b) ≡ b
 there_chosen true = refl

@@ -19,7 +19,7 @@ first_fault-append : (xs ys : List Part) → first_fault (xs ++ ys) ≡ option_o
 first_fault-append [] ys = refl
 first_fault-append (part ∷ xs) ys = ap (option_or part.fault) (first_fault-append xs ys) ∙ sym (or_assoc part.fault (first_fault xs) (first_fault ys))
 
-or_none : {X : Type 0} (o : Option X) → option_or o None ≡ o
+pub or_none : {X : Type 0} (o : Option X) → option_or o None ≡ o
 or_none None = refl
 or_none (Some x) = refl
 

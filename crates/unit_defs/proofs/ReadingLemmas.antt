@@ -22,6 +22,7 @@ use Rattle.switch_names.specs.Names.{is_name}
 use Rattle.unit_defs.proofs.DropInLemmas.{find-append}
 use Rattle.switch_names.proofs.Names.{name_turned}
 use Rattle.unit_defs.proofs.PlaceLemmas.{file_path}
+use Rattle.unit_defs.proofs.PartLemmas.{or_none}
 
 -- nothing is read yet
 pub files_none : (leaves : Leaves) (front : List ℕ) (found : Found) → found.units.entries ≡ [] → AreFilesAt leaves front [] found
@@ -42,10 +43,6 @@ both_chosen true true part that same = ap (λ p. Some p) (same refl)
 both_chosen false true part that same = ap (λ p. Some p) (same refl)
 both_chosen true false part that same = refl
 both_chosen false false part that same = refl
-
-or_none : {X : Type 0} (o : Option X) → option_or o None ≡ o
-or_none None = refl
-or_none (Some x) = refl
 
 map_or : {X Y : Type 0} (f : X → Y) (a b : Option X) → option_map f (option_or a b) ≡ option_or (option_map f a) (option_map f b)
 map_or f None b = refl

@@ -15,8 +15,9 @@ use Rattle.switch_names.specs.Names.{has, is_name}
 use Rattle.unit_defs.specs.Units.{can_be_wanted, wanted, words_at, words_in, words_of}
 use Rattle.std.specs.List.Sorted.{IsStrictlySortedBy}
 use Rattle.host_trait.specs.World.{bytes_cmp}
-use Rattle.unit_defs.proofs.NameLemmas.{found_unit, has_both, name_exact, or_false}
+use Rattle.unit_defs.proofs.NameLemmas.{found_unit, has_both, name_exact}
 use Rattle.unit_defs.proofs.OrderLemmas.{in_order_sorted, none_in_order, wanted_each}
+use Rattle.std.proofs.Math.Bool.{or-false}
 
 unit_named : (units : List Unit) (name : List ℕ) (unit : Unit) → unit_in units name ≡ Some unit → name ≡ unit.name
 unit_named [] name unit is = absurd (cc)
@@ -67,7 +68,7 @@ own_of_template units o found there =
 
 -- no text names a unit
 pub adds_nothing : (p : List ℕ → Bool) (text : Option (List Assignment)) (unit : List ℕ) (had : Bool) → text ≡ None → had ≡ (had || has (filter p (words_in text)) unit)
-adds_nothing p text unit had none = sym (ap (λ t. had || has (filter p (words_in t)) unit) none ∙ or_false had)
+adds_nothing p text unit had none = sym (ap (λ t. had || has (filter p (words_in t)) unit) none ∙ or-false had)
 
 -- the units of both keys are added
 pub adds_both : (p : List ℕ → Bool) (whole : Option (List Assignment)) (text : List Assignment) (wants requires : List (List ℕ)) (unit : List ℕ) (before now after : Bool) →

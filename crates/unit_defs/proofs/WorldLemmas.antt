@@ -53,10 +53,6 @@ is_among system rest =
     (below_front (unit_folder system) rest)
     (false_from _ (λ same. not_stage system rest ((bytes_eq-Decides (path_of system rest) stage).0 same)))
 
-any_alike : (p q : List ℕ → Bool) → ((x : List ℕ) → p x ≡ q x) → (xs : List (List ℕ)) → list_any p xs ≡ list_any q xs
-any_alike p q same [] = refl
-any_alike p q same (x ∷ xs) = ap (λ b. b || list_any p xs) (same x) ∙ ap (λ b. q x || b) (any_alike p q same xs)
-
 module _ (leaves : Leaves) (system unit : List ℕ) (named : IsUnitName unit) where
   joined : path_of system [] ++ unit ≡ path_of system unit
   joined = append_assoc (unit_folder system) (slash ∷ []) unit
@@ -73,7 +69,7 @@ module _ (leaves : Leaves) (system unit : List ℕ) (named : IsUnitName unit) wh
   pub among : list_any (λ path. is_file unit (place_after (path_of system []) path)) (paths_of leaves system) ≡ is_some (get leaves (path_of system unit))
   among =
       any-filter_same (λ path. is_file unit (place_after (path_of system []) path)) (is_listed (unit_folder system)) true listed_so (keys leaves)
-      ∙ any_alike (λ path. is_file unit (place_after (path_of system []) path)) (eq_by_cmp bytes_cmp (path_of system unit)) tested (keys leaves)
+      ∙ (λ i. list_any (λ path. tested path i) (keys leaves))
       ∙ sym (contains_key-keys leaves (path_of system unit))
 
   file_by : (o : Option LeafKind) (content : Option (List ℕ)) → cond (is_some o) (Some (option_map part_of content)) None ≡ option_map (option_map part_of) (option_map (λ leaf. content) o)

@@ -3,8 +3,8 @@ ghost use Rattle.std.specs.Prelude.{◌≡◌, true, [], List, ℕ, None, Some, 
 ghost use Rattle.std.specs.List.Sorted.{IsStrictlySortedBy};
 ghost use Rattle.std.specs.Option.{option_copied};
 ghost use Rattle.host_trait.specs.declared.tree.HostFault.TheVariants.{Device};
-ghost use Rattle.host_trait.specs.Change.{IsSame};
-ghost use Rattle.host_trait.specs.Host.{Told, Passes, HasCause, HasCauseOf};
+ghost use Rattle.host_trait.specs.Host.{Told};
+ghost use Rattle.host_trait.specs.Reading.{IsReading, IsReadingOf};
 ghost use Rattle.host_trait.specs.World.{bytes_cmp};
 ghost use Rattle.unit_defs.specs.declared.defs_fault.DefsFault.TheVariants.{Text, Host};
 ghost use Rattle.unit_defs.specs.Defs.{AreDefsOf, AreNamesOf, AreSorted, first_faulty, found_in, own_in, wanted_in};
@@ -117,8 +117,7 @@ impl Defs {
         ensures not_faulty { OnOk result (Told (T.host host.old) (λ w. first_fault_of w.leaves system.now ≡ None)) }
         ensures faulty { (unit : List ℕ) (line : ℕ) → IsErrOf result (Text unit line) → Told (T.host host.old) (λ w. first_fault_of w.leaves system.now ≡ Some (unit, line)) }
 
-        ensures moments { Passes (T.host host.old) (T.host host.new) IsSame }
-        ensures cause { HasCauseOf (T.host host.old) (T.host host.new) (IsErrOf result (Host Device)) }
+        ensures reads { IsReadingOf (T.host host.old) (T.host host.new) (IsErrOf result (Host Device)) }
     {
         let units = read_units(alloc, host, system)?;
         Defs::from_sound(alloc, units)
@@ -131,8 +130,7 @@ impl Defs {
         system: &SystemName,
     ) -> Result<Defs, HostFault>
         ensures defs { IfOk result (λ defs. Told (T.host host.old) (λ w. AreDefsOf w.leaves system.now defs)) }
-        ensures moments { Passes (T.host host.old) (T.host host.new) IsSame }
-        ensures cause { HasCause (T.host host.old) (T.host host.new) result }
+        ensures reads { IsReading (T.host host.old) (T.host host.new) result }
     {
         let old_units = read_units(alloc, host, system)?;
         Ok(Defs::from_units(alloc, old_units)?)

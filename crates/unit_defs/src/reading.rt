@@ -1,7 +1,7 @@
 //! Reads the folder of a system's units.
 ghost use Rattle.std.specs.Prelude.{◌≡◌, [], ◌∷◌, ◌++◌, IfOk, OnOk};
-ghost use Rattle.host_trait.specs.Change.{IsSame};
-ghost use Rattle.host_trait.specs.Host.{Told, Passes, HasCause};
+ghost use Rattle.host_trait.specs.Host.{Told};
+ghost use Rattle.host_trait.specs.Reading.{IsReading};
 ghost use Rattle.unit_defs.specs.Defs.{AreSorted, AreUnitsOf};
 ghost use Rattle.unit_defs.specs.Found.{AreFilesAt, AreFilesOf, TakesPath, part_at};
 ghost use Rattle.unit_defs.specs.Place.{unit_folder};
@@ -23,8 +23,7 @@ fn read_part<T: Tree>(
     place: &Place,
 ) -> Result<Option<Part>, HostFault>
     ensures part { IfOk result (λ part. Told (T.host host.old) (λ w. part ≡ part_at w.leaves path.now place.now)) }
-    ensures moments { Passes (T.host host.old) (T.host host.new) IsSame }
-    ensures cause { HasCause (T.host host.old) (T.host host.new) result }
+    ensures reads { IsReading (T.host host.old) (T.host host.new) result }
 {
     if place.is_want() {
         return Ok(None);
@@ -42,8 +41,7 @@ fn read_path<T: Tree>(
     found: &mut Found,
 ) -> Result<(), HostFault>
     ensures found { OnOk result (Told (T.host host.old) (λ w. TakesPath w.leaves front.now path.now found.old found.new)) }
-    ensures moments { Passes (T.host host.old) (T.host host.new) IsSame }
-    ensures cause { HasCause (T.host host.old) (T.host host.new) result }
+    ensures reads { IsReading (T.host host.old) (T.host host.new) result }
 {
     let Some(place) = place_after(alloc, front, path)? else {
         return Ok(());
@@ -60,8 +58,7 @@ fn read_paths<T: Tree>(
     paths: &[Path],
 ) -> Result<Found, HostFault>
     ensures found { IfOk result (λ found. Told (T.host host.old) (λ w. AreFilesAt w.leaves front.now paths.now found)) }
-    ensures moments { Passes (T.host host.old) (T.host host.new) IsSame }
-    ensures cause { HasCause (T.host host.old) (T.host host.new) result }
+    ensures reads { IsReading (T.host host.old) (T.host host.new) result }
 {
     let mut found = Found::new(alloc);
     for path in paths {
@@ -97,8 +94,7 @@ fn read_folder<T: Tree>(
     system: &SystemName,
 ) -> Result<Found, HostFault>
     ensures found { IfOk result (λ found. Told (T.host host.old) (λ w. AreFilesOf w.leaves system.now found)) }
-    ensures moments { Passes (T.host host.old) (T.host host.new) IsSame }
-    ensures cause { HasCause (T.host host.old) (T.host host.new) result }
+    ensures reads { IsReading (T.host host.old) (T.host host.new) result }
 {
     let folder = unit_folder(alloc, system)?;
     let front = with_slash(alloc, folder.as_str())?;
@@ -114,8 +110,7 @@ pub fn read_units<T: Tree>(
 ) -> Result<Listed<Unit>, HostFault>
     ensures sorted { IfOk result (λ units. AreSorted units) }
     ensures units { IfOk result (λ units. Told (T.host host.old) (λ w. AreUnitsOf w.leaves system.now units)) }
-    ensures moments { Passes (T.host host.old) (T.host host.new) IsSame }
-    ensures cause { HasCause (T.host host.old) (T.host host.new) result }
+    ensures reads { IsReading (T.host host.old) (T.host host.new) result }
 {
     let found = read_folder(alloc, host, system)?;
     let units = units_of(alloc, &found)?;

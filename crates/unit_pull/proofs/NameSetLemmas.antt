@@ -1,18 +1,15 @@
 -- Names in sets and lists.
 use Rattle.std.proofs.Common.{◌≡◌, ◌<◌, ◌+◌, ◌||◌, ◌&&◌, not, ℕ, Bool, true, false, cond, List, [], ◌∷◌, ◌++◌, get_or, length, take, refl, sym, ap, ◌∙◌, arith}
+use Rattle.std.proofs.Math.Bool.{or-false}
 use Rattle.std.specs.List.{filter}
 use Rattle.std.proofs.lemmas.List.{append-nil, take_more}
 use Rattle.std.proofs.lemmas.List.Elements.{filter_more}
 use Rattle.switch_names.specs.Names.{Name, has, is_name}
 use Rattle.unit_defs.proofs.NameLemmas.{has-append, name_exact}
 
-or_false : (b : Bool) → (b || false) ≡ b
-or_false true = refl
-or_false false = refl
-
 -- one name more at the end
 pub has_pushed : (old : List Name) (name unit : Name) → has (old ++ name ∷ []) unit ≡ (has old unit || is_name unit name)
-has_pushed old name unit = has-append old (name ∷ []) unit ∙ ap (λ b. has old unit || b) (or_false (is_name unit name))
+has_pushed old name unit = has-append old (name ∷ []) unit ∙ ap (λ b. has old unit || b) (or-false (is_name unit name))
 
 -- a name that a list has is another name's equal there
 pub has_same : (names : List Name) (name unit : Name) → is_name unit name ≡ true → has names unit ≡ has names name
@@ -23,8 +20,8 @@ pub nothing_pushed : (reached left : List Name) (name unit : Name) → has reach
 nothing_pushed reached left name unit there = by (is_name unit name) refl
   where
     by : (b : Bool) → is_name unit name ≡ b → has left unit ≡ (has left unit || (b && not (has reached unit)))
-    by true is = sym (ap (λ b. has left unit || not b) (has_same reached name unit is ∙ there) ∙ or_false (has left unit))
-    by false is = sym (or_false (has left unit))
+    by true is = sym (ap (λ b. has left unit || not b) (has_same reached name unit is ∙ there) ∙ or-false (has left unit))
+    by false is = sym (or-false (has left unit))
 
 -- a name that is new is left to walk
 pub new_pushed : (reached left : List Name) (name unit : Name) → has reached name ≡ false → has (left ++ name ∷ []) unit ≡ (has left unit || (is_name unit name && not (has reached unit)))

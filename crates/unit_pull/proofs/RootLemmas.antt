@@ -1,16 +1,14 @@
 -- The targets from which units are pulled, as they are found in the lists.
 use Rattle.std.proofs.Common.{◌≡◌, ◌||◌, ◌&&◌, T, Bool, true, false, cond, List, [], ◌∷◌, map, Option, None, Some, IsSome, is_some, unwrap_or, refl, sym, ap, subst, ◌∙◌, inl, inr}
+use Rattle.std.proofs.Math.Bool.{and-false}
 use Rattle.std.specs.FinMap.{entries, entries_sorted, get, get-entries}
 use Rattle.std.specs.FinMap.Entries.{below_all, find, is_sorted}
 use Rattle.std.specs.List.{filter}
 use Rattle.std.specs.List.Sorted.{IsStrictlySortedBy}
 use Rattle.std.specs.Option.{option_map_or}
 use Rattle.std.specs.Ordering.{is_lt}
-use Rattle.std.specs.declared.cmp.Ordering.{Ordering}
-use Rattle.std.specs.declared.cmp.Ordering.TheVariants.{Less, Equal, Greater}
 use Rattle.std.proofs.lemmas.Bool.{and_from, and_parts, or_cases, or_left, or_right}
 use Rattle.std.proofs.lemmas.Map.Views.{any-filter_same}
-use Rattle.switch_names.specs.declared.unit_kind.UnitKind.{UnitKind}
 use Rattle.switch_names.specs.declared.unit_kind.UnitKind.TheVariants.{Target}
 use Rattle.switch_names.specs.Names.{IsListOf, Name, has, is_name}
 use Rattle.host_trait.specs.Bytes.{bytes_cmp}
@@ -22,7 +20,9 @@ use Rattle.host_trait.specs.declared.unit_state.UnitState.{UnitState}
 use Rattle.unit_decide.specs.Facts.{unit_kind}
 use Rattle.unit_decide.specs.Flags.{may_start}
 use Rattle.unit_decide.specs.Kinds.{is_kind}
+use Rattle.unit_decide.proofs.TableLemmas.{target_from_test}
 use Rattle.unit_defs.proofs.NameLemmas.{less_is_other, name_exact}
+use Rattle.host_trait.proofs.KeyOrder.{left_of, less_from, right_of}
 use Rattle.unit_pull.specs.Roots.{IsRoot, is_defined_target, is_running_target, may_run}
 use Rattle.unit_text.specs.declared.assignment.Assignment.{Assignment}
 
@@ -38,26 +38,9 @@ units_in es = map (λ (e : Name × State). record { unit = e.0; state = e.1 }) e
 abbrev passing : (UnitState → Bool) → Entries → List Name
 passing p es = units_of (filter p (units_in es))
 
-less_from : (r : Ordering) → T (is_lt r) → r ≡ Less
-less_from Less is = refl
-less_from Equal is = absurd is
-less_from Greater is = absurd is
-
-left_of : (a b : Bool) → T (a && b) → T a
-left_of true b is = tt
-left_of false b is = absurd is
-
-right_of : (a b : Bool) → T (a && b) → T b
-right_of true b is = is
-right_of false b is = absurd is
-
 has_choice : (b : Bool) (unit : Name) (one : UnitState) (rest : List UnitState) → has (units_of (cond b (one ∷ rest) rest)) unit ≡ ((b && is_name unit one.unit) || has (units_of rest) unit)
 has_choice true unit one rest = refl
 has_choice false unit one rest = refl
-
-and_false : (b : Bool) → (b && false) ≡ false
-and_false true = refl
-and_false false = refl
 
 module _ (p : UnitState → Bool) where
   -- a unit that is lower than these is none of them
@@ -67,7 +50,7 @@ module _ (p : UnitState → Bool) where
       let one : UnitState = record { unit = e.0; state = e.1 } in
       has_choice (p one) unit one (filter p (units_in es))
       ∙ ap (λ b. (p one && b) || has (passing p es) unit) (less_is_other unit e.0 (less_from (bytes_cmp unit e.0) (left_of _ _ below)))
-      ∙ ap (λ b. b || has (passing p es) unit) (and_false (p one))
+      ∙ ap (λ b. b || has (passing p es) unit) (and-false (p one))
       ∙ not_above unit es (right_of (is_lt (bytes_cmp unit e.0)) _ below)
 
   abbrev passes_as : Name → Option State → Bool
@@ -92,13 +75,9 @@ module _ (p : UnitState → Bool) where
           let name : unit ≡ e.0 = name_exact unit e.0 same in
           either (p one) (has (passing p es) unit) (ap (λ n. has (passing p es) n) name ∙ not_above e.0 es (left_of (below_all bytes_cmp e.0 es) _ sorted))
           ∙ sym (ap (λ (n : Name). p (record { unit = n; state = e.1 })) name)
-      by false other rest = ap (λ b. b || has (passing p es) unit) (and_false (p one)) ∙ rest
+      by false other rest = ap (λ b. b || has (passing p es) unit) (and-false (p one)) ∙ rest
 
 -- ---- the two ways to be a root
-
-kind_from : (kind : UnitKind) → is_kind kind Target ≡ true → kind ≡ Target
-kind_from Target is = refl
-kind_from _ is = absurd cc
 
 active_from : (state : State) → is_active state ≡ true → state ≡ Active
 active_from Active is = refl
@@ -142,13 +121,13 @@ module _ (text_of : Name → Option (List Assignment)) where
         let parts = and_parts (is_active (state_of states unit) && is_kind (unit_kind unit) Target) (may_run (text_of unit)) is in
         let both = and_parts (is_active (state_of states unit)) (is_kind (unit_kind unit) Target) parts.0 in
         let text = text_from (text_of unit) parts.1 in
-        IsRoot.Running text.0 text.1 (kind_from (unit_kind unit) both.1) (active_from (state_of states unit) both.0) text.2
+        IsRoot.Running text.0 text.1 (target_from_test (unit_kind unit) both.1) (active_from (state_of states unit) both.0) text.2
 
     root_pending : (is_defined_target text_of unit && has starts unit) ≡ true → IsOne
     root_pending is =
         let parts = and_parts (is_defined_target text_of unit) (has starts unit) is in
         let both = and_parts (is_kind (unit_kind unit) Target) (is_some (text_of unit)) parts.0 in
-        IsRoot.Pending (some_from (text_of unit) both.1) (kind_from (unit_kind unit) both.0) parts.1
+        IsRoot.Pending (some_from (text_of unit) both.1) (target_from_test (unit_kind unit) both.0) parts.1
 
     is_one : IsOne → (is_running_target text_of (record { unit = unit; state = state_of states unit }) || (is_defined_target text_of unit && has starts unit)) ≡ true
     is_one (IsRoot.Running text found kind active may) = or_left _ _

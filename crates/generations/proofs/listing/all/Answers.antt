@@ -1,19 +1,10 @@
-use Rattle.std.proofs.Common.{refl}
-use Rattle.host_trait.specs.Change.{IsSame}
-use Rattle.host_trait.proofs.Moments.{same_then, told_before}
+use Rattle.host_trait.proofs.Readings.{read_handed, read_ok, read_starved, read_then, told_read}
 use Rattle.generations.proofs.Reading.{gens_of_world}
-use Rattle.host_trait.proofs.Causes.{cause_ok, cause_then}
 use Rattle.generations.proofs.listing.all.Goals as goal
-
-pub returns-in_err-linked-clause-moments : goal.returns-in_err-linked-clause-moments
-returns-in_err-linked-clause-moments g c = same_then c.read_targets.ensures.moments c.read_profile.ensures.moments IsSame (λ w is. refl) (λ w m is same. same)
-
-pub returns-in_err-list-clause-moments : goal.returns-in_err-list-clause-moments
-returns-in_err-list-clause-moments g c = same_then c.read_targets.ensures.moments c.read_profile.ensures.moments IsSame (λ w is. refl) (λ w m is same. same)
 
 pub returns-clause-gens : goal.returns-clause-gens
 returns-clause-gens g c =
-    let linked = told_before c.read_targets.ensures.moments c.in_ok-linked.ensures.number in
+    let linked = told_read c.read_targets.ensures.reads c.in_ok-linked.ensures.number in
     record {
       has = λ w is.
           gens_of_world w.leaves c.in_ok-targets.targets c.in_ok-linked.linked (record { list = c.in_ok-list.list; current = c.current_of-current.result })
@@ -21,9 +12,11 @@ returns-clause-gens g c =
           c.current_of-current.ensures.stands c.current_of-current.ensures.only;
     }
 
-pub returns-clause-moments : goal.returns-clause-moments
-returns-clause-moments g c = same_then c.read_targets.ensures.moments c.read_profile.ensures.moments IsSame (λ w is. refl) (λ w m is same. same)
+pub returns-in_err-linked-clause-reads : goal.returns-in_err-linked-clause-reads
+returns-in_err-linked-clause-reads g c = read_handed (read_then c.read_targets.ensures.reads c.in_err-linked.ensures.reads) _ c.from_residual-in_err-linked.ensures.1
 
-pub returns-clause-cause : goal.returns-clause-cause
-returns-clause-cause g c =
-    cause_ok (cause_then c.read_targets.ensures.cause c.read_profile.ensures.cause) (record { list = c.in_ok-list.list; current = c.current_of-current.result })
+pub returns-in_err-list-clause-reads : goal.returns-in_err-list-clause-reads
+returns-in_err-list-clause-reads g c = read_starved (read_then c.read_targets.ensures.reads c.read_profile.ensures.reads) _ c.from_residual-in_err-list.ensures.1
+
+pub returns-clause-reads : goal.returns-clause-reads
+returns-clause-reads g c = read_ok (read_then c.read_targets.ensures.reads c.read_profile.ensures.reads) _

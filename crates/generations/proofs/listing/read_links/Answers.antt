@@ -1,31 +1,22 @@
-use Rattle.std.proofs.Common.{refl, subst}
+use Rattle.std.proofs.Common.{subst}
 use Rattle.std.proofs.lemmas.List.{take_all}
-use Rattle.host_trait.specs.Change.{IsSame}
-use Rattle.host_trait.proofs.Moments.{same_then, started, told_as, told_before}
+use Rattle.host_trait.proofs.Moments.{told_as}
+use Rattle.host_trait.proofs.Readings.{nothing_read_ok, read_handed, read_ok, read_starved, read_then, told_read}
 use Rattle.generations.proofs.Reading.{read_more, read_none}
 use Rattle.generations.specs.Targets.{AreTargetsAt}
-use Rattle.host_trait.proofs.Causes.{cause_ok, cause_started, cause_then}
 use Rattle.generations.proofs.listing.read_links.Goals as goal
 
 pub loop-path-init : goal.loop-path-init
 loop-path-init g c = record {
-  way = started IsSame (λ w is. refl);
-  cause = cause_started tt;
+  reads = nothing_read_ok tt;
   read = record { has = λ w is. read_none w.leaves c.new-targets.result c.new-targets.ensures.empty };
 }
 
-pub returns-in_err-generation-clause-moments : goal.returns-in_err-generation-clause-moments
-returns-in_err-generation-clause-moments g c = same_then c.loop-path.invariant.way c.read_link.ensures.moments IsSame (λ w is. refl) (λ w m is same. same)
-
-pub returns-in_err-put_target-clause-moments : goal.returns-in_err-put_target-clause-moments
-returns-in_err-put_target-clause-moments g c = same_then c.loop-path.invariant.way c.read_link.ensures.moments IsSame (λ w is. refl) (λ w m is same. same)
-
 pub loop-path-preserved : goal.loop-path-preserved
 loop-path-preserved g c =
-    let link = told_before c.loop-path.invariant.way c.in_ok-generation.ensures.generation in
+    let link = told_read c.loop-path.invariant.reads c.in_ok-generation.ensures.generation in
     record {
-      way = same_then c.loop-path.invariant.way c.read_link.ensures.moments IsSame (λ w is. refl) (λ w m is same. same);
-      cause = cause_ok (cause_then c.loop-path.invariant.cause c.read_link.ensures.cause) tt;
+      reads = read_ok (read_then c.loop-path.invariant.reads c.read_link.ensures.reads) tt;
       read = record {
         has = λ w is.
             read_more w.leaves c.args.paths.now c.loop-path.path-index c.path-item.result c.in_ok-generation.generation c.loop-path.targets c.put_target.new.targets
@@ -38,5 +29,11 @@ returns-clause-targets g c =
     told_as c.loop-path.invariant.read (λ w. AreTargetsAt w.leaves c.args.paths.now c.loop-path.targets)
     (λ w is read. subst (λ paths. AreTargetsAt w.leaves paths c.loop-path.targets) (take_all c.loop-path.path-index c.args.paths.now c.loop-path-test.false) read)
 
-pub returns-clause-cause : goal.returns-clause-cause
-returns-clause-cause g c = cause_ok c.loop-path.invariant.cause c.loop-path.targets
+pub returns-in_err-generation-clause-reads : goal.returns-in_err-generation-clause-reads
+returns-in_err-generation-clause-reads g c = read_handed (read_then c.loop-path.invariant.reads c.in_err-generation.ensures.reads) _ c.from_residual.ensures.1
+
+pub returns-in_err-put_target-clause-reads : goal.returns-in_err-put_target-clause-reads
+returns-in_err-put_target-clause-reads g c = read_starved (read_then c.loop-path.invariant.reads c.read_link.ensures.reads) _ c.from_residual-in_err-put_target.ensures.1
+
+pub returns-clause-reads : goal.returns-clause-reads
+returns-clause-reads g c = read_ok c.loop-path.invariant.reads c.loop-path.targets

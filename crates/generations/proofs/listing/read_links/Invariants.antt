@@ -1,6 +1,6 @@
 use Rattle.std.proofs.Common.{Ok, take}
-use Rattle.host_trait.specs.Change.{IsSame}
-use Rattle.host_trait.specs.Host.{Told, Passes, HasCause}
+use Rattle.host_trait.specs.Host.{Told}
+use Rattle.host_trait.specs.Reading.{IsReading}
 use Rattle.generations.specs.Targets.{AreTargetsAt}
 use Rattle.generations.proofs.listing.read_links.Given as goal
 
@@ -10,7 +10,6 @@ invariant-loop-path g l =
     let start = g.T.Tree.host l.fn.host in
     let now = g.T.Tree.host l.host in
     record {
-      way : Passes start now IsSame;
-      cause : HasCause {T = Unit {0}} start now (Ok tt);
+      reads : IsReading {T = Unit {0}} start now (Ok tt);
       read : Told start (λ w. AreTargetsAt w.leaves (take l.path-index l.paths) l.targets);
     }

@@ -1,7 +1,6 @@
-use Rattle.std.proofs.Common.{refl}
-use Rattle.host_trait.specs.Change.{IsSame}
-use Rattle.host_trait.proofs.Moments.{started}
+use Rattle.std.proofs.Common.{None}
+use Rattle.host_trait.proofs.Readings.{nothing_read_ok}
 use Rattle.host_trait.proofs.reading.file_content.Goals as goal
 
-pub returns-in_default-clause-moments : goal.returns-in_default-clause-moments
-returns-in_default-clause-moments g c = started IsSame (λ w is. refl)
+pub returns-in_default-clause-reads : goal.returns-in_default-clause-reads
+returns-in_default-clause-reads g c = nothing_read_ok None

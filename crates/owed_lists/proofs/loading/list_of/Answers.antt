@@ -1,14 +1,11 @@
-use Rattle.std.proofs.Common.{Some, [], ap, sym, subst, ◌∙◌, List, ℕ}
+use Rattle.std.proofs.Common.{Some, ap, sym, subst, ◌∙◌, List, ℕ}
 use Rattle.std.specs.List.Sorted.{IsStrictlySortedBy}
 use Rattle.std.proofs.lemmas.Result.{IfOk-weaker}
 use Rattle.host_trait.specs.World.{bytes_cmp}
+use Rattle.host_trait.proofs.Orders.{none_sorted}
 use Rattle.switch_names.specs.Names.{has}
 use Rattle.owed_lists.specs.Lists.{names_in}
 use Rattle.owed_lists.proofs.loading.list_of.Goals as goal
-
-none_sorted : IsStrictlySortedBy bytes_cmp []
-unfolding IsStrictlySortedBy
-none_sorted = tt
 
 pub returns-in_default : goal.returns-in_default
 returns-in_default c = record {

@@ -1,21 +1,20 @@
-use Rattle.std.proofs.Common.{refl, ap, subst, ◌∙◌}
-use Rattle.host_trait.specs.Change.{IsSame}
+use Rattle.std.proofs.Common.{ap, subst, ◌∙◌}
 use Rattle.host_trait.specs.World.{content_of}
-use Rattle.host_trait.proofs.Moments.{started, told_as}
+use Rattle.host_trait.proofs.Moments.{told_as}
+use Rattle.host_trait.proofs.Readings.{no_device, nothing_read, read_ok, read_starved}
 use Rattle.owed_lists.specs.Lists.{IsListOf, place_of}
-use Rattle.host_trait.proofs.Causes.{cause_ok}
 use Rattle.owed_lists.proofs.loading.read_list.Goals as goal
 
-pub returns-in_err-at-clause-moments : goal.returns-in_err-at-clause-moments
-returns-in_err-at-clause-moments g c = started IsSame (λ w is. refl)
+pub returns-in_err-at-clause-reads : goal.returns-in_err-at-clause-reads
+returns-in_err-at-clause-reads g c = nothing_read _ (no_device _ c.from_residual.ensures.1)
 
-pub returns-clause-moments : goal.returns-clause-moments
-returns-clause-moments g c = c.content.ensures.moments
+pub returns-in_err-list_of-clause-reads : goal.returns-in_err-list_of-clause-reads
+returns-in_err-list_of-clause-reads g c = read_starved c.content.ensures.reads _ c.from_residual-in_err-list_of.ensures.1
+
+pub returns-clause-reads : goal.returns-clause-reads
+returns-clause-reads g c = read_ok c.content.ensures.reads c.in_ok-list_of.field-0
 
 pub returns-clause-list : goal.returns-clause-list
 returns-clause-list g c =
     told_as c.in_ok-bytes.ensures.content (λ w. IsListOf (content_of w.leaves (place_of c.args.which)) c.in_ok-list_of.field-0)
     (λ w is given. subst (λ o. IsListOf o c.in_ok-list_of.field-0) (given ∙ ap (λ p. content_of w.leaves p) c.in_ok-at.ensures) c.in_ok-list_of.ensures)
-
-pub returns-clause-cause : goal.returns-clause-cause
-returns-clause-cause g c = cause_ok c.content.ensures.cause c.in_ok-list_of.field-0

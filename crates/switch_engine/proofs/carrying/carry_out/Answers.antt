@@ -1,59 +1,111 @@
-use Rattle.std.proofs.Common.{List, refl, sym, subst, inl, ◌≡◌, ◌↔◌, IsTrue, ap, ◌∙◌}
-use Rattle.host_trait.proofs.Moments.{goes_on_same, leads_then, started, told_after}
-use Rattle.switch_engine.specs.Final.{IsSwitchMoment, IsSwitched, entries_of, HasFailed}
-use Rattle.switch_engine.proofs.DefinedLemmas.{left_failed}
-use Rattle.switch_engine.proofs.StepLemmas.{none_entered}
-use Rattle.unit_defs.specs.declared.unit.Unit.{Unit}
-use Rattle.unit_defs.specs.Defs.{AreDefsOf}
-use Rattle.std.proofs.lemmas.Result.{err_from_is_err_and}
-use Rattle.switch_engine.proofs.CauseLemmas.{cause_end, cause_on, handed}
-use Rattle.host_trait.specs.World.{WorldState}
+use Rattle.std.proofs.Common.{◌≡◌, ◌↔◌, IsTrue, None, Some, refl, sym, ap, subst, ◌∙◌}
+use Rattle.std.proofs.lemmas.Bool.{both_ways}
+use Rattle.std.proofs.lemmas.Result.{on_ok_weaker}
+use Rattle.std.specs.FinMap.{empty}
+use Rattle.std.specs.Option.{option_copied}
+use Rattle.generations.specs.Gens.{IsGensOf, number_for_in}
+use Rattle.generations.specs.Places.{set_end}
+use Rattle.generations.specs.Set.{CanSet, IsSetMoment}
+use Rattle.generations.proofs.LinkNumbers.{if_ok_as}
+use Rattle.host_trait.specs.Host.{Told}
+use Rattle.host_trait.specs.World.{seen}
+use Rattle.host_trait.proofs.Moments.{leads_as, passes_as, told_as}
+use Rattle.switch_engine.specs.Commands.{new_system}
+use Rattle.switch_engine.specs.Final.{HasFailed, IsEndOf, IsLeftFailed, LeavesFailed}
+use Rattle.switch_engine.specs.Moments.{IsMomentOf, IsSwitchMoment, IsSwitched}
+use Rattle.switch_engine.specs.Places.{switch_places}
+use Rattle.switch_engine.proofs.CarryLemmas.{gens_of, none_failed, set_can, set_ends, set_leaves_none_failed, set_moments, switch_ends, switch_moments, switch_verdict, units_planned, way_free}
+use Rattle.switch_names.specs.Names.{Name}
+use Rattle.tree_put.specs.WrittenPlace.{in_the_way}
+use Rattle.unit_stage.specs.declared.unit_plan.UnitPlan.{UnitPlan}
+use Rattle.unit_stage.specs.Plan.{IsUnitPlanOf}
 use Rattle.switch_engine.proofs.carrying.carry_out.Goals as goal
 
-pub returns-in_err-links-clause-moments : goal.returns-in_err-links-clause-moments
-returns-in_err-links-clause-moments g c =
-    let plan = c.args.plan.now in started (IsSwitchMoment plan.to plan.owed) (λ w is.
-    record { entering = none_entered (entries_of plan.to plan.owed w) w w refl; lists = inl refl })
+pub carry_boot-requires-clause-gens : goal.carry_boot-requires-clause-gens
+carry_boot-requires-clause-gens g c =
+    let sets = sym c.profile.ensures ∙ ap option_copied c.in-Some.is in
+    told_as c.requires.planned (λ w. IsGensOf w.leaves c.in-Some.profile.now.gens)
+    (λ w is plan. gens_of c.args.plan.now w c.in-Some.profile.now sets c.args.plan.now.command plan.planned)
 
-pub returns-in_err-states-clause-moments : goal.returns-in_err-states-clause-moments
-returns-in_err-states-clause-moments g c =
-    let way = c.switch_units.ensures.moments in
-    goes_on_same way way.tells c.units.ensures.moments (IsSwitchMoment c.args.plan.now.to c.args.plan.now.owed) (λ w m is moment. moment) (λ w v is moment. moment)
+pub carry_boot-requires-clause-number : goal.carry_boot-requires-clause-number
+carry_boot-requires-clause-number g c =
+    let sets = sym c.profile.ensures ∙ ap option_copied c.in-Some.is in
+    subst (λ (system : Name). number_for_in c.in-Some.profile.now.gens.list system ≡ Some c.in-Some.profile.now.number) (sym (c.to.ensures empty))
+    (c.requires.numbered empty c.in-Some.profile.now sets)
 
-pub returns-clause-ok : goal.returns-clause-ok
-returns-clause-ok g c =
-    let plan = c.args.plan.now in
-    leads_then c.in_ok-switch_units.ensures.ok c.units.ensures.moments.tells (IsSwitched plan.to plan.owed)
-    (λ w v u is is_v final same. subst (IsSwitched plan.to plan.owed w) (sym same) final)
+pub carry_boot-requires-clause-can : goal.carry_boot-requires-clause-can
+carry_boot-requires-clause-can g c =
+    let sets = sym c.profile.ensures ∙ ap option_copied c.in-Some.is in
+    told_as c.requires.planned (CanSet c.to.result.now)
+    (λ w is plan. subst (λ (system : Name). CanSet system w) (sym (c.to.ensures w.leaves))
+    (set_can c.args.plan.now w c.in-Some.profile.now sets c.args.plan.now.command plan.planned plan.not_refused))
 
-pub returns-clause-moments : goal.returns-clause-moments
-returns-clause-moments g c =
-    let way = c.switch_units.ensures.moments in
-    goes_on_same way way.tells c.units.ensures.moments (IsSwitchMoment c.args.plan.now.to c.args.plan.now.owed) (λ w m is moment. moment) (λ w v is moment. moment)
+pub returns-in-Some-clause-ok : goal.returns-in-Some-clause-ok
+returns-in-Some-clause-ok g c =
+    let sets = sym c.profile.ensures ∙ ap option_copied c.in-Some.is in
+    on_ok_weaker c.carry_boot.result (λ ok. leads_as ok (IsEndOf c.args.plan.now.command)
+    (λ w v is set. set_ends c.args.plan.now w c.in-Some.profile.now sets c.args.plan.now.command (c.requires.planned.has w is).planned v
+    (subst (λ (system : Name). seen v ≡ set_end system w) (c.to.ensures w.leaves) set))) c.carry_boot.ensures.ok
 
-pub returns-clause-verdict : goal.returns-clause-verdict
-returns-clause-verdict g c = record {
-  has = λ w is.
-      let plan = c.args.plan.now in let planned = c.requires.planned.has w is in let there = c.in_ok-switch_units.ensures.ok.to w is in
-      let both = left_failed plan.to plan.owed w there.0 c.defs.result.now c.in_ok-states.states
-      (subst (λ (units : List Unit). AreDefsOf w.leaves plan.to units) (sym c.defs.ensures) planned.defs)
-      (c.in_ok-states.ensures.states.has there.0 there.1) there.2.final in
-      (λ failed. both.0 (c.has_failed-failed.ensures.0 failed), λ left. c.has_failed-failed.ensures.1 (both.1 left));
-}
+pub returns-in-Some-clause-failed : goal.returns-in-Some-clause-failed
+returns-in-Some-clause-failed g c =
+    if_ok_as c.carry_boot.result _ (λ outcome. IsTrue outcome.failed ↔ HasFailed c.args.plan.now.units.defs outcome.states) c.carry_boot.ensures.outcome
+    (λ outcome is. none_failed c.args.plan.now.units.defs outcome is)
 
-pub returns-clause-states : goal.returns-clause-states
-returns-clause-states g c =
-    told_after c.units.ensures.moments c.units.ensures.moments.tells (λ v. c.in_ok-states.states ≡ v.manager.states)
-    (λ w v is same. c.in_ok-states.ensures.states.has w is ∙ ap (λ (x : WorldState). x.manager.states) (sym same))
+pub returns-in-Some-clause-verdict : goal.returns-in-Some-clause-verdict
+returns-in-Some-clause-verdict g c =
+    let sets = sym c.profile.ensures ∙ ap option_copied c.in-Some.is in
+    if_ok_as c.carry_boot.result _ (λ outcome. Told (g.H.Tree.host c.args.host.now) (λ w. IsTrue outcome.failed ↔ LeavesFailed c.args.plan.now.command w)) c.carry_boot.ensures.outcome
+    (λ outcome said. told_as c.requires.planned (λ w. IsTrue outcome.failed ↔ LeavesFailed c.args.plan.now.command w)
+    (λ w is plan. (
+      λ failed. absurd (both_ways _ (ap (λ o. o.failed) said) failed),
+      λ left. absurd (both_ways _ refl (set_leaves_none_failed c.args.plan.now w c.in-Some.profile.now sets c.args.plan.now.command plan.planned left)),
+    )))
 
-pub returns-clause-failed : goal.returns-clause-failed
-returns-clause-failed g c =
-    subst (λ (units : List Unit). IsTrue c.has_failed-failed.result ↔ HasFailed units c.in_ok-states.states) c.defs.ensures c.has_failed-failed.ensures
+pub returns-in-Some-clause-moments : goal.returns-in-Some-clause-moments
+returns-in-Some-clause-moments g c =
+    let sets = sym c.profile.ensures ∙ ap option_copied c.in-Some.is in
+    passes_as c.carry_boot.ensures.moments (IsMomentOf c.args.plan.now.command)
+    (λ w m is moment. let plan = c.requires.planned.has w is in
+    set_moments c.args.plan.now w c.in-Some.profile.now sets c.args.plan.now.command plan.planned plan.named plan.not_refused m
+    (subst (λ (system : Name). IsSetMoment system w m) (c.to.ensures w.leaves) moment))
 
-pub returns-in_err-states-clause-cause : goal.returns-in_err-states-clause-cause
-returns-in_err-states-clause-cause g c =
-    let p = err_from_is_err_and c.from_residual-in_err-states.result c.from_residual-in_err-states.ensures.1 in
-    cause_on c.switch_units.ensures.cause c.in_err-states.ensures.cause (λ e. handed _ p.0 _ _ p.1 p.2 e)
+pub carry_switch-requires-clause-planned : goal.carry_switch-requires-clause-planned
+carry_switch-requires-clause-planned g c =
+    let none = sym c.profile.ensures ∙ ap option_copied c.in-None.is in
+    told_as c.requires.planned (λ w. IsUnitPlanOf c.to-in-None.result.now w c.units.result.now)
+    (λ w is plan. subst (λ (units : UnitPlan). IsUnitPlanOf c.to-in-None.result.now w units) (sym c.units.ensures)
+    (subst (λ (system : Name). IsUnitPlanOf system w c.args.plan.now.units) (sym (c.to-in-None.ensures w.leaves))
+    (units_planned c.args.plan.now w none c.args.plan.now.command plan.planned)))
 
-pub returns-clause-cause : goal.returns-clause-cause
-returns-clause-cause g c = cause_end c.switch_units.ensures.cause c.units.ensures.cause
+pub carry_switch-requires-clause-free : goal.carry_switch-requires-clause-free
+carry_switch-requires-clause-free g c =
+    let none = sym c.profile.ensures ∙ ap option_copied c.in-None.is in
+    told_as c.requires.planned (λ w. in_the_way switch_places w.leaves ≡ None)
+    (λ w is plan. way_free c.args.plan.now w none c.args.plan.now.command plan.planned plan.not_refused)
+
+pub returns-in-None-clause-ok : goal.returns-in-None-clause-ok
+returns-in-None-clause-ok g c =
+    let none = sym c.profile.ensures ∙ ap option_copied c.in-None.is in
+    on_ok_weaker c.carry_switch.result (λ ok. leads_as ok (IsEndOf c.args.plan.now.command)
+    (λ w v is switched. switch_ends c.args.plan.now w none c.args.plan.now.command (c.requires.planned.has w is).planned c.requires.changes v
+    (subst (λ (units : UnitPlan). IsSwitched (new_system c.args.plan.now.command w.leaves) units.owed w v) c.units.ensures
+    (subst (λ (system : Name). IsSwitched system c.units.result.now.owed w v) (c.to-in-None.ensures w.leaves) switched)))) c.carry_switch.ensures.ok
+
+pub returns-in-None-clause-verdict : goal.returns-in-None-clause-verdict
+returns-in-None-clause-verdict g c =
+    let none = sym c.profile.ensures ∙ ap option_copied c.in-None.is in
+    if_ok_as c.carry_switch.result _ (λ outcome. Told (g.H.Tree.host c.args.host.now) (λ w. IsTrue outcome.failed ↔ LeavesFailed c.args.plan.now.command w)) c.carry_switch.ensures.verdict
+    (λ outcome told. told_as told (λ w. IsTrue outcome.failed ↔ LeavesFailed c.args.plan.now.command w)
+    (λ w is says. switch_verdict c.args.plan.now w none c.args.plan.now.command (c.requires.planned.has w is).planned c.requires.changes outcome.failed
+    (subst (λ (units : UnitPlan). IsTrue outcome.failed ↔ ((unit : Name) × IsLeftFailed (new_system c.args.plan.now.command w.leaves) units.owed w unit)) c.units.ensures
+    (subst (λ (system : Name). IsTrue outcome.failed ↔ ((unit : Name) × IsLeftFailed system c.units.result.now.owed w unit)) (c.to-in-None.ensures w.leaves) says))))
+
+pub returns-in-None-clause-moments : goal.returns-in-None-clause-moments
+returns-in-None-clause-moments g c =
+    let none = sym c.profile.ensures ∙ ap option_copied c.in-None.is in
+    passes_as c.carry_switch.ensures.moments (IsMomentOf c.args.plan.now.command)
+    (λ w m is moment. let plan = c.requires.planned.has w is in
+    switch_moments c.args.plan.now w none c.args.plan.now.command plan.planned c.requires.changes plan.named plan.not_refused m
+    (subst (λ (units : UnitPlan). IsSwitchMoment (new_system c.args.plan.now.command w.leaves) units.owed w m) c.units.ensures
+    (subst (λ (system : Name). IsSwitchMoment system c.units.result.now.owed w m) (c.to-in-None.ensures w.leaves) moment)))

@@ -1,89 +1,134 @@
-use Rattle.std.proofs.Common.{◌≡◌, ◌∙◌}
-use Rattle.host_trait.specs.States.{state_of}
-use Rattle.host_trait.proofs.Moments.{told_after, told_as}
-use Rattle.switch_engine.specs.Plan.{lists_of}
-use Rattle.switch_engine.specs.Steps.{AreCallsOf, CanLink}
-use Rattle.switch_engine.proofs.SwitchLemmas.{can_link, ends, first_way, rest_can, second_way, stops_can, third_way}
+use Rattle.std.proofs.Common.{ap, ◌∙◌}
 use Rattle.std.proofs.lemmas.Result.{err_from_is_err_and}
-use Rattle.host_trait.proofs.Causes.{cause_then}
-use Rattle.switch_engine.proofs.CauseLemmas.{cause_end, cause_on, handed}
+use Rattle.host_trait.specs.States.{state_of}
+use Rattle.host_trait.proofs.Causes.{cause_on, cause_then}
+use Rattle.host_trait.proofs.Moments.{told_as}
+use Rattle.unit_stage.proofs.CauseLemmas.{cause_end, handed}
+use Rattle.switch_engine.specs.declared.links.Links.{Links}
+use Rattle.switch_engine.proofs.PlaceLemmas.{all_clear}
+use Rattle.switch_engine.proofs.WayOfSwitch.{IsGiven, definitions_can, ends, first_way, lists_can, second_way, stops_can, third_way, units_can}
 use Rattle.switch_engine.proofs.carrying.switch_units.Goals as goal
+
+pub stop_units-requires-clause-lists : goal.stop_units-requires-clause-lists
+stop_units-requires-clause-lists g c =
+    let plan = c.args.plan.now in let system = c.args.system.now in let calls = c.calls_of-calls.result in let lists = c.recorded.result.now in
+    let leaf = c.args.links.now.definitions in let is_leaf = ap (λ (links : Links). links.definitions) c.requires.links in
+    let given = told_as c.requires.planned (IsGiven plan.owed lists calls.stops.now calls.reloads.now calls.restarts.now calls.starts.now)
+    (λ w is planned. record {
+      recorded = c.recorded.ensures ∙ planned.recorded;
+      calls = c.calls_of-calls.ensures (state_of w.manager.states) planned.duties;
+      clear = all_clear w.leaves (c.requires.free.has w is);
+    }) in
+    lists_can system plan.owed lists calls.stops.now calls.reloads.now calls.restarts.now calls.starts.now leaf is_leaf given
 
 pub stop_units-requires-clause-calls : goal.stop_units-requires-clause-calls
 stop_units-requires-clause-calls g c =
-    let plan = c.args.plan.now in let calls = c.calls_of-calls.result in
-    let told = told_as c.requires.planned (λ w. AreCallsOf plan.owed (state_of w.manager.states) calls.stops.now calls.reloads.now calls.restarts.now calls.starts.now)
-    (λ w is planned. c.calls_of-calls.ensures (state_of w.manager.states) planned.duties) in
-    stops_can plan.owed calls.stops.now calls.reloads.now calls.restarts.now calls.starts.now told
+    let plan = c.args.plan.now in let system = c.args.system.now in let calls = c.calls_of-calls.result in let lists = c.recorded.result.now in
+    let leaf = c.args.links.now.definitions in let is_leaf = ap (λ (links : Links). links.definitions) c.requires.links in
+    let given = told_as c.requires.planned (IsGiven plan.owed lists calls.stops.now calls.reloads.now calls.restarts.now calls.starts.now)
+    (λ w is planned. record {
+      recorded = c.recorded.ensures ∙ planned.recorded;
+      calls = c.calls_of-calls.ensures (state_of w.manager.states) planned.duties;
+      clear = all_clear w.leaves (c.requires.free.has w is);
+    }) in
+    stops_can system plan.owed lists calls.stops.now calls.reloads.now calls.restarts.now calls.starts.now leaf is_leaf given
 
 pub returns-in_err-stop_units-clause-moments : goal.returns-in_err-stop_units-clause-moments
 returns-in_err-stop_units-clause-moments g c =
-    let plan = c.args.plan.now in let calls = c.calls_of-calls.result in
-    let told = told_as c.requires.planned (λ w. AreCallsOf plan.owed (state_of w.manager.states) calls.stops.now calls.reloads.now calls.restarts.now calls.starts.now)
-    (λ w is planned. c.calls_of-calls.ensures (state_of w.manager.states) planned.duties) in
-    let recorded = told_as c.requires.planned (λ w. c.recorded.result.now ≡ lists_of plan.owed) (λ w is planned. c.recorded.ensures ∙ planned.recorded) in
-    first_way plan.to plan.owed c.recorded.result.now c.args.links.now c.requires.links calls.stops.now calls.reloads.now calls.restarts.now calls.starts.now told recorded
-    c.stop_units.ensures.moments
+    let plan = c.args.plan.now in let system = c.args.system.now in let calls = c.calls_of-calls.result in let lists = c.recorded.result.now in
+    let leaf = c.args.links.now.definitions in let is_leaf = ap (λ (links : Links). links.definitions) c.requires.links in
+    let given = told_as c.requires.planned (IsGiven plan.owed lists calls.stops.now calls.reloads.now calls.restarts.now calls.starts.now)
+    (λ w is planned. record {
+      recorded = c.recorded.ensures ∙ planned.recorded;
+      calls = c.calls_of-calls.ensures (state_of w.manager.states) planned.duties;
+      clear = all_clear w.leaves (c.requires.free.has w is);
+    }) in
+    first_way system plan.owed lists calls.stops.now calls.reloads.now calls.restarts.now calls.starts.now leaf is_leaf given c.stop_units.ensures.moments
 
-pub load_system-requires : goal.load_system-requires
-load_system-requires g c =
-    told_after c.stop_units.ensures.moments c.in_ok-stop_units.ensures.ok CanLink
-    (λ w v is came. can_link c.recorded.result.now c.calls_of-calls.result.stops.now w v (c.requires.can.has w is) came)
+pub put_definitions-requires : goal.put_definitions-requires
+put_definitions-requires g c =
+    let plan = c.args.plan.now in let system = c.args.system.now in let calls = c.calls_of-calls.result in let lists = c.recorded.result.now in
+    let leaf = c.args.links.now.definitions in let is_leaf = ap (λ (links : Links). links.definitions) c.requires.links in
+    let given = told_as c.requires.planned (IsGiven plan.owed lists calls.stops.now calls.reloads.now calls.restarts.now calls.starts.now)
+    (λ w is planned. record {
+      recorded = c.recorded.ensures ∙ planned.recorded;
+      calls = c.calls_of-calls.ensures (state_of w.manager.states) planned.duties;
+      clear = all_clear w.leaves (c.requires.free.has w is);
+    }) in
+    definitions_can system plan.owed lists calls.stops.now calls.reloads.now calls.restarts.now calls.starts.now leaf is_leaf given c.stop_units.ensures.moments c.in_ok-stop_units.ensures.ok
 
-pub returns-in_err-load_system-clause-moments : goal.returns-in_err-load_system-clause-moments
-returns-in_err-load_system-clause-moments g c =
-    let plan = c.args.plan.now in let calls = c.calls_of-calls.result in
-    let told = told_as c.requires.planned (λ w. AreCallsOf plan.owed (state_of w.manager.states) calls.stops.now calls.reloads.now calls.restarts.now calls.starts.now)
-    (λ w is planned. c.calls_of-calls.ensures (state_of w.manager.states) planned.duties) in
-    let recorded = told_as c.requires.planned (λ w. c.recorded.result.now ≡ lists_of plan.owed) (λ w is planned. c.recorded.ensures ∙ planned.recorded) in
-    second_way plan.to plan.owed c.recorded.result.now c.args.links.now c.requires.links calls.stops.now calls.reloads.now calls.restarts.now calls.starts.now told recorded
-    c.stop_units.ensures.moments c.in_ok-stop_units.ensures.ok c.load_system.ensures.moments
+pub returns-in_err-put_definitions-clause-moments : goal.returns-in_err-put_definitions-clause-moments
+returns-in_err-put_definitions-clause-moments g c =
+    let plan = c.args.plan.now in let system = c.args.system.now in let calls = c.calls_of-calls.result in let lists = c.recorded.result.now in
+    let leaf = c.args.links.now.definitions in let is_leaf = ap (λ (links : Links). links.definitions) c.requires.links in
+    let given = told_as c.requires.planned (IsGiven plan.owed lists calls.stops.now calls.reloads.now calls.restarts.now calls.starts.now)
+    (λ w is planned. record {
+      recorded = c.recorded.ensures ∙ planned.recorded;
+      calls = c.calls_of-calls.ensures (state_of w.manager.states) planned.duties;
+      clear = all_clear w.leaves (c.requires.free.has w is);
+    }) in
+    second_way system plan.owed lists calls.stops.now calls.reloads.now calls.restarts.now calls.starts.now leaf is_leaf given c.stop_units.ensures.moments c.in_ok-stop_units.ensures.ok c.put_definitions.ensures.moments
 
-pub give_all-requires : goal.give_all-requires
-give_all-requires g c =
-    let plan = c.args.plan.now in let calls = c.calls_of-calls.result in
-    let told = told_as c.requires.planned (λ w. AreCallsOf plan.owed (state_of w.manager.states) calls.stops.now calls.reloads.now calls.restarts.now calls.starts.now)
-    (λ w is planned. c.calls_of-calls.ensures (state_of w.manager.states) planned.duties) in
-    let recorded = told_as c.requires.planned (λ w. c.recorded.result.now ≡ lists_of plan.owed) (λ w is planned. c.recorded.ensures ∙ planned.recorded) in
-    rest_can plan.to plan.owed c.recorded.result.now c.args.links.now c.requires.links calls.stops.now calls.reloads.now calls.restarts.now calls.starts.now told recorded
-    c.stop_units.ensures.moments c.in_ok-stop_units.ensures.ok c.load_system.ensures.moments c.in_ok-load_system.ensures.ok
+pub bring_units-requires-clause-can : goal.bring_units-requires-clause-can
+bring_units-requires-clause-can g c =
+    let plan = c.args.plan.now in let system = c.args.system.now in let calls = c.calls_of-calls.result in let lists = c.recorded.result.now in
+    let leaf = c.args.links.now.definitions in let is_leaf = ap (λ (links : Links). links.definitions) c.requires.links in
+    let given = told_as c.requires.planned (IsGiven plan.owed lists calls.stops.now calls.reloads.now calls.restarts.now calls.starts.now)
+    (λ w is planned. record {
+      recorded = c.recorded.ensures ∙ planned.recorded;
+      calls = c.calls_of-calls.ensures (state_of w.manager.states) planned.duties;
+      clear = all_clear w.leaves (c.requires.free.has w is);
+    }) in
+    units_can system plan.owed lists calls.stops.now calls.reloads.now calls.restarts.now calls.starts.now leaf is_leaf given c.stop_units.ensures.moments c.in_ok-stop_units.ensures.ok c.put_definitions.ensures.moments c.in_ok-put_definitions.ensures.ok
 
-pub returns-in_err-give_all-clause-moments : goal.returns-in_err-give_all-clause-moments
-returns-in_err-give_all-clause-moments g c =
-    let plan = c.args.plan.now in let calls = c.calls_of-calls.result in
-    let told = told_as c.requires.planned (λ w. AreCallsOf plan.owed (state_of w.manager.states) calls.stops.now calls.reloads.now calls.restarts.now calls.starts.now)
-    (λ w is planned. c.calls_of-calls.ensures (state_of w.manager.states) planned.duties) in
-    let recorded = told_as c.requires.planned (λ w. c.recorded.result.now ≡ lists_of plan.owed) (λ w is planned. c.recorded.ensures ∙ planned.recorded) in
-    third_way plan.to plan.owed c.recorded.result.now c.args.links.now c.requires.links calls.stops.now calls.reloads.now calls.restarts.now calls.starts.now told recorded
-    c.stop_units.ensures.moments c.in_ok-stop_units.ensures.ok c.load_system.ensures.moments c.in_ok-load_system.ensures.ok c.give_all.ensures.moments
+pub returns-in_err-bring_units-clause-moments : goal.returns-in_err-bring_units-clause-moments
+returns-in_err-bring_units-clause-moments g c =
+    let plan = c.args.plan.now in let system = c.args.system.now in let calls = c.calls_of-calls.result in let lists = c.recorded.result.now in
+    let leaf = c.args.links.now.definitions in let is_leaf = ap (λ (links : Links). links.definitions) c.requires.links in
+    let given = told_as c.requires.planned (IsGiven plan.owed lists calls.stops.now calls.reloads.now calls.restarts.now calls.starts.now)
+    (λ w is planned. record {
+      recorded = c.recorded.ensures ∙ planned.recorded;
+      calls = c.calls_of-calls.ensures (state_of w.manager.states) planned.duties;
+      clear = all_clear w.leaves (c.requires.free.has w is);
+    }) in
+    third_way system plan.owed lists calls.stops.now calls.reloads.now calls.restarts.now calls.starts.now leaf is_leaf given c.stop_units.ensures.moments c.in_ok-stop_units.ensures.ok c.put_definitions.ensures.moments c.in_ok-put_definitions.ensures.ok c.bring_units.ensures.moments
 
 pub returns-clause-ok : goal.returns-clause-ok
 returns-clause-ok g c =
-    let plan = c.args.plan.now in let calls = c.calls_of-calls.result in
-    let told = told_as c.requires.planned (λ w. AreCallsOf plan.owed (state_of w.manager.states) calls.stops.now calls.reloads.now calls.restarts.now calls.starts.now)
-    (λ w is planned. c.calls_of-calls.ensures (state_of w.manager.states) planned.duties) in
-    let recorded = told_as c.requires.planned (λ w. c.recorded.result.now ≡ lists_of plan.owed) (λ w is planned. c.recorded.ensures ∙ planned.recorded) in
-    ends plan.to plan.owed c.recorded.result.now c.args.links.now c.requires.links calls.stops.now calls.reloads.now calls.restarts.now calls.starts.now told recorded
-    c.stop_units.ensures.moments c.in_ok-stop_units.ensures.ok c.load_system.ensures.moments c.in_ok-load_system.ensures.ok c.in_ok-give_all.ensures.ok
+    let plan = c.args.plan.now in let system = c.args.system.now in let calls = c.calls_of-calls.result in let lists = c.recorded.result.now in
+    let leaf = c.args.links.now.definitions in let is_leaf = ap (λ (links : Links). links.definitions) c.requires.links in
+    let given = told_as c.requires.planned (IsGiven plan.owed lists calls.stops.now calls.reloads.now calls.restarts.now calls.starts.now)
+    (λ w is planned. record {
+      recorded = c.recorded.ensures ∙ planned.recorded;
+      calls = c.calls_of-calls.ensures (state_of w.manager.states) planned.duties;
+      clear = all_clear w.leaves (c.requires.free.has w is);
+    }) in
+    ends system plan.owed lists calls.stops.now calls.reloads.now calls.restarts.now calls.starts.now leaf is_leaf given c.stop_units.ensures.moments c.in_ok-stop_units.ensures.ok c.put_definitions.ensures.moments c.in_ok-put_definitions.ensures.ok c.in_ok-bring_units.ensures.ok
 
 pub returns-clause-moments : goal.returns-clause-moments
 returns-clause-moments g c =
-    let plan = c.args.plan.now in let calls = c.calls_of-calls.result in
-    let told = told_as c.requires.planned (λ w. AreCallsOf plan.owed (state_of w.manager.states) calls.stops.now calls.reloads.now calls.restarts.now calls.starts.now)
-    (λ w is planned. c.calls_of-calls.ensures (state_of w.manager.states) planned.duties) in
-    let recorded = told_as c.requires.planned (λ w. c.recorded.result.now ≡ lists_of plan.owed) (λ w is planned. c.recorded.ensures ∙ planned.recorded) in
-    third_way plan.to plan.owed c.recorded.result.now c.args.links.now c.requires.links calls.stops.now calls.reloads.now calls.restarts.now calls.starts.now told recorded
-    c.stop_units.ensures.moments c.in_ok-stop_units.ensures.ok c.load_system.ensures.moments c.in_ok-load_system.ensures.ok c.give_all.ensures.moments
+    let plan = c.args.plan.now in let system = c.args.system.now in let calls = c.calls_of-calls.result in let lists = c.recorded.result.now in
+    let leaf = c.args.links.now.definitions in let is_leaf = ap (λ (links : Links). links.definitions) c.requires.links in
+    let given = told_as c.requires.planned (IsGiven plan.owed lists calls.stops.now calls.reloads.now calls.restarts.now calls.starts.now)
+    (λ w is planned. record {
+      recorded = c.recorded.ensures ∙ planned.recorded;
+      calls = c.calls_of-calls.ensures (state_of w.manager.states) planned.duties;
+      clear = all_clear w.leaves (c.requires.free.has w is);
+    }) in
+    third_way system plan.owed lists calls.stops.now calls.reloads.now calls.restarts.now calls.starts.now leaf is_leaf given c.stop_units.ensures.moments c.in_ok-stop_units.ensures.ok c.put_definitions.ensures.moments c.in_ok-put_definitions.ensures.ok c.bring_units.ensures.moments
 
-pub returns-in_err-load_system-clause-cause : goal.returns-in_err-load_system-clause-cause
-returns-in_err-load_system-clause-cause g c =
-    let p = err_from_is_err_and c.from_residual-in_err-load_system.result c.from_residual-in_err-load_system.ensures.1 in
-    cause_on c.stop_units.ensures.cause c.in_err-load_system.ensures.cause (λ e. handed _ p.0 _ _ p.1 p.2 e)
+pub bring_units-requires-clause-current : goal.bring_units-requires-clause-current
+bring_units-requires-clause-current g c = ap (λ (links : Links). links.current) c.requires.links
 
-pub returns-in_err-give_all-clause-cause : goal.returns-in_err-give_all-clause-cause
-returns-in_err-give_all-clause-cause g c =
-    let p = err_from_is_err_and c.from_residual-in_err-give_all.result c.from_residual-in_err-give_all.ensures.1 in
-    cause_on (cause_then c.stop_units.ensures.cause c.load_system.ensures.cause) c.in_err-give_all.ensures.cause (λ e. handed _ p.0 _ _ p.1 p.2 e)
+pub returns-in_err-put_definitions-clause-cause : goal.returns-in_err-put_definitions-clause-cause
+returns-in_err-put_definitions-clause-cause g c =
+    let p = err_from_is_err_and c.from_residual-in_err-put_definitions.result c.from_residual-in_err-put_definitions.ensures.1 in
+    cause_on c.stop_units.ensures.cause c.in_err-put_definitions.ensures.cause (λ e. handed _ p.0 _ _ p.1 p.2 e)
+
+pub returns-in_err-bring_units-clause-cause : goal.returns-in_err-bring_units-clause-cause
+returns-in_err-bring_units-clause-cause g c =
+    let p = err_from_is_err_and c.from_residual-in_err-bring_units.result c.from_residual-in_err-bring_units.ensures.1 in
+    cause_on (cause_then c.stop_units.ensures.cause c.put_definitions.ensures.cause) c.in_err-bring_units.ensures.cause (λ e. handed _ p.0 _ _ p.1 p.2 e)
 
 pub returns-clause-cause : goal.returns-clause-cause
-returns-clause-cause g c = cause_end (cause_then c.stop_units.ensures.cause c.load_system.ensures.cause) c.give_all.ensures.cause
+returns-clause-cause g c = cause_end (cause_then c.stop_units.ensures.cause c.put_definitions.ensures.cause) c.bring_units.ensures.cause

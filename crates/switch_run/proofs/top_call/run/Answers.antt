@@ -1,20 +1,71 @@
-use Rattle.std.proofs.Common.{subst}
-use Rattle.host_trait.specs.Change.{IsSame}
-use Rattle.host_trait.specs.Sink.{Puts}
-use Rattle.host_trait.proofs.Moments.{each_moment, passes_as, told_as}
-use Rattle.switch_engine.specs.declared.command.Command.TheVariants.{Test, DryActivate}
-use Rattle.switch_run.specs.declared.status.Status.{Status}
-use Rattle.switch_run.specs.Outcomes.{IsOutputOf, IsPutFirst}
-use Rattle.switch_run.proofs.DryLemmas.{put_first}
-use Rattle.switch_run.proofs.OutputLemmas.{puts_as}
+use Rattle.switch_run.proofs.RunLemmas as run
 use Rattle.switch_run.proofs.top_call.run.Goals as goal
 
-pub returns-clause-each_moment : goal.returns-clause-each_moment
-returns-clause-each_moment g c = each_moment (g.met.H.Tree.is_host c.args.host.now) c.answer.ensures.moments (λ w is. c.answer.ensures.begins.has w is)
+pub returns-clause-usage : goal.returns-clause-usage
+returns-clause-usage g c = run.usage _ c.run_words-ending.result c.run_words-ending.ensures c.status_of.result c.status_of.ensures
 
-pub returns-clause-queries : goal.returns-clause-queries
-returns-clause-queries g c system is = passes_as c.answer.ensures.moments IsSame (λ w m told moment. (moment.of_command (DryActivate system) is).query tt)
+pub returns-clause-no_command : goal.returns-clause-no_command
+returns-clause-no_command g c = run.no_command _ c.run_words-ending.result c.run_words-ending.ensures c.status_of.result c.status_of.ensures
+
+pub returns-clause-usage_output : goal.returns-clause-usage_output
+returns-clause-usage_output g c = run.usage_output _ c.run_words-ending.result c.run_words-ending.ensures c.status_of.result c.status_of.ensures
+
+pub returns-clause-refused : goal.returns-clause-refused
+returns-clause-refused g c = run.refused _ c.run_words-ending.result c.run_words-ending.ensures c.status_of.result c.status_of.ensures
+
+pub returns-clause-refused_output : goal.returns-clause-refused_output
+returns-clause-refused_output g c = run.refused_output _ c.run_words-ending.result c.run_words-ending.ensures c.status_of.result c.status_of.ensures
+
+pub returns-clause-refused_world : goal.returns-clause-refused_world
+returns-clause-refused_world g c = run.refused_world _ c.run_words-ending.result c.run_words-ending.ensures c.status_of.result c.status_of.ensures
+
+pub returns-clause-ended : goal.returns-clause-ended
+returns-clause-ended g c = run.ended _ c.run_words-ending.result c.run_words-ending.ensures c.status_of.result c.status_of.ensures
+
+pub returns-clause-verdict : goal.returns-clause-verdict
+returns-clause-verdict g c = run.verdict _ c.run_words-ending.result c.run_words-ending.ensures c.status_of.result c.status_of.ensures
+
+pub returns-clause-ended_not_refused : goal.returns-clause-ended_not_refused
+returns-clause-ended_not_refused g c = run.ended_not_refused _ c.run_words-ending.result c.run_words-ending.ensures c.status_of.result c.status_of.ensures
+
+pub returns-clause-output : goal.returns-clause-output
+returns-clause-output g c = run.output _ c.run_words-ending.result c.run_words-ending.ensures c.status_of.result c.status_of.ensures
 
 pub returns-clause-put_first : goal.returns-clause-put_first
-returns-clause-put_first g c system is done = told_as (c.answer.ensures.output (DryActivate system) is) (λ w. Puts (g.S.Sink.sink c.args.out.now) (g.S.Sink.sink c.answer.new.out) (IsPutFirst w (Test system)))
-    (λ w told put. puts_as put (IsPutFirst w (Test system)) (λ more all. put_first w system more (subst (λ (s : Status). IsOutputOf s w (DryActivate system) more) done all)))
+returns-clause-put_first g c = run.put_first _ c.run_words-ending.result c.run_words-ending.ensures c.status_of.result c.status_of.ensures
+
+pub returns-clause-queries : goal.returns-clause-queries
+returns-clause-queries g c = run.queries _ c.run_words-ending.result c.run_words-ending.ensures c.status_of.result c.status_of.ensures
+
+pub returns-clause-broken_off : goal.returns-clause-broken_off
+returns-clause-broken_off g c = run.broken_off _ c.run_words-ending.result c.run_words-ending.ensures c.status_of.result c.status_of.ensures
+
+pub returns-clause-failed_output : goal.returns-clause-failed_output
+returns-clause-failed_output g c = run.failed_output _ c.run_words-ending.result c.run_words-ending.ensures c.status_of.result c.status_of.ensures
+
+pub returns-clause-host_fault : goal.returns-clause-host_fault
+returns-clause-host_fault g c = run.host_fault _ c.run_words-ending.result c.run_words-ending.ensures c.status_of.result c.status_of.ensures
+
+pub returns-clause-never_sure : goal.returns-clause-never_sure
+returns-clause-never_sure g c = run.never_sure _ c.run_words-ending.result c.run_words-ending.ensures c.status_of.result c.status_of.ensures
+
+pub returns-clause-sink_fault : goal.returns-clause-sink_fault
+returns-clause-sink_fault g c = run.sink_fault _ c.run_words-ending.result c.run_words-ending.ensures c.status_of.result c.status_of.ensures
+
+pub returns-clause-sink_not_refused : goal.returns-clause-sink_not_refused
+returns-clause-sink_not_refused g c = run.sink_not_refused _ c.run_words-ending.result c.run_words-ending.ensures c.status_of.result c.status_of.ensures
+
+pub returns-clause-completes : goal.returns-clause-completes
+returns-clause-completes g c = run.completes _ c.run_words-ending.result c.run_words-ending.ensures c.status_of.result c.status_of.ensures
+
+pub returns-clause-sure : goal.returns-clause-sure
+returns-clause-sure g c = c.run_words-ending.ensures.cause.stays_sure
+
+pub returns-clause-same_last : goal.returns-clause-same_last
+returns-clause-same_last g c = c.run_words-ending.ensures.cause.same_last
+
+pub returns-clause-each_moment : goal.returns-clause-each_moment
+returns-clause-each_moment g c = run.each _ c.run_words-ending.result c.run_words-ending.ensures c.status_of.result c.status_of.ensures (g.met.H.Tree.is_host c.args.host.now)
+
+pub returns-clause-moments : goal.returns-clause-moments
+returns-clause-moments g c = c.run_words-ending.ensures.moments

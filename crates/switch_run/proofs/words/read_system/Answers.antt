@@ -1,4 +1,4 @@
-use Rattle.switch_run.proofs.PlanLemmas.{system_is}
+use Rattle.switch_run.proofs.WordLemmas.{system_is}
 use Rattle.switch_run.proofs.words.read_system.Goals as goal
 
 pub returns-in-Ok : goal.returns-in-Ok

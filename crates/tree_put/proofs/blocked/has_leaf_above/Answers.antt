@@ -1,31 +1,22 @@
-use Rattle.std.proofs.Common.{◌≡◌, true, false, List, ℕ, IsSome, IfSome, refl, sym, subst, ◌∙◌, inr}
+use Rattle.std.proofs.Common.{◌≡◌, true, false, List, ℕ, IsSome, IfSome, sym, subst, ◌∙◌, inr}
 use Rattle.std.specs.FinMap.{keys}
 use Rattle.std.specs.List.{list_any}
 use Rattle.switch_names.specs.Path.{is_below}
-use Rattle.host_trait.specs.Change.{IsSame}
-use Rattle.host_trait.proofs.Moments.{started, same_then, told_as, told_before}
+use Rattle.host_trait.proofs.Moments.{told_as}
 use Rattle.tree_put.proofs.BlockedLemmas.{IsFreeBut, above_is_left, parent_above, next_above, free_next, free_last, one_passes, none_there}
-use Rattle.host_trait.proofs.Causes.{cause_ok, cause_started, cause_then}
+use Rattle.host_trait.proofs.Readings.{nothing_read, nothing_read_ok, no_device, read_handed, read_ok, read_starved, read_then, told_read}
 use Rattle.tree_put.proofs.blocked.has_leaf_above.Goals as goal
-
-pub returns-in_err-next-clause-moments : goal.returns-in_err-next-clause-moments
-returns-in_err-next-clause-moments g c = started IsSame (λ w is. refl)
 
 pub loop-next-init : goal.loop-next-init
 loop-next-init g c = record {
-  way = started IsSame (λ w is. refl);
-  cause = cause_started tt;
+  reads = nothing_read_ok tt;
   above = parent_above c.args.at.now c.in_ok-next.next c.in_ok-next.ensures.some;
   free = record { has = λ w is q line. inr (above_is_left c.args.at.now c.in_ok-next.next c.in_ok-next.ensures.none c.in_ok-next.ensures.some q line) };
 }
 
-pub returns-in_err-leaf-clause-moments : goal.returns-in_err-leaf-clause-moments
-returns-in_err-leaf-clause-moments g c =
-    same_then c.loop-next.invariant.way c.read.ensures.moments IsSame (λ w is. refl) (λ w m is same. same)
-
 pub returns-then-is_some-clause-above : goal.returns-then-is_some-clause-above
 returns-then-is_some-clause-above g c =
-    let read = told_before c.loop-next.invariant.way c.in_ok-leaf.ensures.leaf in
+    let read = told_read c.loop-next.invariant.reads c.in_ok-leaf.ensures.leaf in
     let stands : IsSome c.in_ok-leaf.leaf = sym c.is_some.ensures ∙ c.if-is_some.true in
     let above = subst (λ o. IfSome o (λ p. is_below c.args.at.now p ≡ true)) c.in-Some.is c.loop-next.invariant.above in
     record {
@@ -33,22 +24,13 @@ returns-then-is_some-clause-above g c =
           sym (one_passes (λ q. is_below c.args.at.now q) w.leaves c.in-Some.place above (subst (λ o. IsSome o) (read.has w is) stands));
     }
 
-pub returns-then-is_some-clause-moments : goal.returns-then-is_some-clause-moments
-returns-then-is_some-clause-moments g c =
-    same_then c.loop-next.invariant.way c.read.ensures.moments IsSame (λ w is. refl) (λ w m is same. same)
-
-pub returns-in_err-next-2-clause-moments : goal.returns-in_err-next-2-clause-moments
-returns-in_err-next-2-clause-moments g c =
-    same_then c.loop-next.invariant.way c.read.ensures.moments IsSame (λ w is. refl) (λ w m is same. same)
-
 pub loop-next-preserved : goal.loop-next-preserved
 loop-next-preserved g c =
-    let read = told_before c.loop-next.invariant.way c.in_ok-leaf.ensures.leaf in
+    let read = told_read c.loop-next.invariant.reads c.in_ok-leaf.ensures.leaf in
     let is_none = none_there c.in_ok-leaf.leaf (sym c.is_some.ensures ∙ c.if-is_some.false) in
     let above = subst (λ o. IfSome o (λ p. is_below c.args.at.now p ≡ true)) c.in-Some.is c.loop-next.invariant.above in
     record {
-      way = same_then c.loop-next.invariant.way c.read.ensures.moments IsSame (λ w is. refl) (λ w m is same. same);
-      cause = cause_ok (cause_then c.loop-next.invariant.cause c.read.ensures.cause) tt;
+      reads = read_ok (read_then c.loop-next.invariant.reads c.read.ensures.reads) tt;
       above = next_above c.args.at.now c.in-Some.place c.in_ok-next-2.next above c.in_ok-next-2.ensures.some;
       free = record {
         has = λ w is.
@@ -63,8 +45,17 @@ returns-clause-above g c =
     told_as c.loop-next.invariant.free (λ w. false ≡ list_any {X = List ℕ} (λ q. is_below c.args.at.now q) (keys w.leaves))
     (λ w is free. sym (free_last c.args.at.now w.leaves (subst (λ o. IsFreeBut c.args.at.now o w.leaves) c.in_default.is free)))
 
-pub returns-then-is_some-clause-cause : goal.returns-then-is_some-clause-cause
-returns-then-is_some-clause-cause g c = cause_ok (cause_then c.loop-next.invariant.cause c.read.ensures.cause) true
+pub returns-in_err-leaf-clause-reads : goal.returns-in_err-leaf-clause-reads
+returns-in_err-leaf-clause-reads g c = read_handed (read_then c.loop-next.invariant.reads c.in_err-leaf.ensures.reads) _ c.from_residual-in_err-leaf.ensures.1
 
-pub returns-clause-cause : goal.returns-clause-cause
-returns-clause-cause g c = cause_ok c.loop-next.invariant.cause false
+pub returns-then-is_some-clause-reads : goal.returns-then-is_some-clause-reads
+returns-then-is_some-clause-reads g c = read_ok (read_then c.loop-next.invariant.reads c.read.ensures.reads) true
+
+pub returns-in_err-next-2-clause-reads : goal.returns-in_err-next-2-clause-reads
+returns-in_err-next-2-clause-reads g c = read_starved (read_then c.loop-next.invariant.reads c.read.ensures.reads) _ c.from_residual-in_err-next-2.ensures.1
+
+pub returns-clause-reads : goal.returns-clause-reads
+returns-clause-reads g c = read_ok c.loop-next.invariant.reads false
+
+pub returns-in_err-next-clause-reads : goal.returns-in_err-next-clause-reads
+returns-in_err-next-clause-reads g c = nothing_read _ (no_device _ c.from_residual.ensures.1)

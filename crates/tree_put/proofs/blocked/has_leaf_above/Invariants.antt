@@ -1,7 +1,7 @@
 use Rattle.std.proofs.Common.{◌≡◌, true, Ok, IfSome}
 use Rattle.switch_names.specs.Path.{is_below}
-use Rattle.host_trait.specs.Change.{IsSame}
-use Rattle.host_trait.specs.Host.{Told, Passes, HasCause}
+use Rattle.host_trait.specs.Host.{Told}
+use Rattle.host_trait.specs.Reading.{IsReading}
 use Rattle.tree_put.proofs.BlockedLemmas.{IsFreeBut, bytes_left}
 use Rattle.tree_put.proofs.blocked.has_leaf_above.Given as goal
 
@@ -10,8 +10,7 @@ abbrev pub invariant-loop-next : goal.invariant-loop-next
 invariant-loop-next g l =
     let start = g.T.Tree.host l.fn.host in let now = g.T.Tree.host l.host in
     record {
-      way : Passes start now IsSame;
-      cause : HasCause {T = Unit {0}} start now (Ok tt);
+      reads : IsReading {T = Unit {0}} start now (Ok tt);
       above : IfSome l.next (λ place. is_below l.at place ≡ true);
       free : Told start (λ w. IsFreeBut l.at l.next w.leaves);
     }

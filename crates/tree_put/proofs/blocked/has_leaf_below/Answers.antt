@@ -4,7 +4,7 @@ use Rattle.std.specs.List.{list_any}
 use Rattle.switch_names.specs.Path.{is_below}
 use Rattle.host_trait.proofs.Moments.{told_as}
 use Rattle.tree_put.proofs.BlockedLemmas.{listed_below}
-use Rattle.host_trait.proofs.Causes.{cause_ok}
+use Rattle.host_trait.proofs.Readings.{read_ok}
 use Rattle.tree_put.proofs.blocked.has_leaf_below.Goals as goal
 
 pub returns-clause-below : goal.returns-clause-below
@@ -13,5 +13,5 @@ returns-clause-below g c =
     (λ w is listed. c.any_below.ensures ∙ ap (list_any {X = List ℕ} (λ q. is_below q c.args.at.now)) (c.as_slice.ensures ∙ listed)
     ∙ listed_below c.args.at.now c.requires (keys w.leaves))
 
-pub returns-clause-cause : goal.returns-clause-cause
-returns-clause-cause g c = cause_ok c.list.ensures.cause c.any_below.result
+pub returns-clause-reads : goal.returns-clause-reads
+returns-clause-reads g c = read_ok c.list.ensures.reads c.any_below.result

@@ -1,6 +1,6 @@
 use Rattle.host_trait.proofs.Moments.{told_as}
 use Rattle.unit_defs.specs.Defs.{AreUnitsOf}
-use Rattle.host_trait.proofs.Causes.{cause_ok}
+use Rattle.host_trait.proofs.Readings.{read_ok, read_starved}
 use Rattle.unit_defs.proofs.UnitLemmas.{sorted_units, units_all}
 use Rattle.unit_defs.proofs.reading.read_units.Goals as goal
 
@@ -12,5 +12,8 @@ returns-clause-units g c =
     told_as c.in_ok-found.ensures.found (λ w. AreUnitsOf w.leaves c.args.system.now c.in_ok-units.units)
     (λ w is found. units_all w.leaves c.args.system.now c.in_ok-found.found found c.in_ok-units.units c.in_ok-units.ensures.units)
 
-pub returns-clause-cause : goal.returns-clause-cause
-returns-clause-cause g c = cause_ok c.read_folder.ensures.cause _
+pub returns-in_err-units-clause-reads : goal.returns-in_err-units-clause-reads
+returns-in_err-units-clause-reads g c = read_starved c.read_folder.ensures.reads _ c.from_residual-in_err-units.ensures.1
+
+pub returns-clause-reads : goal.returns-clause-reads
+returns-clause-reads g c = read_ok c.read_folder.ensures.reads _

@@ -11,5 +11,5 @@ returns-clause-ok c =
     made _ _ (Perform Restart c.args.unit.now) _ _ _ _ c.step.ensures.world c.step.ensures.calls
     (ap (λ manager. with_manager manager c.args.self.now.world) (c.in_ok-call.ensures.does c.args.self.now.world.manager))
     (λ now grown.
-    halved _ _ c.args.unit.now _ _ _ c.in_ok-name.ensures c.state_in-was.ensures.state c.state_in-was.ensures.are_states
+    halved _ _ c.args.unit.now _ _ _ c.in_ok-name.ensures c.state_in-was.ensures c.args.self.now.states
     now (c.in_ok-call.ensures.does c.args.self.now.world.manager) grown)

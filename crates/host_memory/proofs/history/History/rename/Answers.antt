@@ -4,6 +4,7 @@ use Rattle.host_memory.proofs.Undoing.{renamed}
 use Rattle.host_memory.proofs.history.History.rename.Goals as goal
 use Rattle.host_trait.specs.World.{WorldState}
 use Rattle.host_trait.specs.Manager.{HasPlainTexts}
+use Rattle.host_trait.specs.States.{AreStates}
 
 pub returns-clause-ok : goal.returns-clause-ok
 returns-clause-ok c =
@@ -17,12 +18,14 @@ pub invariant_of-self-2 : goal.invariant_of-self-2
 invariant_of-self-2 c = record {
   sound = c.move_leaf.ensures.sound;
   plain = subst (λ (w : WorldState). HasPlainTexts w.manager) (sym c.in_ok-was.ensures.ok) c.args.self.now.plain;
+  states = subst (λ (w : WorldState). AreStates w.manager.states) (sym c.in_ok-was.ensures.ok) c.args.self.now.states;
 }
 
 pub invariant_of-self-in-Break-branch-4 : goal.invariant_of-self-in-Break-branch-4
 invariant_of-self-in-Break-branch-4 c = record {
   sound = c.move_leaf.ensures.sound;
   plain = subst (λ (w : WorldState). HasPlainTexts w.manager) (sym c.in_err-was.ensures.err) c.args.self.now.plain;
+  states = subst (λ (w : WorldState). AreStates w.manager.states) (sym c.in_err-was.ensures.err) c.args.self.now.states;
 }
 
 pub move_leaf-requires-clause-other : goal.move_leaf-requires-clause-other

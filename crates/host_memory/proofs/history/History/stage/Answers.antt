@@ -4,6 +4,7 @@ use Rattle.host_memory.proofs.Undoing.{blocked_clear, staged}
 use Rattle.host_memory.proofs.history.History.stage.Goals as goal
 use Rattle.host_trait.specs.World.{WorldState, stage}
 use Rattle.host_trait.specs.Manager.{HasPlainTexts}
+use Rattle.host_trait.specs.States.{AreStates}
 
 pub returns-in-Ok-clause-ok : goal.returns-in-Ok-clause-ok
 returns-in-Ok-clause-ok c =
@@ -17,6 +18,7 @@ pub invariant_of-self-in-Ok : goal.invariant_of-self-in-Ok
 invariant_of-self-in-Ok c = record {
   sound = c.set_leaf.ensures.sound;
   plain = subst (λ (w : WorldState). HasPlainTexts w.manager) (sym c.in-Ok.ensures.ok) c.args.self.now.plain;
+  states = subst (λ (w : WorldState). AreStates w.manager.states) (sym c.in-Ok.ensures.ok) c.args.self.now.states;
 }
 
 pub unreachable-requires : goal.unreachable-requires

@@ -10,10 +10,12 @@ pub invariant_of-self-2 : goal.invariant_of-self-2
 invariant_of-self-2 c = record {
   sound = subst (λ (w : WorldState). IsSound w.leaves) (sym c.in_ok-step_world.ensures.ok) c.args.self.now.sound;
   plain = c.step_world.ensures.plain;
+  states = c.step_world.ensures.are_states;
 }
 
 pub invariant_of-self-in-Break-branch-2 : goal.invariant_of-self-in-Break-branch-2
 invariant_of-self-in-Break-branch-2 c = record {
   sound = subst (λ (w : WorldState). IsSound w.leaves) (sym c.in_err-step_world.ensures.err) c.args.self.now.sound;
   plain = c.step_world.ensures.plain;
+  states = c.step_world.ensures.are_states;
 }

@@ -1,31 +1,21 @@
 use Rattle.std.proofs.Common.{◌≡◌, sym, ap, ◌∙◌}
-use Rattle.host_memory.proofs.Admitted.{counted_read, done_cause, not_refused, starved_cause, told}
-use Rattle.host_memory.proofs.Hosts.{stands, refused_cause}
+use Rattle.host_memory.proofs.Admitted.{counted_read, done_reads, not_refused, refused_reads, starved_reads, told}
 use Rattle.host_memory.proofs.memory_host.MemoryHostManager.units.Goals as goal
 use Rattle.host_trait.specs.World.{WorldState}
 
-pub returns-in_err-admit-clause-moments : goal.returns-in_err-admit-clause-moments
-returns-in_err-admit-clause-moments c = stands c.args.self.now.history c.args.self.now.troubles c.admit.new.self
-
-pub returns-in_err-admit-clause-cause : goal.returns-in_err-admit-clause-cause
-returns-in_err-admit-clause-cause c =
-    refused_cause c.args.self.now.history c.args.self.now.troubles c.admit.new.self _
+pub returns-in_err-admit-clause-reads : goal.returns-in_err-admit-clause-reads
+returns-in_err-admit-clause-reads c =
+    refused_reads c.args.self.now.history c.args.self.now.troubles c.admit.new.self _
     (sym c.in_err-admit.ensures.answer) c.in_err-admit.ensures.new c.admit.ensures.later
 
-pub returns-in_err-copy-clause-moments : goal.returns-in_err-copy-clause-moments
-returns-in_err-copy-clause-moments c = stands c.args.self.now.history c.args.self.now.troubles c.admit.new.self
-
-pub returns-clause-moments : goal.returns-clause-moments
-returns-clause-moments c = stands c.args.self.now.history c.args.self.now.troubles c.admit.new.self
-
-pub returns-in_err-copy-clause-cause : goal.returns-in_err-copy-clause-cause
-returns-in_err-copy-clause-cause c = starved_cause c.args.self.now.history c.args.self.now.history c.args.self.now.troubles c.admit.new.self _ c.in_ok-admit.ensures.new c.from_residual-in_err-copy.ensures.1
+pub returns-in_err-copy-clause-reads : goal.returns-in_err-copy-clause-reads
+returns-in_err-copy-clause-reads c = starved_reads c.args.self.now.history c.args.self.now.troubles c.admit.new.self _ c.in_ok-admit.ensures.new c.from_residual-in_err-copy.ensures.1
 
 pub returns-in_err-copy-clause-troubles : goal.returns-in_err-copy-clause-troubles
 returns-in_err-copy-clause-troubles c = counted_read c.args.self.now c.in_ok-admit.ensures.answer c.admit.new.self c.in_ok-admit.ensures.new
 
-pub returns-clause-cause : goal.returns-clause-cause
-returns-clause-cause c = done_cause c.args.self.now.history c.args.self.now.history c.args.self.now.troubles c.admit.new.self _ c.in_ok-admit.ensures.new
+pub returns-clause-reads : goal.returns-clause-reads
+returns-clause-reads c = done_reads c.args.self.now.history c.args.self.now.troubles c.admit.new.self _ c.in_ok-admit.ensures.new
 
 pub returns-clause-troubles : goal.returns-clause-troubles
 returns-clause-troubles c = counted_read c.args.self.now c.in_ok-admit.ensures.answer c.admit.new.self c.in_ok-admit.ensures.new
@@ -36,4 +26,4 @@ returns-clause-device c = not_refused c.args.self.now c.in_ok-admit.ensures.answ
 pub returns-clause-states : goal.returns-clause-states
 returns-clause-states c =
     told c.args.self.now.history c.args.self.now.troubles (λ w. c.in_ok-copy.field-0 ≡ w.manager.states)
-    (c.in_ok-copy.ensures ∙ c.states.ensures ∙ ap (λ (w : WorldState). w.manager.states) c.world.ensures)
+    (c.in_ok-copy.ensures ∙ c.states.ensures.states ∙ ap (λ (w : WorldState). w.manager.states) c.world.ensures)

@@ -1,28 +1,18 @@
 use Rattle.std.proofs.Common.{◌≡◌, sym, ap, ◌∙◌}
-use Rattle.host_memory.proofs.Admitted.{counted_read, done_cause, not_refused, starved_cause, still, told}
-use Rattle.host_memory.proofs.Hosts.{stands, refused_cause}
+use Rattle.host_memory.proofs.Admitted.{counted_read, done_reads, not_refused, refused_reads, starved_reads, still, told}
 use Rattle.host_memory.proofs.memory_host.MemoryHostTree.list.Goals as goal
 use Rattle.host_trait.specs.World.{WorldState, listed}
 
-pub returns-in_err-admit-clause-moments : goal.returns-in_err-admit-clause-moments
-returns-in_err-admit-clause-moments c = stands c.args.self.now.history c.args.self.now.troubles c.admit.new.self
-
-pub returns-in_err-admit-clause-cause : goal.returns-in_err-admit-clause-cause
-returns-in_err-admit-clause-cause c =
-    refused_cause c.args.self.now.history c.args.self.now.troubles c.admit.new.self _
+pub returns-in_err-admit-clause-reads : goal.returns-in_err-admit-clause-reads
+returns-in_err-admit-clause-reads c =
+    refused_reads c.args.self.now.history c.args.self.now.troubles c.admit.new.self _
     (sym c.in_err-admit.ensures.answer) c.in_err-admit.ensures.new c.admit.ensures.later
-
-pub returns-in_err-list-clause-moments : goal.returns-in_err-list-clause-moments
-returns-in_err-list-clause-moments c = stands c.args.self.now.history c.args.self.now.troubles c.admit.new.self
-
-pub returns-clause-moments : goal.returns-clause-moments
-returns-clause-moments c = stands c.args.self.now.history c.args.self.now.troubles c.admit.new.self
 
 pub returns-in_err-admit-clause-same : goal.returns-in_err-admit-clause-same
 returns-in_err-admit-clause-same c = still c.args.self.now.history c.args.self.now.troubles c.admit.new.self
 
-pub returns-in_err-list-clause-cause : goal.returns-in_err-list-clause-cause
-returns-in_err-list-clause-cause c = starved_cause c.args.self.now.history c.args.self.now.history c.args.self.now.troubles c.admit.new.self _ c.in_ok-admit.ensures.new c.from_residual-in_err-list.ensures.1
+pub returns-in_err-list-clause-reads : goal.returns-in_err-list-clause-reads
+returns-in_err-list-clause-reads c = starved_reads c.args.self.now.history c.args.self.now.troubles c.admit.new.self _ c.in_ok-admit.ensures.new c.from_residual-in_err-list.ensures.1
 
 pub returns-in_err-list-clause-troubles : goal.returns-in_err-list-clause-troubles
 returns-in_err-list-clause-troubles c = counted_read c.args.self.now c.in_ok-admit.ensures.answer c.admit.new.self c.in_ok-admit.ensures.new
@@ -30,8 +20,8 @@ returns-in_err-list-clause-troubles c = counted_read c.args.self.now c.in_ok-adm
 pub returns-in_err-list-clause-same : goal.returns-in_err-list-clause-same
 returns-in_err-list-clause-same c = still c.args.self.now.history c.args.self.now.troubles c.admit.new.self
 
-pub returns-clause-cause : goal.returns-clause-cause
-returns-clause-cause c = done_cause c.args.self.now.history c.args.self.now.history c.args.self.now.troubles c.admit.new.self _ c.in_ok-admit.ensures.new
+pub returns-clause-reads : goal.returns-clause-reads
+returns-clause-reads c = done_reads c.args.self.now.history c.args.self.now.troubles c.admit.new.self _ c.in_ok-admit.ensures.new
 
 pub returns-clause-troubles : goal.returns-clause-troubles
 returns-clause-troubles c = counted_read c.args.self.now c.in_ok-admit.ensures.answer c.admit.new.self c.in_ok-admit.ensures.new

@@ -1,30 +1,17 @@
 use Rattle.std.proofs.Common.{sym}
-use Rattle.host_memory.proofs.Admitted.{counted_read, done_cause, not_refused, starved_cause, still}
-use Rattle.host_memory.proofs.Hosts.{stands, refused_cause}
+use Rattle.host_memory.proofs.Admitted.{counted_read, done_reads, not_refused, refused_reads, starved_reads, still}
 use Rattle.host_memory.proofs.memory_host.MemoryHostTree.read.Goals as goal
 
-pub returns-in_err-admit-clause-moments : goal.returns-in_err-admit-clause-moments
-returns-in_err-admit-clause-moments c = stands c.args.self.now.history c.args.self.now.troubles c.admit.new.self
-
-pub returns-in_err-admit-clause-cause : goal.returns-in_err-admit-clause-cause
-returns-in_err-admit-clause-cause c =
-    refused_cause c.args.self.now.history c.args.self.now.troubles c.admit.new.self _
+pub returns-in_err-admit-clause-reads : goal.returns-in_err-admit-clause-reads
+returns-in_err-admit-clause-reads c =
+    refused_reads c.args.self.now.history c.args.self.now.troubles c.admit.new.self _
     (sym c.in_err-admit.ensures.answer) c.in_err-admit.ensures.new c.admit.ensures.later
-
-pub returns-in_err-copy-in-Some-clause-moments : goal.returns-in_err-copy-in-Some-clause-moments
-returns-in_err-copy-in-Some-clause-moments c = stands c.args.self.now.history c.args.self.now.troubles c.admit.new.self
-
-pub returns-in_ok-copy-in-Some-clause-moments : goal.returns-in_ok-copy-in-Some-clause-moments
-returns-in_ok-copy-in-Some-clause-moments c = stands c.args.self.now.history c.args.self.now.troubles c.admit.new.self
-
-pub returns-in-None-clause-moments : goal.returns-in-None-clause-moments
-returns-in-None-clause-moments c = stands c.args.self.now.history c.args.self.now.troubles c.admit.new.self
 
 pub returns-in_err-admit-clause-same : goal.returns-in_err-admit-clause-same
 returns-in_err-admit-clause-same c = still c.args.self.now.history c.args.self.now.troubles c.admit.new.self
 
-pub returns-in_err-copy-in-Some-clause-cause : goal.returns-in_err-copy-in-Some-clause-cause
-returns-in_err-copy-in-Some-clause-cause c = starved_cause c.args.self.now.history c.args.self.now.history c.args.self.now.troubles c.admit.new.self _ c.in_ok-admit.ensures.new c.from_residual-in_err-copy-in-Some.ensures.1
+pub returns-in_err-copy-in-Some-clause-reads : goal.returns-in_err-copy-in-Some-clause-reads
+returns-in_err-copy-in-Some-clause-reads c = starved_reads c.args.self.now.history c.args.self.now.troubles c.admit.new.self _ c.in_ok-admit.ensures.new c.from_residual-in_err-copy-in-Some.ensures.1
 
 pub returns-in_err-copy-in-Some-clause-troubles : goal.returns-in_err-copy-in-Some-clause-troubles
 returns-in_err-copy-in-Some-clause-troubles c = counted_read c.args.self.now c.in_ok-admit.ensures.answer c.admit.new.self c.in_ok-admit.ensures.new
@@ -32,8 +19,8 @@ returns-in_err-copy-in-Some-clause-troubles c = counted_read c.args.self.now c.i
 pub returns-in_err-copy-in-Some-clause-same : goal.returns-in_err-copy-in-Some-clause-same
 returns-in_err-copy-in-Some-clause-same c = still c.args.self.now.history c.args.self.now.troubles c.admit.new.self
 
-pub returns-in_ok-copy-in-Some-clause-cause : goal.returns-in_ok-copy-in-Some-clause-cause
-returns-in_ok-copy-in-Some-clause-cause c = done_cause c.args.self.now.history c.args.self.now.history c.args.self.now.troubles c.admit.new.self _ c.in_ok-admit.ensures.new
+pub returns-in_ok-copy-in-Some-clause-reads : goal.returns-in_ok-copy-in-Some-clause-reads
+returns-in_ok-copy-in-Some-clause-reads c = done_reads c.args.self.now.history c.args.self.now.troubles c.admit.new.self _ c.in_ok-admit.ensures.new
 
 pub returns-in_ok-copy-in-Some-clause-troubles : goal.returns-in_ok-copy-in-Some-clause-troubles
 returns-in_ok-copy-in-Some-clause-troubles c = counted_read c.args.self.now c.in_ok-admit.ensures.answer c.admit.new.self c.in_ok-admit.ensures.new
@@ -44,8 +31,8 @@ returns-in_ok-copy-in-Some-clause-device c = not_refused c.args.self.now c.in_ok
 pub returns-in_ok-copy-in-Some-clause-same : goal.returns-in_ok-copy-in-Some-clause-same
 returns-in_ok-copy-in-Some-clause-same c = still c.args.self.now.history c.args.self.now.troubles c.admit.new.self
 
-pub returns-in-None-clause-cause : goal.returns-in-None-clause-cause
-returns-in-None-clause-cause c = done_cause c.args.self.now.history c.args.self.now.history c.args.self.now.troubles c.admit.new.self _ c.in_ok-admit.ensures.new
+pub returns-in-None-clause-reads : goal.returns-in-None-clause-reads
+returns-in-None-clause-reads c = done_reads c.args.self.now.history c.args.self.now.troubles c.admit.new.self _ c.in_ok-admit.ensures.new
 
 pub returns-in-None-clause-troubles : goal.returns-in-None-clause-troubles
 returns-in-None-clause-troubles c = counted_read c.args.self.now c.in_ok-admit.ensures.answer c.admit.new.self c.in_ok-admit.ensures.new

@@ -2,6 +2,7 @@ use Rattle.std.proofs.Common.{◌≡◌, None, Some, subst, sym}
 use Rattle.std.proofs.lemmas.Result.{IfOk-weaker, on_ok_weaker}
 use Rattle.host_trait.specs.Host.{Told}
 use Rattle.host_trait.proofs.Moments.{told_as}
+use Rattle.host_trait.proofs.Readings.{read_of}
 use Rattle.unit_defs.specs.Defs.{AreDefsOf}
 use Rattle.unit_defs.specs.Units.{HasNoFault, IsFirstFault, first_fault_of}
 use Rattle.unit_defs.proofs.AgreeLemmas.{are_defs}
@@ -40,16 +41,5 @@ returns-clause-faulty g c = λ unit line same.
     told_as (returns-clause-text g c unit line same) (λ w. first_fault_of w.leaves c.args.system.now ≡ Some (unit, line))
     (λ w is first. first_is_found w.leaves c.args.system.now unit line first)
 
-pub returns-clause-moments : goal.returns-clause-moments
-returns-clause-moments g c = c.read_units.ensures.moments
-
-pub returns-clause-cause : goal.returns-clause-cause
-returns-clause-cause g c =
-    let cause = c.read_units.ensures.cause in
-    record {
-      later = cause.later;
-      rose = λ fault. absurd (c.from_sound.ensures.cause fault);
-      stays_sure = cause.stays_sure;
-      never_sure = λ sure fault. c.from_sound.ensures.cause fault;
-      same_last = cause.same_last;
-    }
+pub returns-clause-reads : goal.returns-clause-reads
+returns-clause-reads g c = read_of c.read_units.ensures.reads _ (λ fault. absurd (c.from_sound.ensures.cause fault))

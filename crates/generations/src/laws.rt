@@ -1,0 +1,30 @@
+//! The profile as a part of a switch.
+ghost use Rattle.std.specs.Prelude.{◌≡◌, ◌↔◌, true};
+ghost use Rattle.host_trait.specs.World.{WorldState, seen};
+ghost use Rattle.switch_names.specs.Names.{Name};
+ghost use Rattle.switch_names.specs.SystemName.{IsSystemPath};
+ghost use Rattle.switch_parts.specs.Part.{IsAtEnd, IsFree, IsMomentOf, IsPart};
+ghost use Rattle.generations.specs.Places.{set_end};
+ghost use Rattle.generations.specs.ProfilePart.{has_number, profile_part};
+ghost use Rattle.generations.specs.Set.{CanSet, IsSetMoment};
+
+/// The part that sets the profile to a system is one: what its moments keep is kept whatever else
+/// changes, and is enough to make the set again.
+pub fn the_profile_is_a_part()
+    ensures { (system : Name) → IsPart (profile_part system) }
+{}
+
+/// The part isn't refused exactly where nothing is in the way of a set, and a number is left.
+pub fn a_set_can_be_made_where_its_part_is_free()
+    ensures { (system : Name) (w : WorldState) → IsFree (profile_part system) w.leaves ↔ (CanSet system w × (has_number w.leaves system ≡ true)) }
+{}
+
+/// Each moment of a set that isn't refused is one of the part.
+pub fn each_moment_of_a_set_is_one_of_its_part()
+    ensures { (system : Name) (w m : WorldState) → IsSystemPath system → IsFree (profile_part system) w.leaves → IsSetMoment system w m → IsMomentOf (profile_part system) w m }
+{}
+
+/// A set leaves each place of the part at its end.
+pub fn a_set_leaves_its_part_at_its_end()
+    ensures { (system : Name) (w v : WorldState) → seen v ≡ set_end system w → IsAtEnd (profile_part system) w v }
+{}

@@ -1,0 +1,63 @@
+//! The places that a set of the profile writes.
+ghost use Rattle.std.specs.Prelude.{◌≡◌, false, IfOk};
+ghost use Rattle.host_trait.specs.World.{Leaves};
+ghost use Rattle.tree_put.specs.WrittenPlace.{AreApartFromStage, written};
+ghost use Rattle.generations.specs.Gens.{IsGensOf};
+ghost use Rattle.generations.specs.ProfilePart.{profile_places};
+ghost use Rattle.generations.specs.ProfilePlaces.{new_link_in, places_in};
+
+use crate::gens::{Gens, is_highest_of, number_for};
+use crate::setting::{generation_path, profile_path};
+use host_trait::stage_path;
+use std::alloc::{AllocError, Global};
+use switch_names::{Listed, Path, SystemName};
+use tree_put::WrittenPlace;
+
+/// A place whose content isn't read before it is written.
+fn unread(at: Path) -> WrittenPlace
+    ensures { result ≡ written false at }
+{
+    WrittenPlace { at, is_read: false }
+}
+
+/// The path of the link of the generation that a set makes, where it makes one.
+fn new_link(alloc: Global, gens: &Gens, system: &SystemName) -> Result<Option<Path>, AllocError>
+    ensures { IfOk result (λ link. link ≡ new_link_in gens.now.list system.now) }
+{
+    if is_highest_of(gens, system) {
+        return Ok(None);
+    }
+    let Some(number) = number_for(gens, system) else {
+        return Ok(None);
+    };
+    Ok(Some(generation_path(alloc, number)?))
+}
+
+/// The profile's link, the new generation's where there is one, and the stage.
+fn places_in(
+    alloc: Global,
+    gens: &Gens,
+    system: &SystemName,
+) -> Result<Listed<WrittenPlace>, AllocError>
+    ensures { IfOk result (λ places. places ≡ places_in gens.now.list system.now) }
+{
+    let mut places = Listed::new(alloc);
+    places.push(unread(profile_path(alloc)?))?;
+    if let Some(link) = new_link(alloc, gens, system)? {
+        places.push(unread(link))?;
+    }
+    places.push(unread(stage_path(alloc)?))?;
+    Ok(places)
+}
+
+/// The places that a set of a system writes, in byte order, given the generations that stand.
+pub fn profile_places(
+    alloc: Global,
+    gens: &Gens,
+    system: &SystemName,
+) -> Result<Listed<WrittenPlace>, AllocError>
+    ensures places { IfOk result (λ places. (leaves : Leaves) → IsGensOf leaves gens.now → places ≡ profile_places leaves system.now) }
+    ensures apart { IfOk result (λ places. AreApartFromStage places) }
+{
+    places_in(alloc, gens, system)
+}

@@ -1,0 +1,428 @@
+-- At each moment of the calls after the link, what is owed is what the first world owed.
+use Rattle.std.proofs.Common.{◌≡◌, ◌≢◌, ◌⊎◌, Bool, true, false, IsTrue, List, if◌then◌else◌, refl, sym, ap, subst, ◌∙◌, inl, inr}
+use Rattle.std.proofs.lemmas.Bool.{cases_Bool, false_from_ne_true, or_cases, or_left, or_right}
+use Rattle.host_trait.specs.declared.unit_state.State.{State}
+use Rattle.host_trait.specs.declared.unit_state.State.TheVariants.{Active, Inactive, Failed}
+use Rattle.owed_lists.specs.declared.lists.Lists.{Lists}
+use Rattle.owed_plan.specs.declared.owed.Owed.{Owed}
+use Rattle.owed_plan.specs.Called.{AfterLinkLaw, AreCalled, IsCalled, IsGiven, IsLeftOf, OwesUnit}
+use Rattle.owed_plan.specs.FinalStates.{brought_by, is_brought}
+use Rattle.owed_plan.specs.Law.{IsSound, stopped}
+use Rattle.owed_plan.specs.Lists.{pending}
+use Rattle.owed_plan.specs.Owed.{Decides, IsOwed, Reloads, Restarts, Starts, Stops, has_live}
+use Rattle.owed_plan.specs.Pull.{IsRoot, Running, Pending, Pulled}
+use Rattle.owed_plan.specs.Steady.{IsSteady}
+use Rattle.owed_plan.specs.Systems.{IsDefined, Systems, Texts, systems_of}
+use Rattle.switch_names.specs.declared.unit_kind.UnitKind.TheVariants.{Target}
+use Rattle.switch_names.specs.Names.{Name, has}
+use Rattle.unit_decide.specs.declared.decision.Decision.{Decision}
+use Rattle.unit_decide.specs.declared.decision.Decision.TheVariants.{Nothing, Reload, Restart, SocketStart, Start, Stop, StopStart}
+use Rattle.unit_decide.specs.Decision.{decide}
+use Rattle.unit_decide.specs.Kinds.{is_kind}
+use Rattle.unit_decide.proofs.TableLemmas.{settled_nothing, socket_start_service, target_barred, target_marked, target_not_reloaded, target_not_restarted, target_from_test, target_same, undefined_nothing}
+use Rattle.unit_defs.specs.Pull.{FromRoot, FromWant}
+use Rattle.owed_plan.proofs.CoreLemmas.{reloads_defined, restarts_defined, start_pulled, starts_defined}
+use Rattle.owed_plan.proofs.FinalLemmas.{final_active, final_brought, final_by, final_down, final_of, final_to_bring}
+use Rattle.owed_plan.proofs.PrefixLemmas.{was_active}
+use Rattle.owed_plan.proofs.SteadyLemmas.{reload_no_target, restart_no_target}
+use Rattle.unit_decide.proofs.FactsLemmas.{self_same}
+use Rattle.unit_decide.proofs.SocketLemmas.{none_found}
+
+is_state_active : (state : State) → (state ≡ Active) ⊎ (state ≢ Active)
+is_state_active Active = inl refl
+is_state_active Inactive = inr (λ e. absurd cc)
+is_state_active Failed = inr (λ e. absurd cc)
+
+-- a unit that is brought is on one of these lists
+brought_either : (owed : Owed) (unit : Name) → is_brought owed unit ≡ true → (has owed.starts unit ≡ true) ⊎ (has owed.reloads unit ≡ true)
+brought_either owed unit brought = or_cases (has owed.starts unit) (has owed.reloads unit) brought
+
+-- what is left of a list is on it
+still_listed : (names left : List Name) (IsDone : Name → Type 0) (unit : Name) → IsLeftOf names left IsDone → has left unit ≡ true → has names unit ≡ true
+still_listed names left IsDone unit (IsLeftOf.Stands same) found = subst (λ ns. has ns unit ≡ true) same found
+still_listed names left IsDone unit (IsLeftOf.Removed none done) found = absurd (none_found unit (subst (λ ns. has ns unit ≡ true) none found))
+
+-- a unit of a list is done with, or left on it
+done_or_left : (names left : List Name) (IsDone : Name → Type 0) (unit : Name) → IsLeftOf names left IsDone → has names unit ≡ true → IsDone unit ⊎ (has left unit ≡ true)
+done_or_left names left IsDone unit (IsLeftOf.Stands same) found = inr (subst (λ ns. has ns unit ≡ true) (sym same) found)
+done_or_left names left IsDone unit (IsLeftOf.Removed none done) found = inl (done unit found)
+
+module _ (old new : Texts) (wants : Name → List Name) (now : Name → State) (kept : Lists) where
+  abbrev after : Systems
+  after = systems_of new new wants
+
+  -- where the new system is the old one too, only targets that it defines get anything
+  pub defined_target : (unit : Name) (decision : Decision) → decision ≢ Nothing → Decides after now kept unit decision → IsDefined after unit × ((after.facts unit).kind ≡ Target)
+  defined_target unit decision other decides =
+      elim (cases_Bool (after.facts unit).in_new) [
+        | inl defined ↦
+            elim (cases_Bool (is_kind (after.facts unit).kind Target)) [
+              | inl target ↦ (defined, target_from_test (after.facts unit).kind target)
+              | inr none ↦ absurd (other (sym decides.row ∙ settled_nothing (after.facts unit) (has_live after now kept unit) defined (self_same (after.facts unit).kind (new unit)) none))
+            ]
+        | inr undefined ↦ absurd (other (sym decides.row ∙ undefined_nothing (after.facts unit) (has_live after now kept unit) undefined undefined))
+      ]
+
+  -- their rows are those of the first world
+  pub row_before : (unit : Name) (decision : Decision) (live : Bool) → decision ≢ Nothing → Decides after now kept unit decision → decide ((systems_of old new wants).facts unit) live ≡ decision
+  row_before unit decision live other decides =
+      let is = defined_target unit decision other decides in
+      target_same ((systems_of old new wants).facts unit) (after.facts unit) live (has_live after now kept unit) (ap (λ k. is_kind k Target) is.1) refl is.0 refl refl refl ∙ decides.row
+
+  pub no_socket_start : (unit : Name) → Decides after now kept unit SocketStart → ⊥
+  no_socket_start unit decides =
+      let target = (defined_target unit SocketStart (λ e. absurd cc) decides).1 in
+      let service = socket_start_service (after.facts unit) (has_live after now kept unit) decides.row in
+      cc (sym target ∙ service)
+
+  pub no_reload : (unit : Name) → Decides after now kept unit Reload → ⊥
+  no_reload unit decides = target_not_reloaded (after.facts unit) (has_live after now kept unit) (defined_target unit Reload (λ e. absurd cc) decides).1 decides.row
+
+  pub no_restart : (unit : Name) → Decides after now kept unit Restart → ⊥
+  no_restart unit decides = target_not_restarted (after.facts unit) (has_live after now kept unit) (defined_target unit Restart (λ e. absurd cc) decides).1 decides.row
+
+-- a moment of the calls
+module _ (old new : Texts) (wants : Name → List Name) (states now : Name → State) (lists kept : Lists) (owed : Owed) (to : Name → State) (is_paid : Name → Bool) (sound : IsSound (systems_of old new wants)) (steady : IsSteady (systems_of old new wants) states lists) (is_owed : IsOwed (systems_of old new wants) states lists owed) (called : AreCalled owed to (stopped owed.stops states) now kept is_paid) where
+  abbrev before : Systems
+  before = systems_of old new wants
+
+  abbrev later : Systems
+  later = systems_of new new wants
+
+  abbrev then_ : Name → State
+  then_ = stopped owed.stops states
+
+  -- a unit that is up after the stops was so, and isn't stopped
+  up_before : (unit : Name) → then_ unit ≡ Active → (Stops before states lists unit → ⊥) × (states unit ≡ Active)
+  up_before unit active =
+      let was = was_active (has owed.stops unit) (states unit) (then_ unit) refl active in
+      ((λ stops. was.0 ((is_owed.stops.exact unit).1 stops)), was.1)
+
+  -- a target that is up was so after the stops, or has been started
+  target_up : (unit : Name) → (before.facts unit).kind ≡ Target → now unit ≡ Active →
+      (then_ unit ≡ Active) ⊎ (Starts before states lists unit × (then_ unit ≢ Active) × (now unit ≡ to unit))
+  target_up unit target active = by (called.units unit)
+    where
+      by : IsCalled owed unit (to unit) (then_ unit) (now unit) → (then_ unit ≡ Active) ⊎ (Starts before states lists unit × (then_ unit ≢ Active) × (now unit ≡ to unit))
+      by (IsCalled.NotYet same) = inl (sym same ∙ active)
+      by (IsCalled.Brought brought down is) =
+          elim (brought_either owed unit brought) [
+            | inl starts ↦ inr ((is_owed.starts.exact unit).0 starts, down, is)
+            | inr reloads ↦ absurd (reload_no_target before states lists steady unit target ((is_owed.reloads.exact unit).0 reloads))
+          ]
+      by (IsCalled.Restarted restarts is) = absurd (restart_no_target before states lists steady unit target ((is_owed.restarts.exact unit).0 restarts))
+      by (IsCalled.Halfway restarts is) = absurd (restart_no_target before states lists steady unit target ((is_owed.restarts.exact unit).0 restarts))
+
+  -- what is stopped again is a target that has been started, and is started again
+  stopped_again : (unit : Name) → Stops later now kept unit → Starts before states lists unit × (then_ unit ≢ Active) × (now unit ≡ to unit) × Starts later now kept unit
+  stopped_again unit (Stops.ByStop decides) =
+      let is = defined_target old new wants now kept unit Stop (λ e. absurd cc) decides in
+      let row = row_before old new wants now kept unit Stop (has_live before states lists unit) (λ e. absurd cc) decides in
+      elim (target_up unit is.1 decides.active) [
+        | inl up ↦ absurd ((up_before unit up).0 (Stops.ByStop (record { active = (up_before unit up).1; row = row })))
+        | inr started ↦
+            absurd
+            (steady.pull unit (start_pulled before states lists sound unit is.1 started.0)
+            (is.0, is.1, target_marked (before.facts unit) (has_live before states lists unit) is.0 row, target_barred (before.facts unit) (has_live before states lists unit) is.0 row))
+      ]
+  stopped_again unit (Stops.ByStopStart decides) =
+      let is = defined_target old new wants now kept unit StopStart (λ e. absurd cc) decides in
+      let row = row_before old new wants now kept unit StopStart (has_live before states lists unit) (λ e. absurd cc) decides in
+      elim (target_up unit is.1 decides.active) [
+        | inl up ↦ absurd ((up_before unit up).0 (Stops.ByStopStart (record { active = (up_before unit up).1; row = row })))
+        | inr started ↦ (started.0, started.1, started.2, Starts.ByStopStart decides)
+      ]
+  stopped_again unit (Stops.BySocketStart decides) = absurd (no_socket_start old new wants now kept unit decides)
+  stopped_again unit (Stops.ByService service activates active) = absurd (no_socket_start old new wants now kept service activates.0)
+
+  -- the pull stays within that of the first world
+  listed_starts : (unit : Name) → has (pending kept) unit ≡ true → Starts before states lists unit
+  listed_starts unit listed = (is_owed.starts.exact unit).0 (still_listed owed.starts kept.starts _ unit called.starts listed)
+
+  root_pulled : (unit : Name) → IsRoot later now kept unit → Pulled before states lists unit
+  root_pulled unit (Running defined target active may) =
+      elim (target_up unit target active) [
+        | inl up ↦ FromRoot unit (Running defined target (up_before unit up).1 may)
+        | inr started ↦ start_pulled before states lists sound unit target started.0
+      ]
+  root_pulled unit (Pending defined target listed) = start_pulled before states lists sound unit target (listed_starts unit listed)
+
+  pull_within : (unit : Name) → Pulled later now kept unit → Pulled before states lists unit
+  pull_within unit (FromRoot _ root) = root_pulled unit root
+  pull_within unit (FromWant _ by reached wanted) = FromWant unit by (pull_within by reached) wanted
+
+  -- what is owed stays within what was
+  reloads_within : (unit : Name) → Reloads later now kept unit → Reloads before states lists unit
+  reloads_within unit (Reloads.ByReload decides) = absurd (no_reload old new wants now kept unit decides)
+  reloads_within unit (Reloads.ByReloadList listed defined) = (is_owed.reloads.exact unit).0 (still_listed owed.reloads kept.reloads _ unit called.reloads listed)
+
+  restarts_within : (unit : Name) → Restarts later now kept unit → Restarts before states lists unit
+  restarts_within unit (Restarts.ByRestart decides) = absurd (no_restart old new wants now kept unit decides)
+  restarts_within unit (Restarts.ByRestartList listed defined) = (is_owed.restarts.exact unit).0 (still_listed owed.restarts kept.restarts _ unit called.restarts listed)
+
+  abbrev IsCalledUnit : Name → Type 0
+  IsCalledUnit unit = Starts before states lists unit ⊎ (Reloads before states lists unit ⊎ Restarts before states lists unit)
+
+  -- what was up and isn't, or is stopped again, was stopped, where it isn't restarted
+  down_stopped : (unit : Name) → (has owed.restarts unit ≡ true → ⊥) → (now unit ≡ Active → Stops later now kept unit) → states unit ≡ Active → Stops before states lists unit
+  down_stopped unit none again active =
+      elim (cases_Bool (has owed.stops unit)) [
+        | inl stops ↦ (is_owed.stops.exact unit).0 stops
+        | inr stays ↦ absurd (up (ap (λ b. if b then Inactive else states unit) stays ∙ active))
+      ]
+    where
+      up : then_ unit ≡ Active → ⊥
+      up was = by (called.units unit)
+        where
+          by : IsCalled owed unit (to unit) (then_ unit) (now unit) → ⊥
+          by (IsCalled.NotYet same) = (stopped_again unit (again (same ∙ was))).1 was
+          by (IsCalled.Brought brought down is) = down was
+          by (IsCalled.Restarted restarts is) = none restarts
+          by (IsCalled.Halfway restarts is) = none restarts
+
+  starts_within : (unit : Name) → Starts later now kept unit → IsCalledUnit unit
+  starts_within unit (Starts.ByStart decides) =
+      let is = defined_target old new wants now kept unit Start (λ e. absurd cc) decides in
+      elim (target_up unit is.1 decides.active) [
+        | inl up ↦ inl (Starts.ByStart (record { active = (up_before unit up).1; row = row_before old new wants now kept unit Start (has_live before states lists unit) (λ e. absurd cc) decides }))
+        | inr started ↦ inl started.0
+      ]
+  starts_within unit (Starts.ByStopStart decides) = inl (stopped_again unit (Stops.ByStopStart decides)).0
+  starts_within unit (Starts.ByService service activates) = absurd (no_socket_start old new wants now kept service activates.0)
+  starts_within unit (Starts.ByStartList listed defined) = inl (listed_starts unit listed)
+  starts_within unit (Starts.ByPull pulled again reloads restarts socketed) =
+      elim (cases_Bool (has owed.reloads unit)) [
+        | inl reload ↦ inr (inl ((is_owed.reloads.exact unit).0 reload))
+        | inr no_reload ↦
+            elim (cases_Bool (has owed.restarts unit)) [
+              | inl restart ↦ inr (inr ((is_owed.restarts.exact unit).0 restart))
+              | inr no_restart ↦
+                  inl
+                  (Starts.ByPull (pull_within unit pulled) (down_stopped unit (λ e. cc (sym e ∙ no_restart)) again)
+                  (λ r. cc (sym ((is_owed.reloads.exact unit).1 r) ∙ no_reload)) (λ r. cc (sym ((is_owed.restarts.exact unit).1 r) ∙ no_restart)) socketed)
+            ]
+      ]
+
+  called_owed : (unit : Name) → IsCalledUnit unit → OwesUnit before states lists unit
+  called_owed unit (inl starts) = OwesUnit.OfStarts starts
+  called_owed unit (inr (inl reloads)) = OwesUnit.OfReloads reloads
+  called_owed unit (inr (inr restarts)) = OwesUnit.OfRestarts restarts
+
+  units_within : (unit : Name) → OwesUnit later now kept unit → OwesUnit before states lists unit
+  units_within unit (OwesUnit.OfStops stops) = OwesUnit.OfStarts (stopped_again unit stops).0
+  units_within unit (OwesUnit.OfReloads reloads) = OwesUnit.OfReloads (reloads_within unit reloads)
+  units_within unit (OwesUnit.OfRestarts restarts) = OwesUnit.OfRestarts (restarts_within unit restarts)
+  units_within unit (OwesUnit.OfStarts starts) = called_owed unit (starts_within unit starts)
+
+  -- what is owed nothing is as it was
+  unstopped : (unit : Name) → ¬ OwesUnit before states lists unit → then_ unit ≡ states unit
+  unstopped unit none = ap (λ b. if b then Inactive else states unit) (false_from_ne_true (has owed.stops unit) (λ stops. none (OwesUnit.OfStops ((is_owed.stops.exact unit).0 stops))))
+
+  others_kept : (unit : Name) → ¬ OwesUnit before states lists unit → now unit ≡ states unit
+  others_kept unit none = by (called.units unit)
+    where
+      by : IsCalled owed unit (to unit) (then_ unit) (now unit) → now unit ≡ states unit
+      by (IsCalled.NotYet same) = same ∙ unstopped unit none
+      by (IsCalled.Brought brought down is) =
+          elim (brought_either owed unit brought) [
+            | inl starts ↦ absurd (none (OwesUnit.OfStarts ((is_owed.starts.exact unit).0 starts)))
+            | inr reloads ↦ absurd (none (OwesUnit.OfReloads ((is_owed.reloads.exact unit).0 reloads)))
+          ]
+      by (IsCalled.Restarted restarts is) = absurd (none (OwesUnit.OfRestarts ((is_owed.restarts.exact unit).0 restarts)))
+      by (IsCalled.Halfway restarts is) = absurd (none (OwesUnit.OfRestarts ((is_owed.restarts.exact unit).0 restarts)))
+
+  -- each duty is paid or owed
+  reloads_kept : (unit : Name) → Reloads before states lists unit → IsTrue (is_paid unit) ⊎ Reloads later now kept unit
+  reloads_kept unit reloads =
+      elim (done_or_left owed.reloads kept.reloads _ unit called.reloads ((is_owed.reloads.exact unit).1 reloads)) [
+        | inl done ↦ inl done.1
+        | inr listed ↦ inr (Reloads.ByReloadList listed (reloads_defined before states lists unit reloads))
+      ]
+
+  restarts_kept : (unit : Name) → Restarts before states lists unit → IsTrue (is_paid unit) ⊎ Restarts later now kept unit
+  restarts_kept unit restarts =
+      elim (done_or_left owed.restarts kept.restarts _ unit called.restarts ((is_owed.restarts.exact unit).1 restarts)) [
+        | inl done ↦ inl done.1
+        | inr listed ↦ inr (Restarts.ByRestartList listed (restarts_defined before states lists unit restarts))
+      ]
+
+  starts_kept : (unit : Name) → Starts before states lists unit → IsTrue (is_paid unit) ⊎ Starts later now kept unit
+  starts_kept unit starts =
+      elim (done_or_left owed.starts kept.starts _ unit called.starts ((is_owed.starts.exact unit).1 starts)) [
+        | inl done ↦ inl done.1
+        | inr listed ↦ inr (Starts.ByStartList listed (starts_defined before states lists sound unit starts))
+      ]
+
+  -- points 1 and 2 of what is steady
+  stays_steady : IsSteady later now kept
+  stays_steady = record {
+    pull = λ unit pulled for_good. steady.pull unit (pull_within unit pulled) for_good;
+    starts = λ unit listed for_good. steady.pull unit (start_pulled before states lists sound unit for_good.1 (listed_starts unit listed)) for_good;
+    restarts = λ unit listed target. restart_no_target before states lists steady unit target ((is_owed.restarts.exact unit).0 (still_listed owed.restarts kept.restarts _ unit called.restarts listed));
+    reloads = λ unit listed target. reload_no_target before states lists steady unit target ((is_owed.reloads.exact unit).0 (still_listed owed.reloads kept.reloads _ unit called.reloads listed));
+  }
+
+  -- the final states, for what is owed at that moment
+  module _ (next : Owed) (is_next : IsOwed later now kept next) (unit : Name) where
+    abbrev final_first : Bool → Bool → State
+    final_first restarts brought = final_of restarts brought (then_ unit) (to unit)
+
+    abbrev final_next : Bool → Bool → Bool → State
+    final_next restarts brought stops = final_of restarts brought (if stops then Inactive else now unit) (to unit)
+
+    next_called : is_brought next unit ≡ true → IsCalledUnit unit
+    next_called brought =
+        elim (brought_either next unit brought) [
+          | inl starts ↦ starts_within unit ((is_next.starts.exact unit).0 starts)
+          | inr reloads ↦ inr (inl (reloads_within unit ((is_next.reloads.exact unit).0 reloads)))
+        ]
+
+    next_restarts : has next.restarts unit ≡ true → has owed.restarts unit ≡ true
+    next_restarts restarts = (is_owed.restarts.exact unit).1 (restarts_within unit ((is_next.restarts.exact unit).0 restarts))
+
+    next_stops : has next.stops unit ≡ true → then_ unit ≢ Active
+    next_stops stops = (stopped_again unit ((is_next.stops.exact unit).0 stops)).1
+
+    next_again : has next.stops unit ≡ true → is_brought next unit ≡ true
+    next_again stops = or_left (has next.starts unit) (has next.reloads unit) ((is_next.starts.exact unit).1 (stopped_again unit ((is_next.stops.exact unit).0 stops)).3)
+
+    called_listed : IsCalledUnit unit → (is_brought owed unit ≡ true) ⊎ (has owed.restarts unit ≡ true)
+    called_listed (inl starts) = inl (or_left (has owed.starts unit) (has owed.reloads unit) ((is_owed.starts.exact unit).1 starts))
+    called_listed (inr (inl reloads)) = inl (or_right (has owed.starts unit) (has owed.reloads unit) ((is_owed.reloads.exact unit).1 reloads))
+    called_listed (inr (inr restarts)) = inr ((is_owed.restarts.exact unit).1 restarts)
+
+    -- a unit that is restarted
+    restarted : has owed.restarts unit ≡ true → final_next (has next.restarts unit) (is_brought next unit) (has next.stops unit) ≡ to unit
+    restarted restarts =
+        elim (done_or_left owed.restarts kept.restarts _ unit called.restarts restarts) [
+          | inl done ↦ final_brought (has next.restarts unit) (is_brought next unit) (has next.stops unit) (now unit) (to unit) done.0 next_again
+          | inr listed ↦
+              ap (λ r. final_next r (is_brought next unit) (has next.stops unit))
+              ((is_next.restarts.exact unit).1 (Restarts.ByRestartList listed (restarts_defined before states lists unit ((is_owed.restarts.exact unit).0 restarts))))
+        ]
+
+    module _ (none : has owed.restarts unit ≡ false) where
+      no_restart_owed : has owed.restarts unit ≡ true → ⊥
+      no_restart_owed e = cc (sym e ∙ none)
+
+      no_restart_next : has next.restarts unit ≡ false
+      no_restart_next = false_from_ne_true (has next.restarts unit) (λ e. no_restart_owed (next_restarts e))
+
+      -- a unit that is up as it was
+      still_up : then_ unit ≡ Active → now unit ≡ Active
+      still_up up = by (called.units unit)
+        where
+          by : IsCalled owed unit (to unit) (then_ unit) (now unit) → now unit ≡ Active
+          by (IsCalled.NotYet same) = same ∙ up
+          by (IsCalled.Brought brought down is) = absurd (down up)
+          by (IsCalled.Restarted restarts is) = absurd (no_restart_owed restarts)
+          by (IsCalled.Halfway restarts is) = absurd (no_restart_owed restarts)
+
+      kept_up : then_ unit ≡ Active → final_next false (is_brought next unit) (has next.stops unit) ≡ Active
+      kept_up up =
+          ap (final_next false (is_brought next unit)) (false_from_ne_true (has next.stops unit) (λ stops. next_stops stops up))
+          ∙ final_active (is_brought next unit) (now unit) (to unit) (still_up up)
+
+      given : IsGiven owed unit (to unit) (then_ unit) (now unit) → then_ unit ≢ Active → now unit ≡ to unit
+      given (inl restarts) down = absurd (no_restart_owed restarts)
+      given (inr (inl up)) down = absurd (down up)
+      given (inr (inr is)) down = is
+
+      -- a unit that is to be brought to its state is so, or will be
+      is_or_comes : then_ unit ≢ Active → is_brought owed unit ≡ true → (now unit ≡ to unit) ⊎ (is_brought next unit ≡ true)
+      is_or_comes down brought =
+          elim (brought_either owed unit brought) [
+            | inl starts ↦
+                elim (done_or_left owed.starts kept.starts _ unit called.starts starts) [
+                  | inl done ↦ inl (given done.0 down)
+                  | inr listed ↦
+                      inr
+                      (or_left (has next.starts unit) (has next.reloads unit)
+                      ((is_next.starts.exact unit).1 (Starts.ByStartList listed (starts_defined before states lists sound unit ((is_owed.starts.exact unit).0 starts)))))
+                ]
+            | inr reloads ↦
+                elim (done_or_left owed.reloads kept.reloads _ unit called.reloads reloads) [
+                  | inl done ↦ inl (given done.0 down)
+                  | inr listed ↦
+                      inr
+                      (or_right (has next.starts unit) (has next.reloads unit)
+                      ((is_next.reloads.exact unit).1 (Reloads.ByReloadList listed (reloads_defined before states lists unit ((is_owed.reloads.exact unit).0 reloads)))))
+                ]
+          ]
+
+      up_is_to : then_ unit ≢ Active → now unit ≡ Active → now unit ≡ to unit
+      up_is_to down active = by (called.units unit)
+        where
+          by : IsCalled owed unit (to unit) (then_ unit) (now unit) → now unit ≡ to unit
+          by (IsCalled.NotYet same) = absurd (down (sym same ∙ active))
+          by (IsCalled.Brought brought was is) = is
+          by (IsCalled.Restarted restarts is) = is
+          by (IsCalled.Halfway restarts is) = absurd (no_restart_owed restarts)
+
+      comes_to : then_ unit ≢ Active → is_brought owed unit ≡ true → final_next false (is_brought next unit) (has next.stops unit) ≡ to unit
+      comes_to down brought =
+          elim (is_or_comes down brought) [
+            | inl is ↦ final_brought false (is_brought next unit) (has next.stops unit) (now unit) (to unit) is next_again
+            | inr comes ↦ ap (λ b. final_next false b (has next.stops unit)) comes ∙ final_to_bring (has next.stops unit) (now unit) (to unit) (up_is_to down)
+          ]
+
+      -- a unit that isn't called
+      module _ (not_brought : is_brought owed unit ≡ false) where
+        not_called : IsCalledUnit unit → ⊥
+        not_called is =
+            elim (called_listed is) [
+              | inl brought ↦ cc (sym brought ∙ not_brought)
+              | inr restarts ↦ no_restart_owed restarts
+            ]
+
+        untouched : now unit ≡ then_ unit
+        untouched = by (called.units unit)
+          where
+            by : IsCalled owed unit (to unit) (then_ unit) (now unit) → now unit ≡ then_ unit
+            by (IsCalled.NotYet same) = same
+            by (IsCalled.Brought brought was is) = absurd (cc (sym brought ∙ not_brought))
+            by (IsCalled.Restarted restarts is) = absurd (no_restart_owed restarts)
+            by (IsCalled.Halfway restarts is) = absurd (no_restart_owed restarts)
+
+        left_alone : final_next false (is_brought next unit) (has next.stops unit) ≡ then_ unit
+        left_alone =
+            ap (λ b. final_next false b (has next.stops unit)) (false_from_ne_true (is_brought next unit) (λ e. not_called (next_called e)))
+            ∙ ap (final_next false false) (false_from_ne_true (has next.stops unit) (λ e. not_called (next_called (next_again e))))
+            ∙ untouched
+
+      same_unrestarted : final_next false (is_brought next unit) (has next.stops unit) ≡ final_first false (is_brought owed unit)
+      same_unrestarted =
+          elim (cases_Bool (is_brought owed unit)) [
+            | inl brought ↦
+                elim (is_state_active (then_ unit)) [
+                  | inl up ↦ kept_up up ∙ sym (final_active (is_brought owed unit) (then_ unit) (to unit) up)
+                  | inr down ↦ comes_to down brought ∙ sym (ap (final_first false) brought ∙ final_down (then_ unit) (to unit) down)
+                ]
+            | inr other ↦ left_alone other ∙ sym (ap (final_first false) other)
+          ]
+
+    same_final : final_next (has next.restarts unit) (is_brought next unit) (has next.stops unit) ≡ final_first (has owed.restarts unit) (is_brought owed unit)
+    same_final =
+        elim (cases_Bool (has owed.restarts unit)) [
+          | inl restarts ↦ restarted restarts ∙ sym (ap (λ r. final_first r (is_brought owed unit)) restarts)
+          | inr none ↦
+              ap (λ r. final_next r (is_brought next unit) (has next.stops unit)) (no_restart_next none) ∙ same_unrestarted none
+              ∙ sym (ap (λ r. final_first r (is_brought owed unit)) none)
+        ]
+
+pub after_link_law : AfterLinkLaw
+after_link_law old new wants states now lists kept owed loaded bad is_paid sound steady is_owed called =
+    let to : Name → State = brought_by loaded bad in
+    record {
+      pull = pull_within old new wants states now lists kept owed to is_paid sound steady is_owed called;
+      final = λ next is_next unit.
+          final_by (has next.restarts unit) (is_brought next unit) (has next.stops unit) (now unit) (to unit)
+          ∙ same_final old new wants states now lists kept owed to is_paid sound steady is_owed called next is_next unit
+          ∙ sym (final_by (has owed.restarts unit) (is_brought owed unit) (has owed.stops unit) (states unit) (to unit));
+      reloads = reloads_kept old new wants states now lists kept owed to is_paid sound steady is_owed called;
+      restarts = restarts_kept old new wants states now lists kept owed to is_paid sound steady is_owed called;
+      starts = starts_kept old new wants states now lists kept owed to is_paid sound steady is_owed called;
+      units = units_within old new wants states now lists kept owed to is_paid sound steady is_owed called;
+      others = others_kept old new wants states now lists kept owed to is_paid sound steady is_owed called;
+      steady = stays_steady old new wants states now lists kept owed to is_paid sound steady is_owed called;
+    }

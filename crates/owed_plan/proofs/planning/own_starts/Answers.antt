@@ -1,5 +1,0 @@
-use Rattle.std.proofs.Common.{rules}
-use Rattle.owed_plan.proofs.planning.own_starts.Goals as goal
-
-pub returns : goal.returns
-returns c = search rules

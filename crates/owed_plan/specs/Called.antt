@@ -1,0 +1,63 @@
+-- What a switch owes after its link has moved, while it makes its calls: NixOS manual, "Unit handling".
+use Rattle.std.specs.Prelude.{◌≡◌, ◌≢◌, ◌⊎◌, ℕ, Bool, IsTrue, List, []}
+use Rattle.host_trait.specs.declared.entry.Bad.{Bad}
+use Rattle.host_trait.specs.declared.unit_state.State.{State}
+use Rattle.host_trait.specs.declared.unit_state.State.TheVariants.{Active, Inactive}
+use Rattle.owed_lists.specs.declared.lists.Lists.{Lists}
+use Rattle.owed_plan.specs.declared.owed.Owed.{Owed}
+use Rattle.owed_plan.specs.FinalStates.{brought_by, final_state, is_brought}
+use Rattle.owed_plan.specs.Law.{IsSound, stopped}
+use Rattle.owed_plan.specs.Owed.{IsOwed, Reloads, Restarts, Starts, Stops}
+use Rattle.owed_plan.specs.Pull.{Pulled}
+use Rattle.owed_plan.specs.Steady.{IsSteady}
+use Rattle.owed_plan.specs.Systems.{Systems, Texts, systems_of}
+use Rattle.switch_names.specs.Names.{Name, has}
+
+-- what the calls have made of a unit so far, given the state that they bring it to, and that before them
+pub data IsCalled (owed : Owed) (unit : Name) (to before now : State) : Type 0 where
+  NotYet : now ≡ before → IsCalled owed unit to before now
+  Brought : IsTrue (is_brought owed unit) → before ≢ Active → now ≡ to → IsCalled owed unit to before now
+  Restarted : IsTrue (has owed.restarts unit) → now ≡ to → IsCalled owed unit to before now
+  Halfway : IsTrue (has owed.restarts unit) → now ≡ Inactive → IsCalled owed unit to before now
+
+-- a unit that was called is up as it was, or brought to its state, or it is restarted too
+abbrev pub IsGiven : Owed → Name → State → State → State → Type 0
+IsGiven owed unit to before now = IsTrue (has owed.restarts unit) ⊎ (before ≡ Active) ⊎ (now ≡ to)
+
+-- a list stands as it was recorded, or is removed, and all its units are done with
+pub data IsLeftOf (names left : List Name) (IsDone : Name → Type 0) : Type 0 where
+  Stands : left ≡ names → IsLeftOf names left IsDone
+  Removed : left ≡ [] → ((unit : Name) → IsTrue (has names unit) → IsDone unit) → IsLeftOf names left IsDone
+
+-- some of the calls have been made, and the lists outlive their calls
+pub record AreCalled (owed : Owed) (to before now : Name → State) (kept : Lists) (is_paid : Name → Bool) : Type 0 where
+  pub units : (unit : Name) → IsCalled owed unit (to unit) (before unit) (now unit)
+  pub reloads : IsLeftOf owed.reloads kept.reloads (λ unit. IsGiven owed unit (to unit) (before unit) (now unit) × IsTrue (is_paid unit))
+  pub restarts : IsLeftOf owed.restarts kept.restarts (λ unit. (now unit ≡ to unit) × IsTrue (is_paid unit))
+  pub starts : IsLeftOf owed.starts kept.starts (λ unit. IsGiven owed unit (to unit) (before unit) (now unit) × IsTrue (is_paid unit))
+
+-- a unit is owed something
+pub data OwesUnit (systems : Systems) (states : Name → State) (lists : Lists) (unit : Name) : Type 0 where
+  OfStops : Stops systems states lists unit → OwesUnit systems states lists unit
+  OfReloads : Reloads systems states lists unit → OwesUnit systems states lists unit
+  OfRestarts : Restarts systems states lists unit → OwesUnit systems states lists unit
+  OfStarts : Starts systems states lists unit → OwesUnit systems states lists unit
+
+-- what a moment after the link owes, by what the first world owed
+pub record IsOnTheWay (first after : Systems) (states now : Name → State) (lists kept : Lists) (owed : Owed) (loaded : List ℕ) (bad : List Bad) (is_paid : Name → Bool) : Type 0 where
+  pub pull : (unit : Name) → Pulled after now kept unit → Pulled first states lists unit
+  pub final : (later : Owed) → IsOwed after now kept later → (unit : Name) → final_state later loaded bad now unit ≡ final_state owed loaded bad states unit
+  pub reloads : (unit : Name) → Reloads first states lists unit → IsTrue (is_paid unit) ⊎ Reloads after now kept unit
+  pub restarts : (unit : Name) → Restarts first states lists unit → IsTrue (is_paid unit) ⊎ Restarts after now kept unit
+  pub starts : (unit : Name) → Starts first states lists unit → IsTrue (is_paid unit) ⊎ Starts after now kept unit
+  pub units : (unit : Name) → OwesUnit after now kept unit → OwesUnit first states lists unit
+  pub others : (unit : Name) → ¬ OwesUnit first states lists unit → now unit ≡ states unit
+  pub steady : IsSteady after now kept
+
+-- at each moment of the calls, with the new system in the place of the old one
+abbrev pub AfterLinkLaw : Type 0
+AfterLinkLaw =
+    (old new : Texts) (wants : Name → List Name) (states now : Name → State) (lists kept : Lists) (owed : Owed) (loaded : List ℕ) (bad : List Bad) (is_paid : Name → Bool) →
+    IsSound (systems_of old new wants) → IsSteady (systems_of old new wants) states lists → IsOwed (systems_of old new wants) states lists owed →
+    AreCalled owed (brought_by loaded bad) (stopped owed.stops states) now kept is_paid →
+    IsOnTheWay (systems_of old new wants) (systems_of new new wants) states now lists kept owed loaded bad is_paid

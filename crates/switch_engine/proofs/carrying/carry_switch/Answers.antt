@@ -1,0 +1,58 @@
+use Rattle.std.proofs.Common.{List, refl, sym, subst, inl, ◌≡◌, ◌↔◌, IsTrue, ap, ◌∙◌}
+use Rattle.std.proofs.lemmas.Result.{err_from_is_err_and}
+use Rattle.host_trait.specs.World.{WorldState}
+use Rattle.host_trait.proofs.Causes.{cause_on}
+use Rattle.host_trait.proofs.Moments.{goes_on_same, leads_then, started, told_after}
+use Rattle.switch_engine.specs.Final.{HasFailed}
+use Rattle.switch_engine.specs.Moments.{IsSwitchMoment, IsSwitched}
+use Rattle.switch_engine.proofs.DefinedLemmas.{left_failed}
+use Rattle.switch_engine.proofs.SwitchLemmas.{moment_self}
+use Rattle.unit_defs.specs.declared.unit.Unit.{Unit}
+use Rattle.unit_defs.specs.Defs.{AreDefsOf}
+use Rattle.unit_stage.proofs.CauseLemmas.{cause_end, handed}
+use Rattle.switch_engine.proofs.carrying.carry_switch.Goals as goal
+
+pub returns-in_err-links-clause-moments : goal.returns-in_err-links-clause-moments
+returns-in_err-links-clause-moments g c = started (IsSwitchMoment c.args.system.now c.args.plan.now.owed) (λ w is. moment_self c.args.system.now c.args.plan.now.owed w)
+
+pub returns-in_err-states-clause-moments : goal.returns-in_err-states-clause-moments
+returns-in_err-states-clause-moments g c =
+    let way = c.switch_units.ensures.moments in
+    goes_on_same way way.tells c.units.ensures.reads.moments (IsSwitchMoment c.args.system.now c.args.plan.now.owed) (λ w m is moment. moment) (λ w v is moment. moment)
+
+pub returns-clause-ok : goal.returns-clause-ok
+returns-clause-ok g c =
+    leads_then c.in_ok-switch_units.ensures.ok c.units.ensures.reads.moments.tells (IsSwitched c.args.system.now c.args.plan.now.owed)
+    (λ w v u is is_v final same. subst (IsSwitched c.args.system.now c.args.plan.now.owed w) (sym same) final)
+
+pub returns-clause-moments : goal.returns-clause-moments
+returns-clause-moments g c =
+    let way = c.switch_units.ensures.moments in
+    goes_on_same way way.tells c.units.ensures.reads.moments (IsSwitchMoment c.args.system.now c.args.plan.now.owed) (λ w m is moment. moment) (λ w v is moment. moment)
+
+pub returns-clause-verdict : goal.returns-clause-verdict
+returns-clause-verdict g c = record {
+  has = λ w is.
+      let plan = c.args.plan.now in let planned = c.requires.planned.has w is in let there = c.in_ok-switch_units.ensures.ok.to w is in
+      let both = left_failed c.args.system.now plan.owed w there.0 c.defs.result.now c.in_ok-states.states
+      (subst (λ (units : List Unit). AreDefsOf w.leaves c.args.system.now units) (sym c.defs.ensures) planned.defs)
+      (c.in_ok-states.ensures.states.has there.0 there.1) there.2.units in
+      (λ failed. both.0 (c.has_failed-failed.ensures.0 failed), λ left. c.has_failed-failed.ensures.1 (both.1 left));
+}
+
+pub returns-clause-states : goal.returns-clause-states
+returns-clause-states g c =
+    told_after c.units.ensures.reads.moments c.units.ensures.reads.moments.tells (λ v. c.in_ok-states.states ≡ v.manager.states)
+    (λ w v is same. c.in_ok-states.ensures.states.has w is ∙ ap (λ (x : WorldState). x.manager.states) (sym same))
+
+pub returns-clause-failed : goal.returns-clause-failed
+returns-clause-failed g c =
+    subst (λ (units : List Unit). IsTrue c.has_failed-failed.result ↔ HasFailed units c.in_ok-states.states) c.defs.ensures c.has_failed-failed.ensures
+
+pub returns-in_err-states-clause-cause : goal.returns-in_err-states-clause-cause
+returns-in_err-states-clause-cause g c =
+    let p = err_from_is_err_and c.from_residual-in_err-states.result c.from_residual-in_err-states.ensures.1 in
+    cause_on c.switch_units.ensures.cause c.in_err-states.ensures.reads.cause (λ e. handed _ p.0 _ _ p.1 p.2 e)
+
+pub returns-clause-cause : goal.returns-clause-cause
+returns-clause-cause g c = cause_end c.switch_units.ensures.cause c.units.ensures.reads.cause

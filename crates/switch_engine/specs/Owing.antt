@@ -1,0 +1,65 @@
+-- What a command owes each unit, and a run of it that is underway: NixOS manual, "Unit handling".
+use Rattle.std.specs.Prelude.{◌≡◌, ◌⊎◌, ◌↔◌, ◌++◌, List, Option, None, Some}
+use Rattle.std.specs.List.{AllByRecursion}
+use Rattle.host_trait.specs.declared.entry.Act.{Act}
+use Rattle.host_trait.specs.declared.entry.Entry.{Entry}
+use Rattle.host_trait.specs.States.{state_of}
+use Rattle.host_trait.specs.World.{WorldState}
+use Rattle.switch_engine.specs.declared.command.Command.{Command}
+use Rattle.switch_engine.specs.Final.{IsFinalOf}
+use Rattle.switch_engine.specs.Rows.{refusal, switched_to}
+use Rattle.switch_names.specs.Names.{Name}
+use Rattle.unit_stage.specs.Owes.{IsPaid, IsSteadyWorld, Owes}
+
+-- a switch of the units to a system, where there is one, owes a unit of a world an act of this kind
+abbrev pub OwesActTo : Option Name → WorldState → Act → Name → Type 0
+OwesActTo None w act unit = ⊥
+OwesActTo (Some system) w act unit = Owes w system act unit
+
+-- a command owes a unit of a world an act of this kind
+abbrev pub OwesAct : Command → WorldState → Act → Name → Type 0
+OwesAct command w act unit = OwesActTo (switched_to command w.leaves) w act unit
+
+-- a command owes a unit of a world something
+abbrev pub OwesUnit : Command → WorldState → Name → Type 0
+OwesUnit command w unit = (act : Act) × OwesAct command w act unit
+
+-- some entries pay what a command owes a unit, whose system is that of this world
+abbrev pub IsPaidBy : Option Name → Act → Name → List Entry → Type 0
+IsPaidBy None act unit entries = ⊥
+IsPaidBy (Some system) act unit entries = IsPaid system act unit entries
+
+-- a world whose marks and lists don't contradict each other, as far as a switch of the units looks at them
+abbrev pub IsSteadyTo : Option Name → WorldState → Type 0
+IsSteadyTo None w = Unit {0}
+IsSteadyTo (Some system) w = IsSteadyWorld w system
+
+-- such a world for a command
+abbrev pub IsSteadyFor : Command → WorldState → Type 0
+IsSteadyFor command w = IsSteadyTo (switched_to command w.leaves) w
+
+-- What a run of a command has entered since it began in a world: only units that were owed something have been called,
+-- and every other is in the state that it was in.
+pub record HasEntered (command : Command) (first w : WorldState) : Type 0 where
+  pub entered : List Entry
+  pub journal : w.manager.journal ≡ first.manager.journal ++ entered
+  pub owed_alone : AllByRecursion (λ entry. OwesUnit command first entry.unit) entered
+  pub others : (unit : Name) → ¬ OwesUnit command first unit → state_of w.manager.states unit ≡ state_of first.manager.states unit
+
+-- A run of a command that began in a world is underway in another: the same command leaves from there what it
+-- leaves from the first world, and isn't refused. What it owed the units is paid or still owed, only these units
+-- have been called, and every other is in the state that it was in.
+pub record IsUnderway (first : WorldState) (command : Command) (w : WorldState) : Type 0 where
+  pub same_end : (v : WorldState) → IsFinalOf command w v ↔ IsFinalOf command first v
+  pub since : HasEntered command first w
+  pub paid_or_owed : (act : Act) (unit : Name) → OwesAct command first act unit → IsPaidBy (switched_to command first.leaves) act unit since.entered ⊎ OwesAct command w act unit
+  pub no_more_owed : (unit : Name) → OwesUnit command w unit → OwesUnit command first unit
+  pub not_refused : refusal command w.leaves ≡ None
+  pub steady : IsSteadyFor command w
+
+-- A run of a command that began in a world is over in another: that shows what the command leaves, each duty is paid,
+-- and no unit was touched that was owed nothing.
+pub record IsOver (first : WorldState) (command : Command) (w : WorldState) : Type 0 where
+  pub final : IsFinalOf command first w
+  pub since : HasEntered command first w
+  pub paid : (act : Act) (unit : Name) → OwesAct command first act unit → IsPaidBy (switched_to command first.leaves) act unit since.entered

@@ -1,0 +1,34 @@
+//! The laws by which the promise for one cut becomes that for any number of cuts.
+ghost use Rattle.std.specs.Prelude.{◌≡◌, List, None};
+ghost use Rattle.host_trait.specs.World.{WorldState};
+ghost use Rattle.switch_engine.specs.declared.command.Command.{Command};
+ghost use Rattle.switch_engine.specs.Commands.{IsQuery};
+ghost use Rattle.switch_engine.specs.Final.{IsEndOf};
+ghost use Rattle.switch_engine.specs.Moments.{LeadsBy};
+ghost use Rattle.switch_engine.specs.Owing.{IsOver, IsSteadyFor, IsUnderway};
+ghost use Rattle.switch_engine.specs.Rows.{refusal};
+
+/// A run that isn't refused is underway in the world where it begins, where that is steady.
+pub fn a_run_begins_underway()
+    ensures { (first : WorldState) (command : Command) → refusal command first.leaves ≡ None → IsSteadyFor command first → IsUnderway first command first }
+{}
+
+/// A run that is underway in a world, from which one is underway in another, is underway there; and it
+/// is over where that one is over.
+pub fn a_run_stays_underway()
+    ensures underway { (first w m : WorldState) (command : Command) → IsUnderway first command w → IsUnderway w command m → IsUnderway first command m }
+    ensures over { (first w v : WorldState) (command : Command) → IsUnderway first command w → IsOver w command v → IsOver first command v }
+{}
+
+/// A run that has come to its end is over: each duty is paid, and no unit was touched that was owed
+/// nothing.
+pub fn an_ended_run_is_over()
+    ensures { (first v : WorldState) (command : Command) → (IsQuery command → ⊥) → IsEndOf command first v → IsOver first command v }
+{}
+
+/// However often runs of a command are cut, each at any of its moments, the last leaves what a run
+/// leaves that isn't cut; each duty is paid, and no unit was touched that was owed nothing.
+pub fn cut_runs_end_alike()
+    ensures { (command : Command) (cuts : List WorldState) (first last : WorldState) → (IsQuery command → ⊥) → refusal command first.leaves ≡ None
+        → IsSteadyFor command first → LeadsBy command cuts first last → IsOver first command last }
+{}

@@ -1,0 +1,43 @@
+-- Places of a list, one by one.
+use Rattle.std.proofs.Common.{◌≡◌, ◌&&◌, ◌||◌, ◌==◌, Bool, true, false, nat_eq, nat_lt, slice_index, List, [], ◌∷◌, length, refl, sym, ap, subst, ◌∙◌, inl, inr}
+use Rattle.std.proofs.lemmas.Bool.{both_ways, cases_Bool}
+use Rattle.std.specs.Cmp.Lexicographic.{same_text}
+use Rattle.std.specs.List.{AllByRecursion, starts_with}
+use Rattle.switch_names.specs.Names.{Name}
+use Rattle.switch_names.specs.Path.{is_below, slash}
+use Rattle.host_trait.specs.World.{is_in_line, is_path}
+use Rattle.tree_put.specs.declared.written_place.WrittenPlace.{WrittenPlace}
+use Rattle.switch_parts.specs.Leaves.{is_among, is_near}
+
+and_false : (b : Bool) → b && false ≡ false
+and_false true = refl
+and_false false = refl
+
+both_false : (a b : Bool) → a ≡ false → b ≡ false → a || b ≡ false
+both_false a b first second = cc
+
+-- a path that doesn't begin with another doesn't lie below it
+pub not_below : (p q : Name) → starts_with nat_eq p q ≡ false → is_below p q ≡ false
+not_below p q other = ap (λ b. nat_lt (length q) (length p) && (b && slice_index p (length q) == slash)) other ∙ and_false (nat_lt (length q) (length p))
+
+-- neither of two paths begins with the other
+pub record BeginApart (p q : Name) : Type 0 where
+  pub first : starts_with nat_eq p q ≡ false
+  pub second : starts_with nat_eq q p ≡ false
+
+-- such paths aren't in line
+pub not_line : (p q : Name) → BeginApart p q → is_in_line p q ≡ false
+not_line p q apart = both_false (is_below p q) (is_below q p) (not_below p q apart.first) (not_below q p apart.second)
+
+-- a path that begins apart from each of some places is near none of them
+pub none_near : (q : Name) (places : List WrittenPlace) → AllByRecursion (λ place. BeginApart q place.at) places → is_near places q ≡ false
+none_near q [] apart = refl
+none_near q (place ∷ places) apart = both_false (is_in_line q place.at) (is_near places q) (not_line q place.at apart.0) (none_near q places apart.1)
+
+-- what holds of each of some places holds of a path that is among them
+pub each_among : (P : Name → Type 0) (places : List Name) → AllByRecursion P places → (q : Name) → is_among places q ≡ true → P q
+each_among P [] all q among = absurd (both_ways _ refl among)
+each_among P (at ∷ places) all q among = elim (cases_Bool (is_path q at)) [
+  | inl is ↦ subst P (sym (same_text q at (sym is))) all.0
+  | inr other ↦ each_among P places all.1 q (sym (ap (λ b. b || is_among places q) other) ∙ among)
+]

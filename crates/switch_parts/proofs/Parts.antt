@@ -1,0 +1,189 @@
+-- Two parts together are a part.
+use Rattle.std.proofs.Common.{◌≡◌, ◌≢◌, Bool, true, false, ◌&&◌, ◌||◌, cond, Option, None, Some, option_map, List, [], ◌∷◌, ◌++◌, refl, sym, ap, subst, ◌∙◌, inl, inr}
+use Rattle.std.proofs.lemmas.Option.{none-some}
+use Rattle.std.proofs.lemmas.Bool.{cases_Bool, both_ways, or_left, or_right, or_parts}
+use Rattle.std.specs.FinMap.{get}
+use Rattle.std.specs.Option.{option_or}
+use Rattle.host_trait.specs.World.{Leaves, WorldState, stage}
+use Rattle.switch_names.specs.Names.{Name}
+use Rattle.std.specs.List.{find}
+use Rattle.tree_put.specs.declared.written_place.WrittenPlace.{WrittenPlace}
+use Rattle.tree_put.specs.WrittenPlace.{in_the_way, is_in_the_way}
+use Rattle.switch_parts.specs.Part.{AreParted, IsAtEnd, IsFree, IsMomentOf, IsOnly, IsPart, IsSameFor, Part, both, final_leaf, no_part}
+
+pub left_false : (a b : Bool) → a || b ≡ false → a ≡ false
+left_false true b is = absurd (both_ways _ is refl)
+left_false false b is = refl
+
+pub right_false : (a b : Bool) → a || b ≡ false → b ≡ false
+right_false true b is = absurd (both_ways _ is refl)
+right_false false b is = is
+
+pub or_from_left : (a b : Bool) → a ≡ true → a || b ≡ true
+or_from_left a b is = cc
+
+pub or_from_right : (a b : Bool) → b ≡ true → a || b ≡ true
+or_from_right true b is = refl
+or_from_right false b is = is
+
+pub false_by : (a b : Bool) → (a ≡ true → b ≡ true) → b ≡ false → a ≡ false
+false_by a b then none = elim (cases_Bool a) [ inl is ↦ absurd (both_ways _ none (then is)) | inr not ↦ not ]
+
+-- no part owns the stage
+pub not_stage : (p : Part) → IsPart p → (q : Name) → p.owns q ≡ true → q ≢ stage
+not_stage p part q own same = both_ways _ part.no_stage (subst (λ x. p.reads x ≡ true) same (part.reads_own q own))
+
+both_false : (a b : Bool) → a ≡ false → b ≡ false → a || b ≡ false
+both_false a b first second = cc
+
+-- where one part alone has changed something, nothing has changed for the other
+pub only_beside : (p q : Part) → IsPart q → ((at : Name) → p.owns at ≡ true → q.reads at ≡ false) → p.calls && q.calls ≡ false → (w m : WorldState) → IsOnly p w m → IsSameFor q w m
+only_beside p q part beside calls w m only = record {
+  leaves = λ at read. only.leaves at (not_owned at read) (λ same. both_ways _ part.no_stage (subst (λ x. q.reads x ≡ true) same read));
+  manager = λ call. only.manager (not_called p.calls q.calls calls call);
+}
+  where
+    not_owned : (at : Name) → q.reads at ≡ true → p.owns at ≡ false
+    not_owned at read = elim (cases_Bool (p.owns at)) [ inl own ↦ absurd (both_ways _ (beside at own) read) | inr other ↦ other ]
+
+    not_called : (a b : Bool) → a && b ≡ false → b ≡ true → a ≡ false
+    not_called true b none is = absurd (both_ways _ none is)
+    not_called false b none is = refl
+
+-- the first of two lists of places that something is in the way of
+pub find_none : {X : Type 0} (test : X → Bool) (xs ys : List X) → find test (xs ++ ys) ≡ None → (find test xs ≡ None) × (find test ys ≡ None)
+find_none test [] ys none = (refl, none)
+find_none test (x ∷ xs) ys none = elim (cases_Bool (test x)) [
+  | inl is ↦ absurd (none-some x (sym none ∙ ap (λ b. cond b (Some x) (find test (xs ++ ys))) is))
+  | inr not ↦
+      let rest = find_none test xs ys (sym (ap (λ b. cond b (Some x) (find test (xs ++ ys))) not) ∙ none) in
+      (ap (λ b. cond b (Some x) (find test xs)) not ∙ rest.0, rest.1)
+]
+
+pub find_none_both : {X : Type 0} (test : X → Bool) (xs ys : List X) → find test xs ≡ None → find test ys ≡ None → find test (xs ++ ys) ≡ None
+find_none_both test [] ys first second = second
+find_none_both test (x ∷ xs) ys first second = elim (cases_Bool (test x)) [
+  | inl is ↦ absurd (none-some x (sym first ∙ ap (λ b. cond b (Some x) (find test xs)) is))
+  | inr not ↦ ap (λ b. cond b (Some x) (find test (xs ++ ys))) not ∙ find_none_both test xs ys (sym (ap (λ b. cond b (Some x) (find test xs)) not) ∙ first) second
+]
+
+pub none_mapped : {X Y : Type 0} (f : X → Y) (o : Option X) → option_map f o ≡ None → o ≡ None
+none_mapped f None is = refl
+none_mapped f (Some x) is = absurd (none-some (f x) (sym is))
+
+pub or_none : {X : Type 0} (a b : Option X) → option_or a b ≡ None → (a ≡ None) × (b ≡ None)
+or_none None b is = (refl, is)
+or_none (Some x) b is = absurd (none-some x (sym is))
+
+pub none_or : {X : Type 0} (a b : Option X) → a ≡ None → b ≡ None → option_or a b ≡ None
+none_or a b first second = ap (λ o. option_or o b) first ∙ second
+
+module _ (p q : Part) where
+  pub first_free : (leaves : Leaves) → IsFree (both p q) leaves → IsFree p leaves
+  first_free leaves free = record {
+    way = ap (option_map (λ place. place.at)) (find_none (is_in_the_way leaves) (p.places leaves) (q.places leaves) (none_mapped _ _ free.way)).0;
+    refusal = (or_none (p.refusal leaves) (q.refusal leaves) free.refusal).0;
+  }
+
+  pub second_free : (leaves : Leaves) → IsFree (both p q) leaves → IsFree q leaves
+  second_free leaves free = record {
+    way = ap (option_map (λ place. place.at)) (find_none (is_in_the_way leaves) (p.places leaves) (q.places leaves) (none_mapped _ _ free.way)).1;
+    refusal = (or_none (p.refusal leaves) (q.refusal leaves) free.refusal).1;
+  }
+
+  pub both_free : (leaves : Leaves) → IsFree p leaves → IsFree q leaves → IsFree (both p q) leaves
+  both_free leaves first second = record {
+    way = ap (option_map (λ place. place.at)) (find_none_both (is_in_the_way leaves) (p.places leaves) (q.places leaves) (none_mapped _ _ first.way) (none_mapped _ _ second.way));
+    refusal = none_or (p.refusal leaves) (q.refusal leaves) first.refusal second.refusal;
+  }
+
+module _ (p q : Part) (first : IsPart p) (second : IsPart q) where
+  pub both_part : IsPart (both p q)
+  both_part = record {
+    keeps_self = λ w. (first.keeps_self w, second.keeps_self w);
+    keeps_then = λ w v m one then. (first.keeps_then w v m one.0 then.0, second.keeps_then w v m one.1 then.1);
+    same_end = λ w m keeps at own. elim (cases_Bool (p.owns at)) [
+      | inl is ↦ ap (λ b. cond b (p.end m.leaves at) (q.end m.leaves at)) is ∙ first.same_end w m keeps.0 at is ∙ sym (ap (λ b. cond b (p.end w.leaves at) (q.end w.leaves at)) is)
+      | inr not ↦ ap (λ b. cond b (p.end m.leaves at) (q.end m.leaves at)) not ∙ second.same_end w m keeps.1 at (sym (ap (λ b. b || q.owns at) not) ∙ own) ∙ sym (ap (λ b. cond b (p.end w.leaves at) (q.end w.leaves at)) not)
+    ];
+    stays_free = λ w m keeps free. both_free p q m.leaves (first.stays_free w m keeps.0 (first_free p q w.leaves free)) (second.stays_free w m keeps.1 (second_free p q w.leaves free));
+    frame = λ w m same. (
+      first.frame w m (record { leaves = λ at read. same.leaves at (or_left _ _ read); manager = λ call. same.manager (or_left _ _ call) }),
+      second.frame w m (record { leaves = λ at read. same.leaves at (or_right _ _ read); manager = λ call. same.manager (or_right _ _ call) }),
+    );
+    reads_own = λ at own. elim (cases_Bool (p.owns at)) [
+      | inl is ↦ or_from_left (p.reads at) (q.reads at) (first.reads_own at is)
+      | inr not ↦ or_from_right (p.reads at) (q.reads at) (second.reads_own at (sym (ap (λ b. b || q.owns at) not) ∙ own))
+    ];
+    no_stage = both_false _ _ first.no_stage second.no_stage;
+  }
+
+  module _ (parted : AreParted p q) where
+    -- a moment of one part's work is one of both
+    pub first_moment : (w m : WorldState) → IsMomentOf p w m → IsMomentOf (both p q) w m
+    first_moment w m moment = record {
+      keeps = (moment.keeps, second.frame w m (only_beside p q second parted.first parted.manager w m moment.only));
+      only = record {
+        leaves = λ at none. moment.only.leaves at (left_false _ _ none);
+        manager = λ none. moment.only.manager (left_false _ _ none);
+      };
+    }
+
+    pub second_moment : (w m : WorldState) → IsMomentOf q w m → IsMomentOf (both p q) w m
+    second_moment w m moment = record {
+      keeps = (first.frame w m (only_beside q p first parted.second (and_swap p.calls q.calls parted.manager) w m moment.only), moment.keeps);
+      only = record {
+        leaves = λ at none. moment.only.leaves at (right_false _ _ none);
+        manager = λ none. moment.only.manager (right_false _ _ none);
+      };
+    }
+      where
+        and_swap : (a b : Bool) → a && b ≡ false → b && a ≡ false
+        and_swap true true none = none
+        and_swap false true none = refl
+        and_swap a false none = refl
+
+module _ (p : Part) (part : IsPart p) where
+  pub moment_self : (w : WorldState) → IsMomentOf p w w
+  moment_self w = record { keeps = part.keeps_self w; only = record { leaves = λ q none ne. refl; manager = λ none. refl } }
+
+  pub moment_then : (w v m : WorldState) → IsMomentOf p w v → IsMomentOf p v m → IsMomentOf p w m
+  moment_then w v m one then = record {
+    keeps = part.keeps_then w v m one.keeps then.keeps;
+    only = record {
+      leaves = λ q none ne. then.only.leaves q none ne ∙ one.only.leaves q none ne;
+      manager = λ none. then.only.manager none ∙ one.only.manager none;
+    };
+  }
+
+  -- a switch from any moment leaves the same at each place as one from the beginning
+  pub ends_alike : (w m : WorldState) → IsMomentOf p w m → (q : Name) → q ≢ stage → final_leaf p m.leaves q ≡ final_leaf p w.leaves q
+  ends_alike w m moment q ne = elim (cases_Bool (p.owns q)) [
+    | inl is ↦ ap (λ b. cond b (p.end m.leaves q) (get m.leaves q)) is ∙ part.same_end w m moment.keeps q is ∙ sym (ap (λ b. cond b (p.end w.leaves q) (get w.leaves q)) is)
+    | inr not ↦ ap (λ b. cond b (p.end m.leaves q) (get m.leaves q)) not ∙ moment.only.leaves q not ne ∙ sym (ap (λ b. cond b (p.end w.leaves q) (get w.leaves q)) not)
+  ]
+
+module _ (p : Part) where
+  -- where all that is owned is at its end, and nothing else has changed, each place is at its final leaf
+  pub is_final : (w v : WorldState) → IsOnly p w v → IsAtEnd p w v → (q : Name) → q ≢ stage → get v.leaves q ≡ final_leaf p w.leaves q
+  is_final w v only end q ne = elim (cases_Bool (p.owns q)) [
+    | inl is ↦ end q is ∙ sym (ap (λ b. cond b (p.end w.leaves q) (get w.leaves q)) is)
+    | inr not ↦ only.leaves q not ne ∙ sym (ap (λ b. cond b (p.end w.leaves q) (get w.leaves q)) not)
+  ]
+
+  pub only_then : (w v m : WorldState) → IsOnly p w v → IsOnly p v m → IsOnly p w m
+  only_then w v m one then = record {
+    leaves = λ q none ne. then.leaves q none ne ∙ one.leaves q none ne;
+    manager = λ none. then.manager none ∙ one.manager none;
+  }
+
+  pub only_self : (w : WorldState) → IsOnly p w w
+  only_self w = record { leaves = λ q none ne. refl; manager = λ none. refl }
+
+-- what one part alone has changed is what two have changed
+module _ (p q : Part) where
+  pub only_first : (w m : WorldState) → IsOnly p w m → IsOnly (both p q) w m
+  only_first w m only = record { leaves = λ at none. only.leaves at (left_false _ _ none); manager = λ none. only.manager (left_false _ _ none) }
+
+  pub only_second : (w m : WorldState) → IsOnly q w m → IsOnly (both p q) w m
+  only_second w m only = record { leaves = λ at none. only.leaves at (right_false _ _ none); manager = λ none. only.manager (right_false _ _ none) }

@@ -1,0 +1,34 @@
+-- The moments of a run.
+use Rattle.std.proofs.Common.{◌≡◌, Option, None, Some, refl, sym, subst}
+use Rattle.host_trait.specs.World.{WorldState}
+use Rattle.switch_engine.specs.declared.command.Command.{Command}
+use Rattle.switch_engine.specs.declared.command.Command.TheVariants.{Test, Boot, DryActivate}
+use Rattle.switch_engine.specs.Commands.{IsQuery}
+use Rattle.switch_engine.specs.Moments as engine
+use Rattle.switch_engine.specs.Rows.{refusal}
+use Rattle.switch_engine.proofs.LawLemmas.{begins_moment}
+use Rattle.switch_parts.specs.declared.refusal.Refusal.{Refusal}
+use Rattle.switch_run.specs.Moments.{IsMomentBy, IsMomentOf}
+
+-- the world at the beginning is one
+pub begins : (given : Option Command) (w : WorldState) → IsMomentOf given w w
+begins None w = refl
+begins (Some command) w = by (refusal command w.leaves) refl
+  where
+    by : (o : Option Refusal) → refusal command w.leaves ≡ o → IsMomentBy o command w w
+    by None none = begins_moment command w none
+    by (Some why) is = refl
+
+-- each moment of a command that isn't refused is one of its run
+pub of_command : (command : Command) (w m : WorldState) → refusal command w.leaves ≡ None → engine.IsMomentOf command w m → IsMomentOf (Some command) w m
+of_command command w m none moment = subst (λ (o : Option Refusal). IsMomentBy o command w m) (sym none) moment
+
+-- each moment of a query is the world at the beginning
+pub of_query : (command : Command) (w m : WorldState) → IsQuery command → IsMomentOf (Some command) w m → m ≡ w
+of_query command w m query moment = by (refusal command w.leaves) command query moment
+  where
+    by : (o : Option Refusal) (command : Command) → IsQuery command → IsMomentBy o command w m → m ≡ w
+    by None (Test system) query moment = absurd query
+    by None (Boot system) query moment = absurd query
+    by None (DryActivate system) query moment = moment.step
+    by (Some why) command query moment = moment

@@ -1,0 +1,74 @@
+//! Runs a command, from its plan to its closing text.
+ghost use Rattle.std.specs.Prelude.{◌≡◌, Some, IsErrOf};
+ghost use Rattle.host_trait.specs.Host.{Told};
+ghost use Rattle.switch_engine.specs.Plan.{IsNumbered, IsPlanOf};
+ghost use Rattle.switch_run.specs.declared.run_fault.RunFault.TheVariants.{Sink};
+ghost use Rattle.switch_run.specs.Commands.{command_of};
+ghost use Rattle.switch_run.specs.Ending.{HasReported, IsEnding, IsSinkCaused};
+
+use crate::run_fault::RunFault;
+use crate::words::read_words;
+use dry_report::{close, report};
+use host_trait::{Manager, Sink};
+use std::alloc::Global;
+use switch_engine::{Command, Plan, carry_out, plan_all};
+use switch_names::Text;
+
+/// Puts the report of a plan.
+fn put_report<S: Sink>(alloc: Global, out: &mut S, plan: &Plan) -> Result<(), RunFault>
+    ensures output { HasReported plan.now (S.sink out.old) (S.sink out.new) result }
+    ensures cause { IsSinkCaused (S.sink out.old) (S.sink out.new) (IsErrOf result Sink) }
+{
+    let text = report(alloc, plan)?;
+    out.put(text.as_slice())?;
+    Ok(())
+}
+
+/// Puts the report of a planned command, carries it out, and puts its closing text. One that changes
+/// nothing has put its report alone. Answers whether a unit failed that the system defines.
+fn run_planned<H: Manager, S: Sink>(
+    alloc: Global,
+    host: &mut H,
+    out: &mut S,
+    plan: &Plan,
+) -> Result<bool, RunFault>
+    requires planned { Told (H.host host.old) (λ w. IsPlanOf w plan.now) }
+    requires numbered { IsNumbered plan.now }
+    ensures { IsEnding (Some plan.now.command) (H.host host.old) (H.host host.new) (S.sink out.old) (S.sink out.new) result }
+{
+    put_report(alloc, out, plan)?;
+    if plan.command().is_query() {
+        return Ok(false);
+    }
+    let outcome = carry_out(alloc, host, plan)?;
+    close(out, plan, &outcome)?;
+    Ok(outcome.failed)
+}
+
+/// Plans a command and runs it.
+fn run_command<H: Manager, S: Sink>(
+    alloc: Global,
+    host: &mut H,
+    out: &mut S,
+    command: &Command,
+) -> Result<bool, RunFault>
+    ensures { IsEnding (Some command.now) (H.host host.old) (H.host host.new) (S.sink out.old) (S.sink out.new) result }
+{
+    let plan = plan_all(alloc, host, command)?;
+    run_planned(alloc, host, out, &plan)
+}
+
+/// Runs the command that words give.
+pub fn run_words<H: Manager, S: Sink>(
+    alloc: Global,
+    words: &[Text],
+    host: &mut H,
+    out: &mut S,
+) -> Result<bool, RunFault>
+    ensures { IsEnding (command_of words.now) (H.host host.old) (H.host host.new) (S.sink out.old) (S.sink out.new) result }
+{
+    match read_words(alloc, words)? {
+        Some(command) => run_command(alloc, host, out, &command),
+        None => Err(RunFault::Usage),
+    }
+}

@@ -1,0 +1,380 @@
+-- The moments of the calls after the link: what they make of the units.
+use Rattle.std.proofs.Common.{◌≡◌, ◌&&◌, ◌||◌, ◌++◌, ◌∷◌, Bool, true, false, not, IsTrue, List, [], map, if◌then◌else◌, refl, sym, ap, subst, ◌∙◌, inl, inr}
+use Rattle.std.proofs.lemmas.Bool.{or_left, or_right}
+use Rattle.std.proofs.lemmas.List.Folds.{list_any-append}
+use Rattle.std.proofs.lemmas.List.{append-nil, append_assoc}
+use Rattle.std.specs.List.{AllByRecursion, list_any}
+use Rattle.host_trait.specs.declared.entry.Act.{Act}
+use Rattle.host_trait.specs.declared.entry.Act.TheVariants.{Stop, Reload, Restart, Start}
+use Rattle.host_trait.specs.declared.manager_state.ManagerState.{ManagerState}
+use Rattle.host_trait.specs.declared.unit_state.State.{State}
+use Rattle.host_trait.specs.declared.unit_state.State.TheVariants.{Active, Inactive, Failed}
+use Rattle.host_trait.specs.Manager.{acted, halted, is_active, state_after}
+use Rattle.host_trait.specs.States.{state_of}
+use Rattle.owed_lists.specs.declared.lists.Lists.{Lists}
+use Rattle.owed_plan.specs.declared.duty.Duty.{Duty}
+use Rattle.owed_plan.specs.declared.owed.Owed.{Owed}
+use Rattle.owed_plan.specs.Calls.{duty, reload_act, reload_calls, restart_calls, start_calls}
+use Rattle.owed_plan.specs.Law.{stopped}
+use Rattle.unit_stage.specs.Acts.{performed}
+use Rattle.owed_plan.specs.FinalStates.{brought_by, is_brought}
+use Rattle.unit_stage.proofs.ActLemmas.{brought_from, brought_to, state_with}
+use Rattle.unit_stage.proofs.CallLemmas.{performed-append, same_bad, same_loaded}
+use Rattle.switch_names.specs.Names.{Name, has, is_name}
+use Rattle.unit_defs.proofs.NameLemmas.{name_exact, name_itself}
+use Rattle.owed_plan.specs.Called.{AreCalled, IsCalled, IsGiven, IsLeftOf}
+
+-- the lists that still stand
+abbrev pub lists_left : List Name → List Name → List Name → Lists
+lists_left starts restarts reloads = record { starts = starts; restarts = restarts; reloads = reloads }
+
+-- one of these calls was on the unit
+abbrev pub is_called : List Duty → Name → Bool
+is_called calls unit = list_any (λ call. is_name unit call.unit) calls
+
+-- these calls have been made since the definitions were loaded, the manager has come to this, and these lists stand
+pub data IsCalling (owed : Owed) (states : Name → State) (ready : ManagerState) (made : List Duty) (m : ManagerState) (kept : Lists) : Type 0 where
+  Reloading : (rest : List Duty) → reload_calls owed states ≡ made ++ rest → m ≡ performed made ready →
+      kept ≡ lists_left owed.starts owed.restarts owed.reloads → IsCalling owed states ready made m kept
+  Restarting : (part rest : List Duty) → restart_calls owed ≡ part ++ rest → made ≡ reload_calls owed states ++ part → m ≡ performed made ready →
+      kept ≡ lists_left owed.starts owed.restarts [] → IsCalling owed states ready made m kept
+  Halfway : (part rest : List Duty) (unit : Name) → restart_calls owed ≡ part ++ duty Restart unit ∷ rest → made ≡ reload_calls owed states ++ part → m ≡ halted unit (performed made ready) →
+      kept ≡ lists_left owed.starts owed.restarts [] → IsCalling owed states ready made m kept
+  Starting : (part rest : List Duty) → start_calls owed ≡ part ++ rest → made ≡ (reload_calls owed states ++ restart_calls owed) ++ part → m ≡ performed made ready →
+      kept ≡ lists_left owed.starts [] [] → IsCalling owed states ready made m kept
+  Done : made ≡ (reload_calls owed states ++ restart_calls owed) ++ start_calls owed → m ≡ performed made ready →
+      kept ≡ lists_left [] [] [] → IsCalling owed states ready made m kept
+
+-- ---- one unit
+
+module _ (owed : Owed) (unit : Name) (to before : State) where
+  abbrev Is : State → Type 0
+  Is now = IsCalled owed unit to before now
+
+  abbrev started : State → State
+  started now = if is_active now then Active else to
+
+  -- a start
+  start_called : (now : State) → is_brought owed unit ≡ true → Is now → Is (started now)
+  start_called Active brought is = is
+  start_called Inactive brought (IsCalled.NotYet same) = IsCalled.Brought brought (λ e. cc (same ∙ e)) refl
+  start_called Inactive brought (IsCalled.Brought _ down is) = IsCalled.Brought brought down refl
+  start_called Inactive brought (IsCalled.Restarted restarts is) = IsCalled.Restarted restarts refl
+  start_called Inactive brought (IsCalled.Halfway restarts is) = IsCalled.Restarted restarts refl
+  start_called Failed brought (IsCalled.NotYet same) = IsCalled.Brought brought (λ e. cc (same ∙ e)) refl
+  start_called Failed brought (IsCalled.Brought _ down is) = IsCalled.Brought brought down refl
+  start_called Failed brought (IsCalled.Restarted restarts is) = IsCalled.Restarted restarts refl
+  start_called Failed brought (IsCalled.Halfway restarts is) = IsCalled.Restarted restarts refl
+
+  start_given : (now : State) → Is now → IsGiven owed unit to before (started now)
+  start_given Active (IsCalled.NotYet same) = inr (inl (sym same))
+  start_given Active (IsCalled.Brought brought down is) = inr (inr is)
+  start_given Active (IsCalled.Restarted restarts is) = inl restarts
+  start_given Active (IsCalled.Halfway restarts is) = inl restarts
+  start_given Inactive is = inr (inr refl)
+  start_given Failed is = inr (inr refl)
+
+  -- what is brought to its state stays there
+  start_stays : (now : State) → now ≡ to → started now ≡ to
+  start_stays Active is = is
+  start_stays Inactive is = refl
+  start_stays Failed is = refl
+
+-- ---- calls
+
+module _ (owed : Owed) (then_ : Name → State) where
+  -- a call that is owed
+  abbrev IsOwedCall : Act → Name → Type 0
+  IsOwedCall Stop unit = ⊥
+  IsOwedCall Reload unit = then_ unit ≡ Active
+  IsOwedCall Restart unit = has owed.restarts unit ≡ true
+  IsOwedCall Start unit = is_brought owed unit ≡ true
+
+  abbrev AreOwed : List Duty → Type 0
+  AreOwed calls = AllByRecursion (λ call. IsOwedCall call.act call.unit) calls
+
+  all_append : (calls more : List Duty) → AreOwed (calls ++ more) → AreOwed calls × AreOwed more
+  all_append [] more all = (tt, all)
+  all_append (call ∷ calls) more all = let rest = all_append calls more all.1 in ((all.0, rest.0), rest.1)
+
+  all_of : (act : Name → Act) (names : List Name) → ((unit : Name) → has names unit ≡ true → IsOwedCall (act unit) unit) → AreOwed (map (λ unit. duty (act unit) unit) names)
+  all_of act [] each = tt
+  all_of act (name ∷ names) each =
+      (each name (or_left (is_name name name) (has names name) (name_itself name)), all_of act names (λ unit found. each unit (or_right (is_name unit name) (has names unit) found)))
+
+  module _ (unit : Name) (manager : ManagerState) where
+    abbrev to : State
+    to = brought_by manager.loaded manager.bad unit
+
+    abbrev now : State
+    now = state_of manager.states unit
+
+    -- a property of the unit's state that each act on the unit keeps is kept by a call
+    turn : (P : State → Type 0) (act : Act) (name : Name) → (unit ≡ name → P (state_after act unit manager)) → P now → P (state_of (acted act name manager).states unit)
+    turn P act name on is =
+        subst P (sym (state_with manager.states name (state_after act name manager) unit))
+        (elim (is_name unit name) as (λ b. is_name unit name ≡ b → P (if b then state_after act name manager else now)) [
+          | true ↦ λ same. subst (λ n. P (state_after act n manager)) (name_exact unit name same) (on (name_exact unit name same))
+          | false ↦ λ other. is
+        ] refl)
+
+    acted_called : (act : Act) → IsOwedCall act unit → IsCalled owed unit to (then_ unit) now → IsCalled owed unit to (then_ unit) (state_after act unit manager)
+    acted_called Stop call is = absurd call
+    acted_called Reload call is = is
+    acted_called Restart call is = IsCalled.Restarted call refl
+    acted_called Start call is = start_called owed unit to (then_ unit) now call is
+
+    acted_to : (act : Act) → IsOwedCall act unit → now ≡ to → state_after act unit manager ≡ to
+    acted_to Stop call is = absurd call
+    acted_to Reload call is = is
+    acted_to Restart call is = refl
+    acted_to Start call is = start_stays owed unit to (then_ unit) now is
+
+  -- after some calls each unit is where calls bring it
+  calls_called : (calls : List Duty) (manager : ManagerState) (unit : Name) → AreOwed calls →
+      IsCalled owed unit (to unit manager) (then_ unit) (now unit manager) → IsCalled owed unit (to unit manager) (then_ unit) (now unit (performed calls manager))
+  calls_called [] manager unit all is = is
+  calls_called (call ∷ calls) manager unit all is =
+      calls_called calls (acted call.act call.unit manager) unit all.1
+      (turn unit manager (λ state. IsCalled owed unit (to unit manager) (then_ unit) state) call.act call.unit
+      (λ same. acted_called unit manager call.act (subst (IsOwedCall call.act) (sym same) all.0) is) is)
+
+  -- what is brought to its state stays there
+  calls_stay : (calls : List Duty) (manager : ManagerState) (unit : Name) → AreOwed calls → now unit manager ≡ to unit manager → now unit (performed calls manager) ≡ to unit manager
+  calls_stay [] manager unit all is = is
+  calls_stay (call ∷ calls) manager unit all is =
+      calls_stay calls (acted call.act call.unit manager) unit all.1
+      (turn unit manager (λ state. state ≡ to unit manager) call.act call.unit (λ same. acted_to unit manager call.act (subst (IsOwedCall call.act) (sym same) all.0) is) is)
+
+  given_stays : (calls : List Duty) (manager : ManagerState) (unit : Name) → AreOwed calls → IsGiven owed unit (to unit manager) (then_ unit) (now unit manager) →
+      IsGiven owed unit (to unit manager) (then_ unit) (now unit (performed calls manager))
+  given_stays calls manager unit all (inl restarts) = inl restarts
+  given_stays calls manager unit all (inr (inl up)) = inr (inl up)
+  given_stays calls manager unit all (inr (inr is)) = inr (inr (calls_stay calls manager unit all is))
+
+-- ---- lists of calls
+
+called_on : (act : Name → Act) (names : List Name) (unit : Name) → is_called (map (λ u. duty (act u) u) names) unit ≡ has names unit
+called_on act [] unit = refl
+called_on act (name ∷ names) unit = ap (λ b. is_name unit name || b) (called_on act names unit)
+
+-- a unit of these calls is called, whatever was called before and after
+called_among : (calls names more : List Duty) (unit : Name) → is_called names unit ≡ true → is_called ((calls ++ names) ++ more) unit ≡ true
+called_among calls names more unit found =
+    let test : Duty → Bool = λ call. is_name unit call.unit in
+    list_any-append test (calls ++ names) more ∙ or_left (is_called (calls ++ names) unit) (is_called more unit)
+    (list_any-append test calls names ∙ or_right (is_called calls unit) (is_called names unit) found)
+
+module _ (owed : Owed) (states : Name → State) (ready : ManagerState) (is_ready : (unit : Name) → state_of ready.states unit ≡ stopped owed.stops states unit) where
+  abbrev before : Name → State
+  before = stopped owed.stops states
+
+  abbrev brings : Name → State
+  brings = brought_by ready.loaded ready.bad
+
+  abbrev Owe : List Duty → Type 0
+  Owe = AreOwed owed before
+
+  -- the calls of each list are owed
+  reload_call : (unit : Name) → has owed.reloads unit ≡ true → (active stops : Bool) → is_active (states unit) ≡ active → has owed.stops unit ≡ stops →
+      IsOwedCall owed before (if active && not stops then Reload else Start) unit
+  reload_call unit found true false active stops = ap (λ b. if b then Inactive else states unit) stops ∙ from (states unit) active
+    where
+      from : (state : State) → is_active state ≡ true → state ≡ Active
+      from Active is = refl
+      from Inactive is = absurd cc
+      from Failed is = absurd cc
+  reload_call unit found true true active stops = or_right (has owed.starts unit) (has owed.reloads unit) found
+  reload_call unit found false stops active is = or_right (has owed.starts unit) (has owed.reloads unit) found
+
+  reloads_owed : Owe (reload_calls owed states)
+  reloads_owed = all_of owed before (reload_act states owed.stops) owed.reloads (λ unit found. reload_call unit found (is_active (states unit)) (has owed.stops unit) refl refl)
+
+  restarts_owed : Owe (restart_calls owed)
+  restarts_owed = all_of owed before (λ unit. Restart) owed.restarts (λ unit found. found)
+
+  starts_owed : Owe (start_calls owed)
+  starts_owed = all_of owed before (λ unit. Start) owed.starts (λ unit found. or_left (has owed.starts unit) (has owed.reloads unit) found)
+
+  owe_append : (calls more : List Duty) → Owe calls → Owe more → Owe (calls ++ more)
+  owe_append [] more all rest = rest
+  owe_append (call ∷ calls) more all rest = (all.0, owe_append calls more all.1 rest)
+
+  owe_part : (all part rest : List Duty) → Owe all → all ≡ part ++ rest → Owe part × Owe rest
+  owe_part all part rest owe is = all_append owed before part rest (subst Owe is owe)
+
+  -- where calls have brought the units
+  units_of : (made : List Duty) → Owe made → (unit : Name) → IsCalled owed unit (brings unit) (before unit) (state_of (performed made ready).states unit)
+  units_of made owe unit = calls_called owed before made ready unit owe (IsCalled.NotYet (is_ready unit))
+
+  module _ (act : Name → Act) (names : List Name) (first more : List Duty) (owe_first : Owe first) (owe_more : Owe more) (unit : Name) (found : has names unit ≡ true) where
+    abbrev calls : List Duty
+    calls = map (λ u. duty (act u) u) names
+
+    abbrev mid : ManagerState
+    mid = performed calls (performed first ready)
+
+    abbrev after_act : State → State
+    after_act state = brought_from (act unit) ready.loaded ready.bad unit state
+
+    mid_state : state_of mid.states unit ≡ after_act (state_of (performed first ready).states unit)
+    mid_state =
+        brought_to act names (performed first ready) ready.loaded ready.bad unit (state_of (performed first ready).states unit) (same_loaded first ready) (same_bad first ready) refl
+        ∙ ap (λ b. if b then after_act (state_of (performed first ready).states unit) else state_of (performed first ready).states unit) found
+
+    mid_to : brought_by mid.loaded mid.bad unit ≡ brings unit
+    mid_to = λ i. brought_by ((same_loaded calls (performed first ready) ∙ same_loaded first ready) i) ((same_bad calls (performed first ready) ∙ same_bad first ready) i) unit
+
+    last : performed more mid ≡ performed ((first ++ calls) ++ more) ready
+    last = sym (performed-append (first ++ calls) more ready ∙ ap (performed more) (performed-append first calls ready))
+
+    -- what the act makes of the unit stays
+    reached : (P : State → State → Type 0) → (P (brought_by mid.loaded mid.bad unit) (state_of mid.states unit) → P (brought_by mid.loaded mid.bad unit) (state_of (performed more mid).states unit)) →
+        ((state : State) → IsCalled owed unit (brings unit) (before unit) state → P (brings unit) (after_act state)) →
+        P (brings unit) (state_of (performed ((first ++ calls) ++ more) ready).states unit)
+    reached P stays reach =
+        subst (λ (m : ManagerState). P (brings unit) (state_of m.states unit)) last
+        (subst (λ t. P t (state_of mid.states unit) → P t (state_of (performed more mid).states unit)) mid_to stays
+        (subst (P (brings unit)) (sym mid_state) (reach (state_of (performed first ready).states unit) (units_of first owe_first unit))))
+
+    list_given : ((state : State) → IsCalled owed unit (brings unit) (before unit) state → IsGiven owed unit (brings unit) (before unit) (after_act state)) →
+        IsGiven owed unit (brings unit) (before unit) (state_of (performed ((first ++ calls) ++ more) ready).states unit)
+    list_given = reached (λ to now. IsGiven owed unit to (before unit) now) (given_stays owed before more mid unit owe_more)
+
+    list_brought : ((state : State) → IsCalled owed unit (brings unit) (before unit) state → after_act state ≡ brings unit) →
+        state_of (performed ((first ++ calls) ++ more) ready).states unit ≡ brings unit
+    list_brought = reached (λ to now. now ≡ to) (calls_stay owed before more mid unit owe_more)
+
+    paid : is_called ((first ++ calls) ++ more) unit ≡ true
+    paid = called_among first calls more unit (called_on act names unit ∙ found)
+
+  -- an act that is owed gives
+  act_given : (act : Act) (unit : Name) → IsOwedCall owed before act unit → (state : State) → IsCalled owed unit (brings unit) (before unit) state →
+      IsGiven owed unit (brings unit) (before unit) (brought_from act ready.loaded ready.bad unit state)
+  act_given Stop unit call state is = absurd call
+  act_given Reload unit call state is = inr (inl call)
+  act_given Restart unit call state is = inl call
+  act_given Start unit call state is = start_given owed unit (brings unit) (before unit) state is
+
+  abbrev at : List Duty → Name → State
+  at made = state_of (performed made ready).states
+
+  abbrev Given : List Duty → Name → Type 0
+  Given made unit = IsGiven owed unit (brings unit) (before unit) (at made unit) × IsTrue (is_called made unit)
+
+  -- a list is done with after its calls
+  reloads_done : (more : List Duty) → Owe more → (unit : Name) → has owed.reloads unit ≡ true → Given (reload_calls owed states ++ more) unit
+  reloads_done more owe unit found =
+      let act = reload_act states owed.stops in (
+        list_given act owed.reloads [] more tt owe unit found
+            (act_given (act unit) unit (reload_call unit found (is_active (states unit)) (has owed.stops unit) refl refl)),
+        paid act owed.reloads [] more tt owe unit found,
+      )
+
+  restarts_done : (more : List Duty) → Owe more → (unit : Name) → has owed.restarts unit ≡ true →
+      (at ((reload_calls owed states ++ restart_calls owed) ++ more) unit ≡ brings unit) × IsTrue (is_called ((reload_calls owed states ++ restart_calls owed) ++ more) unit)
+  restarts_done more owe unit found = (
+    list_brought (λ u. Restart) owed.restarts (reload_calls owed states) more reloads_owed owe unit found (λ state is. refl),
+    paid (λ u. Restart) owed.restarts (reload_calls owed states) more reloads_owed owe unit found,
+  )
+
+  abbrev first_two : List Duty
+  first_two = reload_calls owed states ++ restart_calls owed
+
+  two_owed : Owe first_two
+  two_owed = owe_append (reload_calls owed states) (restart_calls owed) reloads_owed restarts_owed
+
+  starts_done : (unit : Name) → has owed.starts unit ≡ true → Given (first_two ++ start_calls owed) unit
+  starts_done unit found =
+      subst (λ made. Given made unit) (append-nil (first_two ++ start_calls owed)) (
+        list_given (λ u. Start) owed.starts first_two [] two_owed tt unit found
+            (act_given Start unit (or_left (has owed.starts unit) (has owed.reloads unit) found)),
+        paid (λ u. Start) owed.starts first_two [] two_owed tt unit found,
+      )
+
+  reloads_done_then : (more : List Duty) → Owe more → (unit : Name) → has owed.reloads unit ≡ true → Given (first_two ++ more) unit
+  reloads_done_then more owe unit found =
+      subst (λ made. Given made unit) (sym (append_assoc (reload_calls owed states) (restart_calls owed) more))
+      (reloads_done (restart_calls owed ++ more) (owe_append (restart_calls owed) more restarts_owed owe) unit found)
+
+  -- half way through a restart
+  module _ (made : List Duty) (name : Name) (listed : has owed.restarts name ≡ true) (unit : Name) where
+    abbrev half : State
+    half = state_of (halted name (performed made ready)).states unit
+
+    halves : (P : State → Type 0) → (has owed.restarts unit ≡ true → P Inactive) → P (at made unit) → P half
+    halves P on is =
+        subst P (sym (state_with (performed made ready).states name Inactive unit))
+        (elim (is_name unit name) as (λ b. is_name unit name ≡ b → P (if b then Inactive else at made unit)) [
+          | true ↦ λ same. on (subst (λ n. has owed.restarts n ≡ true) (sym (name_exact unit name same)) listed)
+          | false ↦ λ other. is
+        ] refl)
+
+    half_units : Owe made → IsCalled owed unit (brings unit) (before unit) half
+    half_units owe = halves (IsCalled owed unit (brings unit) (before unit)) (λ restarts. IsCalled.Halfway restarts refl) (units_of made owe unit)
+
+    half_given : IsGiven owed unit (brings unit) (before unit) (at made unit) → IsGiven owed unit (brings unit) (before unit) half
+    half_given is = halves (IsGiven owed unit (brings unit) (before unit)) (λ restarts. inl restarts) is
+
+  abbrev Called : List Duty → (Name → State) → Lists → Type 0
+  Called made now kept = AreCalled owed brings before now kept (is_called made)
+
+  moment : (made : List Duty) (m : ManagerState) (kept : Lists) → IsCalling owed states ready made m kept → Called made (state_of m.states) kept
+  moment made m kept (IsCalling.Reloading rest prefix is stand) =
+      let owe = (owe_part (reload_calls owed states) made rest reloads_owed prefix).0 in
+      subst (λ (n : ManagerState). Called made (state_of n.states) kept) (sym is)
+      (subst (Called made (at made)) (sym stand) (record {
+        units = units_of made owe;
+        reloads = IsLeftOf.Stands refl;
+        restarts = IsLeftOf.Stands refl;
+        starts = IsLeftOf.Stands refl;
+      }))
+  moment made m kept (IsCalling.Restarting part rest prefix all is stand) =
+      let owe = (owe_part (restart_calls owed) part rest restarts_owed prefix).0 in
+      let done = reload_calls owed states ++ part in
+      subst (λ (n : ManagerState). Called made (state_of n.states) kept) (sym is)
+      (subst (λ calls. Called calls (at calls) kept) (sym all)
+      (subst (Called done (at done)) (sym stand) (record {
+        units = units_of done (owe_append (reload_calls owed states) part reloads_owed owe);
+        reloads = IsLeftOf.Removed refl (reloads_done part owe);
+        restarts = IsLeftOf.Stands refl;
+        starts = IsLeftOf.Stands refl;
+      })))
+  moment made m kept (IsCalling.Halfway part rest name prefix all is stand) =
+      let owes = owe_part (restart_calls owed) part (duty Restart name ∷ rest) restarts_owed prefix in
+      let done = reload_calls owed states ++ part in
+      subst (λ (n : ManagerState). Called made (state_of n.states) kept) (sym is)
+      (subst (λ calls. Called calls (state_of (halted name (performed calls ready)).states) kept) (sym all)
+      (subst (Called done (state_of (halted name (performed done ready)).states)) (sym stand) (record {
+        units = λ unit. half_units done name owes.1.0 unit (owe_append (reload_calls owed states) part reloads_owed owes.0);
+        reloads = IsLeftOf.Removed refl (λ unit found. let given = reloads_done part owes.0 unit found in (half_given done name owes.1.0 unit given.0, given.1));
+        restarts = IsLeftOf.Stands refl;
+        starts = IsLeftOf.Stands refl;
+      })))
+  moment made m kept (IsCalling.Starting part rest prefix all is stand) =
+      let owe = (owe_part (start_calls owed) part rest starts_owed prefix).0 in
+      let done = first_two ++ part in
+      subst (λ (n : ManagerState). Called made (state_of n.states) kept) (sym is)
+      (subst (λ calls. Called calls (at calls) kept) (sym all)
+      (subst (Called done (at done)) (sym stand) (record {
+        units = units_of done (owe_append first_two part two_owed owe);
+        reloads = IsLeftOf.Removed refl (reloads_done_then part owe);
+        restarts = IsLeftOf.Removed refl (restarts_done part owe);
+        starts = IsLeftOf.Stands refl;
+      })))
+  moment made m kept (IsCalling.Done all is stand) =
+      let done = first_two ++ start_calls owed in
+      subst (λ (n : ManagerState). Called made (state_of n.states) kept) (sym is)
+      (subst (λ calls. Called calls (at calls) kept) (sym all)
+      (subst (Called done (at done)) (sym stand) (record {
+        units = units_of done (owe_append first_two (start_calls owed) two_owed starts_owed);
+        reloads = IsLeftOf.Removed refl (reloads_done_then (start_calls owed) starts_owed);
+        restarts = IsLeftOf.Removed refl (restarts_done (start_calls owed) starts_owed);
+        starts = IsLeftOf.Removed refl starts_done;
+      })))
+
+-- at each of these moments the units are in the states to which the calls bring them, and each list outlives its calls
+pub calling_law : (owed : Owed) (states : Name → State) (ready m : ManagerState) (made : List Duty) (kept : Lists) →
+    ((unit : Name) → state_of ready.states unit ≡ stopped owed.stops states unit) → IsCalling owed states ready made m kept →
+    AreCalled owed (brought_by ready.loaded ready.bad) (stopped owed.stops states) (state_of m.states) kept (is_called made)
+calling_law owed states ready m made kept is_ready calling = moment owed states ready is_ready made m kept calling

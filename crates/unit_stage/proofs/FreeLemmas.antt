@@ -1,0 +1,95 @@
+-- Nothing gets in the way of a switch of the units.
+use Rattle.std.proofs.Common.{◌≡◌, ◌&&◌, ◌||◌, ◌∷◌, ℕ, Bool, true, false, cond, List, [], Option, None, Some, is_none, is_some, option_map, refl, ap, ◌∙◌}
+use Rattle.std.proofs.lemmas.Bool.{or_parts}
+use Rattle.std.specs.FinMap.{get}
+use Rattle.std.specs.List.{AllByRecursion, find}
+use Rattle.host_trait.specs.declared.leaf.LeafKind.{LeafKind}
+use Rattle.host_trait.specs.World.{Leaves, WorldState, is_in_line, leaf_content, stage}
+use Rattle.owed_lists.specs.Lists.{reloads_place, restarts_place, starts_place}
+use Rattle.owed_lists.specs.Record.{leaf_of_list}
+use Rattle.owed_plan.proofs.StoreLemmas.{first_fault_same, leaf_same}
+use Rattle.switch_names.specs.Names.{Name}
+use Rattle.switch_parts.specs.declared.refusal.Refusal.TheVariants.{UnitText}
+use Rattle.switch_parts.proofs.Parts.{none_mapped}
+use Rattle.tree_put.specs.declared.written_place.WrittenPlace.{WrittenPlace}
+use Rattle.tree_put.specs.Put.{is_blocked}
+use Rattle.tree_put.specs.WrittenPlace.{is_in_the_way, lacks_content, written}
+use Rattle.tree_put.proofs.BlockedLemmas.{all_fail, none_passes}
+use Rattle.unit_stage.specs.Laws.{AreSameBeside}
+use Rattle.unit_stage.specs.Owned.{unit_places}
+use Rattle.unit_stage.specs.System.{IsSystem, current_place}
+use Rattle.unit_stage.specs.Units.{AreUnitsFree}
+use Rattle.unit_stage.proofs.OwnedLemmas.{IsWritten, current_written, reloads_written, restarts_written, same_line, same_store, stage_written, starts_written}
+use Rattle.unit_stage.proofs.StandLemmas.{Stand}
+
+-- the leaf of a list is the old one or one that was recorded
+pub data IsListLeaf (leaves : Leaves) (at : Name) (leaf : Option LeafKind) : Type 0 where
+  Old : leaf ≡ get leaves at → IsListLeaf leaves at leaf
+  Recorded : (names : List Name) → leaf ≡ leaf_of_list names → IsListLeaf leaves at leaf
+
+has_content : (leaves : Leaves) (names : List Name) → (is_some (leaf_of_list names) && is_none (leaf_content leaves (leaf_of_list names))) ≡ false
+has_content leaves [] = refl
+has_content leaves (name ∷ names) = refl
+
+-- a test that fails at each place finds none, and the other way round
+none_found : (test : WrittenPlace → Bool) (places : List WrittenPlace) → AllByRecursion (λ place. test place ≡ false) places → find test places ≡ None
+none_found test [] all = refl
+none_found test (place ∷ places) all = ap (λ b. cond b (Some place) (find test places)) all.0 ∙ none_found test places all.1
+
+all_free : (test : WrittenPlace → Bool) (places : List WrittenPlace) → find test places ≡ None → AllByRecursion (λ place. test place ≡ false) places
+all_free test [] none = tt
+all_free test (place ∷ places) none =
+    elim (test place) as (λ b. test place ≡ b → cond b (Some place) (find test places) ≡ None → (test place ≡ false) × AllByRecursion (λ place. test place ≡ false) places) [
+      | true ↦ λ is found. absurd cc
+      | false ↦ λ is found. (is, all_free test places found)
+    ] refl none
+
+module _ (system : Name) (w m : WorldState) (same : AreSameBeside w m) where
+  unblocked : (at : Name) → IsWritten at → is_blocked w.leaves at ≡ false → is_blocked m.leaves at ≡ false
+  unblocked at is none =
+      all_fail (λ q. is_in_line q at) m.leaves (λ q line. same_line at is w m same q line ∙ none_passes (λ q. is_in_line q at) w.leaves none q line)
+
+  -- a place that isn't read is free as it was
+  place_free : (at : Name) → IsWritten at → is_in_the_way w.leaves (written false at) ≡ false → is_in_the_way m.leaves (written false at) ≡ false
+  place_free at is free = ap (λ b. b || false) (unblocked at is (or_parts (is_blocked w.leaves at) false free).0)
+
+  lists_have : (at : Name) (leaf : Option LeafKind) → get m.leaves at ≡ leaf → IsListLeaf w.leaves at leaf → lacks_content w.leaves at ≡ false → lacks_content m.leaves at ≡ false
+  lists_have at leaf there (IsListLeaf.Old is) had =
+      ap (λ (o : Option LeafKind). is_some o && is_none (leaf_content m.leaves o)) (there ∙ is)
+      ∙ ap (λ (content : Option (List ℕ)). is_some (get w.leaves at) && is_none content) (leaf_same m.leaves w.leaves (same_store w m same) (get w.leaves at))
+      ∙ had
+  lists_have at leaf there (IsListLeaf.Recorded names is) had =
+      ap (λ (o : Option LeafKind). is_some o && is_none (leaf_content m.leaves o)) (there ∙ is) ∙ has_content m.leaves names
+
+  -- a list that is read has content
+  list_free : (at : Name) (leaf : Option LeafKind) → IsWritten at → get m.leaves at ≡ leaf → IsListLeaf w.leaves at leaf →
+      is_in_the_way w.leaves (written true at) ≡ false → is_in_the_way m.leaves (written true at) ≡ false
+  list_free at leaf is there of free =
+      let parts = or_parts (is_blocked w.leaves at) (lacks_content w.leaves at) free in
+      ap (λ b. b || lacks_content m.leaves at) (unblocked at is parts.0) ∙ lists_have at leaf there of parts.1
+
+  module _ (link to_start to_restart to_reload : Option LeafKind) (stand : Stand m.leaves link to_start to_restart to_reload)
+      (starts : IsListLeaf w.leaves starts_place to_start) (restarts : IsListLeaf w.leaves restarts_place to_restart) (reloads : IsListLeaf w.leaves reloads_place to_reload) where
+    way_free : find (is_in_the_way w.leaves) unit_places ≡ None → find (is_in_the_way m.leaves) unit_places ≡ None
+    way_free none =
+        let was = all_free (is_in_the_way w.leaves) unit_places none in
+        none_found (is_in_the_way m.leaves) unit_places (
+          place_free stage stage_written was.0,
+          (
+            place_free current_place current_written was.1.0,
+            (
+              list_free reloads_place to_reload reloads_written stand.reloads reloads was.1.1.0,
+              (
+                list_free restarts_place to_restart restarts_written stand.restarts restarts was.1.1.1.0,
+                (list_free starts_place to_start starts_written stand.starts starts was.1.1.1.1.0, tt),
+              ),
+            ),
+          ),
+        )
+
+    -- nothing is in the way of the units' places that wasn't, and the units can be read as before
+    pub stays_free : IsSystem system → AreUnitsFree system w.leaves → AreUnitsFree system m.leaves
+    stays_free is_system free = record {
+      way = ap (option_map (λ (place : WrittenPlace). place.at)) (way_free (none_mapped _ _ free.way));
+      refusal = ap (option_map (λ fault. UnitText fault.0 fault.1)) (first_fault_same m.leaves w.leaves (same_store w m same) system is_system.inside) ∙ free.refusal;
+    }

@@ -1,0 +1,157 @@
+-- The steps of a switch of the units, and the moments on their way.
+use Rattle.std.proofs.Common.{◌≡◌, ◌≢◌, ◌⊎◌, ℕ, List, [], ◌∷◌, ◌++◌, length, take, Some, refl, sym, ap, subst, ◌∙◌, inl, inr, ⊎_elim}
+use Rattle.std.specs.FinMap.{get}
+use Rattle.host_trait.specs.declared.leaf.LeafKind.{LeafKind}
+use Rattle.host_trait.specs.declared.leaf.LeafKind.TheVariants.{Link}
+use Rattle.host_trait.specs.declared.manager_state.ManagerState.{ManagerState}
+use Rattle.host_trait.specs.Change.{DaemonReload, IsMoment, definitions_place, finished, loaded_from}
+use Rattle.host_trait.specs.Manager.{acted, halted, loading}
+use Rattle.host_trait.specs.World.{WorldState, seen, stage, with_leaf, with_manager, without_leaf}
+use Rattle.host_trait.proofs.Seen.{other_of, seen_at, seen_with_leaf}
+use Rattle.host_trait.proofs.Sound.{get_other}
+use Rattle.owed_lists.specs.declared.lists.Lists.{Lists}
+use Rattle.owed_lists.specs.declared.lists.Which.{Which}
+use Rattle.owed_lists.specs.declared.lists.Which.TheVariants.{Starts, Restarts, Reloads}
+use Rattle.owed_lists.specs.Lists.{place_of}
+use Rattle.owed_lists.specs.Record.{IsRecordMoment, with_lists}
+use Rattle.owed_lists.proofs.RecordLemmas.{seen_without_leaf}
+use Rattle.owed_plan.specs.declared.duty.Duty.{Duty}
+use Rattle.switch_names.specs.Names.{Name}
+use Rattle.tree_put.specs.Put.{AreApart, IsOldOrGone, IsOldOrNew}
+use Rattle.tree_put.proofs.PutLemmas.{apart_ne}
+use Rattle.unit_stage.specs.Acts.{CanPerform, IsPerforming, performed, with_calls}
+use Rattle.unit_stage.specs.Steps.{CanLoad, IsBringMoment, IsBringStep, IsGiveMoment, IsListMoment, IsLoadMoment, IsStopMoment, IsStopStep, with_all_given, with_brought, with_current, with_given, with_loaded, with_stops}
+use Rattle.unit_stage.specs.System.{current_place, definitions_of, system_leaf}
+
+-- ---- calls
+
+pub all_taken : (calls : List Duty) → take (length calls) calls ≡ calls
+all_taken [] = refl
+all_taken (call ∷ calls) = ap (λ rest. call ∷ rest) (all_taken calls)
+
+-- calls that can be made, split in two
+pub can_first : (calls more : List Duty) (manager : ManagerState) → CanPerform (calls ++ more) manager → CanPerform calls manager
+can_first [] more manager can = tt
+can_first (call ∷ calls) more manager can = (can.0, can_first calls more (acted call.act call.unit manager) can.1)
+
+pub can_then : (calls more : List Duty) (manager : ManagerState) → CanPerform (calls ++ more) manager → CanPerform more (performed calls manager)
+can_then [] more manager can = can
+can_then (call ∷ calls) more manager can = can_then calls more (acted call.act call.unit manager) can.1
+
+pub manager_seen : (v w : WorldState) → seen v ≡ seen w → v.manager ≡ w.manager
+manager_seen v w is = ap (λ (x : WorldState). x.manager) is
+
+pub seen_with_calls : (calls : List Duty) (v w : WorldState) → seen v ≡ seen w → seen (with_calls calls v) ≡ seen (with_calls calls w)
+seen_with_calls calls v w is = ap (with_calls calls) is
+
+pub seen_with_given : (which : Which) (calls : List Duty) (v w : WorldState) → seen v ≡ seen w → seen (with_given which calls v) ≡ seen (with_given which calls w)
+seen_with_given which calls v w is = seen_without_leaf (place_of which) (with_calls calls v) (with_calls calls w) (seen_with_calls calls v w is)
+
+-- calls in worlds that are equal but for the stage
+pub performing_seen : (calls : List Duty) (v w m : WorldState) → seen v ≡ seen w → IsPerforming calls v m → (u : WorldState) × IsPerforming calls w u × (seen m ≡ seen u)
+performing_seen calls v w m same (IsPerforming.After count is) =
+    (with_calls (take count calls) w, IsPerforming.After count refl, ap seen is ∙ seen_with_calls (take count calls) v w same)
+performing_seen calls v w m same (IsPerforming.Within count unit there is) = (
+  with_manager (halted unit (performed (take count calls) w.manager)) w,
+  IsPerforming.Within count unit there refl,
+  ap seen is ∙ ap (λ (x : WorldState). with_manager (halted unit (performed (take count calls) x.manager)) x) same,
+)
+
+-- ---- the lists and the stops
+
+pub recording : (lists : Lists) (stops : List Duty) (w m : WorldState) → IsRecordMoment lists w m → IsStopMoment lists stops w m
+recording lists stops w m moment = (m, IsStopStep.Recording moment, refl)
+
+pub stopping : (lists : Lists) (stops : List Duty) (w v m : WorldState) → seen v ≡ seen (with_lists lists w) → IsPerforming stops v m → IsStopMoment lists stops w m
+stopping lists stops w v m came moment =
+    let there = performing_seen stops v (with_lists lists w) m came moment in (there.0, IsStopStep.Stopping there.1, there.2)
+
+-- ---- a list goes after the last of its calls
+
+pub given : (which : Which) (calls : List Duty) (w v m : WorldState) → v ≡ with_calls calls w → IsOldOrGone (place_of which) v m → IsListMoment which calls w m
+given which calls w v m made moment = ⊎_elim
+    (λ old. inl (IsPerforming.After (length calls) (old ∙ made ∙ ap (λ cs. with_calls cs w) (sym (all_taken calls)))))
+    (λ gone. inr (gone ∙ ap (without_leaf (place_of which)) made)) moment
+
+module _ (reloads restarts starts : List Duty) where
+  pub first_given : (w m : WorldState) → IsListMoment Reloads reloads w m → IsGiveMoment reloads restarts starts w m
+  first_given w m moment = ⊎_elim (λ part. IsGiveMoment.Reloading part) (λ gone. IsGiveMoment.Restarting (IsPerforming.After 0 gone)) moment
+
+  pub second_given : (w v m : WorldState) → v ≡ with_given Reloads reloads w → IsListMoment Restarts restarts v m → IsGiveMoment reloads restarts starts w m
+  second_given w v m made moment = ⊎_elim
+      (λ part. IsGiveMoment.Restarting (subst (λ x. IsPerforming restarts x m) made part))
+      (λ gone. IsGiveMoment.Starting (IsPerforming.After 0 (gone ∙ ap (with_given Restarts restarts) made))) moment
+
+  pub third_given : (w v m : WorldState) → v ≡ with_given Restarts restarts (with_given Reloads reloads w) → IsListMoment Starts starts v m → IsGiveMoment reloads restarts starts w m
+  third_given w v m made moment = ⊎_elim
+      (λ part. IsGiveMoment.Starting (subst (λ x. IsPerforming starts x m) made part))
+      (λ gone. IsGiveMoment.Given (gone ∙ ap (with_given Starts starts) made)) moment
+
+-- ---- the link, and what is loaded
+
+pub current_apart : AreApart current_place stage
+unfolding current_place stage
+current_apart = record { other = refl; line = refl }
+
+definitions_current : AreApart definitions_place current_place
+unfolding definitions_place current_place
+definitions_current = record { other = refl; line = refl }
+
+definitions_stage : AreApart definitions_place stage
+unfolding definitions_place stage
+definitions_stage = record { other = refl; line = refl }
+
+module _ (system : Name) (w : WorldState) (can : CanLoad system w) where
+  definitions_stand : (v : WorldState) → seen v ≡ seen (with_current system w) → get v.leaves definitions_place ≡ Some (Link (definitions_of system))
+  definitions_stand v came =
+      seen_at v (with_current system w) came definitions_place (apart_ne definitions_place stage definitions_stage)
+      ∙ get_other w.leaves current_place definitions_place (system_leaf system) (other_of definitions_place current_place (apart_ne definitions_place current_place definitions_current))
+      ∙ can.defined
+
+  pub loaded_world : (v u : WorldState) → seen v ≡ seen (with_current system w) → u ≡ finished DaemonReload v → seen u ≡ seen (with_loaded system w)
+  loaded_world v u came done =
+      ap seen done
+      ∙ ap (λ leaf. with_manager (loading (loaded_from leaf) v.manager) (seen v)) (definitions_stand v came)
+      ∙ ap (λ (x : WorldState). with_manager (loading (definitions_of system) x.manager) x) came
+
+  pub linking : (leaf : LeafKind) (m : WorldState) → leaf ≡ system_leaf system → IsOldOrNew current_place leaf w m → IsLoadMoment system w m
+  linking leaf m is moment = ⊎_elim (λ old. inl old) (λ new. inr (inl (new ∙ ap (λ l. seen (with_leaf current_place l w)) is))) moment
+
+  pub loads : (v m : WorldState) → seen v ≡ seen (with_current system w) → IsMoment DaemonReload v m → IsLoadMoment system w m
+  loads v m came moment = ⊎_elim
+      (λ old. inr (inl (ap seen old ∙ came)))
+      (λ later. ⊎_elim (λ done. inr (inr (loaded_world v m came done))) (λ none. absurd none) later) moment
+
+-- ---- all after the stops
+
+module _ (system : Name) (reloads restarts starts : List Duty) (w : WorldState) where
+  pub loading_brings : (m : WorldState) → IsLoadMoment system w m → IsBringMoment system reloads restarts starts w m
+  loading_brings m moment = ⊎_elim
+      (λ same. (w, IsBringStep.Waiting refl, same))
+      (λ later. ⊎_elim
+      (λ linked. (with_current system w, IsBringStep.Linked refl, linked))
+      (λ loaded. (with_loaded system w, IsBringStep.Giving (IsGiveMoment.Reloading (IsPerforming.After 0 refl)), loaded)) later) moment
+
+  pub seen_all_given : (v x : WorldState) → seen v ≡ seen x → seen (with_all_given reloads restarts starts v) ≡ seen (with_all_given reloads restarts starts x)
+  seen_all_given v x same =
+      seen_with_given Starts starts (with_given Restarts restarts (with_given Reloads reloads v)) (with_given Restarts restarts (with_given Reloads reloads x))
+      (seen_with_given Restarts restarts (with_given Reloads reloads v) (with_given Reloads reloads x) (seen_with_given Reloads reloads v x same))
+
+  -- what is given in worlds that are equal but for the stage
+  pub giving_seen : (v x m : WorldState) → seen v ≡ seen x → IsGiveMoment reloads restarts starts v m → (u : WorldState) × IsGiveMoment reloads restarts starts x u × (seen m ≡ seen u)
+  giving_seen v x m same (IsGiveMoment.Reloading part) =
+      let there = performing_seen reloads v x m same part in (there.0, IsGiveMoment.Reloading there.1, there.2)
+  giving_seen v x m same (IsGiveMoment.Restarting part) =
+      let there = performing_seen restarts (with_given Reloads reloads v) (with_given Reloads reloads x) m (seen_with_given Reloads reloads v x same) part in
+      (there.0, IsGiveMoment.Restarting there.1, there.2)
+  giving_seen v x m same (IsGiveMoment.Starting part) =
+      let there = performing_seen starts (with_given Restarts restarts (with_given Reloads reloads v)) (with_given Restarts restarts (with_given Reloads reloads x)) m
+      (seen_with_given Restarts restarts (with_given Reloads reloads v) (with_given Reloads reloads x) (seen_with_given Reloads reloads v x same)) part in
+      (there.0, IsGiveMoment.Starting there.1, there.2)
+  giving_seen v x m same (IsGiveMoment.Given all) = (with_all_given reloads restarts starts x, IsGiveMoment.Given refl, ap seen all ∙ seen_all_given v x same)
+
+  pub giving_brings : (v m : WorldState) → seen v ≡ seen (with_loaded system w) → IsGiveMoment reloads restarts starts v m → IsBringMoment system reloads restarts starts w m
+  giving_brings v m came moment = let there = giving_seen v (with_loaded system w) m came moment in (there.0, IsBringStep.Giving there.1, there.2)
+
+  pub brought_world : (v u : WorldState) → seen v ≡ seen (with_loaded system w) → u ≡ with_all_given reloads restarts starts v → seen u ≡ seen (with_brought system reloads restarts starts w)
+  brought_world v u came made = ap seen made ∙ seen_all_given v (with_loaded system w) came

@@ -1,0 +1,201 @@
+-- While the calls after the stops are made, a switch of the units is underway.
+use Rattle.std.proofs.Common.{◌≡◌, ◌⊎◌, ◌&&◌, ◌++◌, Bool, true, false, not, List, Some, map, if◌then◌else◌, refl, sym, ap, subst, ◌∙◌, inl, inr}
+use Rattle.std.proofs.lemmas.Bool.{or_left, or_right}
+use Rattle.std.proofs.lemmas.List.Folds.{list_any-append}
+use Rattle.std.specs.List.{AllByRecursion, list_any}
+use Rattle.host_trait.specs.declared.entry.Act.{Act}
+use Rattle.host_trait.specs.declared.entry.Act.TheVariants.{Stop, Reload, Restart, Start}
+use Rattle.host_trait.specs.declared.entry.Entry.{Entry}
+use Rattle.host_trait.specs.declared.unit_state.State.{State}
+use Rattle.host_trait.specs.Manager.{is_active}
+use Rattle.host_trait.specs.States.{state_of}
+use Rattle.host_trait.specs.World.{WorldState}
+use Rattle.owed_lists.specs.declared.lists.Lists.{Lists}
+use Rattle.owed_lists.specs.Lists.{AreListsOf}
+use Rattle.owed_lists.proofs.ListLemmas.{same_lists}
+use Rattle.owed_plan.specs.Called.{AreCalled, IsOnTheWay}
+use Rattle.owed_plan.specs.Called as kinds
+use Rattle.owed_plan.specs.declared.duty.Duty.{Duty}
+use Rattle.owed_plan.specs.declared.owed.Owed.{Owed}
+use Rattle.owed_plan.specs.Calls.{reload_act, reload_calls, restart_calls, start_calls, stop_calls}
+use Rattle.owed_plan.specs.FinalStates.{brought_by, final_state}
+use Rattle.owed_plan.specs.Law.{stopped}
+use Rattle.owed_plan.specs.Owed.{IsOwed, sockets_first}
+use Rattle.owed_plan.specs.Steady.{IsSteady}
+use Rattle.owed_plan.specs.Systems.{Systems, Texts, systems_at, systems_of, text_at}
+use Rattle.owed_plan.proofs.CalledLemmas.{after_link_law}
+use Rattle.owed_plan.proofs.NameLemmas.{has-sockets_first}
+use Rattle.owed_plan.proofs.SystemLemmas.{sound_at}
+use Rattle.switch_names.specs.Names.{Name, has}
+use Rattle.unit_decide.specs.Facts.{unit_kind}
+use Rattle.unit_defs.specs.Units.{text_of, wanted_of}
+use Rattle.unit_stage.specs.Acts.{entry_of}
+use Rattle.unit_stage.specs.End.{entries_by, state_after}
+use Rattle.unit_stage.specs.Owes.{IsOwedAct, IsPaid, IsSteadyWorld, Owes, OwesUnit, is_stop, pays}
+use Rattle.unit_stage.specs.Plan.{IsOwedBy, IsOwedIn}
+use Rattle.unit_stage.specs.System.{current_system, definitions_of}
+use Rattle.unit_stage.specs.Units.{AreUnitsFree, AreUnitsUnderway}
+use Rattle.unit_stage.proofs.CallingLemmas.{is_called}
+use Rattle.unit_stage.proofs.EndLemmas.{ends_same}
+use Rattle.unit_stage.proofs.PayLemmas.{act_from, all_append, all_entries, all_first, all_joined, all_of, other_paid, stop_paid, unit_from}
+
+-- a moment of a switch when the system is in use, given the world at its beginning
+pub record IsMomentAfterLink (system : Name) (owed : Owed) (w m : WorldState) : Type 0 where
+  pub made : List Duty
+  pub rest : List Duty
+  pub prefix : (reload_calls owed (state_of w.manager.states) ++ restart_calls owed) ++ start_calls owed ≡ made ++ rest
+  pub journal : m.manager.journal ≡ w.manager.journal ++ entries_by system owed w made
+  pub kept : Lists
+  pub listed : AreListsOf m.leaves kept
+  pub called : AreCalled owed (brought_by (definitions_of system) w.manager.bad) (stopped owed.stops (state_of w.manager.states)) (state_of m.manager.states) kept (is_called made)
+  pub bad : m.manager.bad ≡ w.manager.bad
+  pub systems : systems_at m.leaves (current_system m.leaves) system ≡ systems_at w.leaves (Some system) system
+
+module _ (system : Name) (first_lists : Lists) (owed : Owed) (w m : WorldState) (owes : IsOwedIn w system first_lists owed) (steady : IsSteadyWorld w system) (moment : IsMomentAfterLink system owed w m) where
+  abbrev old : Texts
+  old = text_at w.leaves (current_system w.leaves)
+
+  abbrev new : Texts
+  new = text_of w.leaves system
+
+  abbrev states : Name → State
+  states = state_of w.manager.states
+
+  abbrev now : Name → State
+  now = state_of m.manager.states
+
+  abbrev before : Systems
+  before = systems_of old new (wanted_of w.leaves system)
+
+  abbrev after : Systems
+  after = systems_of new new (wanted_of w.leaves system)
+
+  abbrev at_moment : Systems
+  at_moment = systems_at m.leaves (current_system m.leaves) system
+
+  way : IsOnTheWay before after states now first_lists moment.kept owed (definitions_of system) w.manager.bad (is_called moment.made)
+  way =
+      after_link_law old new (wanted_of w.leaves system) states now first_lists moment.kept owed (definitions_of system) w.manager.bad (is_called moment.made)
+      (sound_at w.leaves (current_system w.leaves) system) (steady first_lists owes.listed) owes.is_owed moment.called
+
+  -- what holds by the lists of a world holds by these
+  by_first : (P : Lists → Type 0) (lists : Lists) → AreListsOf w.leaves lists → P lists → P first_lists
+  by_first P lists listed holds = subst P (same_lists w.leaves lists first_lists listed owes.listed) holds
+
+  by_kept : (P : Lists → Type 0) (lists : Lists) → AreListsOf m.leaves lists → P lists → P moment.kept
+  by_kept P lists listed holds = subst P (same_lists m.leaves lists moment.kept listed moment.listed) holds
+
+  owes_now : (unit : Name) → OwesUnit m system unit → kinds.OwesUnit after now moment.kept unit
+  owes_now unit (act, (lists, listed, owing)) =
+      unit_from after now moment.kept unit act
+      (subst (λ (systems : Systems). IsOwedAct systems now moment.kept act unit) moment.systems
+      (by_kept (λ (l : Lists). IsOwedAct at_moment now l act unit) lists listed owing))
+
+  owes_then : (unit : Name) → kinds.OwesUnit before states first_lists unit → OwesUnit w system unit
+  owes_then unit owing = let one = act_from before states first_lists unit owing in (one.0, (first_lists, owes.listed, one.1))
+
+  -- the end is the same
+  end_now : (next : Owed) → IsOwedBy m system next → (unit : Name) → state_after system next m unit ≡ state_after system owed w unit
+  end_now next (lists, is) unit =
+      let planned = by_kept (λ (l : Lists). IsOwed at_moment now l next) lists is.listed is.is_owed in
+      let next_owed = subst (λ (systems : Systems). IsOwed systems now moment.kept next) moment.systems planned in
+      ap (λ bad. final_state next (definitions_of system) bad now unit) moment.bad ∙ way.final next next_owed unit
+
+  -- what was entered
+  abbrev entered : List Entry
+  entered = entries_by system owed w moment.made
+
+  all_made : (P : Duty → Type 0) → AllByRecursion P (reload_calls owed states) → AllByRecursion P (restart_calls owed) → AllByRecursion P (start_calls owed) → AllByRecursion P moment.made
+  all_made P reloads restarts starts =
+      all_first P moment.made moment.rest
+      (subst (AllByRecursion P) moment.prefix
+      (all_append P (reload_calls owed states ++ restart_calls owed) (start_calls owed) (all_append P (reload_calls owed states) (restart_calls owed) reloads restarts) starts))
+
+  no_stop : AllByRecursion (λ call. is_stop call.act ≡ false) moment.made
+  no_stop =
+      all_made (λ call. is_stop call.act ≡ false)
+      (all_of (λ call. is_stop call.act ≡ false) (reload_act states owed.stops) owed.reloads (λ unit found. either (is_active (states unit) && not (has owed.stops unit))))
+      (all_of (λ call. is_stop call.act ≡ false) (λ u. Restart) owed.restarts (λ unit found. refl))
+      (all_of (λ call. is_stop call.act ≡ false) (λ u. Start) owed.starts (λ unit found. refl))
+    where
+      either : (b : Bool) → is_stop (if b then Reload else Start) ≡ false
+      either true = refl
+      either false = refl
+
+  all_owed : AllByRecursion (λ (call : Duty). OwesUnit w system call.unit) moment.made
+  all_owed =
+      let P : Duty → Type 0 = λ call. OwesUnit w system call.unit in
+      all_made P
+      (all_of P (reload_act states owed.stops) owed.reloads (λ unit found. owes_then unit (kinds.OwesUnit.OfReloads ((owes.is_owed.reloads.exact unit).0 found))))
+      (all_of P (λ u. Restart) owed.restarts (λ unit found. owes_then unit (kinds.OwesUnit.OfRestarts ((owes.is_owed.restarts.exact unit).0 found))))
+      (all_of P (λ u. Start) owed.starts (λ unit found. owes_then unit (kinds.OwesUnit.OfStarts ((owes.is_owed.starts.exact unit).0 found))))
+
+  stops_owed : AllByRecursion (λ (call : Duty). OwesUnit w system call.unit) (stop_calls owed)
+  stops_owed =
+      all_of (λ call. OwesUnit w system call.unit) (λ u. Stop) (sockets_first unit_kind owed.stops)
+      (λ unit found. owes_then unit (kinds.OwesUnit.OfStops ((owes.is_owed.stops.exact unit).0 (sym (has-sockets_first unit_kind owed.stops unit) ∙ found))))
+
+  entered_owed : AllByRecursion (λ (entry : Entry). OwesUnit w system entry.unit) entered
+  entered_owed =
+      all_joined (λ entry. OwesUnit w system entry.unit) (map (entry_of w.manager.loaded) (stop_calls owed)) (map (entry_of (definitions_of system)) moment.made)
+      (all_entries (OwesUnit w system) w.manager.loaded (stop_calls owed) stops_owed)
+      (all_entries (OwesUnit w system) (definitions_of system) moment.made all_owed)
+
+  -- what is paid
+  paid_by_stop : (unit : Name) → has owed.stops unit ≡ true → IsPaid system Stop unit entered
+  paid_by_stop unit found =
+      let stops = map (entry_of w.manager.loaded) (stop_calls owed) in
+      let more = map (entry_of (definitions_of system)) moment.made in
+      list_any-append (pays system Stop unit) stops more
+      ∙ or_left (list_any (pays system Stop unit) stops) (list_any (pays system Stop unit) more)
+      (stop_paid system w.manager.loaded unit (sockets_first unit_kind owed.stops) (has-sockets_first unit_kind owed.stops unit ∙ found))
+
+  paid_by_call : (act : Act) (unit : Name) → is_stop act ≡ false → is_called moment.made unit ≡ true → IsPaid system act unit entered
+  paid_by_call act unit other found =
+      let stops = map (entry_of w.manager.loaded) (stop_calls owed) in
+      let more = map (entry_of (definitions_of system)) moment.made in
+      list_any-append (pays system act unit) stops more
+      ∙ or_right (list_any (pays system act unit) stops) (list_any (pays system act unit) more) (other_paid system act unit moment.made other no_stop found)
+
+  owes_still : (act : Act) (unit : Name) → IsOwedAct after now moment.kept act unit → Owes m system act unit
+  owes_still act unit owing = (moment.kept, moment.listed, subst (λ (systems : Systems). IsOwedAct systems now moment.kept act unit) (sym moment.systems) owing)
+
+  paid_or_owed_act : (act : Act) (unit : Name) → IsOwedAct before states first_lists act unit → IsPaid system act unit entered ⊎ Owes m system act unit
+  paid_or_owed_act Stop unit owing = inl (paid_by_stop unit ((owes.is_owed.stops.exact unit).1 owing))
+  paid_or_owed_act Reload unit owing =
+      elim (way.reloads unit owing) [
+        | inl paid ↦ inl (paid_by_call Reload unit refl paid)
+        | inr still ↦ inr (owes_still Reload unit still)
+      ]
+  paid_or_owed_act Restart unit owing =
+      elim (way.restarts unit owing) [
+        | inl paid ↦ inl (paid_by_call Restart unit refl paid)
+        | inr still ↦ inr (owes_still Restart unit still)
+      ]
+  paid_or_owed_act Start unit owing =
+      elim (way.starts unit owing) [
+        | inl paid ↦ inl (paid_by_call Start unit refl paid)
+        | inr still ↦ inr (owes_still Start unit still)
+      ]
+
+  paid_or_owed : (act : Act) (unit : Name) → Owes w system act unit → IsPaid system act unit entered ⊎ Owes m system act unit
+  paid_or_owed act unit (lists, listed, owing) = paid_or_owed_act act unit (by_first (λ (l : Lists). IsOwedAct before states l act unit) lists listed owing)
+
+  is_steady : IsSteadyWorld m system
+  is_steady lists listed =
+      subst (λ (l : Lists). IsSteady at_moment now l) (sym (same_lists m.leaves lists moment.kept listed moment.listed))
+      (subst (λ (systems : Systems). IsSteady systems now moment.kept) (sym moment.systems) way.steady)
+
+  pub after_link_underway : AreUnitsFree system m.leaves → AreUnitsUnderway system w m
+  after_link_underway free = record {
+    same_states = ends_same system first_lists owed w owes m end_now;
+    same_bad = moment.bad;
+    entered = entered;
+    journal = moment.journal;
+    owed_alone = entered_owed;
+    paid_or_owed = paid_or_owed;
+    no_more_owed = λ unit owing. owes_then unit (way.units unit (owes_now unit owing));
+    others = λ unit none. way.others unit (λ owing. none (owes_then unit owing));
+    free = free;
+    steady = is_steady;
+  }

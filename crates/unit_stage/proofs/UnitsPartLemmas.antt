@@ -1,0 +1,128 @@
+-- What is about the units is a part of a switch.
+use Rattle.std.proofs.Common.{◌≡◌, ◌⊎◌, ◌||◌, ◌++◌, true, codes, refl, ap, subst, ◌∙◌, inl, inr}
+use Rattle.std.proofs.lemmas.Bool.{both_ways, or_left, or_right}
+use Rattle.std.proofs.lemmas.List.{append_assoc}
+use Rattle.std.proofs.lemmas.List.Folds.{list_any-append}
+use Rattle.std.specs.FinMap.{get}
+use Rattle.std.specs.List.{list_any}
+use Rattle.host_trait.specs.declared.entry.Act.{Act}
+use Rattle.host_trait.specs.declared.entry.Entry.{Entry}
+use Rattle.host_trait.specs.World.{WorldState}
+use Rattle.owed_lists.specs.declared.lists.Which.TheVariants.{Starts, Restarts, Reloads}
+use Rattle.owed_lists.specs.Lists.{reloads_place, restarts_place, starts_place}
+use Rattle.switch_names.specs.Names.{Name}
+use Rattle.switch_names.specs.Path.{is_below}
+use Rattle.switch_parts.specs.Leaves.{is_near}
+use Rattle.switch_parts.specs.Part.{IsOnly, IsSameFor}
+use Rattle.unit_stage.specs.Laws.{AreSameBeside, UnitMomentLaw, UnitsPartLaw}
+use Rattle.unit_stage.specs.Owned.{owns_units, reads_units, unit_places}
+use Rattle.unit_stage.specs.Owes.{IsPaid, Owes, OwesUnit, pays}
+use Rattle.unit_stage.specs.System.{IsSystem, current_place}
+use Rattle.unit_stage.specs.Units.{AreUnitsKept, AreUnitsUnderway, units_part}
+use Rattle.unit_stage.proofs.BegunLemmas.{begun_underway}
+use Rattle.unit_stage.proofs.FreeLemmas.{IsListLeaf, stays_free}
+use Rattle.unit_stage.proofs.MomentLemmas.{free_law, underway_law}
+use Rattle.unit_stage.proofs.OwnedLemmas.{not_reads_stage}
+use Rattle.unit_stage.proofs.ElsewhereLemmas.{own_current, own_list}
+use Rattle.unit_stage.proofs.PayLemmas.{all_implied, all_joined}
+use Rattle.unit_stage.proofs.StandLemmas.{Stand}
+
+-- ---- from moment to moment
+
+module _ (system : Name) (w v m : WorldState) (one : AreUnitsUnderway system w v) (then : AreUnitsUnderway system v m) where
+  paid_first : (act : Act) (unit : Name) → IsPaid system act unit one.entered → IsPaid system act unit (one.entered ++ then.entered)
+  paid_first act unit paid =
+      list_any-append (pays system act unit) one.entered then.entered
+      ∙ or_left (list_any (pays system act unit) one.entered) (list_any (pays system act unit) then.entered) paid
+
+  paid_then : (act : Act) (unit : Name) → IsPaid system act unit then.entered → IsPaid system act unit (one.entered ++ then.entered)
+  paid_then act unit paid =
+      list_any-append (pays system act unit) one.entered then.entered
+      ∙ or_right (list_any (pays system act unit) one.entered) (list_any (pays system act unit) then.entered) paid
+
+  paid_or_owed : (act : Act) (unit : Name) → Owes w system act unit → IsPaid system act unit (one.entered ++ then.entered) ⊎ Owes m system act unit
+  paid_or_owed act unit owes = elim (one.paid_or_owed act unit owes) [
+    | inl paid ↦ inl (paid_first act unit paid)
+    | inr still ↦ elim (then.paid_or_owed act unit still) [
+      | inl paid ↦ inl (paid_then act unit paid)
+      | inr left ↦ inr left
+    ]
+  ]
+
+  -- what is underway stays underway
+  pub underway_then : AreUnitsUnderway system w m
+  underway_then = record {
+    same_states = λ states. (
+      λ end. (one.same_states states).0 ((then.same_states states).0 end),
+      λ end. (then.same_states states).1 ((one.same_states states).1 end),
+    );
+    same_bad = then.same_bad ∙ one.same_bad;
+    entered = one.entered ++ then.entered;
+    journal = then.journal ∙ ap (λ entries. entries ++ then.entered) one.journal ∙ append_assoc w.manager.journal one.entered then.entered;
+    owed_alone =
+        all_joined (λ entry. OwesUnit w system entry.unit) one.entered then.entered one.owed_alone
+        (all_implied (λ (entry : Entry). OwesUnit v system entry.unit) (λ entry. OwesUnit w system entry.unit) (λ entry owes. one.no_more_owed entry.unit owes) then.entered then.owed_alone);
+    paid_or_owed = paid_or_owed;
+    no_more_owed = λ unit owes. one.no_more_owed unit (then.no_more_owed unit owes);
+    others = λ unit none. then.others unit (λ owes. none (one.no_more_owed unit owes)) ∙ one.others unit none;
+    free = then.free;
+    steady = then.steady;
+  }
+
+pub kept_then : (system : Name) (w v m : WorldState) → AreUnitsKept system w v → AreUnitsKept system v m → AreUnitsKept system w m
+kept_then system w v m one then = record {
+  free = λ free. then.free (one.free free);
+  underway = λ free steady. let first = one.underway free steady in underway_then system w v m first (then.underway first.free first.steady);
+}
+
+-- ---- where nothing has changed
+
+pub reads_own : (q : Name) → owns_units q ≡ true → reads_units q ≡ true
+reads_own q own = or_left (owns_units q || is_near unit_places q) (is_below q (codes "nix/store")) (or_left (owns_units q) (is_near unit_places q) own)
+
+pub kept_same : (system : Name) (w m : WorldState) → IsSystem system → IsSameFor (units_part system) w m → AreUnitsKept system w m
+kept_same system w m is_system same = record {
+  free = stays_free system w m beside _ _ _ _ stand (IsListLeaf.Old refl) (IsListLeaf.Old refl) (IsListLeaf.Old refl) is_system;
+  underway = λ free steady.
+      begun_underway system is_system w m beside stand (same.manager refl)
+      (stays_free system w m beside _ _ _ _ stand (IsListLeaf.Old refl) (IsListLeaf.Old refl) (IsListLeaf.Old refl) is_system free) steady;
+}
+  where
+    beside : AreSameBeside w m
+    beside q read none = same.leaves q read
+
+    stand : Stand m.leaves (get w.leaves current_place) (get w.leaves starts_place) (get w.leaves restarts_place) (get w.leaves reloads_place)
+    stand = record {
+      current = same.leaves current_place (reads_own current_place own_current);
+      starts = same.leaves starts_place (reads_own starts_place (own_list Starts));
+      restarts = same.leaves restarts_place (reads_own restarts_place (own_list Restarts));
+      reloads = same.leaves reloads_place (reads_own reloads_place (own_list Reloads));
+    }
+
+pub units_part_law : UnitsPartLaw
+units_part_law system is_system = record {
+  keeps_self = λ w. kept_same system w w is_system (record { leaves = λ q read. refl; manager = λ call. refl });
+  keeps_then = kept_then system;
+  same_end = λ w m keeps q own. refl;
+  stays_free = λ w m keeps free. let kept = keeps.free (record { way = free.way; refusal = free.refusal }) in record { way = kept.way; refusal = kept.refusal };
+  frame = λ w m same. kept_same system w m is_system same;
+  reads_own = reads_own;
+  no_stage = not_reads_stage;
+}
+
+-- ---- moments
+
+-- what isn't owned and isn't the stage has not changed, and so what is looked at
+pub beside_of : (system : Name) (w m : WorldState) → IsOnly (units_part system) w m → AreSameBeside w m
+beside_of system w m only q read none = only.leaves q none (λ same. both_ways _ not_reads_stage (subst (λ x. reads_units x ≡ true) same read))
+
+pub unit_moment_law : UnitMomentLaw
+unit_moment_law system owed w m is_system owes moment only =
+    let beside = beside_of system w m only in
+    record {
+      keeps = record {
+        free = λ free. free_law system owed w m is_system owes moment beside free;
+        underway = λ free steady. underway_law system owed w m is_system owes free steady moment beside;
+      };
+      only = only;
+    }

@@ -1,0 +1,53 @@
+use Rattle.std.proofs.Common.{◌≡◌, ◌++◌, sym, subst, ◌∙◌}
+use Rattle.std.proofs.lemmas.Result.{err_from_is_err_and}
+use Rattle.host_trait.specs.World.{seen}
+use Rattle.host_trait.proofs.Causes.{cause_on}
+use Rattle.host_trait.proofs.Moments.{goes_on, leads_then, passes_as, told_after, told_as}
+use Rattle.unit_stage.specs.Acts.{CanPerform}
+use Rattle.unit_stage.specs.Steps.{CanLoad, IsBringMoment, with_brought, with_loaded}
+use Rattle.unit_stage.proofs.CauseLemmas.{cause_end, handed}
+use Rattle.unit_stage.proofs.StepLemmas.{brought_world, giving_brings, loading_brings, manager_seen}
+use Rattle.unit_stage.proofs.giving.bring_units.Goals as goal
+
+pub load_system-requires-clause-can : goal.load_system-requires-clause-can
+load_system-requires-clause-can g c = told_as c.requires.can (CanLoad c.args.system.now) (λ w is can. can.load)
+
+pub give_all-requires : goal.give_all-requires
+give_all-requires g c =
+    let calls = c.args.calls in
+    told_after c.load_system.ensures.moments c.in_ok-load_system.ensures.ok (λ w. CanPerform (calls.reloads.now ++ calls.restarts.now ++ calls.starts.now) w.manager)
+    (λ w v is came. subst (CanPerform (calls.reloads.now ++ calls.restarts.now ++ calls.starts.now)) (sym (manager_seen v (with_loaded c.args.system.now w) came)) (c.requires.can.has w is).calls)
+
+pub returns-in_err-load_system-clause-moments : goal.returns-in_err-load_system-clause-moments
+returns-in_err-load_system-clause-moments g c =
+    let calls = c.args.calls in let system = c.args.system.now in
+    passes_as c.load_system.ensures.moments (IsBringMoment system calls.reloads.now calls.restarts.now calls.starts.now)
+    (λ w m is moment. loading_brings system calls.reloads.now calls.restarts.now calls.starts.now w m moment)
+
+pub returns-in_err-give_all-clause-moments : goal.returns-in_err-give_all-clause-moments
+returns-in_err-give_all-clause-moments g c =
+    let calls = c.args.calls in let system = c.args.system.now in
+    goes_on c.load_system.ensures.moments c.in_ok-load_system.ensures.ok c.give_all.ensures.moments (IsBringMoment system calls.reloads.now calls.restarts.now calls.starts.now)
+    (λ w m is moment. loading_brings system calls.reloads.now calls.restarts.now calls.starts.now w m moment)
+    (λ w v m is is_v came moment. giving_brings system calls.reloads.now calls.restarts.now calls.starts.now w v m came moment)
+
+pub returns-clause-moments : goal.returns-clause-moments
+returns-clause-moments g c =
+    let calls = c.args.calls in let system = c.args.system.now in
+    goes_on c.load_system.ensures.moments c.in_ok-load_system.ensures.ok c.give_all.ensures.moments (IsBringMoment system calls.reloads.now calls.restarts.now calls.starts.now)
+    (λ w m is moment. loading_brings system calls.reloads.now calls.restarts.now calls.starts.now w m moment)
+    (λ w v m is is_v came moment. giving_brings system calls.reloads.now calls.restarts.now calls.starts.now w v m came moment)
+
+pub returns-clause-ok : goal.returns-clause-ok
+returns-clause-ok g c =
+    let calls = c.args.calls in let system = c.args.system.now in
+    leads_then c.in_ok-load_system.ensures.ok c.in_ok-give_all.ensures.ok (λ w v. seen v ≡ seen (with_brought system calls.reloads.now calls.restarts.now calls.starts.now w))
+    (λ w v u is is_v came made. brought_world system calls.reloads.now calls.restarts.now calls.starts.now w v u came made)
+
+pub returns-in_err-give_all-clause-cause : goal.returns-in_err-give_all-clause-cause
+returns-in_err-give_all-clause-cause g c =
+    let p = err_from_is_err_and c.from_residual-in_err-give_all.result c.from_residual-in_err-give_all.ensures.1 in
+    cause_on c.load_system.ensures.cause c.in_err-give_all.ensures.cause (λ e. handed _ p.0 _ _ p.1 p.2 e)
+
+pub returns-clause-cause : goal.returns-clause-cause
+returns-clause-cause g c = cause_end c.load_system.ensures.cause c.give_all.ensures.cause

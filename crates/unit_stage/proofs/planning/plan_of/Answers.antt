@@ -1,0 +1,9 @@
+use Rattle.std.proofs.Common.{refl, sym, subst}
+use Rattle.unit_stage.specs.declared.unit_plan.UnitPlan.{UnitPlan}
+use Rattle.unit_stage.specs.Known.{IsPlanBy}
+use Rattle.unit_stage.proofs.planning.plan_of.Goals as goal
+
+pub returns : goal.returns
+returns c =
+    subst (λ (plan : UnitPlan). IsPlanBy c.args.known plan) (sym c.new.ensures)
+    (record { from = refl; defs = refl; owed = c.requires.owed; recorded = c.requires.recorded; duties = c.requires.duties })

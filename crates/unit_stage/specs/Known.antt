@@ -1,0 +1,46 @@
+-- What is read of a world before a switch is planned: NixOS manual, "What happens during a system switch?".
+use Rattle.std.specs.Prelude.{◌≡◌, ℕ, List}
+use Rattle.host_trait.specs.States.{state_of}
+use Rattle.host_trait.specs.World.{Leaves, WorldState}
+use Rattle.owed_lists.specs.Lists.{AreListsOf}
+use Rattle.owed_plan.specs.Calls.{calls_of}
+use Rattle.owed_plan.specs.Law.{lists_of}
+use Rattle.owed_plan.specs.Owed.{IsPlan}
+use Rattle.owed_plan.specs.Systems.{AreOldDefs, systems_in}
+use Rattle.unit_defs.specs.Defs.{AreDefsOf}
+use Rattle.unit_stage.specs.declared.known.Known.{Known}
+use Rattle.unit_stage.specs.declared.known.OldSystem.{OldSystem}
+use Rattle.unit_stage.specs.declared.known.UnitStates.{UnitStates}
+use Rattle.unit_stage.specs.declared.unit_plan.UnitPlan.{UnitPlan}
+use Rattle.unit_stage.specs.declared.planning.OwedCalls.{OwedCalls}
+use Rattle.unit_stage.specs.System.{current_system}
+
+-- this is the system in use, with its units
+pub record IsOldOf (leaves : Leaves) (old : OldSystem) : Type 0 where
+  pub name : old.name ≡ current_system leaves
+  pub defs : AreOldDefs leaves (current_system leaves) old.defs
+
+-- these are the states of the units and the lists of a world
+pub record AreStatesOf (w : WorldState) (units : UnitStates) : Type 0 where
+  pub states : units.states ≡ w.manager.states
+  pub lists : AreListsOf w.leaves units.lists
+
+-- all this is so in a world
+pub record IsKnownOf (system : List ℕ) (w : WorldState) (known : Known) : Type 0 where
+  pub old : IsOldOf w.leaves known.old
+  pub new : AreDefsOf w.leaves system known.new
+  pub units : AreStatesOf w known.units
+
+-- what is owed by what is known, with the lists that are recorded of it and its calls
+pub record AreOwedCalls (known : Known) (calls : OwedCalls) : Type 0 where
+  pub owed : IsPlan (systems_in known.old.defs known.new) (state_of known.units.states) known.units.lists calls.owed
+  pub recorded : calls.listed.recorded ≡ lists_of calls.owed
+  pub duties : calls.listed.duties ≡ calls_of calls.owed (state_of known.units.states)
+
+-- the plan of a switch by what is known
+pub record IsPlanBy (known : Known) (plan : UnitPlan) : Type 0 where
+  pub from : plan.from ≡ known.old.name
+  pub defs : plan.defs ≡ known.new
+  pub owed : IsPlan (systems_in known.old.defs known.new) (state_of known.units.states) known.units.lists plan.owed
+  pub recorded : plan.recorded ≡ lists_of plan.owed
+  pub duties : plan.duties ≡ calls_of plan.owed (state_of known.units.states)

@@ -1,0 +1,26 @@
+-- The places that the units' part of a switch owns: NixOS manual, "What happens during a system switch?".
+use Rattle.std.specs.Prelude.{◌||◌, Bool, true, false, List, [], ◌∷◌, codes}
+use Rattle.host_trait.specs.World.{stage}
+use Rattle.owed_lists.specs.Lists.{reloads_place, restarts_place, starts_place}
+use Rattle.switch_names.specs.Names.{Name}
+use Rattle.switch_names.specs.Path.{is_below}
+use Rattle.switch_parts.specs.Leaves.{is_among, is_near}
+use Rattle.tree_put.specs.declared.written_place.WrittenPlace.{WrittenPlace}
+use Rattle.tree_put.specs.WrittenPlace.{written}
+use Rattle.unit_stage.specs.System.{current_place}
+
+-- the link to the system in use, and the three lists
+abbrev pub owned_places : List Name
+owned_places = current_place ∷ reloads_place ∷ restarts_place ∷ starts_place ∷ []
+
+-- whether a place is one of them
+abbrev pub owns_units : Name → Bool
+owns_units q = is_among owned_places q
+
+-- the places that are written by way of the stage, in byte order; the lists are read before
+abbrev pub unit_places : List WrittenPlace
+unit_places = written false stage ∷ written false current_place ∷ written true reloads_place ∷ written true restarts_place ∷ written true starts_place ∷ []
+
+-- what is looked at: these places, what could be in their way, and the store, where the systems lie
+abbrev pub reads_units : Name → Bool
+reads_units q = owns_units q || is_near unit_places q || is_below q (codes "nix/store")

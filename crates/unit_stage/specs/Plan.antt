@@ -1,0 +1,47 @@
+-- What a switch to a system does to the units: NixOS manual, "What happens during a system switch?".
+use Rattle.std.specs.Prelude.{◌≡◌, ℕ, List, [], None}
+use Rattle.host_trait.specs.States.{state_of}
+use Rattle.host_trait.specs.World.{WorldState}
+use Rattle.owed_lists.specs.declared.lists.Lists.{Lists}
+use Rattle.owed_lists.specs.Lists.{AreListsOf}
+use Rattle.owed_plan.specs.declared.owed.Owed.{Owed}
+use Rattle.owed_plan.specs.Calls.{calls_of}
+use Rattle.owed_plan.specs.Law.{lists_of}
+use Rattle.owed_plan.specs.Owed.{IsOwed, IsPlan}
+use Rattle.owed_plan.specs.Systems.{systems_at}
+use Rattle.unit_defs.specs.Defs.{AreDefsOf}
+use Rattle.unit_stage.specs.declared.unit_plan.UnitPlan.{UnitPlan}
+use Rattle.unit_stage.specs.System.{current_system}
+
+-- what a switch to a system owes the units of a world, given the lists that stand there
+pub record IsOwedIn (w : WorldState) (system : List ℕ) (lists : Lists) (owed : Owed) : Type 0 where
+  pub listed : AreListsOf w.leaves lists
+  pub is_owed : IsOwed (systems_at w.leaves (current_system w.leaves) system) (state_of w.manager.states) lists owed
+
+-- what a switch to a system owes the units of a world
+abbrev pub IsOwedBy : WorldState → List ℕ → Owed → Type 0
+IsOwedBy w system owed = (lists : Lists) × IsOwedIn w system lists owed
+
+-- what a switch to a system owes the units of a world, and the changed units that it leaves
+pub record IsPlannedIn (w : WorldState) (system : List ℕ) (lists : Lists) (owed : Owed) : Type 0 where
+  pub listed : AreListsOf w.leaves lists
+  pub planned : IsPlan (systems_at w.leaves (current_system w.leaves) system) (state_of w.manager.states) lists owed
+
+-- the plan of a switch to a system: the units that it defines, what is owed, and the calls by which it is given
+pub record IsUnitPlanOf (system : List ℕ) (w : WorldState) (plan : UnitPlan) : Type 0 where
+  pub from : plan.from ≡ current_system w.leaves
+  pub defs : AreDefsOf w.leaves system plan.defs
+  pub lists : Lists
+  pub planned : IsPlannedIn w system lists plan.owed
+  pub recorded : plan.recorded ≡ lists_of plan.owed
+  pub duties : plan.duties ≡ calls_of plan.owed (state_of w.manager.states)
+
+-- the plan that does nothing to the units
+abbrev pub no_units : UnitPlan
+no_units = record {
+  from = None;
+  defs = [];
+  owed = record { stops = []; reloads = []; restarts = []; starts = []; left = [] };
+  recorded = record { starts = []; restarts = []; reloads = [] };
+  duties = [];
+}

@@ -1,0 +1,57 @@
+-- The part of a switch that is about the units: NixOS manual, "Unit handling".
+use Rattle.std.specs.Prelude.{◌≡◌, ◌⊎◌, ◌↔◌, ◌++◌, true, List, Option, None, Some, if◌then◌else◌}
+use Rattle.std.specs.List.{AllByRecursion}
+use Rattle.host_trait.specs.declared.entry.Act.{Act}
+use Rattle.host_trait.specs.declared.entry.Entry.{Entry}
+use Rattle.host_trait.specs.declared.leaf.LeafKind.{LeafKind}
+use Rattle.host_trait.specs.declared.unit_state.State.{State}
+use Rattle.host_trait.specs.States.{state_of}
+use Rattle.host_trait.specs.World.{Leaves, WorldState, is_path}
+use Rattle.switch_names.specs.Names.{Name}
+use Rattle.switch_parts.specs.Part.{Part}
+use Rattle.tree_put.specs.WrittenPlace.{in_the_way}
+use Rattle.unit_stage.specs.End.{AreEndStates}
+use Rattle.unit_stage.specs.Owes.{IsPaid, IsSteadyWorld, Owes, OwesUnit}
+use Rattle.unit_stage.specs.Owned.{owns_units, reads_units, unit_places}
+use Rattle.unit_stage.specs.System.{current_place, system_leaf, unit_refusal}
+
+-- nothing is in the way of the units' places, and the units of the system can be read
+pub record AreUnitsFree (system : Name) (leaves : Leaves) : Type 0 where
+  pub way : in_the_way unit_places leaves ≡ None
+  pub refusal : unit_refusal leaves system ≡ None
+
+-- A switch of the units that began in a world is underway in another: it leaves the same states from there. What
+-- it owed the units is paid or still owed, only these units have been called, and every other is in the state that
+-- it was in. It isn't refused, and the world is steady.
+pub record AreUnitsUnderway (system : Name) (first w : WorldState) : Type 0 where
+  pub same_states : (states : Name → State) → AreEndStates system w states ↔ AreEndStates system first states
+  pub same_bad : w.manager.bad ≡ first.manager.bad
+  pub entered : List Entry
+  pub journal : w.manager.journal ≡ first.manager.journal ++ entered
+  pub owed_alone : AllByRecursion (λ entry. OwesUnit first system entry.unit) entered
+  pub paid_or_owed : (act : Act) (unit : Name) → Owes first system act unit → IsPaid system act unit entered ⊎ Owes w system act unit
+  pub no_more_owed : (unit : Name) → OwesUnit w system unit → OwesUnit first system unit
+  pub others : (unit : Name) → ¬ OwesUnit first system unit → state_of w.manager.states unit ≡ state_of first.manager.states unit
+  pub free : AreUnitsFree system w.leaves
+  pub steady : IsSteadyWorld w system
+
+-- each moment of a switch of the units keeps this: nothing gets in the way, and from a steady world the switch is underway
+pub record AreUnitsKept (system : Name) (w m : WorldState) : Type 0 where
+  pub free : AreUnitsFree system w.leaves → AreUnitsFree system m.leaves
+  pub underway : AreUnitsFree system w.leaves → IsSteadyWorld w system → AreUnitsUnderway system w m
+
+-- the link names the system, and no list is left
+abbrev pub units_end : Name → Leaves → Name → Option LeafKind
+units_end system leaves q = if is_path q current_place then Some (system_leaf system) else None
+
+-- the part that records the lists, stops units, brings the system into use, and reloads, restarts and starts units
+abbrev pub units_part : Name → Part
+units_part system = record {
+  owns = owns_units;
+  reads = reads_units;
+  calls = true;
+  places = λ leaves. unit_places;
+  refusal = λ leaves. unit_refusal leaves system;
+  end = units_end system;
+  Keeps = AreUnitsKept system;
+}

@@ -1,0 +1,123 @@
+//! What is read of a world before a switch is planned.
+ghost use Rattle.std.specs.Prelude.{◌≡◌, None, Some, IfOk, OnOk, IsErrOf};
+ghost use Rattle.std.specs.Option.{option_copied};
+ghost use Rattle.host_trait.specs.declared.tree.HostFault.TheVariants.{Device};
+ghost use Rattle.host_trait.specs.Reading.{IsReading, IsReadingOf};
+ghost use Rattle.host_trait.specs.Host.{Told};
+ghost use Rattle.owed_plan.specs.Systems.{AreOldDefs};
+ghost use Rattle.unit_defs.specs.Defs.{AreDefsOf};
+ghost use Rattle.switch_parts.specs.declared.plan_fault.PlanFault.TheVariants.{Host, Refused};
+ghost use Rattle.switch_parts.specs.declared.refusal.Refusal.{Refusal};
+ghost use Rattle.unit_stage.specs.Known.{AreStatesOf, IsKnownOf, IsOldOf};
+ghost use Rattle.unit_stage.specs.System.{unit_refusal};
+
+use crate::system::current_system;
+use host_trait::{HostFault, Manager, States, Tree};
+use owed_lists::{Lists, load};
+use std::alloc::Global;
+use switch_names::SystemName;
+use switch_parts::{PlanFault, Refusal};
+use unit_defs::{Defs, DefsFault};
+
+/// The system in use, where there is one, with the units that it defines.
+#[derive(Drop)]
+pub struct OldSystem {
+    pub name: Option<SystemName>,
+    pub defs: Defs,
+}
+
+/// The states of the units, and the lists that a switch which was cut has left.
+pub struct UnitStates {
+    pub states: States,
+    pub lists: Lists,
+}
+
+/// One call: a derived drop is proved anew in each function that lets one go.
+impl Drop for UnitStates {
+    fn drop(self) {
+        let UnitStates {
+            states: _,
+            lists: _,
+        } = self;
+    }
+}
+
+/// All that a switch is planned by.
+#[derive(Drop)]
+pub struct Known {
+    pub old: OldSystem,
+    pub new: Defs,
+    pub units: UnitStates,
+}
+
+/// Reads the units of the system in use. Where there is none, it has none.
+fn read_old_defs<T: Tree>(
+    alloc: Global,
+    host: &mut T,
+    system: Option<&SystemName>,
+) -> Result<Defs, HostFault>
+    ensures defs { IfOk result (λ defs. Told (T.host host.old) (λ w. AreOldDefs w.leaves (option_copied system.entry) defs)) }
+    ensures reads { IsReading (T.host host.old) (T.host host.new) result }
+{
+    match system {
+        Some(system) => Defs::read_old(alloc, host, system),
+        None => Ok(Defs::none(alloc)),
+    }
+}
+
+/// Reads the system in use.
+fn read_old<T: Tree>(alloc: Global, host: &mut T) -> Result<OldSystem, HostFault>
+    ensures old { IfOk result (λ old. Told (T.host host.old) (λ w. IsOldOf w.leaves old)) }
+    ensures reads { IsReading (T.host host.old) (T.host host.new) result }
+{
+    let name = current_system(alloc, host)?;
+    let defs = read_old_defs(alloc, host, name.as_ref())?;
+    Ok(OldSystem { name, defs })
+}
+
+/// Reads the units of the system that comes into use.
+pub fn read_new<T: Tree>(
+    alloc: Global,
+    host: &mut T,
+    system: &SystemName,
+) -> Result<Defs, PlanFault>
+    ensures defs { IfOk result (λ defs. Told (T.host host.old) (λ w. AreDefsOf w.leaves system.now defs)) }
+    ensures not_refused { OnOk result (Told (T.host host.old) (λ w. unit_refusal w.leaves system.now ≡ None)) }
+    ensures refused { (why : Refusal) → IsErrOf result (Refused why) → Told (T.host host.old) (λ w. unit_refusal w.leaves system.now ≡ Some why) }
+    ensures reads { IsReadingOf (T.host host.old) (T.host host.new) (IsErrOf result (Host Device)) }
+{
+    match Defs::read(alloc, host, system) {
+        Ok(defs) => Ok(defs),
+        Err(DefsFault::Text { unit, line }) => {
+            Err(PlanFault::Refused(Refusal::UnitText { unit, line }))
+        }
+        Err(DefsFault::Host(fault)) => Err(PlanFault::Host(fault)),
+    }
+}
+
+/// Reads the states of the units and the three lists.
+fn read_states<H: Manager>(alloc: Global, host: &mut H) -> Result<UnitStates, HostFault>
+    ensures states { IfOk result (λ units. Told (H.host host.old) (λ w. AreStatesOf w units)) }
+    ensures reads { IsReading (H.host host.old) (H.host host.new) result }
+{
+    let states = host.units(alloc)?;
+    let lists = load(alloc, host)?;
+    Ok(UnitStates { states, lists })
+}
+
+/// Reads all that a switch to a system is planned by.
+pub fn read_known<H: Manager>(
+    alloc: Global,
+    host: &mut H,
+    system: &SystemName,
+) -> Result<Known, PlanFault>
+    ensures known { IfOk result (λ known. Told (H.host host.old) (λ w. IsKnownOf system.now w known)) }
+    ensures not_refused { OnOk result (Told (H.host host.old) (λ w. unit_refusal w.leaves system.now ≡ None)) }
+    ensures refused { (why : Refusal) → IsErrOf result (Refused why) → Told (H.host host.old) (λ w. unit_refusal w.leaves system.now ≡ Some why) }
+    ensures reads { IsReadingOf (H.host host.old) (H.host host.new) (IsErrOf result (Host Device)) }
+{
+    let old = read_old(alloc, host)?;
+    let new = read_new(alloc, host, system)?;
+    let units = read_states(alloc, host)?;
+    Ok(Known { old, new, units })
+}

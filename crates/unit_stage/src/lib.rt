@@ -1,0 +1,21 @@
+//! The part of a switch that is about the units: plans what is done to them, and does it.
+#![tactic(auto)]
+
+mod acting;
+mod giving;
+mod known;
+pub mod laws;
+mod linking;
+mod links;
+mod plan_calls;
+mod planning;
+mod system;
+mod unit_plan;
+
+pub use acting::call_units;
+pub use giving::{bring_units, stop_units};
+pub use links::{short_link, system_leaf};
+pub use plan_calls::{PlanCalls, calls_of};
+pub use planning::plan_units;
+pub use system::current_path;
+pub use unit_plan::UnitPlan;
