@@ -1,20 +1,23 @@
 #!/bin/bash
-# Kills the program at each call of a boot that changes a file, and lets the next run end it.
+# Kills the program at each call of a run that changes a file, and lets the next run end it.
 #
 # bench/kill.sh [PROGRAM]
 #
 # Needs bash, awk, the coreutils, findutils, and strace with leave to trace.
 #
-# An uncut boot is traced first, from two roots: one without a profile, and one with three
-# generations whose profile is the second. Then each of its calls that change a file or write to
-# standard output is a place for the kill, twice: at its entry, where the call has no effect, and
-# after it. As strace kills at an entry only, the kill after a call is at the entry of the one that
-# follows. strace counts each kind of call by itself, so a place is named by kind and number.
+# An uncut run is traced first, from three roots: a boot without a profile, a boot with three
+# generations whose profile is the second, and a switch of the units of the example root. Then each of
+# its calls that change a file or write to standard output is a place for the kill, twice: at its entry,
+# where the call has no effect, and after it. As strace kills at an entry only, the kill after a call is
+# at the entry of the one that follows. strace counts each kind of call by itself, so a place is named by
+# kind and number.
 #
 # A row passes where the run was killed at its place, the profile then named what it named before
-# or the new system, the next run ended with 0 and the uncut boot's output, and each file and
-# folder but the stage is as the uncut boot leaves it. Each place is tried with one kill, and with a
-# second one at the same place of the run after it, where that run comes to it.
+# or, for a boot, the new system, the next run ended with the uncut run's status, and each file and
+# folder but the stage is as the uncut run leaves it: of the journal, which units were stopped, and which
+# were reloaded, restarted or started under which definitions. A boot has to put the same output again;
+# a switch tells what is left to do. Each place is tried with one kill, and with a second one at the same
+# place of the run after it, where that run comes to it.
 # It ends with 1 where a row fails. It is no part of the gate.
 . "$(dirname "$0")/common.sh"
 find_program "$@"
@@ -29,6 +32,8 @@ failed=0
 
 # A root with the system to boot and no profile.
 make_empty() {
+    words=(boot nix/store/a-sys)
+    goal=/nix/store/a-sys
     rm -rf "$root"
     mkdir -p "$tree/nix/store/a-sys"
     printf 'F 0644 0 0\n24.05\n' >"$tree/nix/store/a-sys/nixos-version"
@@ -45,14 +50,22 @@ make_three() {
     printf 'L system-2-link\n' >"$profiles/system"
 }
 
-# Boots the system, by way of the words given.
-boot() {
-    "$@" "$program" "$root" boot nix/store/a-sys >"$work/stdout" 2>"$work/stderr"
+# The example root, and a switch of its units, which leaves the profile as it is.
+make_example() {
+    words=(test nix/store/web-24.11)
+    goal=none
+    rm -rf "$root"
+    cp -r "$here/crates/nixswitch/data/example" "$root"
 }
 
-# Boots the system up to the call of this kind and number, and says whether it was killed there.
-killed_boot() {
-    { boot strace -f -o "$work/calls" --inject="$1:signal=KILL:when=$2"; } 2>"$work/shell"
+# Runs the command of the root, by way of the words given.
+carry() {
+    "$@" "$program" "$root" "${words[@]}" >"$work/stdout" 2>"$work/stderr"
+}
+
+# Runs the command up to the call of this kind and number, and says whether it was killed there.
+killed_run() {
+    { carry strace -f -o "$work/calls" --inject="$1:signal=KILL:when=$2"; } 2>"$work/shell"
     [ $? = 137 ] && [ "$(grep -c "^[0-9]* *$1(" "$work/calls")" = "$2" ]
 }
 
@@ -61,11 +74,24 @@ call_count() {
     grep -c '^[0-9]* *[a-z_0-9]*(' "$work/calls"
 }
 
+# The manager's file, where there is one. Of the journal, each unit that was stopped stands once, and so does each
+# that was called in another way, with the definitions.
+manager() {
+    [ -f "$root/manager" ] || return 0
+    awk '
+        $1 == "stop" { print "stopped " $2; next }
+        $1 ~ /^(reload|restart|start)$/ { print "called " $2 " " $3; next }
+        { print }
+    ' "$root/manager" | sort -u
+}
+
 # Each folder and each file with its text, without the stage.
 files() {
     (cd "$root" &&
         find . -path ./tree/nix/var/nixswitch.stage -prune -o -printf '%y %p %l\n' | sort &&
-        find . -path ./tree/nix/var/nixswitch.stage -prune -o -type f -print0 | sort -z | xargs -0 tail -v -c +1)
+        find . -path ./tree/nix/var/nixswitch.stage -prune -o -path ./manager -prune -o -type f -print0 |
+        sort -z | xargs -0 tail -v -c +1)
+    manager
 }
 
 # The store path that the profile names, or `none`, or `broken` where it names no generation.
@@ -83,7 +109,7 @@ profile_system() {
     fi
 }
 
-# Lists the places of the traced boot, a line each: the kind and the number of the call at whose
+# Lists the places of the traced run, a line each: the kind and the number of the call at whose
 # entry the kill comes, its number among all calls, and what the place is.
 places() {
     awk -v root="$root/" '
@@ -136,20 +162,20 @@ note() {
     printf '%-101s %s\n' "$1" "$2"
 }
 
-# Sets `verdict` where the profile names neither what it named before nor the new system.
+# Sets `verdict` where the profile names neither what it named before nor what the command leads it to.
 judge_moment() {
     local now
     now=$(profile_system)
-    [ "$now" = "$was" ] || [ "$now" = /nix/store/a-sys ] || verdict="the profile names $now"
+    [ "$now" = "$was" ] || [ "$now" = "$goal" ] || verdict="the profile names $now"
 }
 
-# row NAME KIND NUMBER CALLS TRIES: tries to kill that many boots at a place, ends the next one, and
+# row NAME KIND NUMBER CALLS TRIES: tries to kill that many runs at a place, ends the next one, and
 # judges. The first must be killed, at the call with this number among all.
 row() {
     local verdict=ok kills=0 try status
     "$make"
     for ((try = 1; try <= $5; try++)); do
-        if killed_boot "$2" "$3"; then
+        if killed_run "$2" "$3"; then
             kills=$((kills + 1))
         fi
         if [ $try = 1 ] && { [ $kills = 0 ] || [ "$(call_count)" != "$4" ]; }; then
@@ -157,22 +183,24 @@ row() {
         fi
         judge_moment
     done
-    boot
+    carry
     status=$?
-    cmp -s "$work/stdout" "$work/output" || verdict='the next run has another output'
+    [ "${words[0]}" != boot ] || cmp -s "$work/stdout" "$work/output" || verdict='the next run has another output'
     [ "$(files)" = "$final" ] || verdict='the next run leaves other files'
-    [ $status = 0 ] || verdict="the next run ends with $status: $(cat "$work/stderr")"
+    [ $status = "$ends" ] || verdict="the next run ends with $status: $(cat "$work/stderr")"
     note "$1, kills: $kills of $5" "$verdict"
 }
 
-# root_rows NAME MAKE: the rows of one root.
+# root_rows NAME MAKE STATUS: the rows of one root, whose uncut run ends with this status.
 root_rows() {
     local kind number calls place
     make=$2
     "$make"
     was=$(profile_system)
-    if ! boot strace -f -y -o "$work/calls" || [ "$(profile_system)" != /nix/store/a-sys ]; then
-        note "$1: the uncut boot" "went wrong: $(cat "$work/stderr")"
+    carry strace -f -y -o "$work/calls"
+    ends=$?
+    if [ $ends != "$3" ] || [ "$(profile_system)" != "$goal" ]; then
+        note "$1: the uncut run" "went wrong: $(cat "$work/stderr")"
         return
     fi
     final=$(files)
@@ -186,7 +214,8 @@ root_rows() {
 }
 
 echo "strace kills at a call's entry only: a kill after a call is at the entry of the next one"
-root_rows 'no profile' make_empty
-root_rows 'three generations, the profile at the second' make_three
+root_rows 'a boot without a profile' make_empty 0
+root_rows 'a boot with three generations, the profile at the second' make_three 0
+root_rows 'a switch of the units' make_example 4
 echo "$passed passed, $failed failed"
 [ $failed = 0 ]
