@@ -7,7 +7,7 @@ use Rattle.std.specs.List.{AllByRecursion}
 use Rattle.std.specs.List.Sorted.{IsStrictlySortedBy}
 use Rattle.std.specs.Ordering.{is_lt, nat_cmp}
 use Rattle.std.specs.declared.cmp.Ordering.TheVariants.{Less}
-use Rattle.std.proofs.lemmas.Bool.{and_from, and_parts}
+use Rattle.std.proofs.lemmas.Bool.{and_from, and_parts, both_ways}
 use Rattle.unit_defs.specs.Place.{is_unit}
 use Rattle.unit_text.specs.declared.assignment.Assignment.{Assignment}
 use Rattle.std.proofs.Math.Bool.{and-false}
@@ -23,12 +23,11 @@ use Rattle.owed_plan.specs.Owed.{IsOwed, Reloads, Restarts, Starts, Stops}
 use Rattle.owed_plan.specs.Systems.{systems_at}
 use Rattle.owed_lists.proofs.ListLemmas.{one_list, same_lists}
 use Rattle.switch_engine.specs.declared.command.Command.{Command}
-use Rattle.switch_engine.specs.declared.command.Command.TheVariants.{Test, Boot, DryActivate}
 use Rattle.switch_engine.specs.declared.plan.Plan.{Plan}
-use Rattle.switch_engine.specs.Commands.{IsBoot, IsQuery}
-use Rattle.switch_engine.specs.Final.{IsFinalOf, IsLeftFailed, is_failed, is_failed_of}
-use Rattle.switch_engine.specs.Plan.{ArePlanned, IsPlanOf}
-use Rattle.switch_engine.specs.Rows.{row_of, switched_to}
+use Rattle.switch_engine.specs.Commands.{IsBoot, IsQuery, if_so, new_system, row_of, switched_to}
+use Rattle.switch_engine.specs.Final.{AreFinalUnits, IsFinalOf, IsLeftFailed, is_failed, is_failed_of}
+use Rattle.switch_engine.specs.Plan.{AreUnitsPlanned, IsPlanOf}
+use Rattle.switch_engine.proofs.CarryLemmas.{changes_on}
 use Rattle.switch_engine.proofs.DefinedLemmas.{defined_same}
 use Rattle.switch_engine.proofs.FailedLemmas.{failed_from}
 use Rattle.switch_names.specs.Names.{IsListOf, Name, has, is_name}
@@ -40,7 +39,7 @@ use Rattle.unit_stage.specs.declared.unit_plan.UnitPlan.{UnitPlan}
 use Rattle.unit_stage.specs.End.{AreEndStates, state_after}
 use Rattle.unit_stage.specs.Plan.{IsOwedBy}
 use Rattle.unit_stage.specs.System.{current_system}
-use Rattle.dry_report.specs.Close.{IsClosing, IsClosingBy, IsUnitClosing, close_of, failed_in}
+use Rattle.dry_report.specs.Close.{IsClosing, IsClosingBy, IsClosingTo, IsUnitClosing, close_of, failed_in}
 use Rattle.dry_report.proofs.CloseLemmas.{failed_units}
 
 -- ---- a command has one closing text
@@ -83,7 +82,7 @@ one_by true None w one other is also = is ∙ sym also
 one_by false to w one other is also = is ∙ sym also
 
 pub one_closing : (command : Command) (w : WorldState) (one other : List ℕ) → IsClosing command w one → IsClosing command w other → one ≡ other
-one_closing command w one other is also = one_by (row_of command w.leaves).changes (switched_to command w.leaves) w one other is also
+one_closing command w one other is also = one_by (row_of command).changes (switched_to command w.leaves) w one other is also
 
 -- ---- the units that have failed, among the states of all
 
@@ -204,13 +203,17 @@ none_defined [] = refl
 none_defined (one ∷ list) =
     ap (λ b. map (λ (o : UnitState). o.unit) (cond b (one ∷ filter (is_failed_of []) list) (filter (is_failed_of []) list))) (none_failed_of one) ∙ none_defined list
 
-states_close_by : (command : Command) (plan : Plan) (states : UnitStates) (w v : WorldState) → ArePlanned command w plan → (IsQuery command → ⊥) → IsFinalOf command w v →
-    ((IsBoot command → ⊥) → states ≡ v.manager.states) → IsClosing command w (close_of (failed_in plan.units.defs states))
-states_close_by (Test system) plan states w v planned changes final now = units_close system w plan.units.defs states v.manager.states planned.0.defs final.units.0 (now (λ never. never))
-states_close_by (Boot system) plan states w v planned changes final now =
-    ap (λ (units : UnitPlan). close_of (failed_in units.defs states)) planned.0 ∙ ap close_of (none_defined (listed_states states))
-states_close_by (DryActivate system) plan states w v planned changes final now = absurd (changes tt)
+states_close_by : (switches : Bool) (system : Name) (plan : UnitPlan) (states : UnitStates) (w v : WorldState) → AreUnitsPlanned switches system w plan → AreFinalUnits (if_so switches system) w v →
+    ((switches ≡ false → ⊥) → states ≡ v.manager.states) → IsClosingTo (if_so switches system) w (close_of (failed_in plan.defs states))
+states_close_by true system plan states w v planned final now = units_close system w plan.defs states v.manager.states planned.defs final.0 (now (λ same. both_ways _ same refl))
+states_close_by false system plan states w v planned final now =
+    ap (λ (units : UnitPlan). close_of (failed_in units.defs states)) planned ∙ ap close_of (none_defined (listed_states states))
 
 pub states_close : (plan : Plan) (states : UnitStates) (w v : WorldState) → IsPlanOf w plan → (IsQuery plan.command → ⊥) → IsFinalOf plan.command w v →
     ((IsBoot plan.command → ⊥) → states ≡ v.manager.states) → IsClosing plan.command w (close_of (failed_in plan.units.defs states))
-states_close plan states w v planned changes final now = states_close_by plan.command plan states w v planned.planned changes final now
+states_close plan states w v planned changes final now =
+    let on = changes_on plan.command changes in
+    let system = new_system plan.command w.leaves in
+    let switches = (row_of plan.command).switches in
+    subst (λ b. IsClosingBy b (switched_to plan.command w.leaves) w (close_of (failed_in plan.units.defs states))) (sym on)
+    (states_close_by switches system plan.units states w v planned.planned.units (subst (λ b. AreFinalUnits (if_so (b && switches) system) w v) on final.units) now)

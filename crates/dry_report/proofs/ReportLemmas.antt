@@ -10,17 +10,16 @@ use Rattle.owed_plan.specs.Systems.{systems_at}
 use Rattle.owed_lists.proofs.ListLemmas.{same_lists}
 use Rattle.owed_plan.proofs.ListLemmas.{one_owed}
 use Rattle.switch_engine.specs.declared.command.Command.{Command}
-use Rattle.switch_engine.specs.declared.command.Command.TheVariants.{Test, Boot, DryActivate}
 use Rattle.switch_engine.specs.declared.plan.Plan.{Plan}
 use Rattle.switch_engine.specs.declared.plan.ProfilePlan.{ProfilePlan}
-use Rattle.switch_engine.specs.Commands.{new_system}
-use Rattle.switch_engine.specs.Plan.{ArePlanned, IsMaybeProfilePlan}
-use Rattle.switch_engine.specs.Rows.{row_of}
+use Rattle.switch_engine.specs.Commands.{new_system, row_of}
+use Rattle.switch_engine.specs.Plan.{ArePlanned, AreUnitsPlanned, IsProfilePlanned}
 use Rattle.switch_names.specs.Names.{Name}
 use Rattle.unit_stage.specs.declared.unit_plan.UnitPlan.{UnitPlan}
 use Rattle.unit_stage.specs.Plan.{IsPlannedIn, IsUnitPlanOf}
 use Rattle.unit_stage.specs.System.{current_system}
-use Rattle.dry_report.specs.Report.{IsReport, IsReportBy, IsUnitReport, profile_report, report_of}
+use Rattle.std.proofs.lemmas.Bool.{both_ways, cases_Bool}
+use Rattle.dry_report.specs.Report.{IsReport, IsReportBy, IsUnitReport, number_if, number_of, profile_report, report_of}
 
 -- ---- one report
 
@@ -30,19 +29,20 @@ same_planned w system lists others one other is also =
     (subst (λ (l : Lists). IsPlan (systems_at w.leaves (current_system w.leaves) system) (state_of w.manager.states) l other)
     (sym (same_lists w.leaves lists others is.listed also.listed)) also.planned)
 
-one_unit_report : (system : Name) (w : WorldState) (one other : List ℕ) → IsUnitReport system w one → IsUnitReport system w other → one ≡ other
-one_unit_report system w one other is also =
+one_unit_report : (number : Option ℕ) (system : Name) (w : WorldState) (one other : List ℕ) → IsUnitReport number system w one → IsUnitReport number system w other → one ≡ other
+one_unit_report number system w one other is also =
     is.is_text
-    ∙ ap (λ (owed : Owed). report_of (current_system w.leaves) system (calls_of owed (state_of w.manager.states)) owed.left)
+    ∙ ap (λ (owed : Owed). report_of (current_system w.leaves) system number (calls_of owed (state_of w.manager.states)) owed.left)
     (same_planned w system is.lists also.lists is.owed also.owed is.planned also.planned)
     ∙ sym also.is_text
 
-one_by : (switches : Bool) (system : Name) (w : WorldState) (one other : List ℕ) → IsReportBy switches system w one → IsReportBy switches system w other → one ≡ other
-one_by true system w one other is also = one_unit_report system w one other is also
-one_by false system w one other is also = is ∙ sym also
+one_by : (switches : Bool) (number : Option ℕ) (system : Name) (w : WorldState) (one other : List ℕ) → IsReportBy switches number system w one → IsReportBy switches number system w other → one ≡ other
+one_by true number system w one other is also = one_unit_report number system w one other is also
+one_by false number system w one other is also = is ∙ sym also
 
 pub one_report : (command : Command) (w : WorldState) (one other : List ℕ) → IsReport command w one → IsReport command w other → one ≡ other
-one_report command w one other is also = one_by (row_of command w.leaves).switches (row_of command w.leaves).system w one other is also
+one_report command w one other is also =
+    one_by (row_of command).switches (number_if (row_of command).sets (new_system command w.leaves) w.leaves) (new_system command w.leaves) w one other is also
 
 -- ---- the text of a plan
 
@@ -50,38 +50,38 @@ pub if_ok_as : {T E : Type 0} {P : T → Type 0} (r : Result T E) → IfOk r P �
 if_ok_as (Ok x) holds Q weaker = weaker x holds
 if_ok_as (Err e) holds Q weaker = tt
 
-pub none_mapped : {X Y : Type 0} (f : X → Y) (o : Option X) → option_map f o ≡ None → o ≡ None
-none_mapped f None is = refl
-none_mapped f (Some x) is = absurd cc
-
-pub some_mapped : {X Y : Type 0} (f : X → Y) (o : Option X) (y : Y) → option_map f o ≡ Some y → (x : X) × (o ≡ Some x) × (f x ≡ y)
-some_mapped f None y is = absurd cc
-some_mapped f (Some x) y is = (x, refl, cc)
-
-unit_report_is : (system : Name) (w : WorldState) (plan : UnitPlan) (text : List ℕ) → IsUnitPlanOf system w plan → text ≡ report_of plan.from system plan.duties plan.owed.left → IsUnitReport system w text
-unit_report_is system w plan text is same = record {
+unit_report_is : (system : Name) (w : WorldState) (plan : UnitPlan) (number : Option ℕ) (text : List ℕ) → IsUnitPlanOf system w plan → text ≡ report_of plan.from system number plan.duties plan.owed.left → IsUnitReport number system w text
+unit_report_is system w plan number text is same = record {
   lists = is.lists;
   owed = plan.owed;
   planned = is.planned;
   is_text = same
-      ∙ ap (λ from. report_of from system plan.duties plan.owed.left) is.from
-      ∙ ap (λ duties. report_of (current_system w.leaves) system duties plan.owed.left) is.duties;
+      ∙ ap (λ from. report_of from system number plan.duties plan.owed.left) is.from
+      ∙ ap (λ duties. report_of (current_system w.leaves) system number duties plan.owed.left) is.duties;
 }
 
-none_some : {X : Type 0} (o : Option X) (x : X) → o ≡ None → o ≡ Some x → ⊥
-none_some o x none some = cc
+-- the number of a plan is that of its world
+number_is : (sets : Bool) (system : Name) (w : WorldState) (o : Option ProfilePlan) → IsProfilePlanned sets system w o → option_map (λ profile. profile.number) o ≡ number_if sets system w.leaves
+number_is sets system w None planned = sym (ap (λ b. number_if b system w.leaves) planned)
+number_is sets system w (Some plan) planned = ap Some planned.1.number ∙ sym (ap (λ b. number_if b system w.leaves) planned.0)
 
--- where nothing is planned for the profile
-pub units_reported : (command : Command) (w : WorldState) (plan : Plan) (text : List ℕ) → ArePlanned command w plan → plan.profile ≡ None →
-    ((leaves : Leaves) → text ≡ report_of plan.units.from (new_system command leaves) plan.units.duties plan.units.owed.left) → IsReport command w text
-units_reported (Test system) w plan text is none same = unit_report_is system w plan.units text is.0 (same w.leaves)
-units_reported (DryActivate system) w plan text is none same = unit_report_is system w plan.units text is.0 (same w.leaves)
-units_reported (Boot system) w plan text is none same = absurd (subst (IsMaybeProfilePlan system w) none is.1)
+planned_by : (switches : Bool) (system : Name) (w : WorldState) (plan : UnitPlan) (number : Option ℕ) (text : List ℕ) → AreUnitsPlanned switches system w plan → switches ≡ true →
+    text ≡ report_of plan.from system number plan.duties plan.owed.left → IsReportBy switches number system w text
+planned_by true system w plan number text is on same = unit_report_is system w plan number text is same
+planned_by false system w plan number text is on same = absurd (both_ways _ refl on)
 
--- where a set of the profile is planned
-pub profile_reported : (command : Command) (w : WorldState) (plan : Plan) (text : List ℕ) (set : ProfilePlan) → ArePlanned command w plan → plan.profile ≡ Some set →
-    ((leaves : Leaves) → text ≡ profile_report (new_system command leaves) set.number) → IsReport command w text
-profile_reported (Test system) w plan text set is some same = absurd (none_some plan.profile set is.1 some)
-profile_reported (DryActivate system) w plan text set is some same = absurd (none_some plan.profile set is.1 some)
-profile_reported (Boot system) w plan text set is some same =
-    same w.leaves ∙ ap (profile_report system) (subst (IsMaybeProfilePlan system w) some is.1).number
+-- where the units are switched
+pub units_reported : (w : WorldState) (plan : Plan) (text : List ℕ) → ArePlanned plan.command w plan → (row_of plan.command).switches ≡ true →
+    ((leaves : Leaves) → text ≡ report_of plan.units.from (new_system plan.command leaves) (number_of plan) plan.units.duties plan.units.owed.left) → IsReport plan.command w text
+units_reported w plan text is on same =
+    let system = new_system plan.command w.leaves in
+    planned_by (row_of plan.command).switches system w plan.units (number_if (row_of plan.command).sets system w.leaves) text is.units on
+    (same w.leaves ∙ ap (λ number. report_of plan.units.from system number plan.units.duties plan.units.owed.left) (number_is (row_of plan.command).sets system w plan.profile is.profile))
+
+-- where the profile alone is set
+pub profile_reported : (w : WorldState) (plan : Plan) (text : List ℕ) → ArePlanned plan.command w plan → (row_of plan.command).switches ≡ false →
+    ((leaves : Leaves) → text ≡ profile_report (new_system plan.command leaves) (number_of plan)) → IsReport plan.command w text
+profile_reported w plan text is off same =
+    let system = new_system plan.command w.leaves in
+    subst (λ b. IsReportBy b (number_if (row_of plan.command).sets system w.leaves) system w text) (sym off)
+    (same w.leaves ∙ ap (profile_report system) (number_is (row_of plan.command).sets system w plan.profile is.profile))

@@ -1,18 +1,19 @@
 -- What a command says before it changes anything: the lines of switch-to-configuration, NixOS manual, "Unit handling".
-use Rattle.std.specs.Prelude.{◌≡◌, ℕ, ◌++◌, Bool, true, false, List, [], ◌∷◌, Option, None, Some, codes, filter, not}
+use Rattle.std.specs.Prelude.{◌≡◌, ℕ, ◌++◌, Bool, true, false, List, [], ◌∷◌, Option, None, Some, codes, filter, not, option_map, if◌then◌else◌}
 use Rattle.std.specs.Fmt.{decimal}
 use Rattle.std.specs.List.{flat_map}
 use Rattle.generations.specs.Places.{number_after}
 use Rattle.host_trait.specs.declared.entry.Act.{Act}
 use Rattle.host_trait.specs.declared.entry.Act.TheVariants.{Stop, Reload, Restart, Start}
 use Rattle.host_trait.specs.States.{state_of}
-use Rattle.host_trait.specs.World.{WorldState}
+use Rattle.host_trait.specs.World.{Leaves, WorldState}
 use Rattle.owed_lists.specs.declared.lists.Lists.{Lists}
 use Rattle.owed_plan.specs.declared.duty.Duty.{Duty}
 use Rattle.owed_plan.specs.declared.owed.Owed.{Owed}
 use Rattle.owed_plan.specs.Calls.{calls_of}
 use Rattle.switch_engine.specs.declared.command.Command.{Command}
-use Rattle.switch_engine.specs.Rows.{row_of}
+use Rattle.switch_engine.specs.declared.plan.Plan.{Plan}
+use Rattle.switch_engine.specs.Commands.{new_system, row_of}
 use Rattle.switch_names.specs.Names.{Name}
 use Rattle.unit_stage.specs.Owes.{is_stop}
 use Rattle.unit_stage.specs.Plan.{IsPlannedIn}
@@ -46,31 +47,46 @@ stop_lines duties = flat_map duty_line (filter (λ duty. is_stop duty.act) dutie
 abbrev pub other_lines : List Duty → List ℕ
 other_lines duties = flat_map duty_line (filter (λ duty. not (is_stop duty.act)) duties)
 
--- the two systems, the stops, the changed units that get nothing, and the other calls
-abbrev pub report_of : Option Name → Name → List Duty → List Name → List ℕ
-report_of from to duties left =
+-- the line of the generation that the profile is set to, where it is set
+abbrev pub generation_line : Option ℕ → List ℕ
+generation_line None = []
+generation_line (Some number) = line (codes "generation") (decimal number)
+
+-- the two systems, the generation, the stops, the changed units that get nothing, and the other calls
+abbrev pub report_of : Option Name → Name → Option ℕ → List Duty → List Name → List ℕ
+report_of from to number duties left =
     line (codes "from") (system_text from)
     ++ line (codes "to") to
+    ++ generation_line number
     ++ stop_lines duties
     ++ flat_map (line (codes "leave")) left
     ++ other_lines duties
 
--- the report of a switch of the units to a system, from a world
-pub record IsUnitReport (system : Name) (w : WorldState) (text : List ℕ) : Type 0 where
+-- the report of a switch of the units to a system, from a world, and the number of the generation where the profile is set
+pub record IsUnitReport (number : Option ℕ) (system : Name) (w : WorldState) (text : List ℕ) : Type 0 where
   pub lists : Lists
   pub owed : Owed
   pub planned : IsPlannedIn w system lists owed
-  pub is_text : text ≡ report_of (current_system w.leaves) system (calls_of owed (state_of w.manager.states)) owed.left
+  pub is_text : text ≡ report_of (current_system w.leaves) system number (calls_of owed (state_of w.manager.states)) owed.left
 
 -- the report of a set of the profile: the system, and the number of its generation
-abbrev pub profile_report : Name → ℕ → List ℕ
-profile_report system number = line (codes "to") system ++ line (codes "generation") (decimal number)
+abbrev pub profile_report : Name → Option ℕ → List ℕ
+profile_report system number = line (codes "to") system ++ generation_line number
 
--- the report about a system, to which the units are switched, or which the profile is set to
-abbrev pub IsReportBy : Bool → Name → WorldState → List ℕ → Type 0
-IsReportBy true system w text = IsUnitReport system w text
-IsReportBy false system w text = text ≡ profile_report system (number_after w.leaves system)
+-- the number of the generation that a plan sets the profile to, where it does
+abbrev pub number_of : Plan → Option ℕ
+number_of plan = option_map (λ profile. profile.number) plan.profile
+
+-- the number of the generation that a system gets, where the profile is set to it
+abbrev pub number_if : Bool → Name → Leaves → Option ℕ
+number_if sets system leaves = if sets then Some (number_after leaves system) else None
+
+-- the report about a system, to which the units are switched, or which the profile is set to alone
+abbrev pub IsReportBy : Bool → Option ℕ → Name → WorldState → List ℕ → Type 0
+IsReportBy true number system w text = IsUnitReport number system w text
+IsReportBy false number system w text = text ≡ profile_report system number
 
 -- the report of a command, from a world
 abbrev pub IsReport : Command → WorldState → List ℕ → Type 0
-IsReport command w text = IsReportBy (row_of command w.leaves).switches (row_of command w.leaves).system w text
+IsReport command w text =
+    IsReportBy (row_of command).switches (number_if (row_of command).sets (new_system command w.leaves) w.leaves) (new_system command w.leaves) w text

@@ -6,7 +6,7 @@ ghost use Rattle.host_trait.specs.World.{Leaves, WorldState};
 ghost use Rattle.switch_engine.specs.Commands.{new_system};
 ghost use Rattle.switch_engine.specs.Plan.{IsPlanOf};
 ghost use Rattle.unit_stage.specs.Owes.{is_stop};
-ghost use Rattle.dry_report.specs.Report.{IsReport, act_word, line, other_lines, profile_report, report_of, stop_lines, system_text};
+ghost use Rattle.dry_report.specs.Report.{IsReport, act_word, generation_line, line, number_of, other_lines, profile_report, report_of, stop_lines, system_text};
 
 use host_trait::Act;
 use owed_plan::Duty;
@@ -104,15 +104,27 @@ fn system_text(system: Option<&SystemName>) -> &str
     }
 }
 
-/// The report of a switch of the units: the two systems, the stops, the changed units that get
-/// nothing, and the other calls, a line each.
+/// Writes the line of the generation that the profile is set to, where it is set.
+fn write_generation(alloc: Global, out: &mut Vec<u8>, number: Option<u32>) -> Result<(), AllocError>
+    ensures { OnOk result (out.new.items ≡ out.old.items ++ generation_line number) }
+{
+    if let Some(number) = number {
+        let digits = format!(in alloc; "{number}")?;
+        write_line(out, "generation", digits.as_str())?;
+    }
+    Ok(())
+}
+
+/// The report of a switch of the units: the two systems, the generation where the profile is set, the
+/// stops, the changed units that get nothing, and the other calls, a line each.
 fn unit_report(alloc: Global, plan: &Plan) -> Result<Bytes, AllocError>
     ensures { IfOk result (λ text. (leaves : Leaves)
-        → text ≡ report_of plan.now.units.from (new_system plan.now.command leaves) plan.now.units.duties plan.now.units.owed.left) }
+        → text ≡ report_of plan.now.units.from (new_system plan.now.command leaves) (number_of plan.now) plan.now.units.duties plan.now.units.owed.left) }
 {
     let mut out = Vec::new(alloc);
     write_line(&mut out, "from", system_text(plan.from()))?;
     write_line(&mut out, "to", plan.to().as_str())?;
+    write_generation(alloc, &mut out, plan.number())?;
     write_stops(&mut out, plan.duties().as_slice())?;
     write_left(&mut out, plan.left().as_slice())?;
     write_others(&mut out, plan.duties().as_slice())?;
@@ -120,24 +132,23 @@ fn unit_report(alloc: Global, plan: &Plan) -> Result<Bytes, AllocError>
 }
 
 /// The report of a set of the profile: the system, and the number of its generation.
-fn profile_report(alloc: Global, system: &SystemName, number: u32) -> Result<Bytes, AllocError>
-    ensures { IfOk result (λ text. text ≡ profile_report system.now number) }
+fn profile_report(alloc: Global, plan: &Plan) -> Result<Bytes, AllocError>
+    ensures { IfOk result (λ text. (leaves : Leaves) → text ≡ profile_report (new_system plan.now.command leaves) (number_of plan.now)) }
 {
     let mut out = Vec::new(alloc);
-    let digits = format!(in alloc; "{number}")?;
-    write_line(&mut out, "to", system.as_str())?;
-    write_line(&mut out, "generation", digits.as_str())?;
+    write_line(&mut out, "to", plan.to().as_str())?;
+    write_generation(alloc, &mut out, plan.number())?;
     Ok(Bytes::from_vec(out))
 }
 
-/// The report of a planned command: what it does to the units, or the generation that it makes.
+/// The report of a planned command: what it does to the units, and the generation that it makes.
 ///
 /// Source: the lines of switch-to-configuration, NixOS manual, "Unit handling".
 pub fn report(alloc: Global, plan: &Plan) -> Result<Bytes, AllocError>
     ensures { IfOk result (λ text. (w : WorldState) → IsPlanOf w plan.now → IsReport plan.now.command w text) }
 {
-    match plan.number() {
-        Some(number) => profile_report(alloc, plan.to(), number),
-        None => unit_report(alloc, plan),
+    if plan.boot_only() {
+        return profile_report(alloc, plan);
     }
+    unit_report(alloc, plan)
 }

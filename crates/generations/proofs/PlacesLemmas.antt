@@ -5,6 +5,7 @@ use Rattle.std.specs.Option.{option_to_list}
 use Rattle.host_trait.specs.World.{Leaves, is_in_line, stage}
 use Rattle.host_trait.proofs.Sound.{in_line_either, not_in_line}
 use Rattle.switch_names.specs.Names.{Name}
+use Rattle.tree_put.specs.declared.written_place.WrittenPlace.{WrittenPlace}
 use Rattle.tree_put.specs.WrittenPlace.{AreApartFromStage, written}
 use Rattle.generations.specs.declared.gens.Gen.{Gen}
 use Rattle.generations.specs.declared.gens.Gens.{Gens}
@@ -45,3 +46,8 @@ with_link false (Some n) = (turned (link_path n) stage (link_apart n).line, (not
 -- the stage is apart from the places of each list
 pub places_apart : (list : List Gen) (system : Name) → AreApartFromStage (places_in list system)
 places_apart list system = (turned profile stage profile_apart.line, with_link (is_highest_of list system) (number_for_in list system))
+
+-- what holds of two lists holds of both together
+pub apart_joined : (places more : List WrittenPlace) → AreApartFromStage places → AreApartFromStage more → AreApartFromStage (places ++ more)
+apart_joined [] more first second = second
+apart_joined (place ∷ places) more first second = (first.0, apart_joined places more first.1 second)

@@ -15,5 +15,5 @@ pub use laws::{
 };
 pub use link_number::{number_of_name, number_of_path};
 pub use listing::{all, target_of};
-pub use places::profile_places;
+pub use places::add_profile_places;
 pub use setting::{SetFault, generation_path, point, profile_path, set, set_number};

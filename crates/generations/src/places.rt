@@ -1,5 +1,5 @@
 //! The places that a set of the profile writes.
-ghost use Rattle.std.specs.Prelude.{◌≡◌, false, IfOk};
+ghost use Rattle.std.specs.Prelude.{◌≡◌, ◌++◌, false, IfOk, OnOk};
 ghost use Rattle.host_trait.specs.World.{Leaves};
 ghost use Rattle.tree_put.specs.WrittenPlace.{AreApartFromStage, written};
 ghost use Rattle.generations.specs.Gens.{IsGensOf};
@@ -33,31 +33,31 @@ fn new_link(alloc: Global, gens: &Gens, system: &SystemName) -> Result<Option<Pa
     Ok(Some(generation_path(alloc, number)?))
 }
 
-/// The profile's link, the new generation's where there is one, and the stage.
-fn places_in(
+/// Adds the profile's link, the new generation's where there is one, and the stage.
+fn add_places(
     alloc: Global,
+    places: &mut Listed<WrittenPlace>,
     gens: &Gens,
     system: &SystemName,
-) -> Result<Listed<WrittenPlace>, AllocError>
-    ensures { IfOk result (λ places. places ≡ places_in gens.now.list system.now) }
+) -> Result<(), AllocError>
+    ensures { OnOk result (places.new ≡ places.old ++ places_in gens.now.list system.now) }
 {
-    let mut places = Listed::new(alloc);
     places.push(unread(profile_path(alloc)?))?;
     if let Some(link) = new_link(alloc, gens, system)? {
         places.push(unread(link))?;
     }
-    places.push(unread(stage_path(alloc)?))?;
-    Ok(places)
+    places.push(unread(stage_path(alloc)?))
 }
 
-/// The places that a set of a system writes, in byte order, given the generations that stand.
-pub fn profile_places(
+/// Adds the places that a set of a system writes, in byte order, given the generations that stand.
+pub fn add_profile_places(
     alloc: Global,
+    places: &mut Listed<WrittenPlace>,
     gens: &Gens,
     system: &SystemName,
-) -> Result<Listed<WrittenPlace>, AllocError>
-    ensures places { IfOk result (λ places. (leaves : Leaves) → IsGensOf leaves gens.now → places ≡ profile_places leaves system.now) }
-    ensures apart { IfOk result (λ places. AreApartFromStage places) }
+) -> Result<(), AllocError>
+    ensures places { OnOk result ((leaves : Leaves) → IsGensOf leaves gens.now → places.new ≡ places.old ++ profile_places leaves system.now) }
+    ensures apart { AreApartFromStage places.old → OnOk result (AreApartFromStage places.new) }
 {
-    places_in(alloc, gens, system)
+    add_places(alloc, places, gens, system)
 }

@@ -1,87 +1,153 @@
--- What a plan says of its command, and what carrying it out leaves, case by case.
-use Rattle.std.proofs.Common.{◌≡◌, ◌≢◌, ◌↔◌, ◌||◌, Bool, IsSome, IsTrue, true, false, Option, None, Some, List, ℕ, ◌∷◌, refl, sym, ap, subst, ◌∙◌, inr, rules, unwrap_or}
-use Rattle.std.proofs.lemmas.Bool.{both_ways}
+-- What carrying a planned command out leaves at each moment and at its end, whichever of its parts it has.
+use Rattle.std.proofs.Common.{◌≡◌, ◌≢◌, ◌↔◌, ◌&&◌, ◌||◌, Bool, IsSome, IsTrue, true, false, cond, Option, None, Some, List, ℕ, ◌∷◌, [], ◌++◌, refl, sym, ap, subst, ◌∙◌, inl, inr, rules, unwrap_or, ⊎_elim}
+use Rattle.std.proofs.lemmas.Bool.{both_ways, cases_Bool, or_right}
+use Rattle.std.proofs.lemmas.List.{append-nil}
 use Rattle.std.proofs.lemmas.Option.{none-some}
-use Rattle.std.specs.Cmp.Lexicographic.{nat_list_eq_equiv}
-use Rattle.generations.specs.Gens.{IsGensOf}
-use Rattle.generations.specs.Places.{IsCurrent, Names, generation_at, link_path, profile, set_end}
-use Rattle.generations.specs.Set.{CanSet, IsSetMoment}
-use Rattle.generations.proofs.ProfileLemmas.{moment_only}
-use Rattle.generations.proofs.ProfilePlaces.{can_of_free}
-use Rattle.generations.proofs.SetLaws.{generation_of}
-use Rattle.host_trait.specs.Change.{definitions_place}
-use Rattle.host_trait.specs.World.{Leaves, WorldState, bytes_cmp, is_path, seen, stage}
+use Rattle.std.specs.Cmp.Lexicographic.{nat_list_eq_equiv, same_text}
 use Rattle.std.specs.FinMap.{empty, get, gets}
-use Rattle.owed_lists.specs.Lists.{reloads_place, restarts_place, starts_place}
-use Rattle.owed_plan.specs.declared.owed.Owed.{Owed}
-use Rattle.switch_engine.specs.declared.command.Command.{Command}
-use Rattle.switch_engine.specs.declared.command.Command.TheVariants.{Test, Boot, DryActivate}
+use Rattle.generations.specs.Gens.{number_for_in}
+use Rattle.generations.specs.Places.{IsCurrent, Names, generation_at, link_path, profile}
+use Rattle.generations.specs.ProfilePart.{profile_part}
+use Rattle.generations.specs.Set.{NamesOldOrNew}
+use Rattle.generations.proofs.NamesLaws.{moment_names}
+use Rattle.generations.proofs.ProfileLemmas.{end_manager, moment_only, profile_at_end, profile_moment}
+use Rattle.generations.proofs.ProfilePlaces.{can_of_free, number_of_free}
+use Rattle.generations.proofs.SetLaws.{generation_of, number_is}
+use Rattle.host_trait.specs.declared.entry.Entry.{Entry}
+use Rattle.host_trait.specs.declared.manager_state.ManagerState.{ManagerState}
 use Rattle.host_trait.specs.declared.unit_state.State.{State}
 use Rattle.host_trait.specs.declared.unit_state.State.TheVariants.{Failed, Inactive}
-use Rattle.host_trait.specs.States.{state_of}
+use Rattle.host_trait.specs.Change.{definitions_place}
+use Rattle.host_trait.specs.States.{UnitStates, state_of}
+use Rattle.host_trait.specs.World.{IsClear, Leaves, WorldState, bytes_cmp, is_in_line, is_path, seen, stage}
+use Rattle.host_trait.proofs.Seen.{seen_at}
+use Rattle.host_trait.proofs.Sound.{not_in_line}
+use Rattle.owed_lists.specs.Lists.{reloads_place, restarts_place, starts_place}
+use Rattle.owed_plan.specs.declared.owed.Owed.{Owed}
+use Rattle.owed_plan.specs.Calls.{calls_of}
+use Rattle.owed_plan.specs.FinalStates.{final_state}
+use Rattle.switch_engine.specs.declared.command.Command.{Command}
 use Rattle.switch_engine.specs.declared.outcome.Outcome.{Outcome}
 use Rattle.switch_engine.specs.declared.plan.Plan.{Plan}
-use Rattle.unit_defs.specs.declared.unit.Unit.{Unit}
 use Rattle.switch_engine.specs.declared.plan.ProfilePlan.{ProfilePlan}
-use Rattle.switch_engine.specs.Commands.{IsQuery, new_system}
-use Rattle.switch_engine.specs.Final.{HasFailed, IsEndOf, IsLeftFailed, LeavesFailed}
-use Rattle.switch_engine.specs.Moments.{IsMomentOf, IsSwitchMoment, IsSwitched, NamesOneOf}
-use Rattle.switch_engine.specs.Places.{switch_places}
-use Rattle.switch_engine.specs.Plan.{ArePlanned, IsMaybeProfilePlan, IsProfilePlanOf}
-use Rattle.switch_engine.specs.Rows.{refusal, row_of, switch_row}
-use Rattle.switch_engine.proofs.UnderwayLemmas.{boot_end, boot_moment, free_row, switch_end, switch_underway}
+use Rattle.switch_engine.specs.Carried.{CanSetBy, CanSwitch, IsSwitchMomentIf, IsSwitchedIf, sets_by}
+use Rattle.switch_engine.specs.Commands.{brought_to, if_so, new_system, row_of, set_to}
+use Rattle.switch_engine.specs.Final.{AreEntries, AreFinalUnits, HasFailed, IsEndOf, IsLeftFailed, LeavesFailed, LeavesFailedAt}
+use Rattle.switch_engine.specs.Moments.{IsMomentOf, IsSetStep, IsStepIf, IsStepTo, IsSwitchMoment, IsSwitchStep, NamesOneOf, set_world}
+use Rattle.switch_engine.specs.Plan.{AreUnitsPlanned, IsPlanOf, IsProfilePlanned}
+use Rattle.switch_engine.specs.Rows.{part_if, part_of, parts, switch_part}
+use Rattle.switch_engine.proofs.DefinedLemmas.{left_failed}
+use Rattle.switch_engine.proofs.PartsLemmas.{are_parted, link_clear, link_free, parts_are, profile_if_is, switch_if_is}
+use Rattle.switch_engine.proofs.PlaceLemmas.{definitions_not_read, near_not_own, stage_definitions}
+use Rattle.switch_engine.proofs.UnderwayLemmas.{IsFreeCommand, free_command, underway}
+use Rattle.switch_engine.proofs.WayLemmas.{switch_places_free}
 use Rattle.switch_names.specs.Names.{Name}
 use Rattle.switch_names.specs.SystemName.{IsSystemPath}
-use Rattle.tree_put.specs.WrittenPlace.{in_the_way}
-use Rattle.unit_stage.specs.Owned.{owns_units}
+use Rattle.switch_names.proofs.StorePaths.{NamesSystem-with_slash}
+use Rattle.switch_engine.specs.Places.{definitions_part, definitions_places}
+use Rattle.switch_parts.specs.Part.{IsFree, IsMomentOf as IsPartMoment, IsSameFor, Part, both, final_leaf}
+use Rattle.switch_parts.proofs.Parts.{first_free, first_moment, is_final, moment_then, only_beside, second_free, second_moment}
+use Rattle.tree_put.proofs.WayLemmas.{clear_first}
+use Rattle.tree_put.specs.WrittenPlace.{in_the_way, written}
+use Rattle.unit_defs.specs.declared.unit.Unit.{Unit}
+use Rattle.unit_stage.specs.declared.unit_plan.UnitPlan.{UnitPlan}
+use Rattle.unit_stage.specs.End.{IsBrought, entries_of, state_after}
+use Rattle.unit_stage.specs.Laws.{AreSameBeside}
+use Rattle.unit_stage.specs.Owned.{owns_units, reads_units, unit_places}
 use Rattle.unit_stage.specs.Plan.{IsOwedBy, IsUnitPlanOf}
-use Rattle.unit_stage.specs.System.{current_place}
+use Rattle.unit_stage.specs.System.{IsSystem, current_place, definitions_of}
+use Rattle.unit_stage.specs.Units.{units_part}
 use Rattle.unit_stage.proofs.EndLemmas.{one_end}
+use Rattle.unit_stage.proofs.MomentLemmas.{free_law, underway_law}
+use Rattle.unit_stage.proofs.OwnedLemmas.{not_reads_stage}
+use Rattle.unit_stage.proofs.StepLemmas.{manager_seen}
+use Rattle.unit_stage.proofs.SystemsLemmas.{is_system}
+use Rattle.unit_stage.proofs.UnitsPartLemmas.{owed_same}
 
-nothing_there : (unit : Name) → get (empty {K = Name} {X = State} {R = bytes_cmp}) unit ≡ None
-nothing_there unit = grind (gets, rules)
+-- ---- a set of the profile
 
-none_there : (unit : Name) → state_of empty unit ≡ Inactive
-none_there unit = ap (λ o. unwrap_or o Inactive) (nothing_there unit)
+module _ (system : Name) (named : IsSystemPath system) (w : WorldState) where
+  set_part_moment : (sets : Bool) → IsFree (part_if sets (profile_part system)) w.leaves → (m : WorldState) → IsSetStep (if_so sets system) w m → IsPartMoment (part_if sets (profile_part system)) w m
+  set_part_moment true free m step = profile_moment system w m (NamesSystem-with_slash system named) free step
+  set_part_moment false free m step = record { keeps = tt; only = record { leaves = λ q none ne. seen_at m w step q ne; manager = λ none. manager_seen m w step } }
 
--- without a state no unit has failed
-pub none_failed : (defs : List Unit) (outcome : Outcome) → outcome ≡ record { states = empty; failed = false } → IsTrue outcome.failed ↔ HasFailed defs outcome.states
-none_failed defs outcome is = (
-  λ failed. absurd (both_ways _ (ap (λ (o : Outcome). o.failed) is) failed),
-  λ has. absurd (not_failed (sym (none_there has.0) ∙ ap (λ (o : Outcome). state_of o.states has.0) (sym is) ∙ has.1)),
-)
-  where
-    not_failed : Inactive ≡ Failed → ⊥
-    not_failed is = cc
+  set_step : (sets : Bool) (u : WorldState) → seen u ≡ set_world (if_so sets system) w → IsSetStep (if_so sets system) w u
+  set_step true u is = inr (inr is)
+  set_step false u is = is
 
--- ---- the profile is set by a boot alone
+  set_final : (sets : Bool) (u : WorldState) → seen u ≡ set_world (if_so sets system) w → (q : Name) → q ≢ stage → get u.leaves q ≡ final_leaf (part_if sets (profile_part system)) w.leaves q
+  set_final true u is q ne = is_final (profile_part system) w u (moment_only system w u (inr (inr is))) (profile_at_end system w u is) q ne
+  set_final false u is q ne = seen_at u w is q ne
 
-module _ (plan : Plan) (w : WorldState) (one : ProfilePlan) (sets : plan.profile ≡ Some one) where
-  pub gens_of : (command : Command) → ArePlanned command w plan → IsGensOf w.leaves one.gens
-  gens_of (Test system) planned = absurd (none-some one (sym planned.1 ∙ sets))
-  gens_of (Boot system) planned = (subst (λ (o : Option ProfilePlan). IsMaybeProfilePlan system w o) sets planned.1).gens
-  gens_of (DryActivate system) planned = absurd (none-some one (sym planned.1 ∙ sets))
+  set_calls : (sets : Bool) (u : WorldState) → seen u ≡ set_world (if_so sets system) w → u.manager ≡ w.manager
+  set_calls true u is = end_manager system w u is
+  set_calls false u is = manager_seen u w is
 
-  pub set_can : (command : Command) → ArePlanned command w plan → refusal command w.leaves ≡ None → CanSet (new_system command w.leaves) w
-  set_can (Test system) planned free = absurd (none-some one (sym planned.1 ∙ sets))
-  set_can (Boot system) planned free =
-      let row = free_row (row_of (Boot system) w.leaves) w.leaves free in can_of_free system w (record { way = row.way; refusal = row.part })
-  set_can (DryActivate system) planned free = absurd (none-some one (sym planned.1 ∙ sets))
+-- ---- a switch of the units
 
-  pub set_ends : (command : Command) → ArePlanned command w plan → (v : WorldState) → seen v ≡ set_end (new_system command w.leaves) w → IsEndOf command w v
-  set_ends (Test system) planned v is = absurd (none-some one (sym planned.1 ∙ sets))
-  set_ends (Boot system) planned v is = boot_end system w v is (moment_only system w v (inr (inr is)))
-  set_ends (DryActivate system) planned v is = absurd (none-some one (sym planned.1 ∙ sets))
+module _ (system : Name) (named : IsSystemPath system) (owed : Owed) (w m : WorldState) (is_owed : IsOwedBy w system owed)
+    (free : IsFree (switch_part system) w.leaves) (moment : IsSwitchMoment system owed w m) where
+  other_than_definitions : (q : Name) → reads_units q ≡ true → is_path q definitions_place ≡ false
+  other_than_definitions q read = elim (cases_Bool (is_path q definitions_place)) [
+    | inl same ↦ absurd (both_ways _ definitions_not_read (subst (λ x. reads_units x ≡ true) (same_text q definitions_place (sym same)) read))
+    | inr other ↦ other
+  ]
 
-  pub set_moments : (command : Command) → ArePlanned command w plan → IsSystemPath (new_system command w.leaves) → refusal command w.leaves ≡ None → (m : WorldState) → IsSetMoment (new_system command w.leaves) w m → IsMomentOf command w m
-  set_moments (Test system) planned named free m moment = absurd (none-some one (sym planned.1 ∙ sets))
-  set_moments (Boot system) planned named free m moment = boot_moment system named w m free moment
-  set_moments (DryActivate system) planned named free m moment = absurd (none-some one (sym planned.1 ∙ sets))
+  beside : AreSameBeside w m
+  beside q read none =
+      moment.only.leaves q (λ i. (other_than_definitions q read i || false) || none i)
+      (λ same. both_ways _ not_reads_stage (subst (λ x. reads_units x ≡ true) same read))
 
-  pub set_leaves_none_failed : (command : Command) → ArePlanned command w plan → LeavesFailed command w → IsTrue false
-  set_leaves_none_failed (Test system) planned left = absurd (none-some one (sym planned.1 ∙ sets))
-  set_leaves_none_failed (Boot system) planned left = absurd left
-  set_leaves_none_failed (DryActivate system) planned left = absurd left
+  -- what lies above or below the link to the definitions is as it was
+  definitions_clear : IsClear w.leaves definitions_place → IsClear m.leaves definitions_place
+  definitions_clear clear q line =
+      moment.only.leaves q (λ i. (not_there i || false) || near_not_own q line i)
+      (λ same. both_ways _ stage_definitions (subst (λ x. is_in_line x definitions_place ≡ true) same line))
+      ∙ clear q line
+    where
+      not_there : is_path q definitions_place ≡ false
+      not_there = elim (cases_Bool (is_path q definitions_place)) [
+        | inl same ↦ absurd (both_ways _ (not_in_line definitions_place) (subst (λ x. is_in_line x definitions_place ≡ true) (same_text q definitions_place (sym same)) line))
+        | inr other ↦ other
+      ]
+
+  switch_part_moment : IsPartMoment (switch_part system) w m
+  switch_part_moment =
+      let system_is = is_system system named in
+      let units = second_free (definitions_part system) (units_part system) w.leaves free in
+      let still = free_law system owed w m system_is is_owed moment.units beside (record { way = units.way; refusal = units.refusal }) in
+      record {
+        keeps = (
+          record {
+            ends = λ q own. refl;
+            free = λ way refusal. (link_free m.leaves (record {
+              link = definitions_clear (link_clear w.leaves way).link;
+              staged = (clear_first m.leaves (written false stage) (written false current_place ∷ written true reloads_place ∷ written true restarts_place ∷ written true starts_place ∷ []) still.way).0;
+            }), refl);
+          },
+          record {
+            free = λ before. free_law system owed w m system_is is_owed moment.units beside before;
+            underway = λ before steady. underway_law system owed w m system_is is_owed before steady moment.units beside;
+          },
+        );
+        only = moment.only;
+      }
+
+switch_if_moment : (switches : Bool) (system : Name) → IsSystemPath system → (owed : Owed) (u m : WorldState) → (switches ≡ true → IsOwedBy u system owed) → IsFree (part_if switches (switch_part system)) u.leaves →
+    IsSwitchMomentIf switches system owed u m → IsPartMoment (part_if switches (switch_part system)) u m
+switch_if_moment true system named owed u m is_owed free moment = switch_part_moment system named owed u m (is_owed refl) free moment
+switch_if_moment false system named owed u m is_owed free same = record {
+  keeps = tt;
+  only = record { leaves = λ q none ne. ap (λ (x : WorldState). get x.leaves q) same; manager = λ none. ap (λ (x : WorldState). x.manager) same };
+}
+
+switch_step : (switches : Bool) (system : Name) (owed : Owed) (u m : WorldState) → (switches ≡ true → IsOwedBy u system owed) → IsSwitchMomentIf switches system owed u m → IsSwitchStep (if_so switches system) u m
+switch_step true system owed u m is_owed moment = (owed, is_owed refl, moment)
+switch_step false system owed u m is_owed same = ap seen same
+
+switch_final : (switches : Bool) (system : Name) (owed : Owed) (u v : WorldState) → IsSwitchedIf switches system owed u v → (q : Name) → q ≢ stage → get v.leaves q ≡ final_leaf (part_if switches (switch_part system)) u.leaves q
+switch_final true system owed u v is q ne = is.leaves q ne
+switch_final false system owed u v is q ne = ap (λ (x : WorldState). get x.leaves q) is
 
 -- ---- the profile names the same while it isn't written
 
@@ -117,73 +183,274 @@ names_as m w same links other names = record {
   named = generation_of m w names.number (links names.number) ∙ names.named;
 }
 
-module _ (system : Name) (owed : Owed) (w m : WorldState) (moment : IsSwitchMoment system owed w m) where
-  same_profile : get m.leaves profile ≡ get w.leaves profile
-  same_profile = moment.only.leaves profile profile_not_own profile_not_stage
+abbrev SameNames : WorldState → WorldState → Type 0
+SameNames w m = (other : List ℕ) → Names m.leaves other ↔ Names w.leaves other
 
-  same_link : (n : ℕ) → get m.leaves (link_path n) ≡ get w.leaves (link_path n)
-  same_link n = moment.only.leaves (link_path n) (link_not_own n) (link_not_stage n)
+names_by : (w m : WorldState) → get m.leaves profile ≡ get w.leaves profile → ((n : ℕ) → get m.leaves (link_path n) ≡ get w.leaves (link_path n)) → SameNames w m
+names_by w m same links other = (
+  names_as w.leaves m.leaves (sym same) (λ n. sym (links n)) other,
+  names_as m.leaves w.leaves same links other,
+)
 
-  pub switch_names : (other : List ℕ) → Names m.leaves other ↔ Names w.leaves other
-  switch_names other = (
-    names_as w.leaves m.leaves (sym same_profile) (λ n. sym (same_link n)) other,
-    names_as m.leaves w.leaves same_profile same_link other,
-  )
+seen_names : (w m : WorldState) → seen m ≡ seen w → SameNames w m
+seen_names w m same = names_by w m (seen_at m w same profile profile_not_stage) (λ n. seen_at m w same (link_path n) (link_not_stage n))
 
--- ---- the units are switched where the profile isn't set
+switch_names : (switches : Bool) (system : Name) (owed : Owed) (u m : WorldState) → IsSwitchMomentIf switches system owed u m → SameNames u m
+switch_names true system owed u m moment = names_by u m (moment.only.leaves profile profile_not_own profile_not_stage) (λ n. moment.only.leaves (link_path n) (link_not_own n) (link_not_stage n))
+switch_names false system owed u m same = names_by u m (ap (λ (x : WorldState). get x.leaves profile) same) (λ n. ap (λ (x : WorldState). get x.leaves (link_path n)) same)
 
-is_owed_by : (system : Name) (w : WorldState) (plan : Plan) → IsUnitPlanOf system w plan.units → IsOwedBy w system plan.units.owed
-is_owed_by system w plan planned = (planned.lists, record { listed = planned.planned.listed; is_owed = planned.planned.planned.is_owed })
+set_names : (sets : Bool) (system : Name) → IsSystemPath system → (w m : WorldState) → IsFree (part_if sets (profile_part system)) w.leaves → IsSetStep (if_so sets system) w m → NamesOneOf (if_so sets system) w m
+set_names true system named w m free step = moment_names system w m (number_is w.leaves system (number_of_free system w.leaves free)) (NamesSystem-with_slash system named) step
+set_names false system named w m free step = seen_names w m step
 
-module _ (plan : Plan) (w : WorldState) (none : plan.profile ≡ None) where
-  pub units_planned : (command : Command) → ArePlanned command w plan → IsUnitPlanOf (new_system command w.leaves) w plan.units
-  units_planned (Test system) planned = planned.0
-  units_planned (Boot system) planned = absurd (subst (λ (o : Option ProfilePlan). IsMaybeProfilePlan system w o) none planned.1)
-  units_planned (DryActivate system) planned = planned.0
+-- what is named at a moment is named at each at which the profile is the same
+names_then : (to : Option Name) (w u m : WorldState) → NamesOneOf to w u → SameNames u m → NamesOneOf to w m
+names_then None w u m before same = λ other. (λ is. (before other).0 ((same other).0 is), λ is. (same other).1 ((before other).1 is))
+names_then (Some system) w u m before same = ⊎_elim
+    (λ (old : SameNames w u). inl (λ other. (λ is. (old other).0 ((same other).0 is), λ is. (same other).1 ((old other).1 is))))
+    (λ now. inr ((same system).1 now))
+    before
 
-  pub way_free : (command : Command) → ArePlanned command w plan → refusal command w.leaves ≡ None → in_the_way switch_places w.leaves ≡ None
-  way_free (Test system) planned free = (free_row (row_of (Test system) w.leaves) w.leaves free).way
-  way_free (Boot system) planned free = absurd (subst (λ (o : Option ProfilePlan). IsMaybeProfilePlan system w o) none planned.1)
-  way_free (DryActivate system) planned free = (free_row (row_of (DryActivate system) w.leaves) w.leaves free).way
+-- ---- the end of one part after the end of another
 
-  module _ (command : Command) (planned : ArePlanned command w plan) (changes : IsQuery command → ⊥) where
-    pub switch_ends : (v : WorldState) → IsSwitched (new_system command w.leaves) plan.units.owed w v → IsEndOf command w v
-    switch_ends v is = by command planned changes is
+final_then : (p q : Part) (w u v : WorldState) → ((at : Name) → at ≢ stage → get v.leaves at ≡ final_leaf p u.leaves at) → ((at : Name) → at ≢ stage → get u.leaves at ≡ final_leaf q w.leaves at) →
+    ((at : Name) → p.owns at ≡ true → p.end u.leaves at ≡ p.end w.leaves at) → (at : Name) → at ≢ stage → get v.leaves at ≡ final_leaf (both p q) w.leaves at
+final_then p q w u v last first ends at ne = elim (cases_Bool (p.owns at)) [
+  | inl own ↦
+      last at ne ∙ ap (λ b. cond b (p.end u.leaves at) (get u.leaves at)) own ∙ ends at own
+      ∙ sym (ap (λ b. cond (b || q.owns at) (cond b (p.end w.leaves at) (q.end w.leaves at)) (get w.leaves at)) own)
+  | inr none ↦
+      last at ne ∙ ap (λ b. cond b (p.end u.leaves at) (get u.leaves at)) none ∙ first at ne
+      ∙ sym (ap (λ b. cond (b || q.owns at) (cond b (p.end w.leaves at) (q.end w.leaves at)) (get w.leaves at)) none)
+]
+
+-- ---- the units at the end
+
+-- what is brought is the same where the manager began the same
+brought_from : (system : Name) (owed : Owed) (w u v : WorldState) → u.manager ≡ w.manager → IsBrought system owed u v → IsBrought system owed w v
+brought_from system owed w u v same is = record {
+  states = λ unit. is.states unit ∙ ap (λ (k : ManagerState). final_state owed (definitions_of system) k.bad (state_of k.states) unit) same;
+  loaded = is.loaded;
+  bad = is.bad ∙ ap (λ (k : ManagerState). k.bad) same;
+  journal = is.journal ∙ (λ i. (same i).journal ++ entries_of system owed (record { leaves = w.leaves; manager = same i }));
+}
+
+-- the units where they were switched, or not
+record IsUnitsEnd (to : Option Name) (w v : WorldState) : Type 0 where
+  units : AreFinalUnits to w v
+  bad : v.manager.bad ≡ w.manager.bad
+  entries : List Entry
+  are_entered : AreEntries to w entries
+  journal : v.manager.journal ≡ w.manager.journal ++ entries
+
+units_end : (switches : Bool) (system : Name) (owed : Owed) (w u v : WorldState) → (switches ≡ true → IsOwedBy w system owed) → u.manager ≡ w.manager → IsSwitchedIf switches system owed u v →
+    IsUnitsEnd (if_so switches system) w v
+units_end true system owed w u v is_owed same is =
+    let brought = brought_from system owed w u v same is.units in
+    record {
+      units = ((owed, is_owed refl, brought.states), brought.loaded);
+      bad = brought.bad;
+      entries = entries_of system owed w;
+      are_entered = (owed, is_owed refl, refl);
+      journal = brought.journal;
+    }
+units_end false system owed w u v is_owed same is =
+    let manager : v.manager ≡ w.manager = ap (λ (x : WorldState). x.manager) is ∙ same in
+    record {
+      units = (ap (λ (k : ManagerState). k.states) manager, ap (λ (k : ManagerState). k.loaded) manager);
+      bad = ap (λ (k : ManagerState). k.bad) manager;
+      entries = [];
+      are_entered = refl;
+      journal = ap (λ (k : ManagerState). k.journal) manager ∙ sym (append-nil w.manager.journal);
+    }
+
+-- ---- a command
+
+-- what is known of a command that is carried out, at its beginning
+pub record IsCarriedFrom (command : Command) (owed : Owed) (w : WorldState) : Type 0 where
+  pub on : (row_of command).changes ≡ true
+  pub same : (leaves : Leaves) → new_system command leaves ≡ new_system command w.leaves
+  pub named : IsSystemPath (new_system command w.leaves)
+  pub free : IsFreeCommand command w.leaves
+  pub is_owed : (row_of command).switches ≡ true → IsOwedBy w (new_system command w.leaves) owed
+
+-- ---- what a plan says
+
+-- the system of a command is the same in each world
+pub same_system : (command : Command) (one other : Leaves) → new_system command one ≡ new_system command other
+same_system (Command.Switch system) one other = refl
+same_system (Command.Test system) one other = refl
+same_system (Command.Boot system) one other = refl
+same_system (Command.DryActivate system) one other = refl
+
+-- whether a command changes something
+pub changes_on : (command : Command) → ((row_of command).changes ≡ false → ⊥) → (row_of command).changes ≡ true
+changes_on command changes = elim (cases_Bool (row_of command).changes) [ inl on ↦ on | inr off ↦ absurd (changes off) ]
+
+owed_planned : (switches : Bool) (system : Name) (w : WorldState) (plan : UnitPlan) → AreUnitsPlanned switches system w plan → switches ≡ true → IsOwedBy w system plan.owed
+owed_planned true system w plan planned same = (planned.lists, record { listed = planned.planned.listed; is_owed = planned.planned.planned.is_owed })
+owed_planned false system w plan planned same = absurd (both_ways _ refl same)
+
+module _ (plan : Plan) (w : WorldState) (is : IsPlanOf w plan) (changes : (row_of plan.command).changes ≡ false → ⊥) where
+  pub carried_from : IsCarriedFrom plan.command plan.units.owed w
+  carried_from = record {
+    on = changes_on plan.command changes;
+    same = λ leaves. same_system plan.command leaves w.leaves;
+    named = is.named;
+    free = free_command plan.command w.leaves is.not_refused;
+    is_owed = owed_planned (row_of plan.command).switches (new_system plan.command w.leaves) w plan.units is.planned.units;
+  }
+
+-- the profile is set to the system where that is planned
+pub sets_same : (sets : Bool) (system : Name) (w : WorldState) (o : Option ProfilePlan) → IsProfilePlanned sets system w o → sets_by system o ≡ if_so sets system
+sets_same sets system w None planned = sym (ap (λ b. if_so b system) planned)
+sets_same sets system w (Some plan) planned = sym (ap (λ b. if_so b system) planned.0)
+
+pub can_set : (sets : Bool) (system : Name) (w : WorldState) (o : Option ProfilePlan) → IsProfilePlanned sets system w o → IsFree (part_if sets (profile_part system)) w.leaves → CanSetBy system o w
+can_set sets system w None planned free = tt
+can_set sets system w (Some plan) planned free = record {
+  gens = planned.1.gens;
+  can = can_of_free system w (subst (λ b. IsFree (part_if b (profile_part system)) w.leaves) planned.0 free);
+}
+
+-- the calls of a plan can be made where the profile has been set
+pub can_switch : (switches : Bool) (system : Name) (w u : WorldState) (plan : UnitPlan) → AreUnitsPlanned switches system w plan → u.manager ≡ w.manager → IsFree (part_if switches (switch_part system)) u.leaves → switches ≡ true → CanSwitch plan u
+can_switch true system w u plan planned same free on = record {
+  recorded = planned.recorded;
+  duties = planned.duties ∙ ap (λ (k : ManagerState). calls_of plan.owed (state_of k.states)) (sym same);
+  way = switch_places_free system u.leaves free.way;
+}
+can_switch false system w u plan planned same free on = absurd (both_ways _ refl on)
+
+-- ---- which units have failed
+
+nothing_there : (unit : Name) → get (empty {K = Name} {X = State} {R = bytes_cmp}) unit ≡ None
+nothing_there unit = grind (gets, rules)
+
+none_there : (unit : Name) → state_of empty unit ≡ Inactive
+none_there unit = ap (λ o. unwrap_or o Inactive) (nothing_there unit)
+
+-- without a state no unit has failed
+pub none_failed : (defs : List Unit) (outcome : Outcome) → outcome ≡ record { states = empty; failed = false } → IsTrue outcome.failed ↔ HasFailed defs outcome.states
+none_failed defs outcome is = (
+  λ failed. absurd (both_ways _ (ap (λ (o : Outcome). o.failed) is) failed),
+  λ has. absurd (not_failed (sym (none_there has.0) ∙ ap (λ (o : Outcome). state_of o.states has.0) (sym is) ∙ has.1)),
+)
+  where
+    not_failed : Inactive ≡ Failed → ⊥
+    not_failed is = cc
+
+-- what the outcome says is what the world leaves
+pub verdict : (switches : Bool) (system : Name) (plan : UnitPlan) (w u v : WorldState) (outcome : Outcome) → AreUnitsPlanned switches system w plan → u.manager ≡ w.manager → IsSwitchedIf switches system plan.owed u v →
+    (switches ≡ true → outcome.states ≡ v.manager.states) → IsTrue outcome.failed ↔ HasFailed plan.defs outcome.states → (switches ≡ false → outcome ≡ record { states = empty; failed = false }) →
+    IsTrue outcome.failed ↔ LeavesFailedAt (if_so switches system) w
+verdict true system plan w u v outcome planned same end states failed none =
+    let is_owed = owed_planned true system w plan planned refl in
+    let says = left_failed system plan.owed w v plan.defs outcome.states planned.defs (states refl) (brought_from system plan.owed w u v same end.units) in (
+      λ is. (plan.owed, is_owed, says.0 (failed.0 is)),
+      λ left. failed.1 (says.1 (
+        left.2.0,
+        record {
+          failed = sym (one_end system is_owed.0 plan.owed w is_owed.1 left.0 left.1 left.2.0) ∙ left.2.1.failed;
+          defined = left.2.1.defined;
+        },
+      )),
+    )
+verdict false system plan w u v outcome planned same end states failed none = (λ is. absurd (both_ways _ (ap (λ (o : Outcome). o.failed) (none refl)) is), λ left. absurd left)
+
+-- ---- the moments and the end of a command
+
+module _ (command : Command) (owed : Owed) (w : WorldState) (carried : IsCarriedFrom command owed w) where
+  abbrev switches : Bool
+  switches = (row_of command).switches
+
+  abbrev sets : Bool
+  sets = (row_of command).sets
+
+  abbrev system : Name
+  system = new_system command w.leaves
+
+  abbrev first : Part
+  first = part_if switches (switch_part system)
+
+  abbrev second : Part
+  second = part_if sets (profile_part system)
+
+  system_is : IsSystem system
+  system_is = is_system system carried.named
+
+  pub set_free : IsFree second w.leaves
+  set_free = second_free first second w.leaves carried.free.parts
+
+  set_of_parts : (m : WorldState) → IsSetStep (if_so sets system) w m → IsPartMoment (both first second) w m
+  set_of_parts m step =
+      second_moment first second (switch_if_is switches system system_is) (profile_if_is sets system) (are_parted switches sets system) w m
+      (set_part_moment system carried.named w sets set_free m step)
+
+  -- each moment of a set of the profile is one of the command
+  pub set_moment : (m : WorldState) → IsSetStep (if_so sets system) w m → IsMomentOf command w m
+  set_moment m step = record {
+    step = subst (λ b. IsStepIf b (if_so (b && sets) system) (if_so (b && switches) system) w m) (sym carried.on) (IsStepTo.Setting step);
+    underway = underway command w m carried.on (carried.same m.leaves) carried.named carried.free (set_of_parts m step);
+    named = subst (λ b. NamesOneOf (if_so (b && sets) system) w m) (sym carried.on) (set_names sets system carried.named w m set_free step);
+  }
+
+  module _ (u : WorldState) (is : seen u ≡ set_world (if_so sets system) w) where
+    at_set : IsPartMoment (both first second) w u
+    at_set = set_of_parts u (set_step system carried.named w sets u is)
+
+    pub switch_free : IsFree first u.leaves
+    switch_free = first_free first second u.leaves ((parts_are switches sets system system_is).stays_free w u at_set.keeps carried.free.parts)
+
+    pub same_manager : u.manager ≡ w.manager
+    same_manager = set_calls system carried.named w sets u is
+
+    -- the units' part sees the same as before
+    owed_still : switches ≡ true → IsOwedBy u system owed
+    owed_still switched = by switches switched (are_parted switches sets system).second (carried.is_owed switched)
       where
-        by : (command : Command) → ArePlanned command w plan → (IsQuery command → ⊥) → IsSwitched (new_system command w.leaves) plan.units.owed w v → IsEndOf command w v
-        by (Test system) planned changes is = switch_end system plan.units.owed w v (is_owed_by system w plan planned.0) is
-        by (Boot system) planned changes is = absurd (subst (λ (o : Option ProfilePlan). IsMaybeProfilePlan system w o) none planned.1)
-        by (DryActivate system) planned changes is = absurd (changes tt)
+        unchanged : (at : Name) → (second.owns at ≡ true → ⊥) → at ≢ stage → get u.leaves at ≡ get w.leaves at
+        unchanged at none ne = elim (cases_Bool (second.owns at)) [
+          | inl own ↦ absurd (none own)
+          | inr other ↦ (set_part_moment system carried.named w sets set_free u (set_step system carried.named w sets u is)).only.leaves at other ne
+        ]
 
-    pub switch_moments : IsSystemPath (new_system command w.leaves) → refusal command w.leaves ≡ None → (m : WorldState) → IsSwitchMoment (new_system command w.leaves) plan.units.owed w m → IsMomentOf command w m
-    switch_moments named free m moment = by command planned changes named free moment
-      where
-        by : (command : Command) → ArePlanned command w plan → (IsQuery command → ⊥) → IsSystemPath (new_system command w.leaves) → refusal command w.leaves ≡ None →
-            IsSwitchMoment (new_system command w.leaves) plan.units.owed w m → IsMomentOf command w m
-        by (Test system) planned changes named free moment =
-            let is_owed = is_owed_by system w plan planned.0 in
-            record {
-              step = inr (plan.units.owed, is_owed, moment);
-              underway = switch_underway system named plan.units.owed w m is_owed free moment;
-              named = switch_names system plan.units.owed w m moment;
-            }
-        by (Boot system) planned changes named free moment = absurd (subst (λ (o : Option ProfilePlan). IsMaybeProfilePlan system w o) none planned.1)
-        by (DryActivate system) planned changes named free moment = absurd (changes tt)
+        by : (b : Bool) → b ≡ true → ((at : Name) → second.owns at ≡ true → (part_if b (switch_part system)).reads at ≡ false) → IsOwedBy w system owed → IsOwedBy u system owed
+        by true same_b apart is_owed = owed_same system w u system_is (record {
+          leaves = λ at read. unchanged at (λ own. both_ways _ (apart at own) (or_right _ _ read)) (λ same. both_ways _ not_reads_stage (subst (λ x. reads_units x ≡ true) same read));
+          manager = λ call. same_manager;
+        }) owed is_owed
+        by false same_b apart is_owed = absurd (both_ways _ refl same_b)
 
-    pub switch_verdict : (failed : Bool) → IsTrue failed ↔ ((unit : Name) × IsLeftFailed (new_system command w.leaves) plan.units.owed w unit) → IsTrue failed ↔ LeavesFailed command w
-    switch_verdict failed says = by command planned changes says
-      where
-        by : (command : Command) → ArePlanned command w plan → (IsQuery command → ⊥) → IsTrue failed ↔ ((unit : Name) × IsLeftFailed (new_system command w.leaves) plan.units.owed w unit) → IsTrue failed ↔ LeavesFailed command w
-        by (Test system) planned changes says =
-            let is_owed = is_owed_by system w plan planned.0 in (
-              λ is. (plan.units.owed, is_owed, says.0 is),
-              λ left. says.1 (
-                left.2.0,
-                record {
-                  failed = sym (one_end system is_owed.0 plan.units.owed w is_owed.1 left.0 left.1 left.2.0) ∙ left.2.1.failed;
-                  defined = left.2.1.defined;
-                },
-              ),
-            )
-        by (Boot system) planned changes says = absurd (subst (λ (o : Option ProfilePlan). IsMaybeProfilePlan system w o) none planned.1)
-        by (DryActivate system) planned changes says = absurd (changes tt)
+    -- each moment of a switch of the units is one of the command
+    pub switch_moment : (m : WorldState) → IsSwitchMomentIf switches system owed u m → IsMomentOf command w m
+    switch_moment m moment =
+        let later = first_moment first second (switch_if_is switches system system_is) (profile_if_is sets system) (are_parted switches sets system) u m
+        (switch_if_moment switches system carried.named owed u m owed_still switch_free moment) in
+        record {
+          step = subst (λ b. IsStepIf b (if_so (b && sets) system) (if_so (b && switches) system) w m) (sym carried.on)
+              (IsStepTo.Switching u is (switch_step switches system owed u m owed_still moment));
+          underway = underway command w m carried.on (carried.same m.leaves) carried.named carried.free (moment_then (both first second) (parts_are switches sets system system_is) w u m at_set later);
+          named = names_then (set_to command w.leaves) w u m
+              (subst (λ b. NamesOneOf (if_so (b && sets) system) w u) (sym carried.on) (set_names sets system carried.named w u set_free (set_step system carried.named w sets u is)))
+              (switch_names switches system owed u m moment);
+        }
+
+    -- the world that both leave is the one at the end of the command
+    pub ends : (v : WorldState) → IsSwitchedIf switches system owed u v → IsEndOf command w v
+    ends v end =
+        let units = units_end switches system owed w u v carried.is_owed same_manager end in
+        let brought : if_so switches system ≡ brought_to command w.leaves = sym (ap (λ b. if_so (b && switches) system) carried.on) in
+        record {
+          final = record {
+            leaves = λ q ne.
+                final_then first second w u v (switch_final switches system owed u v end) (set_final system carried.named w sets u is)
+                (λ at own. (switch_if_is switches system system_is).same_end w u at_set.keeps.0 at own) q ne
+                ∙ sym (ap (λ b. cond b (final_leaf (part_of command w.leaves) w.leaves q) (get w.leaves q)) carried.on);
+            units = subst (λ to. AreFinalUnits to w v) brought units.units;
+            bad = units.bad;
+          };
+          entries = units.entries;
+          are_entered = subst (λ to. AreEntries to w units.entries) brought units.are_entered;
+          journal = units.journal;
+        }

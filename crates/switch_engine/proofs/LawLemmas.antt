@@ -1,5 +1,5 @@
 -- Runs of a command: where one begins, how one goes on from another, and how the last one ends.
-use Rattle.std.proofs.Common.{◌≡◌, ◌++◌, List, [], ◌∷◌, Option, None, Some, append_assoc, refl, sym, ap, subst, ◌∙◌, inl, inr, ⊎_elim}
+use Rattle.std.proofs.Common.{◌≡◌, ◌&&◌, ◌++◌, Bool, true, false, List, [], ◌∷◌, Option, None, Some, append_assoc, refl, sym, ap, subst, ◌∙◌, inl, inr, ⊎_elim}
 use Rattle.std.specs.List.{AllByRecursion}
 use Rattle.std.proofs.lemmas.Bool.{or_left, or_right}
 use Rattle.std.proofs.lemmas.List.{append-nil}
@@ -9,15 +9,15 @@ use Rattle.host_trait.specs.declared.entry.Entry.{Entry}
 use Rattle.host_trait.specs.States.{UnitStates, state_of}
 use Rattle.host_trait.specs.World.{Leaves, WorldState}
 use Rattle.switch_engine.specs.declared.command.Command.{Command}
-use Rattle.switch_engine.specs.declared.command.Command.TheVariants.{Test, Boot, DryActivate}
-use Rattle.switch_engine.specs.Commands.{IsQuery}
-use Rattle.switch_engine.specs.Final.{IsEndOf}
-use Rattle.switch_engine.specs.Moments.{IsMomentOf, IsStepOf, LeadsBy, NamesOneOf}
-use Rattle.switch_engine.specs.Owing.{HasEntered, IsOver, IsPaidBy, IsSteadyFor, IsUnderway, OwesUnit}
-use Rattle.switch_engine.specs.Rows.{refusal, switched_to}
+use Rattle.switch_engine.specs.Commands.{IsQuery, brought_to, if_so, new_system, row_of, set_to, switched_to}
+use Rattle.switch_engine.specs.Final.{AreEntries, AreFinalUnits, IsEndOf}
+use Rattle.switch_engine.specs.Moments.{IsMomentOf, IsSetStep, IsStepIf, IsStepOf, IsStepTo, LeadsBy, NamesOneOf}
+use Rattle.switch_engine.specs.Owing.{HasEntered, IsOver, IsPaidBy, IsSteadyFor, IsUnderway, OwesActTo, OwesUnit}
+use Rattle.switch_engine.specs.Rows.{refusal}
 use Rattle.switch_names.specs.Names.{Name}
 use Rattle.unit_stage.specs.Owes as units
 use Rattle.unit_stage.specs.Owes.{pays}
+use Rattle.switch_engine.proofs.CarryLemmas.{changes_on, same_system}
 use Rattle.switch_engine.proofs.PaidLemmas.{all_joined, entered_owed, entered_paid, left_alone}
 
 -- ---- where a run begins
@@ -41,26 +41,29 @@ begins_underway w command none steady = record {
 }
 
 begins_step : (command : Command) (w : WorldState) → IsStepOf command w w
-begins_step (Test system) w = inl refl
-begins_step (Boot system) w = inl refl
-begins_step (DryActivate system) w = refl
+begins_step command w = by (row_of command).changes
+  where
+    set_begins : (to : Option Name) → IsSetStep to w w
+    set_begins None = refl
+    set_begins (Some system) = inl refl
 
-begins_named : (command : Command) (w : WorldState) → NamesOneOf command w w
-begins_named (Test system) w = λ other. (λ is. is, λ is. is)
-begins_named (Boot system) w = inl (λ other. (λ is. is, λ is. is))
-begins_named (DryActivate system) w = λ other. (λ is. is, λ is. is)
+    by : (changes : Bool) → IsStepIf changes (set_to command w.leaves) (brought_to command w.leaves) w w
+    by true = IsStepTo.Setting (set_begins (set_to command w.leaves))
+    by false = refl
+
+begins_named : (to : Option Name) (w : WorldState) → NamesOneOf to w w
+begins_named None w = λ other. (λ is. is, λ is. is)
+begins_named (Some system) w = inl (λ other. (λ is. is, λ is. is))
 
 -- the world at the beginning of a command that isn't refused is a moment of it
 pub begins_moment : (command : Command) (w : WorldState) → refusal command w.leaves ≡ None → IsMomentOf command w w
-begins_moment command w none = record { step = begins_step command w; underway = λ steady. begins_underway w command none steady; named = begins_named command w }
+begins_moment command w none = record { step = begins_step command w; underway = λ steady. begins_underway w command none steady; named = begins_named (set_to command w.leaves) w }
 
 -- ---- from one run to the next
 
 -- the system to which a command switches the units is the same in each world
 same_switched : (command : Command) (one other : Leaves) → switched_to command one ≡ switched_to command other
-same_switched (Test system) one other = refl
-same_switched (Boot system) one other = refl
-same_switched (DryActivate system) one other = refl
+same_switched command one other = ap (if_so (row_of command).switches) (same_system command one other)
 
 -- what some entries pay, more entries pay
 paid_before : (to : Option Name) (act : Act) (unit : Name) (xs ys : List Entry) → IsPaidBy to act unit xs → IsPaidBy to act unit (xs ++ ys)
@@ -116,33 +119,37 @@ module _ (command : Command) (first w : WorldState) (before : IsUnderway first c
 
 -- ---- the end of a run
 
--- a run that has come to its end is over
-pub ended_over : (command : Command) (w v : WorldState) → (IsQuery command → ⊥) → IsEndOf command w v → IsOver w command v
-ended_over (Test system) w v changes end =
-    let owed = end.are_entered.0 in
-    let is = end.are_entered.1 in
-    let states = end.final.units.0 in
+-- what a switch of the units to a system enters, or none, is about what it owes, and pays it
+record HasPaid (to : Option Name) (w v : WorldState) (entries : List Entry) : Type 0 where
+  owed_alone : AllByRecursion (λ entry. (act : Act) × OwesActTo to w act entry.unit) entries
+  others : (unit : Name) → ¬ ((act : Act) × OwesActTo to w act unit) → state_of v.manager.states unit ≡ state_of w.manager.states unit
+  paid : (act : Act) (unit : Name) → OwesActTo to w act unit → IsPaidBy to act unit entries
+
+has_paid : (switches : Bool) (system : Name) (w v : WorldState) (entries : List Entry) → AreFinalUnits (if_so switches system) w v → AreEntries (if_so switches system) w entries → HasPaid (if_so switches system) w v entries
+has_paid true system w v entries final are =
+    let states = final.0 in
     record {
-      final = end.final;
-      since = record {
-        entered = end.entries;
-        journal = end.journal;
-        owed_alone = subst (λ (entries : List Entry). AllByRecursion (λ entry. units.OwesUnit w system entry.unit) entries) (sym end.are_entered.2) (entered_owed w system owed is);
-        others = λ unit other. states.2 unit ∙ left_alone w system states.0 states.1 unit other;
-      };
-      paid = λ act unit owes. subst (λ (entries : List Entry). units.IsPaid system act unit entries) (sym end.are_entered.2) (entered_paid w system owed is act unit owes);
+      owed_alone = subst (λ (entries : List Entry). AllByRecursion (λ entry. units.OwesUnit w system entry.unit) entries) (sym are.2) (entered_owed w system are.0 are.1);
+      others = λ unit other. states.2 unit ∙ left_alone w system states.0 states.1 unit other;
+      paid = λ act unit owes. subst (λ (entries : List Entry). units.IsPaid system act unit entries) (sym are.2) (entered_paid w system are.0 are.1 act unit owes);
     }
-ended_over (Boot system) w v changes end = record {
-  final = end.final;
-  since = record {
-    entered = end.entries;
-    journal = end.journal;
-    owed_alone = subst (λ (entries : List Entry). AllByRecursion (λ entry. OwesUnit (Boot system) w entry.unit) entries) (sym end.are_entered) tt;
-    others = λ unit other. ap (λ (states : UnitStates). state_of states unit) end.final.units.0;
-  };
+has_paid false system w v entries final are = record {
+  owed_alone = subst (λ (entries : List Entry). AllByRecursion (λ entry. (act : Act) × OwesActTo None w act entry.unit) entries) (sym are) tt;
+  others = λ unit other. ap (λ (states : UnitStates). state_of states unit) final.0;
   paid = λ act unit owes. absurd owes;
 }
-ended_over (DryActivate system) w v changes end = absurd (changes tt)
+
+-- a run that has come to its end is over
+pub ended_over : (command : Command) (w v : WorldState) → (IsQuery command → ⊥) → IsEndOf command w v → IsOver w command v
+ended_over command w v changes end =
+    let brought : brought_to command w.leaves ≡ switched_to command w.leaves = ap (λ b. if_so (b && (row_of command).switches) (new_system command w.leaves)) (changes_on command changes) in
+    let paid = has_paid (row_of command).switches (new_system command w.leaves) w v end.entries
+    (subst (λ to. AreFinalUnits to w v) brought end.final.units) (subst (λ to. AreEntries to w end.entries) brought end.are_entered) in
+    record {
+      final = end.final;
+      since = record { entered = end.entries; journal = end.journal; owed_alone = paid.owed_alone; others = paid.others };
+      paid = paid.paid;
+    }
 
 -- however often runs of a command are cut, the last leaves what one that isn't cut leaves
 pub alike : (command : Command) (cuts : List WorldState) (w v : WorldState) → (IsQuery command → ⊥) → refusal command w.leaves ≡ None → IsSteadyFor command w → LeadsBy command cuts w v → IsOver w command v

@@ -3,9 +3,12 @@ pub mod DefinedLemmas
 pub mod FailedLemmas
 pub mod LawLemmas
 pub mod PaidLemmas
+pub mod PartsLemmas
 pub mod PlaceLemmas
 pub mod PlanLemmas
 pub mod StoreApart
 pub mod SwitchLemmas
 pub mod UnderwayLemmas
+pub mod WayLemmas
+pub mod WayOfCommand
 pub mod WayOfSwitch

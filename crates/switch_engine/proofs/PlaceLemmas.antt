@@ -10,14 +10,14 @@ use Rattle.owed_lists.specs.Lists.{reloads_place, restarts_place, starts_place}
 use Rattle.switch_names.specs.Names.{Name}
 use Rattle.tree_put.specs.declared.written_place.WrittenPlace.{WrittenPlace}
 use Rattle.tree_put.specs.Put.{AreApart, is_blocked}
-use Rattle.tree_put.specs.WrittenPlace.{AreApartFromStage, in_the_way, is_in_the_way, written}
+use Rattle.tree_put.specs.WrittenPlace.{in_the_way, is_in_the_way, written}
 use Rattle.tree_put.proofs.BlockedLemmas.{clear_of_free, free_of_clear}
 use Rattle.tree_put.proofs.PutLemmas.{apart_ne}
 use Rattle.tree_put.proofs.WayLemmas.{clear_first}
 use Rattle.unit_stage.specs.Owned.{owns_units, reads_units, unit_places}
 use Rattle.unit_stage.specs.System.{current_place}
 use Rattle.unit_stage.proofs.OwnedLemmas.{not_owned}
-use Rattle.switch_engine.specs.Places.{switch_places, written_links, written_lists}
+use Rattle.switch_engine.specs.Places.{etc_places, list_places, switch_places}
 
 -- three places more
 pub three_more : (old one two new : List WrittenPlace) (a b c : WrittenPlace) → one ≡ old ++ a ∷ [] → two ≡ one ++ b ∷ [] → new ≡ two ++ c ∷ [] → new ≡ old ++ a ∷ b ∷ c ∷ []
@@ -26,28 +26,13 @@ three_more old one two new a b c first second third =
     ∙ ap (λ (places : List WrittenPlace). places ++ c ∷ []) (second ∙ ap (λ (places : List WrittenPlace). places ++ b ∷ []) first ∙ append_assoc old (a ∷ []) (b ∷ []))
     ∙ append_assoc old (a ∷ b ∷ []) (c ∷ [])
 
--- the stage is apart from each place that a switch of the units writes
-pub places_apart : AreApartFromStage switch_places
-unfolding switch_places written_links written_lists definitions_place stage current_place reloads_place restarts_place starts_place
-places_apart = (refl, (refl, (refl, (refl, (refl, (refl, tt))))))
-
--- nothing is in the way of the first place, nor of the others
-free_first : (leaves : Leaves) (place : WrittenPlace) (places : List WrittenPlace) → in_the_way (place ∷ places) leaves ≡ None → (is_in_the_way leaves place ≡ false) × (in_the_way places leaves ≡ None)
-free_first leaves place places is = elim (cases_Bool (is_in_the_way leaves place)) [
-  | inl stands ↦ absurd (none-some place.at (sym is ∙ ap (λ b. option_map (λ (one : WrittenPlace). one.at) (cond b (Some place) (find (is_in_the_way leaves) places))) stands))
-  | inr none ↦ (none, sym (ap (λ b. option_map (λ (one : WrittenPlace). one.at) (cond b (Some place) (find (is_in_the_way leaves) places))) none) ∙ is)
-]
-
-free_more : (leaves : Leaves) (place : WrittenPlace) (places : List WrittenPlace) → is_in_the_way leaves place ≡ false → in_the_way places leaves ≡ None → in_the_way (place ∷ places) leaves ≡ None
+pub free_more : (leaves : Leaves) (place : WrittenPlace) (places : List WrittenPlace) → is_in_the_way leaves place ≡ false → in_the_way places leaves ≡ None → in_the_way (place ∷ places) leaves ≡ None
 free_more leaves place places none rest = ap (λ b. option_map (λ (one : WrittenPlace). one.at) (cond b (Some place) (find (is_in_the_way leaves) places))) none ∙ rest
 
 -- the places of a switch are that of the definitions and those of the units
 all_places : switch_places ≡ written false definitions_place ∷ unit_places
-unfolding switch_places written_links written_lists
+unfolding etc_places list_places
 all_places = refl
-
-pub units_way : (leaves : Leaves) → in_the_way switch_places leaves ≡ None → in_the_way unit_places leaves ≡ None
-units_way leaves free = (free_first leaves (written false definitions_place) unit_places (subst (λ places. in_the_way places leaves ≡ None) all_places free)).1
 
 -- each place that is written is clear
 pub record AreClear (leaves : Leaves) : Type 0 where
@@ -70,12 +55,6 @@ all_clear leaves free =
     let restarts = clear_first leaves (written true restarts_place) last reloads.1 in
     let starts = clear_first leaves (written true starts_place) [] restarts.1 in
     record { stage = staged.0; definitions = definitions.0; current = current.0; reloads = reloads.0; restarts = restarts.0; starts = starts.0 }
-
--- nothing is in the way of a switch where the link to the definitions is clear and the units' places are free
-pub switch_way : (leaves : Leaves) → IsClear leaves definitions_place → in_the_way unit_places leaves ≡ None → in_the_way switch_places leaves ≡ None
-switch_way leaves clear free =
-    subst (λ places. in_the_way places leaves ≡ None) (sym all_places)
-    (free_more leaves (written false definitions_place) unit_places (ap (λ b. b || false) (free_of_clear leaves definitions_place clear)) free)
 
 -- ---- the place of the link to the definitions
 

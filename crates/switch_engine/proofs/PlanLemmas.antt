@@ -1,20 +1,20 @@
 -- Why the parts of a command are refused, by what is read of a world.
-use Rattle.std.proofs.Common.{◌≡◌, ℕ, ◌^◌, Bool, true, false, cond, nat_lt, Err, IsErrOf, List, Option, None, Some, is_none, is_some, option_map, refl, sym, ap, ◌∙◌, if◌then◌else◌}
+use Rattle.std.proofs.Common.{◌≡◌, ℕ, ◌^◌, Bool, true, false, cond, nat_lt, Err, IsErrOf, List, Option, None, Some, is_none, is_some, option_map, refl, sym, ap, subst, ◌∙◌, if◌then◌else◌}
 use Rattle.std.proofs.lemmas.Option.{none-some}
 use Rattle.std.specs.Option.{option_or}
 use Rattle.generations.specs.declared.gens.Gens.{Gens}
 use Rattle.generations.specs.Gens.{IsGensOf, number_for_in}
 use Rattle.generations.specs.Places.{number_after}
-use Rattle.generations.specs.ProfilePart.{has_number, profile_places}
+use Rattle.generations.specs.ProfilePart.{has_number, profile_part}
 use Rattle.generations.proofs.Numbers.{number_for_world}
-use Rattle.host_trait.specs.World.{Leaves, content_of}
+use Rattle.host_trait.specs.World.{Leaves, WorldState, content_of}
 use Rattle.switch_engine.specs.declared.command.Command.{Command}
-use Rattle.switch_engine.specs.declared.command.Command.TheVariants.{Test, Boot, DryActivate}
-use Rattle.switch_engine.specs.Commands.{new_system}
-use Rattle.switch_engine.specs.Places.{switch_places}
-use Rattle.switch_engine.specs.Rows.{Row, parts_refusal, refusal, row_of, row_refusal, switch_row}
+use Rattle.switch_engine.specs.Commands.{new_system, row_of}
+use Rattle.switch_engine.specs.Plan.{AreGensFor, IsProfilePlanned}
+use Rattle.switch_engine.specs.Rows.{part_if, parts_refusal, places, refusal, refusal_by, switch_part}
 use Rattle.switch_engine.specs.System.{version_path}
 use Rattle.switch_names.specs.Names.{Name}
+use Rattle.switch_parts.specs.declared.plan_fault.PlanFault.{PlanFault}
 use Rattle.switch_parts.specs.declared.plan_fault.PlanFault.TheVariants.{Refused}
 use Rattle.switch_parts.specs.declared.refusal.Refusal.{Refusal}
 use Rattle.switch_parts.specs.declared.refusal.Refusal.TheVariants.{GenerationsFull, InTheWay, NoSystem}
@@ -22,15 +22,26 @@ use Rattle.tree_put.specs.WrittenPlace.{in_the_way}
 use Rattle.tree_put.specs.declared.written_place.WrittenPlace.{WrittenPlace}
 use Rattle.unit_stage.specs.System.{unit_refusal}
 
--- something is in the way of the parts of a row
-pub way_refused : (row : Row) (leaves : Leaves) (places : List WrittenPlace) (why : Refusal) → places ≡ row.places → option_map InTheWay (in_the_way places leaves) ≡ Some why → parts_refusal row leaves ≡ Some why
-way_refused row leaves places why are is =
-    ap (λ o. option_or o (row.part.refusal leaves)) (ap (λ ps. option_map InTheWay (in_the_way ps leaves)) (sym are) ∙ is)
+module _ (switches sets : Bool) (system : Name) (leaves : Leaves) where
+  abbrev way : Option Name
+  way = in_the_way (places switches sets system leaves) leaves
 
--- nothing is, and so the parts are refused for what a part is refused for
-pub part_refused : (row : Row) (leaves : Leaves) (places : List WrittenPlace) (why : Option Refusal) → places ≡ row.places → in_the_way places leaves ≡ None → row.part.refusal leaves ≡ why → parts_refusal row leaves ≡ why
-part_refused row leaves places why are free is =
-    ap (λ o. option_or o (row.part.refusal leaves)) (ap (λ ps. option_map InTheWay (in_the_way ps leaves)) (sym are) ∙ ap (option_map InTheWay) free) ∙ is
+  abbrev first : Option Refusal
+  first = (part_if switches (switch_part system)).refusal leaves
+
+  abbrev second : Option Refusal
+  second = (part_if sets (profile_part system)).refusal leaves
+
+  -- something is in the way
+  pub way_refused : (why : Refusal) → option_map InTheWay way ≡ Some why → refusal_by switches sets system leaves ≡ Some why
+  way_refused why is = ap (λ o. option_or o (option_or first second)) is
+
+  -- nothing is, and so the parts are refused for what a part is refused for
+  pub part_refused : (why : Option Refusal) → way ≡ None → first ≡ None → second ≡ why → refusal_by switches sets system leaves ≡ why
+  part_refused why free none is = ap (λ o. option_or (option_map InTheWay o) (option_or first second)) free ∙ ap (λ o. option_or o second) none ∙ is
+
+  pub switch_refused : (why : Refusal) → way ≡ None → first ≡ Some why → refusal_by switches sets system leaves ≡ Some why
+  switch_refused why free is = ap (λ o. option_or (option_map InTheWay o) (option_or first second)) free ∙ ap (λ o. option_or o second) is
 
 -- what the list of the generations says of the number
 pub further_of : (leaves : Leaves) (gens : Gens) (system : Name) (n : ℕ) → IsGensOf leaves gens → number_for_in gens.list system ≡ Some n → (n ≡ number_after leaves system) × (has_number leaves system ≡ true)
@@ -47,17 +58,20 @@ full_of leaves gens system is given = either (nat_lt (number_after leaves system
     either true e = absurd (none-some (number_after leaves system) (sym e))
     either false e = refl
 
-pub number_refused : (leaves : Leaves) (gens : Gens) (system : Name) → IsGensOf leaves gens → number_for_in gens.list system ≡ None → (row_of (Boot system) leaves).part.refusal leaves ≡ Some GenerationsFull
-number_refused leaves gens system is none = ap (λ b. cond b None (Some GenerationsFull)) (full_of leaves gens system is none)
+-- what a plan of the profile says, given the generations that stand where it is set
+module _ (system : Name) (gens : Gens) (sets : Bool) (w : WorldState) (stand : AreGensFor sets w.leaves (Some gens)) where
+  pub profile_planned : (n : ℕ) → number_for_in gens.list system ≡ Some n → IsProfilePlanned sets system w (Some (record { gens = gens; number = n }))
+  profile_planned n some = (stand.0, record { gens = stand.1; number = (further_of w.leaves gens system n stand.1 some).0 })
 
-pub number_free : (leaves : Leaves) (gens : Gens) (system : Name) (n : ℕ) → IsGensOf leaves gens → number_for_in gens.list system ≡ Some n → (row_of (Boot system) leaves).part.refusal leaves ≡ None
-number_free leaves gens system n is some = ap (λ b. cond b None (Some GenerationsFull)) (further_of leaves gens system n is some).1
+  pub profile_free : (n : ℕ) → number_for_in gens.list system ≡ Some n → (part_if sets (profile_part system)).refusal w.leaves ≡ None
+  profile_free n some = subst (λ b. (part_if b (profile_part system)).refusal w.leaves ≡ None) (sym stand.0) (ap (λ b. cond b None (Some GenerationsFull)) (further_of w.leaves gens system n stand.1 some).1)
 
--- the system of a row is the one that its command names
-pub row_system : (command : Command) (leaves : Leaves) → (row_of command leaves).system ≡ new_system command leaves
-row_system (Test system) leaves = refl
-row_system (Boot system) leaves = refl
-row_system (DryActivate system) leaves = refl
+  pub profile_full : number_for_in gens.list system ≡ None → (part_if sets (profile_part system)).refusal w.leaves ≡ Some GenerationsFull
+  profile_full none = subst (λ b. (part_if b (profile_part system)).refusal w.leaves ≡ Some GenerationsFull) (sym stand.0) (ap (λ b. cond b None (Some GenerationsFull)) (full_of w.leaves gens system stand.1 none))
+
+-- without a set of the profile
+pub unset_free : (system : Name) (sets : Bool) (leaves : Leaves) → sets ≡ false → (part_if sets (profile_part system)).refusal leaves ≡ None
+unset_free system sets leaves none = ap (λ b. (part_if b (profile_part system)).refusal leaves) none
 
 some_is : {X : Type 0} (o : Option X) (b : Bool) → is_some o ≡ b → is_none o ≡ (if b then false else true)
 some_is None true is = absurd cc
@@ -68,14 +82,36 @@ some_is (Some x) false is = absurd cc
 -- a system without its file is refused, whatever else is so
 pub no_system : (command : Command) (leaves : Leaves) (named : Name) → named ≡ new_system command leaves → is_some (content_of leaves (version_path named)) ≡ false → refusal command leaves ≡ Some NoSystem
 no_system command leaves named is lacks =
-    ap (λ system. cond (is_none (content_of leaves (version_path system))) (Some NoSystem) (parts_refusal (row_of command leaves) leaves)) (row_system command leaves ∙ sym is)
-    ∙ ap (λ b. cond b (Some NoSystem) (parts_refusal (row_of command leaves) leaves)) (some_is (content_of leaves (version_path named)) false lacks)
+    ap (λ system. cond (is_none (content_of leaves (version_path system))) (Some NoSystem) (parts_refusal command leaves)) (sym is)
+    ∙ ap (λ b. cond b (Some NoSystem) (parts_refusal command leaves)) (some_is (content_of leaves (version_path named)) false lacks)
 
 -- with its file it is refused for what its parts are refused for
-pub has_system : (command : Command) (leaves : Leaves) (named : Name) → named ≡ new_system command leaves → is_some (content_of leaves (version_path named)) ≡ true → refusal command leaves ≡ parts_refusal (row_of command leaves) leaves
+pub has_system : (command : Command) (leaves : Leaves) (named : Name) → named ≡ new_system command leaves → is_some (content_of leaves (version_path named)) ≡ true → refusal command leaves ≡ parts_refusal command leaves
 has_system command leaves named is stands =
-    ap (λ system. cond (is_none (content_of leaves (version_path system))) (Some NoSystem) (parts_refusal (row_of command leaves) leaves)) (row_system command leaves ∙ sym is)
-    ∙ ap (λ b. cond b (Some NoSystem) (parts_refusal (row_of command leaves) leaves)) (some_is (content_of leaves (version_path named)) true stands)
+    ap (λ system. cond (is_none (content_of leaves (version_path system))) (Some NoSystem) (parts_refusal command leaves)) (sym is)
+    ∙ ap (λ b. cond b (Some NoSystem) (parts_refusal command leaves)) (some_is (content_of leaves (version_path named)) true stands)
 
 pub same_reason : (a b : Refusal) → Refused a ≡ Refused b → a ≡ b
 same_reason a b is = cc
+
+pub same_plan_fault : {T : Type 0} (a b : PlanFault) → IsErrOf {T = T} (Err a) b → a ≡ b
+same_plan_fault a b is = cc
+
+-- the places of a command, by whether it switches the units, and its system
+pub placed : (command : Command) (leaves : Leaves) (switches : Bool) (system : Name) {list : List WrittenPlace} → switches ≡ (row_of command).switches → system ≡ new_system command leaves →
+    list ≡ places switches (row_of command).sets system leaves → list ≡ places (row_of command).switches (row_of command).sets (new_system command leaves) leaves
+placed command leaves switches system by named is = is ∙ (λ i. places (by i) (row_of command).sets (named i) leaves)
+
+-- a switch of the units is refused for what their part is refused for
+pub refused_switch : (switches : Bool) (named system : Name) (leaves : Leaves) (why : Option Refusal) → switches ≡ true → named ≡ system → unit_refusal leaves named ≡ why → (part_if switches (switch_part system)).refusal leaves ≡ why
+refused_switch switches named system leaves why on is refused = ap (λ b. (part_if b (switch_part system)).refusal leaves) on ∙ ap (unit_refusal leaves) (sym is) ∙ refused
+
+-- with nothing in the way, and units that can be read
+module _ (switches sets : Bool) (named system : Name) (w : WorldState) (is : named ≡ system) (free : in_the_way (places switches sets system w.leaves) w.leaves ≡ None)
+    (none : (part_if switches (switch_part system)).refusal w.leaves ≡ None) where
+  -- a set of the profile that finds no number is refused
+  pub full_refused : (why : Refusal) → (part_if sets (profile_part named)).refusal w.leaves ≡ Some GenerationsFull → GenerationsFull ≡ why → refusal_by switches sets system w.leaves ≡ Some why
+  full_refused why full same = part_refused switches sets system w.leaves (Some why) free none (ap (λ s. (part_if sets (profile_part s)).refusal w.leaves) (sym is) ∙ full ∙ ap Some same)
+
+  pub not_refused : (part_if sets (profile_part named)).refusal w.leaves ≡ None → refusal_by switches sets system w.leaves ≡ None
+  not_refused profile = part_refused switches sets system w.leaves None free none (ap (λ s. (part_if sets (profile_part s)).refusal w.leaves) (sym is) ∙ profile)

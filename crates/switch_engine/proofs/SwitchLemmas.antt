@@ -25,8 +25,7 @@ use Rattle.owed_plan.specs.declared.owed.Owed.{Owed}
 use Rattle.owed_plan.specs.Calls.{reload_calls, restart_calls, start_calls, stop_calls}
 use Rattle.owed_plan.specs.Law.{lists_of}
 use Rattle.switch_engine.specs.Moments.{IsSwitchMoment, IsSwitched}
-use Rattle.switch_engine.specs.Places.{switch_places}
-use Rattle.switch_engine.specs.Rows.{switch_row}
+use Rattle.switch_engine.specs.Rows.{switch_part}
 use Rattle.switch_engine.proofs.PlaceLemmas.{AreClear, all_clear, definitions_apart, definitions_itself, definitions_not_own, definitions_not_stage, stage_definitions}
 use Rattle.switch_names.specs.Names.{Name}
 use Rattle.switch_parts.specs.Part.{IsOnly, Part, final_leaf}
@@ -107,7 +106,7 @@ module _ (lists : Lists) (stops : List Duty) (w v : WorldState) (clear : AreClea
 
 module _ (system : Name) (owed : Owed) (w : WorldState) where
   abbrev part : Part
-  part = (switch_row system true).part
+  part = switch_part system
 
   abbrev states : Name → State
   states = state_of w.manager.states

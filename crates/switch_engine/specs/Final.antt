@@ -9,7 +9,8 @@ use Rattle.host_trait.specs.States.{UnitStates, state_of}
 use Rattle.host_trait.specs.World.{Leaves, WorldState, stage}
 use Rattle.owed_plan.specs.declared.owed.Owed.{Owed}
 use Rattle.switch_engine.specs.declared.command.Command.{Command}
-use Rattle.switch_engine.specs.Rows.{brought_to, final}
+use Rattle.switch_engine.specs.Commands.{brought_to}
+use Rattle.switch_engine.specs.Rows.{final}
 use Rattle.switch_names.specs.Names.{Name}
 use Rattle.unit_defs.specs.declared.unit.Unit.{Unit}
 use Rattle.unit_defs.specs.Defs.{found_in}

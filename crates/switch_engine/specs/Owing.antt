@@ -6,8 +6,9 @@ use Rattle.host_trait.specs.declared.entry.Entry.{Entry}
 use Rattle.host_trait.specs.States.{state_of}
 use Rattle.host_trait.specs.World.{WorldState}
 use Rattle.switch_engine.specs.declared.command.Command.{Command}
+use Rattle.switch_engine.specs.Commands.{switched_to}
 use Rattle.switch_engine.specs.Final.{IsFinalOf}
-use Rattle.switch_engine.specs.Rows.{refusal, switched_to}
+use Rattle.switch_engine.specs.Rows.{refusal}
 use Rattle.switch_names.specs.Names.{Name}
 use Rattle.unit_stage.specs.Owes.{IsPaid, IsSteadyWorld, Owes}
 

@@ -16,17 +16,21 @@ use Rattle.unit_stage.specs.System.{current_place, definitions_of, system_leaf}
 unfoldable pub definitions_places : List WrittenPlace
 definitions_places = written false definitions_place ∷ written false stage ∷ []
 
--- both links and the stage
-unfoldable pub written_links : List WrittenPlace
-written_links = written false definitions_place ∷ written false stage ∷ written false current_place ∷ []
+-- the places below /etc that a switch of the units writes, in byte order
+unfoldable pub etc_places : List WrittenPlace
+etc_places = written false definitions_place ∷ []
 
--- the lists, which are read before
-unfoldable pub written_lists : List WrittenPlace
-written_lists = written true reloads_place ∷ written true restarts_place ∷ written true starts_place ∷ []
+-- the lists, which are read before, in byte order
+unfoldable pub list_places : List WrittenPlace
+list_places = written true reloads_place ∷ written true restarts_place ∷ written true starts_place ∷ []
 
--- the places that a switch of the units writes, in byte order
-unfoldable pub switch_places : List WrittenPlace
-switch_places = written_links ++ written_lists
+-- the places below /run, in byte order
+abbrev pub run_places : List WrittenPlace
+run_places = written false current_place ∷ list_places
+
+-- the places that a switch of the units writes, with the stage, in byte order
+abbrev pub switch_places : List WrittenPlace
+switch_places = etc_places ++ written false stage ∷ run_places
 
 -- the part that puts the link to the definitions of a system
 abbrev pub definitions_part : Name → Part

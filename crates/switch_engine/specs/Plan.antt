@@ -1,17 +1,17 @@
 -- What is planned for a command: NixOS manual, "What happens during a system switch?".
-use Rattle.std.specs.Prelude.{◌≡◌, Option, None, Some}
+use Rattle.std.specs.Prelude.{◌≡◌, Bool, true, false, Option, None, Some}
 use Rattle.generations.specs.declared.gens.Gens.{Gens}
 use Rattle.generations.specs.Gens.{IsGensOf, number_for_in}
 use Rattle.generations.specs.Places.{number_after}
 use Rattle.host_trait.specs.World.{Leaves, WorldState}
 use Rattle.switch_engine.specs.declared.command.Command.{Command}
-use Rattle.switch_engine.specs.declared.command.Command.TheVariants.{Test, Boot, DryActivate}
 use Rattle.switch_engine.specs.declared.plan.Plan.{Plan}
 use Rattle.switch_engine.specs.declared.plan.ProfilePlan.{ProfilePlan}
-use Rattle.switch_engine.specs.Commands.{new_system}
+use Rattle.switch_engine.specs.Commands.{new_system, row_of}
 use Rattle.switch_engine.specs.Rows.{refusal}
 use Rattle.switch_names.specs.SystemName.{IsSystemPath}
 use Rattle.switch_names.specs.Names.{Name}
+use Rattle.unit_stage.specs.declared.unit_plan.UnitPlan.{UnitPlan}
 use Rattle.unit_stage.specs.Plan.{IsUnitPlanOf, no_units}
 
 -- the generations that stand, and the number that a set gives the system
@@ -19,16 +19,25 @@ pub record IsProfilePlanOf (system : Name) (w : WorldState) (plan : ProfilePlan)
   pub gens : IsGensOf w.leaves plan.gens
   pub number : plan.number ≡ number_after w.leaves system
 
--- what is planned for the profile, or nothing
-abbrev pub IsMaybeProfilePlan : Name → WorldState → Option ProfilePlan → Type 0
-IsMaybeProfilePlan system w None = ⊥
-IsMaybeProfilePlan system w (Some plan) = IsProfilePlanOf system w plan
+-- what is planned for the units, where they are switched to a system
+abbrev pub AreUnitsPlanned : Bool → Name → WorldState → UnitPlan → Type 0
+AreUnitsPlanned true system w plan = IsUnitPlanOf system w plan
+AreUnitsPlanned false system w plan = plan ≡ no_units
+
+-- the generations that stand, where the profile is set
+abbrev pub AreGensFor : Bool → Leaves → Option Gens → Type 0
+AreGensFor sets leaves None = sets ≡ false
+AreGensFor sets leaves (Some gens) = (sets ≡ true) × IsGensOf leaves gens
+
+-- what is planned for the profile, where it is set to a system
+abbrev pub IsProfilePlanned : Bool → Name → WorldState → Option ProfilePlan → Type 0
+IsProfilePlanned sets system w None = sets ≡ false
+IsProfilePlanned sets system w (Some plan) = (sets ≡ true) × IsProfilePlanOf system w plan
 
 -- the parts that are planned for a command
-abbrev pub ArePlanned : Command → WorldState → Plan → Type 0
-ArePlanned (Test system) w plan = IsUnitPlanOf system w plan.units × (plan.profile ≡ None)
-ArePlanned (DryActivate system) w plan = IsUnitPlanOf system w plan.units × (plan.profile ≡ None)
-ArePlanned (Boot system) w plan = (plan.units ≡ no_units) × IsMaybeProfilePlan system w plan.profile
+pub record ArePlanned (command : Command) (w : WorldState) (plan : Plan) : Type 0 where
+  pub units : AreUnitsPlanned (row_of command).switches (new_system command w.leaves) w plan.units
+  pub profile : IsProfilePlanned (row_of command).sets (new_system command w.leaves) w plan.profile
 
 -- the number for the profile, where that is set, is the one that its generations give the system
 abbrev pub IsNumbered : Plan → Type 0

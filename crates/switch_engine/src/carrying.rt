@@ -1,28 +1,45 @@
 //! Carries a planned command out.
-ghost use Rattle.std.specs.Prelude.{◌≡◌, ◌↔◌, IfOk, IsTrue, None, Some, OnOk, false};
+ghost use Rattle.std.specs.Prelude.{◌≡◌, ◌↔◌, IfOk, IsTrue, Some, OnOk, false};
 ghost use Rattle.std.specs.FinMap.{empty};
-ghost use Rattle.generations.specs.Gens.{IsGensOf, number_for_in};
-ghost use Rattle.generations.specs.Places.{set_end};
-ghost use Rattle.generations.specs.Set.{CanSet, IsSetMoment};
+ghost use Rattle.std.specs.Option.{option_copied};
+ghost use Rattle.generations.specs.Gens.{number_for_in};
 ghost use Rattle.host_trait.specs.World.{seen};
 ghost use Rattle.host_trait.specs.Host.{Told, Leads, Passes, HasCause};
+ghost use Rattle.switch_engine.specs.Carried.{CanSetBy, CanSwitch, IsSwitchMomentIf, IsSwitchedIf, sets_by};
 ghost use Rattle.switch_engine.specs.Commands.{IsBoot, IsQuery};
-ghost use Rattle.switch_engine.specs.Final.{HasFailed, IsEndOf, IsLeftFailed, LeavesFailed};
-ghost use Rattle.switch_engine.specs.Moments.{IsMomentOf, IsSwitchMoment, IsSwitched};
-ghost use Rattle.switch_engine.specs.Places.{links_to, switch_places};
+ghost use Rattle.switch_engine.specs.declared.plan.ProfilePlan.{ProfilePlan};
+ghost use Rattle.switch_engine.specs.Final.{HasFailed, IsEndOf, LeavesFailed};
+ghost use Rattle.switch_engine.specs.Moments.{IsMomentOf, IsSetStep, IsSwitchMoment, IsSwitched, set_world};
+ghost use Rattle.switch_engine.specs.Places.{links_to};
 ghost use Rattle.switch_engine.specs.Plan.{IsNumbered, IsPlanOf};
-ghost use Rattle.switch_names.specs.Names.{Name};
-ghost use Rattle.tree_put.specs.WrittenPlace.{in_the_way};
-ghost use Rattle.unit_stage.specs.Plan.{IsUnitPlanOf};
 
 use crate::links::{Links, links_to, put_definitions};
 use crate::outcome::{Outcome, has_failed};
 use crate::plan::{Plan, ProfilePlan};
 use generations::set_number;
-use host_trait::{HostFault, Manager};
+use host_trait::{HostFault, Manager, Tree};
 use std::alloc::Global;
 use switch_names::SystemName;
 use unit_stage::{UnitPlan, bring_units, calls_of, stop_units};
+
+/// Sets the profile to a system, where that is planned.
+fn set_profile<T: Tree>(
+    alloc: Global,
+    host: &mut T,
+    system: &SystemName,
+    plan: Option<&ProfilePlan>,
+) -> Result<(), HostFault>
+    requires can { Told (T.host host.old) (CanSetBy system.now (option_copied plan)) }
+    requires number { (profile : ProfilePlan) → option_copied plan ≡ Some profile → number_for_in profile.gens.list system.now ≡ Some profile.number }
+    ensures ok { OnOk result (Leads (T.host host.old) (T.host host.new) (λ w u. seen u ≡ set_world (sets_by system.now (option_copied plan.entry)) w)) }
+    ensures moments { Passes (T.host host.old) (T.host host.new) (IsSetStep (sets_by system.now (option_copied plan.entry))) }
+    ensures cause { HasCause (T.host host.old) (T.host host.new) result }
+{
+    match plan {
+        Some(plan) => set_number(alloc, host, &plan.gens, system, plan.number),
+        None => Ok(()),
+    }
+}
 
 /// Takes all steps of a planned switch of the units, in their order.
 fn switch_units<H: Manager>(
@@ -32,8 +49,7 @@ fn switch_units<H: Manager>(
     plan: &UnitPlan,
     links: &Links,
 ) -> Result<(), HostFault>
-    requires planned { Told (H.host host.old) (λ w. IsUnitPlanOf system.now w plan.now) }
-    requires free { Told (H.host host.old) (λ w. in_the_way switch_places w.leaves ≡ None) }
+    requires can { Told (H.host host.old) (CanSwitch plan.now) }
     requires links { links.now ≡ links_to system.now }
     ensures ok { OnOk result (Leads (H.host host.old) (H.host host.new) (IsSwitched system.now plan.now.owed)) }
     ensures moments { Passes (H.host host.old) (H.host host.new) (IsSwitchMoment system.now plan.now.owed) }
@@ -52,47 +68,52 @@ fn carry_switch<H: Manager>(
     host: &mut H,
     system: &SystemName,
     plan: &UnitPlan,
+    links: &Links,
 ) -> Result<Outcome, HostFault>
-    requires planned { Told (H.host host.old) (λ w. IsUnitPlanOf system.now w plan.now) }
-    requires free { Told (H.host host.old) (λ w. in_the_way switch_places w.leaves ≡ None) }
+    requires can { Told (H.host host.old) (CanSwitch plan.now) }
+    requires links { links.now ≡ links_to system.now }
     ensures ok { OnOk result (Leads (H.host host.old) (H.host host.new) (IsSwitched system.now plan.now.owed)) }
     ensures states { IfOk result (λ outcome. Told (H.host host.new) (λ v. outcome.states ≡ v.manager.states)) }
     ensures failed { IfOk result (λ outcome. IsTrue outcome.failed ↔ HasFailed plan.now.defs outcome.states) }
-    ensures verdict { IfOk result (λ outcome. Told (H.host host.old) (λ w. IsTrue outcome.failed ↔ ((unit : Name) × IsLeftFailed system.now plan.now.owed w unit))) }
     ensures moments { Passes (H.host host.old) (H.host host.new) (IsSwitchMoment system.now plan.now.owed) }
     ensures cause { HasCause (H.host host.old) (H.host host.new) result }
 {
-    let links = links_to(alloc, system)?;
-    switch_units(alloc, host, system, plan, &links)?;
+    switch_units(alloc, host, system, plan, links)?;
     let states = host.units(alloc)?;
     let failed = has_failed(plan.defs(), &states);
     Ok(Outcome { states, failed })
 }
 
-/// Carries a planned boot out. It does nothing to the units.
-fn carry_boot<H: Manager>(
+/// Carries a planned switch of the units out where they are switched. Else no state is told.
+fn carry_units<H: Manager>(
     alloc: Global,
     host: &mut H,
+    switches: bool,
     system: &SystemName,
-    profile: &ProfilePlan,
+    plan: &UnitPlan,
+    links: &Links,
 ) -> Result<Outcome, HostFault>
-    requires gens { Told (H.host host.old) (λ w. IsGensOf w.leaves profile.now.gens) }
-    requires number { number_for_in profile.now.gens.list system.now ≡ Some profile.now.number }
-    requires can { Told (H.host host.old) (CanSet system.now) }
-    ensures ok { OnOk result (Leads (H.host host.old) (H.host host.new) (λ w v. seen v ≡ set_end system.now w)) }
-    ensures outcome { IfOk result (λ outcome. outcome ≡ record { states = empty; failed = false }) }
-    ensures moments { Passes (H.host host.old) (H.host host.new) (IsSetMoment system.now) }
+    requires can { IsTrue switches → Told (H.host host.old) (CanSwitch plan.now) }
+    requires links { links.now ≡ links_to system.now }
+    ensures ok { OnOk result (Leads (H.host host.old) (H.host host.new) (IsSwitchedIf switches system.now plan.now.owed)) }
+    ensures states { IfOk result (λ outcome. IsTrue switches → Told (H.host host.new) (λ v. outcome.states ≡ v.manager.states)) }
+    ensures failed { IfOk result (λ outcome. IsTrue switches → IsTrue outcome.failed ↔ HasFailed plan.now.defs outcome.states) }
+    ensures none { switches ≡ false → IfOk result (λ outcome. outcome ≡ record { states = empty; failed = false }) }
+    ensures moments { Passes (H.host host.old) (H.host host.new) (IsSwitchMomentIf switches system.now plan.now.owed) }
     ensures cause { HasCause (H.host host.old) (H.host host.new) result }
 {
-    set_number(alloc, host, &profile.gens, system, profile.number)?;
-    Ok(Outcome::none(alloc))
+    if !switches {
+        return Ok(Outcome::none(alloc));
+    }
+    carry_switch(alloc, host, system, plan, links)
 }
 
 /// Carries a planned command out.
 ///
-/// A switch of the units records the lists, stops units, puts the links to the new definitions and the
-/// new system, loads the definitions, and reloads, restarts and starts units. Each list goes after the
-/// last of its calls. A boot makes the generation where it is new, and points the profile to it.
+/// A set of the profile makes the generation where it is new, and points the profile to it. A switch of
+/// the units records the lists, stops units, puts the links to the new definitions and the new system,
+/// loads the definitions, and reloads, restarts and starts units. Each list goes after the last of its
+/// calls. A command that does both sets the profile first.
 /// Source: NixOS manual, "What happens during a system switch?".
 pub fn carry_out<H: Manager>(alloc: Global, host: &mut H, plan: &Plan) -> Result<Outcome, HostFault>
     requires planned { Told (H.host host.old) (λ w. IsPlanOf w plan.now) }
@@ -105,8 +126,8 @@ pub fn carry_out<H: Manager>(alloc: Global, host: &mut H, plan: &Plan) -> Result
     ensures moments { Passes (H.host host.old) (H.host host.new) (IsMomentOf plan.now.command) }
     ensures cause { HasCause (H.host host.old) (H.host host.new) result }
 {
-    match plan.profile() {
-        Some(profile) => carry_boot(alloc, host, plan.to(), profile),
-        None => carry_switch(alloc, host, plan.to(), plan.units()),
-    }
+    let links = links_to(alloc, plan.to())?;
+    set_profile(alloc, host, plan.to(), plan.profile())?;
+    let switches = plan.command().switches();
+    carry_units(alloc, host, switches, plan.to(), plan.units(), &links)
 }

@@ -1,7 +1,7 @@
 //! The commands on a system.
 ghost use Rattle.std.specs.Prelude.{◌≡◌, ◌↔◌, IfOk, IsTrue};
 ghost use Rattle.host_trait.specs.World.{Leaves};
-ghost use Rattle.switch_engine.specs.Commands.{IsQuery, new_system};
+ghost use Rattle.switch_engine.specs.Commands.{IsQuery, new_system, row_of};
 
 use std::alloc::{AllocError, Global};
 use switch_names::SystemName;
@@ -9,6 +9,8 @@ use switch_names::SystemName;
 /// What a run is asked to do with a system.
 #[derive(Debug, Drop)]
 pub enum Command {
+    /// Makes a generation for a system, points the profile to it, and switches the units to it.
+    Switch(SystemName),
     /// Switches the units to a system, and leaves the profile as it is.
     Test(SystemName),
     /// Makes a generation for a system and points the profile to it, for the next boot.
@@ -23,8 +25,25 @@ impl Command {
         ensures { (leaves : Leaves) → result.now ≡ new_system self.now leaves }
     {
         match self {
-            Command::Test(system) | Command::Boot(system) | Command::DryActivate(system) => system,
+            Command::Switch(system)
+            | Command::Test(system)
+            | Command::Boot(system)
+            | Command::DryActivate(system) => system,
         }
+    }
+
+    /// Whether the profile is set to the system.
+    pub fn sets(&self) -> bool
+        ensures { result ≡ (row_of self.now).sets }
+    {
+        matches!(self, Command::Switch(_) | Command::Boot(_))
+    }
+
+    /// Whether the units are switched to the system.
+    pub fn switches(&self) -> bool
+        ensures { result ≡ (row_of self.now).switches }
+    {
+        !matches!(self, Command::Boot(_))
     }
 
     /// Whether the command changes nothing.
@@ -39,6 +58,7 @@ impl Command {
         ensures { IfOk result (λ command. command ≡ self.now) }
     {
         match self {
+            Command::Switch(system) => Ok(Command::Switch(system.copy(alloc)?)),
             Command::Test(system) => Ok(Command::Test(system.copy(alloc)?)),
             Command::Boot(system) => Ok(Command::Boot(system.copy(alloc)?)),
             Command::DryActivate(system) => Ok(Command::DryActivate(system.copy(alloc)?)),

@@ -1,18 +1,24 @@
-//! The places that a switch of the units writes, and a look for what is in the way.
-ghost use Rattle.std.specs.Prelude.{◌≡◌, ◌++◌, None, Some, IfOk, IsErrOf, OnOk, option_map, true, false};
+//! The places that a command writes, and a look for what is in the way.
+ghost use Rattle.std.specs.Prelude.{◌≡◌, ◌∷◌, ◌++◌, Bool, [], None, Some, IfOk, IsErrOf, OnOk, option_map, true, false};
+ghost use Rattle.std.specs.Option.{option_copied};
 ghost use Rattle.host_trait.specs.declared.tree.HostFault.TheVariants.{Device};
 ghost use Rattle.host_trait.specs.Host.{Told};
 ghost use Rattle.host_trait.specs.Reading.{IsReadingOf};
+ghost use Rattle.host_trait.specs.World.{Leaves};
 ghost use Rattle.switch_parts.specs.declared.plan_fault.PlanFault.TheVariants.{Host, Refused};
 ghost use Rattle.switch_parts.specs.declared.refusal.Refusal.{Refusal};
 ghost use Rattle.switch_parts.specs.declared.refusal.Refusal.TheVariants.{InTheWay};
-ghost use Rattle.switch_engine.specs.Places.{switch_places, written_links, written_lists};
+ghost use Rattle.switch_engine.specs.Places.{etc_places, list_places};
+ghost use Rattle.switch_engine.specs.Plan.{AreGensFor};
+ghost use Rattle.switch_engine.specs.Rows.{middle_places, places};
+ghost use Rattle.unit_stage.specs.System.{current_place};
 ghost use Rattle.tree_put.specs.WrittenPlace.{AreApartFromStage, in_the_way, written};
 
+use generations::{Gens, add_profile_places};
 use host_trait::{Tree, definitions_path, stage_path};
 use owed_lists::{Which, list_path};
 use std::alloc::{AllocError, Global};
-use switch_names::{Listed, Path};
+use switch_names::{Listed, Path, SystemName};
 use switch_parts::{PlanFault, Refusal};
 use tree_put::{WrittenPlace, first_in_the_way};
 use unit_stage::current_path;
@@ -24,32 +30,81 @@ fn written(at: Path, is_read: bool) -> WrittenPlace
     WrittenPlace { at, is_read }
 }
 
-/// Adds both links and the stage, in byte order.
-fn add_links(alloc: Global, places: &mut Listed<WrittenPlace>) -> Result<(), AllocError>
-    ensures { OnOk result (places.new ≡ places.old ++ written_links) }
+/// Adds the places below /etc that a switch of the units writes.
+fn add_etc(alloc: Global, places: &mut Listed<WrittenPlace>) -> Result<(), AllocError>
+    ensures { OnOk result (places.new ≡ places.old ++ etc_places) }
 {
-    places.push(written(definitions_path(alloc)?, false))?;
-    places.push(written(stage_path(alloc)?, false))?;
+    places.push(written(definitions_path(alloc)?, false))
+}
+
+/// Adds the places of the profile, given the generations that stand where it is set, with the stage.
+fn add_middle(
+    alloc: Global,
+    places: &mut Listed<WrittenPlace>,
+    gens: Option<&Gens>,
+    system: &SystemName,
+) -> Result<(), AllocError>
+    ensures places { OnOk result ((sets : Bool) (leaves : Leaves) → AreGensFor sets leaves (option_copied gens.entry) → places.new ≡ places.old ++ middle_places sets system.now leaves) }
+    ensures apart { AreApartFromStage places.old → OnOk result (AreApartFromStage places.new) }
+{
+    match gens {
+        Some(gens) => add_profile_places(alloc, places, gens, system),
+        None => places.push(written(stage_path(alloc)?, false)),
+    }
+}
+
+/// Adds the link to the system in use.
+fn add_current(alloc: Global, places: &mut Listed<WrittenPlace>) -> Result<(), AllocError>
+    ensures { OnOk result (places.new ≡ places.old ++ written false current_place ∷ []) }
+{
     places.push(written(current_path(alloc)?, false))
 }
 
 /// Adds the lists in byte order.
 fn add_lists(alloc: Global, places: &mut Listed<WrittenPlace>) -> Result<(), AllocError>
-    ensures { OnOk result (places.new ≡ places.old ++ written_lists) }
+    ensures { OnOk result (places.new ≡ places.old ++ list_places) }
 {
     places.push(written(list_path(alloc, Which::Reloads)?, true))?;
     places.push(written(list_path(alloc, Which::Restarts)?, true))?;
     places.push(written(list_path(alloc, Which::Starts)?, true))
 }
 
-/// The places that a switch of the units writes, in byte order.
-pub fn switch_places(alloc: Global) -> Result<Listed<WrittenPlace>, AllocError>
-    ensures { IfOk result (λ places. places ≡ switch_places) }
+/// The places that a switch of the units writes, with those of the profile, in byte order.
+fn switched_places(
+    alloc: Global,
+    gens: Option<&Gens>,
+    system: &SystemName,
+) -> Result<Listed<WrittenPlace>, AllocError>
+    ensures places { IfOk result (λ list. (sets : Bool) (leaves : Leaves) → AreGensFor sets leaves (option_copied gens.entry) → list ≡ places true sets system.now leaves) }
+    ensures apart { IfOk result (λ list. AreApartFromStage list) }
 {
-    let mut places = Listed::new(alloc);
-    add_links(alloc, &mut places)?;
-    add_lists(alloc, &mut places)?;
-    Ok(places)
+    let mut list = Listed::new(alloc);
+    add_etc(alloc, &mut list)?;
+    add_middle(alloc, &mut list, gens, system)?;
+    add_current(alloc, &mut list)?;
+    add_lists(alloc, &mut list)?;
+    Ok(list)
+}
+
+/// The places that a command writes, in byte order, given the generations that stand where it sets the
+/// profile.
+pub fn places_of(
+    alloc: Global,
+    switches: bool,
+    gens: Option<&Gens>,
+    system: &SystemName,
+) -> Result<Listed<WrittenPlace>, AllocError>
+    ensures places { IfOk result (λ list. (sets : Bool) (leaves : Leaves) → AreGensFor sets leaves (option_copied gens.entry) → list ≡ places switches sets system.now leaves) }
+    ensures apart { IfOk result (λ list. AreApartFromStage list) }
+{
+    if switches {
+        return switched_places(alloc, gens, system);
+    }
+    let mut list = Listed::new(alloc);
+    if let Some(gens) = gens {
+        add_profile_places(alloc, &mut list, gens, system)?;
+    }
+    Ok(list)
 }
 
 /// Refuses where a leaf stands in the way of one of these places.

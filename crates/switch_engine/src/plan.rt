@@ -123,6 +123,6 @@ impl Plan {
     pub fn boot_only(&self) -> bool
         ensures { IsTrue result ↔ IsBoot self.now.command }
     {
-        matches!(self.command, Command::Boot(_))
+        !self.command.switches()
     }
 }

@@ -1,74 +1,104 @@
 //! Plans what a command does, before anything is put or changed.
-ghost use Rattle.std.specs.Prelude.{◌≡◌, None, Some, IfOk, IsErrOf, OnOk, true};
+ghost use Rattle.std.specs.Prelude.{◌≡◌, Bool, None, Some, IfOk, IsErrOf, OnOk, option_map};
+ghost use Rattle.std.specs.Option.{option_copied};
 ghost use Rattle.generations.specs.Gens.{number_for_in};
+ghost use Rattle.generations.specs.ProfilePart.{profile_part};
 ghost use Rattle.host_trait.specs.declared.tree.HostFault.TheVariants.{Device};
 ghost use Rattle.host_trait.specs.Host.{Told};
-ghost use Rattle.host_trait.specs.Reading.{IsReadingOf};
-ghost use Rattle.switch_engine.specs.declared.command.Command.TheVariants.{Boot};
-ghost use Rattle.switch_engine.specs.Plan.{ArePlanned, IsNumbered, IsPlanOf, IsProfilePlanOf};
-ghost use Rattle.switch_engine.specs.Rows.{parts_refusal, refusal, row_of, switch_row};
+ghost use Rattle.host_trait.specs.Reading.{IsReading, IsReadingOf};
+ghost use Rattle.host_trait.specs.World.{WorldState};
+ghost use Rattle.switch_engine.specs.Commands.{new_system, row_of};
+ghost use Rattle.switch_engine.specs.declared.plan.ProfilePlan.{ProfilePlan};
+ghost use Rattle.switch_engine.specs.Plan.{AreGensFor, ArePlanned, AreUnitsPlanned, IsNumbered, IsPlanOf, IsProfilePlanned};
+ghost use Rattle.switch_engine.specs.Rows.{part_if, parts_refusal, places, refusal, switch_part};
 ghost use Rattle.switch_parts.specs.declared.plan_fault.PlanFault.TheVariants.{Host, Refused};
 ghost use Rattle.switch_parts.specs.declared.plan_fault.PlanFault.{PlanFault};
 ghost use Rattle.switch_parts.specs.declared.refusal.Refusal.{Refusal};
-ghost use Rattle.switch_parts.specs.declared.refusal.Refusal.TheVariants.{GenerationsFull};
-ghost use Rattle.unit_stage.specs.Plan.{IsUnitPlanOf};
+ghost use Rattle.switch_parts.specs.declared.refusal.Refusal.TheVariants.{GenerationsFull, InTheWay};
+ghost use Rattle.tree_put.specs.WrittenPlace.{in_the_way};
 
 use crate::command::Command;
-use crate::places::{check_way, switch_places};
+use crate::places::{check_way, places_of};
 use crate::plan::{Plan, ProfilePlan};
 use crate::system::has_version;
-use generations::{Gens, all, number_for, profile_places};
-use host_trait::{Manager, Tree};
+use generations::{Gens, all, number_for};
+use host_trait::{HostFault, Manager, Tree};
 use std::alloc::Global;
 use switch_names::SystemName;
 use switch_parts::{PlanFault, Refusal};
 use unit_stage::{UnitPlan, plan_units};
 
-/// Plans a switch of the units to a system.
+/// The generations that stand, where a command sets the profile.
+fn gens_for<T: Tree>(
+    alloc: Global,
+    host: &mut T,
+    command: &Command,
+) -> Result<Option<Gens>, HostFault>
+    ensures gens { IfOk result (λ gens. Told (T.host host.old) (λ w. AreGensFor (row_of command.now).sets w.leaves gens)) }
+    ensures reads { IsReading (T.host host.old) (T.host host.new) result }
+{
+    if !command.sets() {
+        return Ok(None);
+    }
+    let gens = all(alloc, host)?;
+    Ok(Some(gens))
+}
+
+/// Refuses where something is in the way of a place that a command writes.
+fn check_places<T: Tree>(
+    alloc: Global,
+    host: &mut T,
+    command: &Command,
+    gens: Option<&Gens>,
+) -> Result<(), PlanFault>
+    requires { Told (T.host host.old) (λ w. AreGensFor (row_of command.now).sets w.leaves (option_copied gens)) }
+    ensures free { OnOk result (Told (T.host host.old) (λ w. in_the_way (places (row_of command.now).switches (row_of command.now).sets (new_system command.now w.leaves) w.leaves) w.leaves ≡ None)) }
+    ensures refused { (why : Refusal) → IsErrOf result (Refused why)
+        → Told (T.host host.old) (λ w. option_map InTheWay (in_the_way (places (row_of command.now).switches (row_of command.now).sets (new_system command.now w.leaves) w.leaves) w.leaves) ≡ Some why) }
+    ensures reads { IsReadingOf (T.host host.old) (T.host host.new) (IsErrOf result (Host Device)) }
+{
+    let places = places_of(alloc, command.switches(), gens, command.system())?;
+    check_way(alloc, host, places.as_slice())?;
+    Ok(())
+}
+
+/// Plans what a command does to the units, or nothing where it doesn't switch them.
 fn plan_switch<H: Manager>(
     alloc: Global,
     host: &mut H,
-    system: &SystemName,
+    command: &Command,
 ) -> Result<UnitPlan, PlanFault>
-    ensures plan { IfOk result (λ plan. Told (H.host host.old) (λ w. IsUnitPlanOf system.now w plan)) }
-    ensures not_refused { OnOk result (Told (H.host host.old) (λ w. parts_refusal (switch_row system.now true) w.leaves ≡ None)) }
-    ensures refused { (why : Refusal) → IsErrOf result (Refused why) → Told (H.host host.old) (λ w. parts_refusal (switch_row system.now true) w.leaves ≡ Some why) }
+    ensures plan { IfOk result (λ plan. Told (H.host host.old) (λ w. AreUnitsPlanned (row_of command.now).switches (new_system command.now w.leaves) w plan)) }
+    ensures not_refused { OnOk result (Told (H.host host.old) (λ w. (part_if (row_of command.now).switches (switch_part (new_system command.now w.leaves))).refusal w.leaves ≡ None)) }
+    ensures refused { (why : Refusal) → IsErrOf result (Refused why)
+        → Told (H.host host.old) (λ w. (part_if (row_of command.now).switches (switch_part (new_system command.now w.leaves))).refusal w.leaves ≡ Some why) }
     ensures reads { IsReadingOf (H.host host.old) (H.host host.new) (IsErrOf result (Host Device)) }
 {
-    let places = switch_places(alloc)?;
-    check_way(alloc, host, places.as_slice())?;
-    let plan = plan_units(alloc, host, system)?;
+    if !command.switches() {
+        return Ok(UnitPlan::none(alloc));
+    }
+    let plan = plan_units(alloc, host, command.system())?;
     Ok(plan)
 }
 
-/// The number that a set gives a system, or the refusal where there is none.
-fn number_of(gens: &Gens, system: &SystemName) -> Result<u32, PlanFault>
-    ensures number { IfOk result (λ number. number_for_in gens.now.list system.now ≡ Some number) }
-    ensures refused { (why : PlanFault) → IsErrOf result why → (number_for_in gens.now.list system.now ≡ None) × (why ≡ Refused GenerationsFull) }
+/// Plans a set of the profile to a system, or nothing where it isn't set.
+fn plan_profile(
+    gens: Option<Gens>,
+    system: &SystemName,
+) -> Result<Option<ProfilePlan>, PlanFault>
+    ensures plan { IfOk result (λ plan. (sets : Bool) (w : WorldState) → AreGensFor sets w.leaves gens → IsProfilePlanned sets system.now w plan) }
+    ensures numbered { IfOk result (λ plan. (profile : ProfilePlan) → plan ≡ Some profile → number_for_in profile.gens.list system.now ≡ Some profile.number) }
+    ensures not_refused { OnOk result ((sets : Bool) (w : WorldState) → AreGensFor sets w.leaves gens → (part_if sets (profile_part system.now)).refusal w.leaves ≡ None) }
+    ensures refused { (why : PlanFault) → IsErrOf result why
+        → (why ≡ Refused GenerationsFull) × ((sets : Bool) (w : WorldState) → AreGensFor sets w.leaves gens → (part_if sets (profile_part system.now)).refusal w.leaves ≡ Some GenerationsFull) }
 {
-    match number_for(gens, system) {
-        Some(number) => Ok(number),
+    let Some(gens) = gens else {
+        return Ok(None);
+    };
+    match number_for(&gens, system) {
+        Some(number) => Ok(Some(ProfilePlan { gens, number })),
         None => Err(PlanFault::Refused(Refusal::GenerationsFull)),
     }
-}
-
-/// Plans a set of the profile to a system.
-fn plan_profile<T: Tree>(
-    alloc: Global,
-    host: &mut T,
-    system: &SystemName,
-) -> Result<ProfilePlan, PlanFault>
-    ensures plan { IfOk result (λ plan. Told (T.host host.old) (λ w. IsProfilePlanOf system.now w plan)) }
-    ensures number { IfOk result (λ plan. number_for_in plan.gens.list system.now ≡ Some plan.number) }
-    ensures not_refused { OnOk result (Told (T.host host.old) (λ w. parts_refusal (row_of (Boot system.now) w.leaves) w.leaves ≡ None)) }
-    ensures refused { (why : Refusal) → IsErrOf result (Refused why) → Told (T.host host.old) (λ w. parts_refusal (row_of (Boot system.now) w.leaves) w.leaves ≡ Some why) }
-    ensures reads { IsReadingOf (T.host host.old) (T.host host.new) (IsErrOf result (Host Device)) }
-{
-    let gens = all(alloc, host)?;
-    let places = profile_places(alloc, &gens, system)?;
-    check_way(alloc, host, places.as_slice())?;
-    let number = number_of(&gens, system)?;
-    Ok(ProfilePlan { gens, number })
 }
 
 /// Plans the parts of a command.
@@ -76,27 +106,22 @@ fn plan_parts<H: Manager>(alloc: Global, host: &mut H, command: &Command) -> Res
     ensures command { IfOk result (λ plan. plan.command ≡ command.now) }
     ensures plan { IfOk result (λ plan. Told (H.host host.old) (λ w. ArePlanned command.now w plan)) }
     ensures numbered { IfOk result IsNumbered }
-    ensures not_refused { OnOk result (Told (H.host host.old) (λ w. parts_refusal (row_of command.now w.leaves) w.leaves ≡ None)) }
-    ensures refused { (why : Refusal) → IsErrOf result (Refused why) → Told (H.host host.old) (λ w. parts_refusal (row_of command.now w.leaves) w.leaves ≡ Some why) }
+    ensures not_refused { OnOk result (Told (H.host host.old) (λ w. parts_refusal command.now w.leaves ≡ None)) }
+    ensures refused { (why : Refusal) → IsErrOf result (Refused why) → Told (H.host host.old) (λ w. parts_refusal command.now w.leaves ≡ Some why) }
     ensures reads { IsReadingOf (H.host host.old) (H.host host.new) (IsErrOf result (Host Device)) }
 {
     let planned = command.copy(alloc)?;
-    match command {
-        Command::Boot(system) => {
-            let profile = plan_profile(alloc, host, system)?;
-            Ok(Plan::new(planned, UnitPlan::none(alloc), Some(profile)))
-        }
-        Command::Test(system) | Command::DryActivate(system) => {
-            let units = plan_switch(alloc, host, system)?;
-            Ok(Plan::new(planned, units, None))
-        }
-    }
+    let gens = gens_for(alloc, host, command)?;
+    check_places(alloc, host, command, gens.as_ref())?;
+    let units = plan_switch(alloc, host, command)?;
+    let profile = plan_profile(gens, command.system())?;
+    Ok(Plan::new(planned, units, profile))
 }
 
 /// Plans what a command does, before anything is put or changed, and changes nothing.
 ///
-/// The refusals are sought in this order: `NoSystem`, `InTheWay`, and then `UnitText` of a switch of
-/// the units and `GenerationsFull` of a boot.
+/// The refusals are sought in this order: `NoSystem`, `InTheWay`, `UnitText` of a switch of the units,
+/// and `GenerationsFull` of a set of the profile.
 /// Source: NixOS manual, "What happens during a system switch?".
 pub fn plan_all<H: Manager>(
     alloc: Global,

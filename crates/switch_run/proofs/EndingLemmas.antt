@@ -1,6 +1,7 @@
 -- How a command ends, at each place where it may.
-use Rattle.std.proofs.Common.{◌≡◌, ◌↔◌, ◌≤◌, ◌++◌, ℕ, Bool, true, false, IsTrue, List, [], Option, None, Some, Result, Ok, Err, IsErr, IsErrOf, refl, sym, ap, subst, ◌∙◌, arith}
+use Rattle.std.proofs.Common.{◌≡◌, ◌↔◌, ◌≤◌, ◌++◌, ◌&&◌, ℕ, Bool, true, false, cond, IsTrue, List, [], Option, None, Some, Result, Ok, Err, IsErr, IsErrOf, refl, sym, ap, subst, ◌∙◌, arith}
 use Rattle.std.proofs.lemmas.List.{append-nil}
+use Rattle.std.specs.FinMap.{get}
 use Rattle.host_trait.specs.declared.sink.SinkFault.{SinkFault}
 use Rattle.host_trait.specs.declared.tree.HostFault.{HostFault}
 use Rattle.host_trait.specs.declared.tree.HostFault.TheVariants.{Device, Memory}
@@ -14,17 +15,17 @@ use Rattle.host_trait.proofs.Causes.{cause_of, causes, rose_then, started_of}
 use Rattle.host_trait.proofs.Moments.{leads_then, passes_as, same_as, same_then, started, told_as, told_before}
 use Rattle.host_trait.proofs.Readings.{same_twice}
 use Rattle.switch_engine.specs.declared.command.Command.{Command}
-use Rattle.switch_engine.specs.declared.command.Command.TheVariants.{Test, Boot, DryActivate}
 use Rattle.switch_engine.specs.declared.plan.Plan.{Plan}
-use Rattle.switch_engine.specs.Commands.{IsBoot, IsQuery}
-use Rattle.switch_engine.specs.Final.{IsEndOf, LeavesFailed}
+use Rattle.switch_engine.specs.Commands.{IsBoot, IsQuery, brought_to, if_so, new_system, row_of, switched_to}
+use Rattle.switch_engine.specs.Final.{AreEntries, AreFinalUnits, IsEndOf, LeavesFailed, LeavesFailedAt}
 use Rattle.switch_engine.specs.Moments as engine
 use Rattle.switch_engine.specs.Plan.{IsPlanOf}
-use Rattle.switch_engine.specs.Rows.{refusal}
+use Rattle.switch_engine.specs.Rows.{part_of, refusal}
 use Rattle.switch_parts.specs.declared.plan_fault.PlanFault.{PlanFault}
 use Rattle.switch_parts.specs.declared.plan_fault.PlanFault.TheVariants as plan
 use Rattle.switch_parts.specs.declared.refusal.Refusal.{Refusal}
-use Rattle.dry_report.specs.Close.{IsClosing, close_of, failed_in}
+use Rattle.switch_parts.specs.Part.{final_leaf}
+use Rattle.dry_report.specs.Close.{IsClosing, IsClosingBy, close_of, failed_in}
 use Rattle.dry_report.specs.Report.{IsReport}
 use Rattle.dry_report.proofs.LeftLemmas.{states_close}
 use Rattle.dry_report.proofs.PutLemmas.{puts_as, puts_nothing, puts_then}
@@ -192,24 +193,30 @@ module _ {host : HostState} (plan : Plan) (planned : Told host (λ w. IsPlanOf w
       }
         where
           query_end : (command : Command) → IsQuery command → (w : WorldState) → IsEndOf command w w
-          query_end (Test system) query w = absurd query
-          query_end (Boot system) query w = absurd query
-          query_end (DryActivate system) query w = record {
-            final = record { leaves = λ q other. refl; units = (refl, refl); bad = refl };
-            entries = [];
-            are_entered = refl;
-            journal = sym (append-nil w.manager.journal);
-          }
+          query_end command query w =
+              let none : None ≡ brought_to command w.leaves = sym (ap (λ b. if_so (b && (row_of command).switches) (new_system command w.leaves)) query) in
+              record {
+                final = record {
+                  leaves = λ q other. sym (ap (λ b. cond b (final_leaf (part_of command w.leaves) w.leaves q) (get w.leaves q)) query);
+                  units = subst (λ to. AreFinalUnits to w w) none (refl, refl);
+                  bad = refl;
+                };
+                entries = [];
+                are_entered = subst (λ to. AreEntries to w []) none refl;
+                journal = sym (append-nil w.manager.journal);
+              }
 
           query_fails : (command : Command) → IsQuery command → (w : WorldState) → LeavesFailed command w → ⊥
-          query_fails (Test system) query w left = query
-          query_fails (Boot system) query w left = query
-          query_fails (DryActivate system) query w left = left
+          query_fails command query w left = subst (λ b. LeavesFailedAt (if_so (b && (row_of command).switches) (new_system command w.leaves)) w) query left
 
           query_whole : (command : Command) → IsQuery command → (w : WorldState) (more : List ℕ) → IsReport command w more → IsWhole command w more
-          query_whole (Test system) query w more report = absurd query
-          query_whole (Boot system) query w more report = absurd query
-          query_whole (DryActivate system) query w more report = record { report = more; close = []; is_report = report; is_close = refl; is_all = sym (append-nil more) }
+          query_whole command query w more report = record {
+            report = more;
+            close = [];
+            is_report = report;
+            is_close = subst (λ b. IsClosingBy b (switched_to command w.leaves) w []) (sym query) refl;
+            is_all = sym (append-nil more);
+          }
 
       module _ {after : HostState} (changes : IsQuery plan.command → ⊥) (moments : Passes host after (engine.IsMomentOf plan.command)) where
         run_moments : Passes host after (IsMomentOf (Some plan.command))

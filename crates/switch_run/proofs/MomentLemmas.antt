@@ -2,9 +2,9 @@
 use Rattle.std.proofs.Common.{◌≡◌, Option, None, Some, refl, sym, subst}
 use Rattle.host_trait.specs.World.{WorldState}
 use Rattle.switch_engine.specs.declared.command.Command.{Command}
-use Rattle.switch_engine.specs.declared.command.Command.TheVariants.{Test, Boot, DryActivate}
-use Rattle.switch_engine.specs.Commands.{IsQuery}
+use Rattle.switch_engine.specs.Commands.{IsQuery, brought_to, set_to}
 use Rattle.switch_engine.specs.Moments as engine
+use Rattle.switch_engine.specs.Moments.{IsStepIf}
 use Rattle.switch_engine.specs.Rows.{refusal}
 use Rattle.switch_engine.proofs.LawLemmas.{begins_moment}
 use Rattle.switch_parts.specs.declared.refusal.Refusal.{Refusal}
@@ -25,10 +25,8 @@ of_command command w m none moment = subst (λ (o : Option Refusal). IsMomentBy 
 
 -- each moment of a query is the world at the beginning
 pub of_query : (command : Command) (w m : WorldState) → IsQuery command → IsMomentOf (Some command) w m → m ≡ w
-of_query command w m query moment = by (refusal command w.leaves) command query moment
+of_query command w m query moment = by (refusal command w.leaves) moment
   where
-    by : (o : Option Refusal) (command : Command) → IsQuery command → IsMomentBy o command w m → m ≡ w
-    by None (Test system) query moment = absurd query
-    by None (Boot system) query moment = absurd query
-    by None (DryActivate system) query moment = moment.step
-    by (Some why) command query moment = moment
+    by : (o : Option Refusal) → IsMomentBy o command w m → m ≡ w
+    by None moment = subst (λ b. IsStepIf b (set_to command w.leaves) (brought_to command w.leaves) w m) query moment.step
+    by (Some why) moment = moment

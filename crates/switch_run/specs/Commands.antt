@@ -3,12 +3,13 @@ use Rattle.std.specs.Prelude.{ℕ, List, [], ◌∷◌, codes, nat_eq, Option, N
 use Rattle.std.specs.Cmp.Lexicographic.{pointwise}
 use Rattle.generations.specs.Places.{system_of}
 use Rattle.switch_engine.specs.declared.command.Command.{Command}
-use Rattle.switch_engine.specs.declared.command.Command.TheVariants.{Test, Boot, DryActivate}
+use Rattle.switch_engine.specs.declared.command.Command.TheVariants.{Switch, Test, Boot, DryActivate}
 
 -- the command that a word gives for a system, or none
 abbrev pub command_for : List ℕ → List ℕ → Option Command
 command_for verb system =
-    if pointwise nat_eq verb (codes "test") then Some (Test system)
+    if pointwise nat_eq verb (codes "switch") then Some (Switch system)
+    else if pointwise nat_eq verb (codes "test") then Some (Test system)
     else if pointwise nat_eq verb (codes "boot") then Some (Boot system)
     else if pointwise nat_eq verb (codes "dry-activate") then Some (DryActivate system)
     else None

@@ -22,6 +22,9 @@ fn read_system(alloc: Global, word: &Text) -> Result<Option<SystemName>, AllocEr
 fn command_for(verb: &Text, system: SystemName) -> Option<Command>
     ensures { result ≡ command_for verb.now system }
 {
+    if verb.as_str() == "switch" {
+        return Some(Command::Switch(system));
+    }
     if verb.as_str() == "test" {
         return Some(Command::Test(system));
     }

@@ -91,6 +91,10 @@ module _ (system : Name) (is_system : IsSystem system) (w m : WorldState) (same 
   owed_before owed (lists, is) =
       (lists, record { listed = listed_before lists is.listed; is_owed = holds_before (λ (s : Systems) (states : Name → State). IsOwed s states lists owed) is.is_owed })
 
+  pub owed_after : (owed : Owed) → IsOwedBy w system owed → IsOwedBy m system owed
+  owed_after owed (lists, is) =
+      (lists, record { listed = listed_after lists is.listed; is_owed = holds_after (λ (s : Systems) (states : Name → State). IsOwed s states lists owed) is.is_owed })
+
   is_steady : IsSteadyWorld w system → IsSteadyWorld m system
   is_steady steady lists listed = holds_after (λ (s : Systems) (states : Name → State). IsSteady s states lists) (steady lists (listed_before lists listed))
 

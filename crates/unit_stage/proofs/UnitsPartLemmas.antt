@@ -15,11 +15,13 @@ use Rattle.switch_names.specs.Path.{is_below}
 use Rattle.switch_parts.specs.Leaves.{is_near}
 use Rattle.switch_parts.specs.Part.{IsOnly, IsSameFor}
 use Rattle.unit_stage.specs.Laws.{AreSameBeside, UnitMomentLaw, UnitsPartLaw}
+use Rattle.owed_plan.specs.declared.owed.Owed.{Owed}
+use Rattle.unit_stage.specs.Plan.{IsOwedBy}
 use Rattle.unit_stage.specs.Owned.{owns_units, reads_units, unit_places}
 use Rattle.unit_stage.specs.Owes.{IsPaid, Owes, OwesUnit, pays}
 use Rattle.unit_stage.specs.System.{IsSystem, current_place}
 use Rattle.unit_stage.specs.Units.{AreUnitsKept, AreUnitsUnderway, units_part}
-use Rattle.unit_stage.proofs.BegunLemmas.{begun_underway}
+use Rattle.unit_stage.proofs.BegunLemmas.{begun_underway, owed_after}
 use Rattle.unit_stage.proofs.FreeLemmas.{IsListLeaf, stays_free}
 use Rattle.unit_stage.proofs.MomentLemmas.{free_law, underway_law}
 use Rattle.unit_stage.proofs.OwnedLemmas.{not_reads_stage}
@@ -80,24 +82,29 @@ kept_then system w v m one then = record {
 pub reads_own : (q : Name) → owns_units q ≡ true → reads_units q ≡ true
 reads_own q own = or_left (owns_units q || is_near unit_places q) (is_below q (codes "nix/store")) (or_left (owns_units q) (is_near unit_places q) own)
 
-pub kept_same : (system : Name) (w m : WorldState) → IsSystem system → IsSameFor (units_part system) w m → AreUnitsKept system w m
-kept_same system w m is_system same = record {
-  free = stays_free system w m beside _ _ _ _ stand (IsListLeaf.Old refl) (IsListLeaf.Old refl) (IsListLeaf.Old refl) is_system;
-  underway = λ free steady.
-      begun_underway system is_system w m beside stand (same.manager refl)
-      (stays_free system w m beside _ _ _ _ stand (IsListLeaf.Old refl) (IsListLeaf.Old refl) (IsListLeaf.Old refl) is_system free) steady;
-}
-  where
-    beside : AreSameBeside w m
-    beside q read none = same.leaves q read
+module _ (system : Name) (w m : WorldState) (is_system : IsSystem system) (same : IsSameFor (units_part system) w m) where
+  same_beside : AreSameBeside w m
+  same_beside q read none = same.leaves q read
 
-    stand : Stand m.leaves (get w.leaves current_place) (get w.leaves starts_place) (get w.leaves restarts_place) (get w.leaves reloads_place)
-    stand = record {
-      current = same.leaves current_place (reads_own current_place own_current);
-      starts = same.leaves starts_place (reads_own starts_place (own_list Starts));
-      restarts = same.leaves restarts_place (reads_own restarts_place (own_list Restarts));
-      reloads = same.leaves reloads_place (reads_own reloads_place (own_list Reloads));
-    }
+  same_stand : Stand m.leaves (get w.leaves current_place) (get w.leaves starts_place) (get w.leaves restarts_place) (get w.leaves reloads_place)
+  same_stand = record {
+    current = same.leaves current_place (reads_own current_place own_current);
+    starts = same.leaves starts_place (reads_own starts_place (own_list Starts));
+    restarts = same.leaves restarts_place (reads_own restarts_place (own_list Restarts));
+    reloads = same.leaves reloads_place (reads_own reloads_place (own_list Reloads));
+  }
+
+  pub kept_same : AreUnitsKept system w m
+  kept_same = record {
+    free = stays_free system w m same_beside _ _ _ _ same_stand (IsListLeaf.Old refl) (IsListLeaf.Old refl) (IsListLeaf.Old refl) is_system;
+    underway = λ free steady.
+        begun_underway system is_system w m same_beside same_stand (same.manager refl)
+        (stays_free system w m same_beside _ _ _ _ same_stand (IsListLeaf.Old refl) (IsListLeaf.Old refl) (IsListLeaf.Old refl) is_system free) steady;
+  }
+
+  -- the same is owed
+  pub owed_same : (owed : Owed) → IsOwedBy w system owed → IsOwedBy m system owed
+  owed_same = owed_after system is_system w m same_beside same_stand (same.manager refl)
 
 pub units_part_law : UnitsPartLaw
 units_part_law system is_system = record {

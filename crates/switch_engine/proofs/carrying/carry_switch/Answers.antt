@@ -12,9 +12,6 @@ use Rattle.unit_defs.specs.Defs.{AreDefsOf}
 use Rattle.unit_stage.proofs.CauseLemmas.{cause_end, handed}
 use Rattle.switch_engine.proofs.carrying.carry_switch.Goals as goal
 
-pub returns-in_err-links-clause-moments : goal.returns-in_err-links-clause-moments
-returns-in_err-links-clause-moments g c = started (IsSwitchMoment c.args.system.now c.args.plan.now.owed) (λ w is. moment_self c.args.system.now c.args.plan.now.owed w)
-
 pub returns-in_err-states-clause-moments : goal.returns-in_err-states-clause-moments
 returns-in_err-states-clause-moments g c =
     let way = c.switch_units.ensures.moments in
@@ -29,16 +26,6 @@ pub returns-clause-moments : goal.returns-clause-moments
 returns-clause-moments g c =
     let way = c.switch_units.ensures.moments in
     goes_on_same way way.tells c.units.ensures.reads.moments (IsSwitchMoment c.args.system.now c.args.plan.now.owed) (λ w m is moment. moment) (λ w v is moment. moment)
-
-pub returns-clause-verdict : goal.returns-clause-verdict
-returns-clause-verdict g c = record {
-  has = λ w is.
-      let plan = c.args.plan.now in let planned = c.requires.planned.has w is in let there = c.in_ok-switch_units.ensures.ok.to w is in
-      let both = left_failed c.args.system.now plan.owed w there.0 c.defs.result.now c.in_ok-states.states
-      (subst (λ (units : List Unit). AreDefsOf w.leaves c.args.system.now units) (sym c.defs.ensures) planned.defs)
-      (c.in_ok-states.ensures.states.has there.0 there.1) there.2.units in
-      (λ failed. both.0 (c.has_failed-failed.ensures.0 failed), λ left. c.has_failed-failed.ensures.1 (both.1 left));
-}
 
 pub returns-clause-states : goal.returns-clause-states
 returns-clause-states g c =

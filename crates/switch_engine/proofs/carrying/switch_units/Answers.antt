@@ -13,11 +13,11 @@ pub stop_units-requires-clause-lists : goal.stop_units-requires-clause-lists
 stop_units-requires-clause-lists g c =
     let plan = c.args.plan.now in let system = c.args.system.now in let calls = c.calls_of-calls.result in let lists = c.recorded.result.now in
     let leaf = c.args.links.now.definitions in let is_leaf = ap (λ (links : Links). links.definitions) c.requires.links in
-    let given = told_as c.requires.planned (IsGiven plan.owed lists calls.stops.now calls.reloads.now calls.restarts.now calls.starts.now)
-    (λ w is planned. record {
-      recorded = c.recorded.ensures ∙ planned.recorded;
-      calls = c.calls_of-calls.ensures (state_of w.manager.states) planned.duties;
-      clear = all_clear w.leaves (c.requires.free.has w is);
+    let given = told_as c.requires.can (IsGiven plan.owed lists calls.stops.now calls.reloads.now calls.restarts.now calls.starts.now)
+    (λ w is can. record {
+      recorded = c.recorded.ensures ∙ can.recorded;
+      calls = c.calls_of-calls.ensures (state_of w.manager.states) can.duties;
+      clear = all_clear w.leaves can.way;
     }) in
     lists_can system plan.owed lists calls.stops.now calls.reloads.now calls.restarts.now calls.starts.now leaf is_leaf given
 
@@ -25,11 +25,11 @@ pub stop_units-requires-clause-calls : goal.stop_units-requires-clause-calls
 stop_units-requires-clause-calls g c =
     let plan = c.args.plan.now in let system = c.args.system.now in let calls = c.calls_of-calls.result in let lists = c.recorded.result.now in
     let leaf = c.args.links.now.definitions in let is_leaf = ap (λ (links : Links). links.definitions) c.requires.links in
-    let given = told_as c.requires.planned (IsGiven plan.owed lists calls.stops.now calls.reloads.now calls.restarts.now calls.starts.now)
-    (λ w is planned. record {
-      recorded = c.recorded.ensures ∙ planned.recorded;
-      calls = c.calls_of-calls.ensures (state_of w.manager.states) planned.duties;
-      clear = all_clear w.leaves (c.requires.free.has w is);
+    let given = told_as c.requires.can (IsGiven plan.owed lists calls.stops.now calls.reloads.now calls.restarts.now calls.starts.now)
+    (λ w is can. record {
+      recorded = c.recorded.ensures ∙ can.recorded;
+      calls = c.calls_of-calls.ensures (state_of w.manager.states) can.duties;
+      clear = all_clear w.leaves can.way;
     }) in
     stops_can system plan.owed lists calls.stops.now calls.reloads.now calls.restarts.now calls.starts.now leaf is_leaf given
 
@@ -37,11 +37,11 @@ pub returns-in_err-stop_units-clause-moments : goal.returns-in_err-stop_units-cl
 returns-in_err-stop_units-clause-moments g c =
     let plan = c.args.plan.now in let system = c.args.system.now in let calls = c.calls_of-calls.result in let lists = c.recorded.result.now in
     let leaf = c.args.links.now.definitions in let is_leaf = ap (λ (links : Links). links.definitions) c.requires.links in
-    let given = told_as c.requires.planned (IsGiven plan.owed lists calls.stops.now calls.reloads.now calls.restarts.now calls.starts.now)
-    (λ w is planned. record {
-      recorded = c.recorded.ensures ∙ planned.recorded;
-      calls = c.calls_of-calls.ensures (state_of w.manager.states) planned.duties;
-      clear = all_clear w.leaves (c.requires.free.has w is);
+    let given = told_as c.requires.can (IsGiven plan.owed lists calls.stops.now calls.reloads.now calls.restarts.now calls.starts.now)
+    (λ w is can. record {
+      recorded = c.recorded.ensures ∙ can.recorded;
+      calls = c.calls_of-calls.ensures (state_of w.manager.states) can.duties;
+      clear = all_clear w.leaves can.way;
     }) in
     first_way system plan.owed lists calls.stops.now calls.reloads.now calls.restarts.now calls.starts.now leaf is_leaf given c.stop_units.ensures.moments
 
@@ -49,11 +49,11 @@ pub put_definitions-requires : goal.put_definitions-requires
 put_definitions-requires g c =
     let plan = c.args.plan.now in let system = c.args.system.now in let calls = c.calls_of-calls.result in let lists = c.recorded.result.now in
     let leaf = c.args.links.now.definitions in let is_leaf = ap (λ (links : Links). links.definitions) c.requires.links in
-    let given = told_as c.requires.planned (IsGiven plan.owed lists calls.stops.now calls.reloads.now calls.restarts.now calls.starts.now)
-    (λ w is planned. record {
-      recorded = c.recorded.ensures ∙ planned.recorded;
-      calls = c.calls_of-calls.ensures (state_of w.manager.states) planned.duties;
-      clear = all_clear w.leaves (c.requires.free.has w is);
+    let given = told_as c.requires.can (IsGiven plan.owed lists calls.stops.now calls.reloads.now calls.restarts.now calls.starts.now)
+    (λ w is can. record {
+      recorded = c.recorded.ensures ∙ can.recorded;
+      calls = c.calls_of-calls.ensures (state_of w.manager.states) can.duties;
+      clear = all_clear w.leaves can.way;
     }) in
     definitions_can system plan.owed lists calls.stops.now calls.reloads.now calls.restarts.now calls.starts.now leaf is_leaf given c.stop_units.ensures.moments c.in_ok-stop_units.ensures.ok
 
@@ -61,11 +61,11 @@ pub returns-in_err-put_definitions-clause-moments : goal.returns-in_err-put_defi
 returns-in_err-put_definitions-clause-moments g c =
     let plan = c.args.plan.now in let system = c.args.system.now in let calls = c.calls_of-calls.result in let lists = c.recorded.result.now in
     let leaf = c.args.links.now.definitions in let is_leaf = ap (λ (links : Links). links.definitions) c.requires.links in
-    let given = told_as c.requires.planned (IsGiven plan.owed lists calls.stops.now calls.reloads.now calls.restarts.now calls.starts.now)
-    (λ w is planned. record {
-      recorded = c.recorded.ensures ∙ planned.recorded;
-      calls = c.calls_of-calls.ensures (state_of w.manager.states) planned.duties;
-      clear = all_clear w.leaves (c.requires.free.has w is);
+    let given = told_as c.requires.can (IsGiven plan.owed lists calls.stops.now calls.reloads.now calls.restarts.now calls.starts.now)
+    (λ w is can. record {
+      recorded = c.recorded.ensures ∙ can.recorded;
+      calls = c.calls_of-calls.ensures (state_of w.manager.states) can.duties;
+      clear = all_clear w.leaves can.way;
     }) in
     second_way system plan.owed lists calls.stops.now calls.reloads.now calls.restarts.now calls.starts.now leaf is_leaf given c.stop_units.ensures.moments c.in_ok-stop_units.ensures.ok c.put_definitions.ensures.moments
 
@@ -73,11 +73,11 @@ pub bring_units-requires-clause-can : goal.bring_units-requires-clause-can
 bring_units-requires-clause-can g c =
     let plan = c.args.plan.now in let system = c.args.system.now in let calls = c.calls_of-calls.result in let lists = c.recorded.result.now in
     let leaf = c.args.links.now.definitions in let is_leaf = ap (λ (links : Links). links.definitions) c.requires.links in
-    let given = told_as c.requires.planned (IsGiven plan.owed lists calls.stops.now calls.reloads.now calls.restarts.now calls.starts.now)
-    (λ w is planned. record {
-      recorded = c.recorded.ensures ∙ planned.recorded;
-      calls = c.calls_of-calls.ensures (state_of w.manager.states) planned.duties;
-      clear = all_clear w.leaves (c.requires.free.has w is);
+    let given = told_as c.requires.can (IsGiven plan.owed lists calls.stops.now calls.reloads.now calls.restarts.now calls.starts.now)
+    (λ w is can. record {
+      recorded = c.recorded.ensures ∙ can.recorded;
+      calls = c.calls_of-calls.ensures (state_of w.manager.states) can.duties;
+      clear = all_clear w.leaves can.way;
     }) in
     units_can system plan.owed lists calls.stops.now calls.reloads.now calls.restarts.now calls.starts.now leaf is_leaf given c.stop_units.ensures.moments c.in_ok-stop_units.ensures.ok c.put_definitions.ensures.moments c.in_ok-put_definitions.ensures.ok
 
@@ -85,11 +85,11 @@ pub returns-in_err-bring_units-clause-moments : goal.returns-in_err-bring_units-
 returns-in_err-bring_units-clause-moments g c =
     let plan = c.args.plan.now in let system = c.args.system.now in let calls = c.calls_of-calls.result in let lists = c.recorded.result.now in
     let leaf = c.args.links.now.definitions in let is_leaf = ap (λ (links : Links). links.definitions) c.requires.links in
-    let given = told_as c.requires.planned (IsGiven plan.owed lists calls.stops.now calls.reloads.now calls.restarts.now calls.starts.now)
-    (λ w is planned. record {
-      recorded = c.recorded.ensures ∙ planned.recorded;
-      calls = c.calls_of-calls.ensures (state_of w.manager.states) planned.duties;
-      clear = all_clear w.leaves (c.requires.free.has w is);
+    let given = told_as c.requires.can (IsGiven plan.owed lists calls.stops.now calls.reloads.now calls.restarts.now calls.starts.now)
+    (λ w is can. record {
+      recorded = c.recorded.ensures ∙ can.recorded;
+      calls = c.calls_of-calls.ensures (state_of w.manager.states) can.duties;
+      clear = all_clear w.leaves can.way;
     }) in
     third_way system plan.owed lists calls.stops.now calls.reloads.now calls.restarts.now calls.starts.now leaf is_leaf given c.stop_units.ensures.moments c.in_ok-stop_units.ensures.ok c.put_definitions.ensures.moments c.in_ok-put_definitions.ensures.ok c.bring_units.ensures.moments
 
@@ -97,11 +97,11 @@ pub returns-clause-ok : goal.returns-clause-ok
 returns-clause-ok g c =
     let plan = c.args.plan.now in let system = c.args.system.now in let calls = c.calls_of-calls.result in let lists = c.recorded.result.now in
     let leaf = c.args.links.now.definitions in let is_leaf = ap (λ (links : Links). links.definitions) c.requires.links in
-    let given = told_as c.requires.planned (IsGiven plan.owed lists calls.stops.now calls.reloads.now calls.restarts.now calls.starts.now)
-    (λ w is planned. record {
-      recorded = c.recorded.ensures ∙ planned.recorded;
-      calls = c.calls_of-calls.ensures (state_of w.manager.states) planned.duties;
-      clear = all_clear w.leaves (c.requires.free.has w is);
+    let given = told_as c.requires.can (IsGiven plan.owed lists calls.stops.now calls.reloads.now calls.restarts.now calls.starts.now)
+    (λ w is can. record {
+      recorded = c.recorded.ensures ∙ can.recorded;
+      calls = c.calls_of-calls.ensures (state_of w.manager.states) can.duties;
+      clear = all_clear w.leaves can.way;
     }) in
     ends system plan.owed lists calls.stops.now calls.reloads.now calls.restarts.now calls.starts.now leaf is_leaf given c.stop_units.ensures.moments c.in_ok-stop_units.ensures.ok c.put_definitions.ensures.moments c.in_ok-put_definitions.ensures.ok c.in_ok-bring_units.ensures.ok
 
@@ -109,11 +109,11 @@ pub returns-clause-moments : goal.returns-clause-moments
 returns-clause-moments g c =
     let plan = c.args.plan.now in let system = c.args.system.now in let calls = c.calls_of-calls.result in let lists = c.recorded.result.now in
     let leaf = c.args.links.now.definitions in let is_leaf = ap (λ (links : Links). links.definitions) c.requires.links in
-    let given = told_as c.requires.planned (IsGiven plan.owed lists calls.stops.now calls.reloads.now calls.restarts.now calls.starts.now)
-    (λ w is planned. record {
-      recorded = c.recorded.ensures ∙ planned.recorded;
-      calls = c.calls_of-calls.ensures (state_of w.manager.states) planned.duties;
-      clear = all_clear w.leaves (c.requires.free.has w is);
+    let given = told_as c.requires.can (IsGiven plan.owed lists calls.stops.now calls.reloads.now calls.restarts.now calls.starts.now)
+    (λ w is can. record {
+      recorded = c.recorded.ensures ∙ can.recorded;
+      calls = c.calls_of-calls.ensures (state_of w.manager.states) can.duties;
+      clear = all_clear w.leaves can.way;
     }) in
     third_way system plan.owed lists calls.stops.now calls.reloads.now calls.restarts.now calls.starts.now leaf is_leaf given c.stop_units.ensures.moments c.in_ok-stop_units.ensures.ok c.put_definitions.ensures.moments c.in_ok-put_definitions.ensures.ok c.bring_units.ensures.moments
 

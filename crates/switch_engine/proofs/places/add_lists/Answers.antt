@@ -1,12 +1,12 @@
 use Rattle.std.proofs.Common.{ap, true, [], ◌∷◌, ◌++◌, ◌∙◌}
 use Rattle.std.proofs.lemmas.Result.{on_ok_weaker}
 use Rattle.tree_put.specs.WrittenPlace.{written}
-use Rattle.switch_engine.specs.Places.{written_lists}
+use Rattle.switch_engine.specs.Places.{list_places}
 use Rattle.switch_engine.proofs.PlaceLemmas.{three_more}
 use Rattle.switch_engine.proofs.places.add_lists.Goals as goal
 
 pub returns : goal.returns
-unfolding written_lists
+unfolding list_places
 returns c =
     on_ok_weaker c.push-3.result (λ pushed.
     three_more _ _ _ _ _ _ _ c.in_ok-push.ensures.ok c.in_ok-push-2.ensures.ok pushed

@@ -1,11 +1,21 @@
-use Rattle.std.proofs.Common.{◌≡◌, Err, Some, sym, ap, subst, ◌∙◌, ⊎_elim}
+use Rattle.std.proofs.Common.{◌≡◌, Err, None, Option, Some, sym, ap, subst, ◌∙◌}
 use Rattle.std.proofs.lemmas.Result.{err_from_is_err_and}
+use Rattle.generations.specs.declared.gens.Gens.{Gens}
+use Rattle.host_trait.specs.declared.tree.HostFault.TheVariants.{Device}
 use Rattle.host_trait.specs.Host.{Told}
-use Rattle.host_trait.proofs.Readings.{nothing_read_of}
+use Rattle.host_trait.specs.World.{WorldState}
+use Rattle.host_trait.proofs.Moments.{told_as, told_before}
+use Rattle.host_trait.proofs.Readings.{nothing_read_of, read_of, reads_of, reads_then, told_read}
+use Rattle.switch_engine.specs.Commands.{new_system, row_of}
+use Rattle.generations.specs.Gens.{number_for_in}
 use Rattle.switch_engine.specs.declared.command.Command.{Command}
-use Rattle.switch_engine.specs.Rows.{parts_refusal, row_of}
-use Rattle.switch_parts.specs.declared.plan_fault.PlanFault.TheVariants.{Refused}
-use Rattle.unit_stage.proofs.CauseLemmas.{memory_no_device}
+use Rattle.switch_engine.specs.Plan.{ArePlanned, IsNumbered, IsProfilePlanned}
+use Rattle.switch_names.specs.Names.{Name}
+use Rattle.switch_engine.specs.Rows.{parts_refusal}
+use Rattle.switch_engine.proofs.PlanLemmas.{full_refused, not_refused, same_reason, switch_refused, way_refused}
+use Rattle.switch_parts.specs.declared.plan_fault.PlanFault.TheVariants.{Host, Refused}
+use Rattle.switch_parts.specs.declared.refusal.Refusal.TheVariants.{GenerationsFull}
+use Rattle.unit_stage.proofs.CauseLemmas.{handed, memory_no_device, no_err}
 use Rattle.unit_stage.proofs.KnownLemmas.{same_fault}
 use Rattle.switch_engine.proofs.planning.plan_parts.Goals as goal
 
@@ -13,17 +23,77 @@ pub returns-in_err-planned-clause-reads : goal.returns-in_err-planned-clause-rea
 returns-in_err-planned-clause-reads g c =
     let p = err_from_is_err_and c.from_residual.result c.from_residual.ensures.1 in nothing_read_of _ (λ e. memory_no_device c.from_residual.result p.0 p.1 p.2 e)
 
-pub returns-in_err-profile-in-Boot-clause-refused : goal.returns-in_err-profile-in-Boot-clause-refused
-returns-in_err-profile-in-Boot-clause-refused g c why e =
-    let p = err_from_is_err_and c.from_residual-in_err-profile-in-Boot.result c.from_residual-in_err-profile-in-Boot.ensures.1 in
-    subst (λ (command : Command). Told (g.H.Tree.host c.args.host.now) (λ w. parts_refusal (row_of command w.leaves) w.leaves ≡ Some why)) (sym c.in-Boot.is)
-    (c.in_err-profile-in-Boot.ensures.refused why (ap (λ f. Err f) (sym p.2 ∙ same_fault p.0 (Refused why) (sym p.1 ∙ e))))
+pub returns-in_err-check_places-clause-refused : goal.returns-in_err-check_places-clause-refused
+returns-in_err-check_places-clause-refused g c why e =
+    let p = err_from_is_err_and c.from_residual-in_err-check_places.result c.from_residual-in_err-check_places.ensures.1 in
+    let command = c.args.command.now in
+    told_as (told_read c.gens_for.ensures.reads (c.in_err-check_places.ensures.refused why (ap (λ f. Err f) (sym p.2 ∙ same_fault p.0 (Refused why) (sym p.1 ∙ e)))))
+    (λ w. parts_refusal command w.leaves ≡ Some why)
+    (λ w is way. way_refused (row_of command).switches (row_of command).sets (new_system command w.leaves) w.leaves why way)
 
-pub returns-in_err-units-in-Test-clause-refused : goal.returns-in_err-units-in-Test-clause-refused
-returns-in_err-units-in-Test-clause-refused g c why e =
-    let p = err_from_is_err_and c.from_residual-in_err-units-in-Test.result c.from_residual-in_err-units-in-Test.ensures.1 in
-    let refused = c.in_err-units-in-Test.ensures.refused why (ap (λ f. Err f) (sym p.2 ∙ same_fault p.0 (Refused why) (sym p.1 ∙ e))) in
-    ⊎_elim
-    (λ is. subst (λ (command : Command). Told (g.H.Tree.host c.args.host.now) (λ w. parts_refusal (row_of command w.leaves) w.leaves ≡ Some why)) (sym is) refused)
-    (λ is. subst (λ (command : Command). Told (g.H.Tree.host c.args.host.now) (λ w. parts_refusal (row_of command w.leaves) w.leaves ≡ Some why)) (sym is) refused)
-    c.in-Test.is
+pub returns-in_err-check_places-clause-reads : goal.returns-in_err-check_places-clause-reads
+returns-in_err-check_places-clause-reads g c =
+    let p = err_from_is_err_and c.from_residual-in_err-check_places.result c.from_residual-in_err-check_places.ensures.1 in
+    reads_of (reads_then (read_of c.gens_for.ensures.reads _ (λ e. e)) c.in_err-check_places.ensures.reads) _ (λ e. handed _ p.0 _ _ p.1 p.2 e)
+
+pub returns-in_err-units-clause-refused : goal.returns-in_err-units-clause-refused
+returns-in_err-units-clause-refused g c why e =
+    let p = err_from_is_err_and c.from_residual-in_err-units.result c.from_residual-in_err-units.ensures.1 in
+    let command = c.args.command.now in
+    let refused = c.in_err-units.ensures.refused why (ap (λ f. Err f) (sym p.2 ∙ same_fault p.0 (Refused why) (sym p.1 ∙ e))) in
+    let way = told_read c.gens_for.ensures.reads c.in_ok-check_places.ensures.free in
+    told_as (told_read c.gens_for.ensures.reads (told_before c.check_places.ensures.reads.moments refused)) (λ w. parts_refusal command w.leaves ≡ Some why)
+    (λ w is units. switch_refused (row_of command).switches (row_of command).sets (new_system command w.leaves) w.leaves why (way.has w is) units)
+
+pub returns-in_err-units-clause-reads : goal.returns-in_err-units-clause-reads
+returns-in_err-units-clause-reads g c =
+    let p = err_from_is_err_and c.from_residual-in_err-units.result c.from_residual-in_err-units.ensures.1 in
+    reads_of (reads_then (reads_then (read_of c.gens_for.ensures.reads _ (λ e. e)) c.check_places.ensures.reads) c.in_err-units.ensures.reads) _ (λ e. handed _ p.0 _ _ p.1 p.2 e)
+
+pub returns-in_err-profile-clause-reads : goal.returns-in_err-profile-clause-reads
+returns-in_err-profile-clause-reads g c =
+    let p = err_from_is_err_and c.from_residual-in_err-profile.result c.from_residual-in_err-profile.ensures.1 in
+    reads_of (reads_then (reads_then (read_of c.gens_for.ensures.reads _ (λ e. e)) c.check_places.ensures.reads) c.plan_switch.ensures.reads) _
+    (λ e. let none = c.in_err-profile.ensures.refused (Host Device) (ap (λ f. Err f) (sym p.2 ∙ same_fault p.0 (Host Device) (sym p.1 ∙ e))) in absurd (let never : Host Device ≡ Refused GenerationsFull = none.0 in cc))
+
+pub returns-in_err-profile-clause-refused : goal.returns-in_err-profile-clause-refused
+returns-in_err-profile-clause-refused g c why e =
+    let p = err_from_is_err_and c.from_residual-in_err-profile.result c.from_residual-in_err-profile.ensures.1 in
+    let command = c.args.command.now in
+    let none = c.in_err-profile.ensures.refused (Refused why) (ap (λ f. Err f) (sym p.2 ∙ same_fault p.0 (Refused why) (sym p.1 ∙ e))) in
+    let same : why ≡ GenerationsFull = same_reason why GenerationsFull none.0 in
+    let way = told_read c.gens_for.ensures.reads c.in_ok-check_places.ensures.free in
+    let gens = c.in_ok-gens.ensures.gens in
+    told_as (told_read c.gens_for.ensures.reads (told_before c.check_places.ensures.reads.moments c.in_ok-units.ensures.not_refused)) (λ w. parts_refusal command w.leaves ≡ Some why)
+    (λ w is units. full_refused (row_of command).switches (row_of command).sets _ (new_system command w.leaves) w (c.system.ensures w.leaves) (way.has w is) units why
+    (none.1 (row_of command).sets w (gens.has w is)) (sym same))
+
+pub returns-clause-plan : goal.returns-clause-plan
+returns-clause-plan g c =
+    let command = c.args.command.now in
+    let units = told_read c.gens_for.ensures.reads (told_before c.check_places.ensures.reads.moments c.in_ok-units.ensures.plan) in
+    let gens = c.in_ok-gens.ensures.gens in
+    told_as units (λ w. ArePlanned command w c.new.result)
+    (λ w is planned. subst (ArePlanned command w) (sym c.new.ensures) (record {
+      units = planned;
+      profile = subst (λ (system : Name). IsProfilePlanned (row_of command).sets system w c.in_ok-profile.profile) (c.system.ensures w.leaves) (c.in_ok-profile.ensures.plan (row_of command).sets w (gens.has w is));
+    }))
+
+pub returns-clause-not_refused : goal.returns-clause-not_refused
+returns-clause-not_refused g c =
+    let command = c.args.command.now in
+    let way = told_read c.gens_for.ensures.reads c.in_ok-check_places.ensures.free in
+    let gens = c.in_ok-gens.ensures.gens in
+    told_as (told_read c.gens_for.ensures.reads (told_before c.check_places.ensures.reads.moments c.in_ok-units.ensures.not_refused)) (λ w. parts_refusal command w.leaves ≡ None)
+    (λ w is units. not_refused (row_of command).switches (row_of command).sets _ (new_system command w.leaves) w (c.system.ensures w.leaves) (way.has w is) units
+    (c.in_ok-profile.ensures.not_refused (row_of command).sets w (gens.has w is)))
+
+pub returns-clause-numbered : goal.returns-clause-numbered
+returns-clause-numbered g c =
+    subst IsNumbered (sym c.new.ensures)
+    (λ leaves profile some. subst (λ (system : Name). number_for_in profile.gens.list system ≡ Some profile.number)
+    (c.system.ensures leaves ∙ ap (λ (command : Command). new_system command leaves) (sym c.in_ok-planned.ensures)) (c.in_ok-profile.ensures.numbered profile some))
+
+pub returns-clause-reads : goal.returns-clause-reads
+returns-clause-reads g c =
+    reads_of (reads_then (reads_then (read_of c.gens_for.ensures.reads _ (λ e. e)) c.check_places.ensures.reads) c.plan_switch.ensures.reads) _ (λ e. absurd (no_err _ (Host Device) e))

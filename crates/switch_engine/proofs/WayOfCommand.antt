@@ -1,0 +1,104 @@
+-- The steps of a planned command over a host: a set of the profile, and then a switch of the units.
+use Rattle.std.proofs.Common.{◌≡◌, ◌↔◌, ◌&&◌, Bool, List, IfOk, IsTrue, OnOk, true, false, Option, Some, Result, Ok, Err, refl, sym, ap, subst, ◌∙◌}
+use Rattle.std.specs.FinMap.{empty}
+use Rattle.host_trait.specs.declared.tree.HostFault.{HostFault}
+use Rattle.host_trait.specs.Host.{HostState, Leads, Passes, Told}
+use Rattle.host_trait.specs.World.{Leaves, WorldState, seen}
+use Rattle.host_trait.proofs.Moments.{goes_on, leads_then, passes_as, started, told_after, told_as}
+use Rattle.owed_plan.specs.declared.owed.Owed.{Owed}
+use Rattle.switch_engine.specs.declared.outcome.Outcome.{Outcome}
+use Rattle.switch_engine.specs.declared.plan.Plan.{Plan}
+use Rattle.switch_engine.specs.Carried.{CanSetBy, CanSwitch, IsSwitchMomentIf, IsSwitchedIf, sets_by}
+use Rattle.switch_engine.specs.Commands.{if_so, new_system, row_of}
+use Rattle.switch_engine.specs.Final.{HasFailed, IsEndOf, LeavesFailed, LeavesFailedAt}
+use Rattle.switch_engine.specs.Moments.{IsMomentOf, IsSetStep, set_world}
+use Rattle.switch_engine.specs.Plan.{IsPlanOf}
+use Rattle.switch_engine.proofs.CarryLemmas.{IsCarriedFrom, can_set, can_switch, carried_from, changes_on, ends, none_failed, same_manager, set_free, set_moment, sets_same, switch_free, switch_moment, verdict}
+use Rattle.switch_engine.proofs.LawLemmas.{begins_moment}
+use Rattle.switch_names.specs.Names.{Name}
+use Rattle.unit_defs.specs.declared.unit.Unit.{Unit}
+
+-- what an outcome says of the units, where they were switched or not
+pub failed_of : (switches : Bool) (defs : List Unit) (r : Result Outcome HostFault) → IfOk r (λ outcome. IsTrue switches → IsTrue outcome.failed ↔ HasFailed defs outcome.states) →
+    (switches ≡ false → IfOk r (λ outcome. outcome ≡ record { states = empty; failed = false })) → IfOk r (λ outcome. IsTrue outcome.failed ↔ HasFailed defs outcome.states)
+failed_of true defs (Ok outcome) failed none = failed refl
+failed_of false defs (Ok outcome) failed none = none_failed defs outcome (none refl)
+failed_of switches defs (Err f) failed none = tt
+
+module _ (plan : Plan) (changes : (row_of plan.command).changes ≡ false → ⊥) {a : HostState} (planned : Told a (λ w. IsPlanOf w plan)) where
+  abbrev switches : Bool
+  switches = (row_of plan.command).switches
+
+  abbrev sets : Bool
+  sets = (row_of plan.command).sets
+
+  abbrev named : WorldState → Name
+  named w = new_system plan.command w.leaves
+
+  abbrev owed : Owed
+  owed = plan.units.owed
+
+  from : (w : WorldState) → a.world ≡ Some w → IsCarriedFrom plan.command owed w
+  from w is = carried_from plan w (planned.has w is) changes
+
+  pub begins : Passes a a (IsMomentOf plan.command)
+  begins = started (IsMomentOf plan.command) (λ w is. begins_moment plan.command w (planned.has w is).not_refused)
+
+  module _ (system : Name) (to : (leaves : Leaves) → system ≡ new_system plan.command leaves) where
+    pub profile_can : Told a (CanSetBy system plan.profile)
+    profile_can =
+        told_as planned (CanSetBy system plan.profile)
+        (λ w is planned. subst (λ s. CanSetBy s plan.profile w) (sym (to w.leaves))
+        (can_set sets (named w) w plan.profile planned.planned.profile (set_free plan.command owed w (from w is))))
+
+    same_set : (w : WorldState) → a.world ≡ Some w → sets_by system plan.profile ≡ if_so sets (named w)
+    same_set w is = ap (λ s. sets_by s plan.profile) (to w.leaves) ∙ sets_same sets (named w) w plan.profile (planned.has w is).planned.profile
+
+    module _ {b : HostState} (set_way : Passes a b (IsSetStep (sets_by system plan.profile))) where
+      set_as : (w m : WorldState) → a.world ≡ Some w → IsSetStep (sets_by system plan.profile) w m → IsMomentOf plan.command w m
+      set_as w m is step = set_moment plan.command owed w (from w is) m (subst (λ (to : Option Name). IsSetStep to w m) (same_set w is) step)
+
+      pub set_moments : Passes a b (IsMomentOf plan.command)
+      set_moments = passes_as set_way (IsMomentOf plan.command) set_as
+
+      module _ (led : Leads a b (λ w u. seen u ≡ set_world (sets_by system plan.profile) w)) where
+        came : (w u : WorldState) → a.world ≡ Some w → seen u ≡ set_world (sets_by system plan.profile) w → seen u ≡ set_world (if_so sets (named w)) w
+        came w u is set = subst (λ (to : Option Name). seen u ≡ set_world to w) (same_set w is) set
+
+        pub units_can : switches ≡ true → Told b (CanSwitch plan.units)
+        units_can on =
+            told_after set_way led (CanSwitch plan.units)
+            (λ w u is set. can_switch switches (named w) w u plan.units (planned.has w is).planned.units (same_manager plan.command owed w (from w is) u (came w u is set))
+            (switch_free plan.command owed w (from w is) u (came w u is set)) on)
+
+        module _ (by : Bool) (is_by : by ≡ switches) (last : Name) (to_last : (leaves : Leaves) → last ≡ new_system plan.command leaves) where
+          moment_as : (w u m : WorldState) → a.world ≡ Some w → IsSwitchMomentIf by last owed u m → IsSwitchMomentIf switches (named w) owed u m
+          moment_as w u m is moment = subst (λ b. IsSwitchMomentIf b (named w) owed u m) is_by (subst (λ s. IsSwitchMomentIf by s owed u m) (to_last w.leaves) moment)
+
+          end_as : (w u v : WorldState) → a.world ≡ Some w → IsSwitchedIf by last owed u v → IsSwitchedIf switches (named w) owed u v
+          end_as w u v is end = subst (λ b. IsSwitchedIf b (named w) owed u v) is_by (subst (λ s. IsSwitchedIf by s owed u v) (to_last w.leaves) end)
+
+          pub all_moments : {d : HostState} → Passes b d (IsSwitchMomentIf by last owed) → Passes a d (IsMomentOf plan.command)
+          all_moments second =
+              goes_on set_way led second (IsMomentOf plan.command) set_as
+              (λ w u m is is_u set moment. switch_moment plan.command owed w (from w is) u (came w u is set) m (moment_as w u m is moment))
+
+          pub comes_to_end : {d : HostState} → Leads b d (IsSwitchedIf by last owed) → Leads a d (IsEndOf plan.command)
+          comes_to_end second =
+              leads_then led second (IsEndOf plan.command)
+              (λ w u v is is_u set end. ends plan.command owed w (from w is) u (came w u is set) v (end_as w u v is end))
+
+          pub verdict_of : (d : HostState) (r : Result Outcome HostFault) → OnOk r (Leads b d (IsSwitchedIf by last owed)) → IfOk r (λ outcome. IsTrue by → Told d (λ v. outcome.states ≡ v.manager.states)) →
+              IfOk r (λ outcome. IsTrue by → IsTrue outcome.failed ↔ HasFailed plan.units.defs outcome.states) → (by ≡ false → IfOk r (λ outcome. outcome ≡ record { states = empty; failed = false })) →
+              IfOk r (λ outcome. Told a (λ w. IsTrue outcome.failed ↔ LeavesFailed plan.command w))
+          verdict_of d (Err f) second states failed none = tt
+          verdict_of d (Ok outcome) second states failed none = record {
+            has = λ w is.
+                let u = led.to w is in
+                let v = second.to u.0 u.1 in
+                subst (λ b. IsTrue outcome.failed ↔ LeavesFailedAt (if_so (b && switches) (named w)) w) (sym (changes_on plan.command changes))
+                (verdict switches (named w) plan.units w u.0 v.0 outcome (planned.has w is).planned.units (same_manager plan.command owed w (from w is) u.0 (came w u.0 is u.2)) (end_as w u.0 v.0 is v.2)
+                (λ on. (states (is_by ∙ on)).has v.0 v.1)
+                (failed_of by plan.units.defs (Ok outcome) failed none)
+                (λ off. none (is_by ∙ off)));
+          }

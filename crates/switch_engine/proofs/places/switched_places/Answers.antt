@@ -1,0 +1,13 @@
+use Rattle.std.proofs.Common.{[], ◌++◌, ◌∙◌, ap, subst, sym}
+use Rattle.generations.proofs.PlacesLemmas.{apart_joined}
+use Rattle.tree_put.specs.WrittenPlace.{AreApartFromStage}
+use Rattle.switch_engine.specs.Places.{etc_places, list_places}
+use Rattle.switch_engine.proofs.WayLemmas.{current_apart, etc_apart, lists_apart}
+use Rattle.switch_engine.proofs.places.switched_places.Goals as goal
+
+pub returns-clause-apart : goal.returns-clause-apart
+returns-clause-apart c =
+    let etc = subst AreApartFromStage (sym (c.in_ok-add_etc.ensures ∙ ap (λ ps. ps ++ etc_places) c.new-list.ensures)) etc_apart in
+    let middle = c.in_ok-add_middle.ensures.apart etc in
+    let current = subst AreApartFromStage (sym c.in_ok-add_current.ensures) (apart_joined _ _ middle current_apart) in
+    subst AreApartFromStage (sym c.in_ok-add_lists.ensures) (apart_joined _ list_places current lists_apart)

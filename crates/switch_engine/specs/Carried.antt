@@ -1,0 +1,46 @@
+-- What each step of carrying a plan out needs, and what it leaves: NixOS manual, "What happens during a system switch?".
+use Rattle.std.specs.Prelude.{◌≡◌, Bool, true, false, Option, None, Some}
+use Rattle.generations.specs.Gens.{IsGensOf}
+use Rattle.generations.specs.Set.{CanSet}
+use Rattle.host_trait.specs.States.{state_of}
+use Rattle.host_trait.specs.World.{WorldState}
+use Rattle.owed_plan.specs.declared.owed.Owed.{Owed}
+use Rattle.owed_plan.specs.Calls.{calls_of}
+use Rattle.owed_plan.specs.Law.{lists_of}
+use Rattle.switch_engine.specs.declared.plan.ProfilePlan.{ProfilePlan}
+use Rattle.switch_engine.specs.Moments.{IsSwitchMoment, IsSwitched}
+use Rattle.switch_engine.specs.Places.{switch_places}
+use Rattle.switch_names.specs.Names.{Name}
+use Rattle.tree_put.specs.WrittenPlace.{in_the_way}
+use Rattle.unit_stage.specs.declared.unit_plan.UnitPlan.{UnitPlan}
+
+-- the system to which the profile is set, where that is planned
+abbrev pub sets_by : Name → Option ProfilePlan → Option Name
+sets_by system None = None
+sets_by system (Some plan) = Some system
+
+-- the generations are those that stand, and nothing is in the way
+pub record CanSetTo (system : Name) (plan : ProfilePlan) (w : WorldState) : Type 0 where
+  pub gens : IsGensOf w.leaves plan.gens
+  pub can : CanSet system w
+
+-- the same, where a set of the profile is planned
+abbrev pub CanSetBy : Name → Option ProfilePlan → WorldState → Type 0
+CanSetBy system None w = Unit {0}
+CanSetBy system (Some plan) w = CanSetTo system plan w
+
+-- the lists and the calls of a plan are those of what is owed, and nothing is in the way
+pub record CanSwitch (plan : UnitPlan) (w : WorldState) : Type 0 where
+  pub recorded : plan.recorded ≡ lists_of plan.owed
+  pub duties : plan.duties ≡ calls_of plan.owed (state_of w.manager.states)
+  pub way : in_the_way switch_places w.leaves ≡ None
+
+-- a moment of a switch of the units, where they are switched
+abbrev pub IsSwitchMomentIf : Bool → Name → Owed → WorldState → WorldState → Type 0
+IsSwitchMomentIf true system owed u m = IsSwitchMoment system owed u m
+IsSwitchMomentIf false system owed u m = m ≡ u
+
+-- the world that a switch of the units leaves, where they are switched
+abbrev pub IsSwitchedIf : Bool → Name → Owed → WorldState → WorldState → Type 0
+IsSwitchedIf true system owed u v = IsSwitched system owed u v
+IsSwitchedIf false system owed u v = v ≡ u
