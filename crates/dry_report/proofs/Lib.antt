@@ -2,3 +2,4 @@ pub mod CloseLemmas
 pub mod LeftLemmas
 pub mod PutLemmas
 pub mod ReportLemmas
+pub mod RerunLemmas

@@ -16,7 +16,7 @@ use Rattle.switch_engine.specs.Commands.{new_system, row_of}
 use Rattle.switch_engine.specs.Plan.{ArePlanned, AreUnitsPlanned, IsProfilePlanned}
 use Rattle.switch_names.specs.Names.{Name}
 use Rattle.unit_stage.specs.declared.unit_plan.UnitPlan.{UnitPlan}
-use Rattle.unit_stage.specs.Plan.{IsPlannedIn, IsUnitPlanOf}
+use Rattle.unit_stage.specs.Plan.{IsPlannedIn, IsUnitPlanOf, owed_of}
 use Rattle.unit_stage.specs.System.{current_system}
 use Rattle.std.proofs.lemmas.Bool.{both_ways, cases_Bool}
 use Rattle.dry_report.specs.Report.{IsReport, IsReportBy, IsUnitReport, number_if, number_of, profile_report, report_of}
@@ -50,14 +50,14 @@ pub if_ok_as : {T E : Type 0} {P : T → Type 0} (r : Result T E) → IfOk r P �
 if_ok_as (Ok x) holds Q weaker = weaker x holds
 if_ok_as (Err e) holds Q weaker = tt
 
-unit_report_is : (system : Name) (w : WorldState) (plan : UnitPlan) (number : Option ℕ) (text : List ℕ) → IsUnitPlanOf system w plan → text ≡ report_of plan.from system number plan.duties plan.owed.left → IsUnitReport number system w text
+unit_report_is : (system : Name) (w : WorldState) (plan : UnitPlan) (number : Option ℕ) (text : List ℕ) → IsUnitPlanOf system w plan → text ≡ report_of plan.from system number plan.duties plan.left → IsUnitReport number system w text
 unit_report_is system w plan number text is same = record {
   lists = is.lists;
-  owed = plan.owed;
+  owed = owed_of plan;
   planned = is.planned;
   is_text = same
-      ∙ ap (λ from. report_of from system number plan.duties plan.owed.left) is.from
-      ∙ ap (λ duties. report_of (current_system w.leaves) system number duties plan.owed.left) is.duties;
+      ∙ ap (λ from. report_of from system number plan.duties plan.left) is.from
+      ∙ ap (λ duties. report_of (current_system w.leaves) system number duties plan.left) is.duties;
 }
 
 -- the number of a plan is that of its world
@@ -66,17 +66,17 @@ number_is sets system w None planned = sym (ap (λ b. number_if b system w.leave
 number_is sets system w (Some plan) planned = ap Some planned.1.number ∙ sym (ap (λ b. number_if b system w.leaves) planned.0)
 
 planned_by : (switches : Bool) (system : Name) (w : WorldState) (plan : UnitPlan) (number : Option ℕ) (text : List ℕ) → AreUnitsPlanned switches system w plan → switches ≡ true →
-    text ≡ report_of plan.from system number plan.duties plan.owed.left → IsReportBy switches number system w text
+    text ≡ report_of plan.from system number plan.duties plan.left → IsReportBy switches number system w text
 planned_by true system w plan number text is on same = unit_report_is system w plan number text is same
 planned_by false system w plan number text is on same = absurd (both_ways _ refl on)
 
 -- where the units are switched
 pub units_reported : (w : WorldState) (plan : Plan) (text : List ℕ) → ArePlanned plan.command w plan → (row_of plan.command).switches ≡ true →
-    ((leaves : Leaves) → text ≡ report_of plan.units.from (new_system plan.command leaves) (number_of plan) plan.units.duties plan.units.owed.left) → IsReport plan.command w text
+    ((leaves : Leaves) → text ≡ report_of plan.units.from (new_system plan.command leaves) (number_of plan) plan.units.duties plan.units.left) → IsReport plan.command w text
 units_reported w plan text is on same =
     let system = new_system plan.command w.leaves in
     planned_by (row_of plan.command).switches system w plan.units (number_if (row_of plan.command).sets system w.leaves) text is.units on
-    (same w.leaves ∙ ap (λ number. report_of plan.units.from system number plan.units.duties plan.units.owed.left) (number_is (row_of plan.command).sets system w plan.profile is.profile))
+    (same w.leaves ∙ ap (λ number. report_of plan.units.from system number plan.units.duties plan.units.left) (number_is (row_of plan.command).sets system w plan.profile is.profile))
 
 -- where the profile alone is set
 pub profile_reported : (w : WorldState) (plan : Plan) (text : List ℕ) → ArePlanned plan.command w plan → (row_of plan.command).switches ≡ false →

@@ -1,5 +1,5 @@
 -- What a command says before it changes anything: the lines of switch-to-configuration, NixOS manual, "Unit handling".
-use Rattle.std.specs.Prelude.{◌≡◌, ℕ, ◌++◌, Bool, true, false, List, [], ◌∷◌, Option, None, Some, codes, filter, not, option_map, if◌then◌else◌}
+use Rattle.std.specs.Prelude.{◌≡◌, ◌↔◌, ℕ, ◌++◌, Bool, true, false, List, [], ◌∷◌, Option, None, Some, codes, filter, not, option_map, if◌then◌else◌}
 use Rattle.std.specs.Fmt.{decimal}
 use Rattle.std.specs.List.{flat_map}
 use Rattle.generations.specs.Places.{number_after}
@@ -13,7 +13,7 @@ use Rattle.owed_plan.specs.declared.owed.Owed.{Owed}
 use Rattle.owed_plan.specs.Calls.{calls_of}
 use Rattle.switch_engine.specs.declared.command.Command.{Command}
 use Rattle.switch_engine.specs.declared.plan.Plan.{Plan}
-use Rattle.switch_engine.specs.Commands.{new_system, row_of}
+use Rattle.switch_engine.specs.Commands.{brought_to, new_system, row_of}
 use Rattle.switch_names.specs.Names.{Name}
 use Rattle.unit_stage.specs.Owes.{is_stop}
 use Rattle.unit_stage.specs.Plan.{IsPlannedIn}
@@ -90,3 +90,8 @@ IsReportBy false number system w text = text ≡ profile_report system number
 abbrev pub IsReport : Command → WorldState → List ℕ → Type 0
 IsReport command w text =
     IsReportBy (row_of command).switches (number_if (row_of command).sets (new_system command w.leaves) w.leaves) (new_system command w.leaves) w text
+
+-- From the second of two worlds a command makes the report that it makes from the first, unless it switches units: what
+-- a switch of them has done it doesn't report again.
+abbrev pub KeepsReport : Command → WorldState → WorldState → Type 0
+KeepsReport command w m = brought_to command w.leaves ≡ None → (text : List ℕ) → IsReport command m text ↔ IsReport command w text

@@ -119,7 +119,7 @@ fn write_generation(alloc: Global, out: &mut Vec<u8>, number: Option<u32>) -> Re
 /// stops, the changed units that get nothing, and the other calls, a line each.
 fn unit_report(alloc: Global, plan: &Plan) -> Result<Bytes, AllocError>
     ensures { IfOk result (λ text. (leaves : Leaves)
-        → text ≡ report_of plan.now.units.from (new_system plan.now.command leaves) (number_of plan.now) plan.now.units.duties plan.now.units.owed.left) }
+        → text ≡ report_of plan.now.units.from (new_system plan.now.command leaves) (number_of plan.now) plan.now.units.duties plan.now.units.left) }
 {
     let mut out = Vec::new(alloc);
     write_line(&mut out, "from", system_text(plan.from()))?;

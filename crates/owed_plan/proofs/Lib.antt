@@ -15,4 +15,5 @@ pub mod ReachLemmas
 pub mod SteadyLemmas
 pub mod StoreLemmas
 pub mod SystemLemmas
+pub mod TargetLemmas
 pub mod WantedLemmas

@@ -14,7 +14,7 @@ use std::alloc::{AllocError, Global};
 use switch_names::{Listed, UnitName};
 use unit_decide::is_socket;
 
-/// A call on a unit.
+/// An act on a unit that is owed.
 pub struct Duty {
     pub act: Act,
     pub unit: UnitName,

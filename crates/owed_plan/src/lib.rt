@@ -10,7 +10,9 @@ pub mod laws;
 mod owed;
 mod planning;
 mod sets;
+mod steady;
 
 pub use duty::{Duty, calls};
 pub use owed::Owed;
 pub use planning::plan;
+pub use steady::is_steady;

@@ -54,7 +54,7 @@ use Rattle.unit_stage.specs.declared.unit_plan.UnitPlan.{UnitPlan}
 use Rattle.unit_stage.specs.End.{IsBrought, entries_of, state_after}
 use Rattle.unit_stage.specs.Laws.{AreSameBeside}
 use Rattle.unit_stage.specs.Owned.{owns_units, reads_units, unit_places}
-use Rattle.unit_stage.specs.Plan.{IsOwedBy, IsUnitPlanOf}
+use Rattle.unit_stage.specs.Plan.{IsOwedBy, IsUnitPlanOf, owed_of}
 use Rattle.unit_stage.specs.System.{IsSystem, current_place, definitions_of}
 use Rattle.unit_stage.specs.Units.{units_part}
 use Rattle.unit_stage.proofs.EndLemmas.{one_end}
@@ -71,15 +71,16 @@ module _ (system : Name) (named : IsSystemPath system) (w : WorldState) where
   set_part_moment true free m step = profile_moment system w m (NamesSystem-with_slash system named) free step
   set_part_moment false free m step = record { keeps = tt; only = record { leaves = λ q none ne. seen_at m w step q ne; manager = λ none. manager_seen m w step } }
 
+module _ (system : Name) (w : WorldState) where
   set_step : (sets : Bool) (u : WorldState) → seen u ≡ set_world (if_so sets system) w → IsSetStep (if_so sets system) w u
   set_step true u is = inr (inr is)
   set_step false u is = is
 
-  set_final : (sets : Bool) (u : WorldState) → seen u ≡ set_world (if_so sets system) w → (q : Name) → q ≢ stage → get u.leaves q ≡ final_leaf (part_if sets (profile_part system)) w.leaves q
+  pub set_final : (sets : Bool) (u : WorldState) → seen u ≡ set_world (if_so sets system) w → (q : Name) → q ≢ stage → get u.leaves q ≡ final_leaf (part_if sets (profile_part system)) w.leaves q
   set_final true u is q ne = is_final (profile_part system) w u (moment_only system w u (inr (inr is))) (profile_at_end system w u is) q ne
   set_final false u is q ne = seen_at u w is q ne
 
-  set_calls : (sets : Bool) (u : WorldState) → seen u ≡ set_world (if_so sets system) w → u.manager ≡ w.manager
+  pub set_calls : (sets : Bool) (u : WorldState) → seen u ≡ set_world (if_so sets system) w → u.manager ≡ w.manager
   set_calls true u is = end_manager system w u is
   set_calls false u is = manager_seen u w is
 
@@ -213,7 +214,7 @@ names_then (Some system) w u m before same = ⊎_elim
 
 -- ---- the end of one part after the end of another
 
-final_then : (p q : Part) (w u v : WorldState) → ((at : Name) → at ≢ stage → get v.leaves at ≡ final_leaf p u.leaves at) → ((at : Name) → at ≢ stage → get u.leaves at ≡ final_leaf q w.leaves at) →
+pub final_then : (p q : Part) (w u v : WorldState) → ((at : Name) → at ≢ stage → get v.leaves at ≡ final_leaf p u.leaves at) → ((at : Name) → at ≢ stage → get u.leaves at ≡ final_leaf q w.leaves at) →
     ((at : Name) → p.owns at ≡ true → p.end u.leaves at ≡ p.end w.leaves at) → (at : Name) → at ≢ stage → get v.leaves at ≡ final_leaf (both p q) w.leaves at
 final_then p q w u v last first ends at ne = elim (cases_Bool (p.owns at)) [
   | inl own ↦
@@ -287,12 +288,12 @@ same_system (Command.DryActivate system) one other = refl
 pub changes_on : (command : Command) → ((row_of command).changes ≡ false → ⊥) → (row_of command).changes ≡ true
 changes_on command changes = elim (cases_Bool (row_of command).changes) [ inl on ↦ on | inr off ↦ absurd (changes off) ]
 
-owed_planned : (switches : Bool) (system : Name) (w : WorldState) (plan : UnitPlan) → AreUnitsPlanned switches system w plan → switches ≡ true → IsOwedBy w system plan.owed
+owed_planned : (switches : Bool) (system : Name) (w : WorldState) (plan : UnitPlan) → AreUnitsPlanned switches system w plan → switches ≡ true → IsOwedBy w system (owed_of plan)
 owed_planned true system w plan planned same = (planned.lists, record { listed = planned.planned.listed; is_owed = planned.planned.planned.is_owed })
 owed_planned false system w plan planned same = absurd (both_ways _ refl same)
 
 module _ (plan : Plan) (w : WorldState) (is : IsPlanOf w plan) (changes : (row_of plan.command).changes ≡ false → ⊥) where
-  pub carried_from : IsCarriedFrom plan.command plan.units.owed w
+  pub carried_from : IsCarriedFrom plan.command (owed_of plan.units) w
   carried_from = record {
     on = changes_on plan.command changes;
     same = λ leaves. same_system plan.command leaves w.leaves;
@@ -316,8 +317,7 @@ can_set sets system w (Some plan) planned free = record {
 -- the calls of a plan can be made where the profile has been set
 pub can_switch : (switches : Bool) (system : Name) (w u : WorldState) (plan : UnitPlan) → AreUnitsPlanned switches system w plan → u.manager ≡ w.manager → IsFree (part_if switches (switch_part system)) u.leaves → switches ≡ true → CanSwitch plan u
 can_switch true system w u plan planned same free on = record {
-  recorded = planned.recorded;
-  duties = planned.duties ∙ ap (λ (k : ManagerState). calls_of plan.owed (state_of k.states)) (sym same);
+  duties = planned.duties ∙ ap (λ (k : ManagerState). calls_of (owed_of plan) (state_of k.states)) (sym same);
   way = switch_places_free system u.leaves free.way;
 }
 can_switch false system w u plan planned same free on = absurd (both_ways _ refl on)
@@ -341,17 +341,17 @@ none_failed defs outcome is = (
     not_failed is = cc
 
 -- what the outcome says is what the world leaves
-pub verdict : (switches : Bool) (system : Name) (plan : UnitPlan) (w u v : WorldState) (outcome : Outcome) → AreUnitsPlanned switches system w plan → u.manager ≡ w.manager → IsSwitchedIf switches system plan.owed u v →
+pub verdict : (switches : Bool) (system : Name) (plan : UnitPlan) (w u v : WorldState) (outcome : Outcome) → AreUnitsPlanned switches system w plan → u.manager ≡ w.manager → IsSwitchedIf switches system (owed_of plan) u v →
     (switches ≡ true → outcome.states ≡ v.manager.states) → IsTrue outcome.failed ↔ HasFailed plan.defs outcome.states → (switches ≡ false → outcome ≡ record { states = empty; failed = false }) →
     IsTrue outcome.failed ↔ LeavesFailedAt (if_so switches system) w
 verdict true system plan w u v outcome planned same end states failed none =
     let is_owed = owed_planned true system w plan planned refl in
-    let says = left_failed system plan.owed w v plan.defs outcome.states planned.defs (states refl) (brought_from system plan.owed w u v same end.units) in (
-      λ is. (plan.owed, is_owed, says.0 (failed.0 is)),
+    let says = left_failed system (owed_of plan) w v plan.defs outcome.states planned.defs (states refl) (brought_from system (owed_of plan) w u v same end.units) in (
+      λ is. (owed_of plan, is_owed, says.0 (failed.0 is)),
       λ left. failed.1 (says.1 (
         left.2.0,
         record {
-          failed = sym (one_end system is_owed.0 plan.owed w is_owed.1 left.0 left.1 left.2.0) ∙ left.2.1.failed;
+          failed = sym (one_end system is_owed.0 (owed_of plan) w is_owed.1 left.0 left.1 left.2.0) ∙ left.2.1.failed;
           defined = left.2.1.defined;
         },
       )),
@@ -397,13 +397,13 @@ module _ (command : Command) (owed : Owed) (w : WorldState) (carried : IsCarried
 
   module _ (u : WorldState) (is : seen u ≡ set_world (if_so sets system) w) where
     at_set : IsPartMoment (both first second) w u
-    at_set = set_of_parts u (set_step system carried.named w sets u is)
+    at_set = set_of_parts u (set_step system w sets u is)
 
     pub switch_free : IsFree first u.leaves
     switch_free = first_free first second u.leaves ((parts_are switches sets system system_is).stays_free w u at_set.keeps carried.free.parts)
 
     pub same_manager : u.manager ≡ w.manager
-    same_manager = set_calls system carried.named w sets u is
+    same_manager = set_calls system w sets u is
 
     -- the units' part sees the same as before
     owed_still : switches ≡ true → IsOwedBy u system owed
@@ -412,7 +412,7 @@ module _ (command : Command) (owed : Owed) (w : WorldState) (carried : IsCarried
         unchanged : (at : Name) → (second.owns at ≡ true → ⊥) → at ≢ stage → get u.leaves at ≡ get w.leaves at
         unchanged at none ne = elim (cases_Bool (second.owns at)) [
           | inl own ↦ absurd (none own)
-          | inr other ↦ (set_part_moment system carried.named w sets set_free u (set_step system carried.named w sets u is)).only.leaves at other ne
+          | inr other ↦ (set_part_moment system carried.named w sets set_free u (set_step system w sets u is)).only.leaves at other ne
         ]
 
         by : (b : Bool) → b ≡ true → ((at : Name) → second.owns at ≡ true → (part_if b (switch_part system)).reads at ≡ false) → IsOwedBy w system owed → IsOwedBy u system owed
@@ -432,7 +432,7 @@ module _ (command : Command) (owed : Owed) (w : WorldState) (carried : IsCarried
               (IsStepTo.Switching u is (switch_step switches system owed u m owed_still moment));
           underway = underway command w m carried.on (carried.same m.leaves) carried.named carried.free (moment_then (both first second) (parts_are switches sets system system_is) w u m at_set later);
           named = names_then (set_to command w.leaves) w u m
-              (subst (λ b. NamesOneOf (if_so (b && sets) system) w u) (sym carried.on) (set_names sets system carried.named w u set_free (set_step system carried.named w sets u is)))
+              (subst (λ b. NamesOneOf (if_so (b && sets) system) w u) (sym carried.on) (set_names sets system carried.named w u set_free (set_step system w sets u is)))
               (switch_names switches system owed u m moment);
         }
 
@@ -444,7 +444,7 @@ module _ (command : Command) (owed : Owed) (w : WorldState) (carried : IsCarried
         record {
           final = record {
             leaves = λ q ne.
-                final_then first second w u v (switch_final switches system owed u v end) (set_final system carried.named w sets u is)
+                final_then first second w u v (switch_final switches system owed u v end) (set_final system w sets u is)
                 (λ at own. (switch_if_is switches system system_is).same_end w u at_set.keeps.0 at own) q ne
                 ∙ sym (ap (λ b. cond b (final_leaf (part_of command w.leaves) w.leaves q) (get w.leaves q)) carried.on);
             units = subst (λ to. AreFinalUnits to w v) brought units.units;

@@ -1,5 +1,5 @@
 -- Why the parts of a command are refused, by what is read of a world.
-use Rattle.std.proofs.Common.{◌≡◌, ℕ, ◌^◌, Bool, true, false, cond, nat_lt, Err, IsErrOf, List, Option, None, Some, is_none, is_some, option_map, refl, sym, ap, subst, ◌∙◌, if◌then◌else◌}
+use Rattle.std.proofs.Common.{◌≡◌, ◌↔◌, IsTrue, ℕ, ◌^◌, Bool, true, false, cond, nat_lt, Err, IsErrOf, List, Option, None, Some, is_none, is_some, option_map, refl, sym, ap, subst, ◌∙◌, if◌then◌else◌}
 use Rattle.std.proofs.lemmas.Option.{none-some}
 use Rattle.std.specs.Option.{option_or}
 use Rattle.generations.specs.declared.gens.Gens.{Gens}
@@ -9,8 +9,9 @@ use Rattle.generations.specs.ProfilePart.{has_number, profile_part}
 use Rattle.generations.proofs.Numbers.{number_for_world}
 use Rattle.host_trait.specs.World.{Leaves, WorldState, content_of}
 use Rattle.switch_engine.specs.declared.command.Command.{Command}
-use Rattle.switch_engine.specs.Commands.{new_system, row_of}
-use Rattle.switch_engine.specs.Plan.{AreGensFor, IsProfilePlanned}
+use Rattle.switch_engine.specs.Commands.{if_so, new_system, row_of}
+use Rattle.switch_engine.specs.Owing.{IsSteadyTo}
+use Rattle.switch_engine.specs.Plan.{AreGensFor, AreUnitsPlanned, IsProfilePlanned}
 use Rattle.switch_engine.specs.Rows.{part_if, parts_refusal, places, refusal, refusal_by, switch_part}
 use Rattle.switch_engine.specs.System.{version_path}
 use Rattle.switch_names.specs.Names.{Name}
@@ -20,6 +21,9 @@ use Rattle.switch_parts.specs.declared.refusal.Refusal.{Refusal}
 use Rattle.switch_parts.specs.declared.refusal.Refusal.TheVariants.{GenerationsFull, InTheWay, NoSystem}
 use Rattle.tree_put.specs.WrittenPlace.{in_the_way}
 use Rattle.tree_put.specs.declared.written_place.WrittenPlace.{WrittenPlace}
+use Rattle.unit_stage.specs.declared.unit_plan.UnitPlan.{UnitPlan}
+use Rattle.unit_stage.specs.Owes.{IsSteadyWorld}
+use Rattle.unit_stage.specs.Plan.{IsUnitPlanOf, no_units}
 use Rattle.unit_stage.specs.System.{unit_refusal}
 
 module _ (switches sets : Bool) (system : Name) (leaves : Leaves) where
@@ -115,3 +119,16 @@ module _ (switches sets : Bool) (named system : Name) (w : WorldState) (is : nam
 
   pub not_refused : (part_if sets (profile_part named)).refusal w.leaves ≡ None → refusal_by switches sets system w.leaves ≡ None
   not_refused profile = part_refused switches sets system w.leaves None free none (ap (λ s. (part_if sets (profile_part s)).refusal w.leaves) (sym is) ∙ profile)
+
+-- what a plan says of its world's steadiness is said for its command
+pub steady_off : (switches : Bool) (system : Name) (w : WorldState) (units : UnitPlan) → switches ≡ false → units ≡ no_units → IsTrue units.steady ↔ IsSteadyTo (if_so switches system) w
+steady_off switches system w units off none =
+    (λ is. subst (λ b. IsSteadyTo (if_so b system) w) (sym off) tt, λ steady. ap (λ (units : UnitPlan). units.steady) none)
+
+pub steady_on : (switches : Bool) (named system : Name) (w : WorldState) (units : UnitPlan) → switches ≡ true → named ≡ system → IsTrue units.steady ↔ IsSteadyWorld w named → IsTrue units.steady ↔ IsSteadyTo (if_so switches system) w
+steady_on switches named system w units on is told =
+    subst (λ b. IsTrue units.steady ↔ IsSteadyTo (if_so b system) w) (sym on) (subst (λ s. IsTrue units.steady ↔ IsSteadyWorld w s) is told)
+
+-- what is planned for a system is planned for its command
+pub planned_on : (switches : Bool) (named system : Name) (w : WorldState) (units : UnitPlan) → switches ≡ true → named ≡ system → IsUnitPlanOf named w units → AreUnitsPlanned switches system w units
+planned_on switches named system w units on is planned = subst (λ b. AreUnitsPlanned b system w units) (sym on) (subst (λ s. IsUnitPlanOf s w units) is planned)

@@ -17,6 +17,7 @@ use Rattle.switch_engine.proofs.CarryLemmas.{IsCarriedFrom, can_set, can_switch,
 use Rattle.switch_engine.proofs.LawLemmas.{begins_moment}
 use Rattle.switch_names.specs.Names.{Name}
 use Rattle.unit_defs.specs.declared.unit.Unit.{Unit}
+use Rattle.unit_stage.specs.Plan.{owed_of}
 
 -- what an outcome says of the units, where they were switched or not
 pub failed_of : (switches : Bool) (defs : List Unit) (r : Result Outcome HostFault) → IfOk r (λ outcome. IsTrue switches → IsTrue outcome.failed ↔ HasFailed defs outcome.states) →
@@ -36,7 +37,7 @@ module _ (plan : Plan) (changes : (row_of plan.command).changes ≡ false → �
   named w = new_system plan.command w.leaves
 
   abbrev owed : Owed
-  owed = plan.units.owed
+  owed = owed_of plan.units
 
   from : (w : WorldState) → a.world ≡ Some w → IsCarriedFrom plan.command owed w
   from w is = carried_from plan w (planned.has w is) changes

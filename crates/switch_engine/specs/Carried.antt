@@ -6,13 +6,13 @@ use Rattle.host_trait.specs.States.{state_of}
 use Rattle.host_trait.specs.World.{WorldState}
 use Rattle.owed_plan.specs.declared.owed.Owed.{Owed}
 use Rattle.owed_plan.specs.Calls.{calls_of}
-use Rattle.owed_plan.specs.Law.{lists_of}
 use Rattle.switch_engine.specs.declared.plan.ProfilePlan.{ProfilePlan}
 use Rattle.switch_engine.specs.Moments.{IsSwitchMoment, IsSwitched}
 use Rattle.switch_engine.specs.Places.{switch_places}
 use Rattle.switch_names.specs.Names.{Name}
 use Rattle.tree_put.specs.WrittenPlace.{in_the_way}
 use Rattle.unit_stage.specs.declared.unit_plan.UnitPlan.{UnitPlan}
+use Rattle.unit_stage.specs.Plan.{owed_of}
 
 -- the system to which the profile is set, where that is planned
 abbrev pub sets_by : Name → Option ProfilePlan → Option Name
@@ -29,10 +29,9 @@ abbrev pub CanSetBy : Name → Option ProfilePlan → WorldState → Type 0
 CanSetBy system None w = Unit {0}
 CanSetBy system (Some plan) w = CanSetTo system plan w
 
--- the lists and the calls of a plan are those of what is owed, and nothing is in the way
+-- the calls of a plan are those of what is owed, and nothing is in the way
 pub record CanSwitch (plan : UnitPlan) (w : WorldState) : Type 0 where
-  pub recorded : plan.recorded ≡ lists_of plan.owed
-  pub duties : plan.duties ≡ calls_of plan.owed (state_of w.manager.states)
+  pub duties : plan.duties ≡ calls_of (owed_of plan) (state_of w.manager.states)
   pub way : in_the_way switch_places w.leaves ≡ None
 
 -- a moment of a switch of the units, where they are switched

@@ -12,6 +12,7 @@ ghost use Rattle.switch_engine.specs.Final.{HasFailed, IsEndOf, LeavesFailed};
 ghost use Rattle.switch_engine.specs.Moments.{IsMomentOf, IsSetStep, IsSwitchMoment, IsSwitched, set_world};
 ghost use Rattle.switch_engine.specs.Places.{links_to};
 ghost use Rattle.switch_engine.specs.Plan.{IsNumbered, IsPlanOf};
+ghost use Rattle.unit_stage.specs.Plan.{owed_of};
 
 use crate::links::{Links, links_to, put_definitions};
 use crate::outcome::{Outcome, has_failed};
@@ -51,8 +52,8 @@ fn switch_units<H: Manager>(
 ) -> Result<(), HostFault>
     requires can { Told (H.host host.old) (CanSwitch plan.now) }
     requires links { links.now ≡ links_to system.now }
-    ensures ok { OnOk result (Leads (H.host host.old) (H.host host.new) (IsSwitched system.now plan.now.owed)) }
-    ensures moments { Passes (H.host host.old) (H.host host.new) (IsSwitchMoment system.now plan.now.owed) }
+    ensures ok { OnOk result (Leads (H.host host.old) (H.host host.new) (IsSwitched system.now (owed_of plan.now))) }
+    ensures moments { Passes (H.host host.old) (H.host host.new) (IsSwitchMoment system.now (owed_of plan.now)) }
     ensures cause { HasCause (H.host host.old) (H.host host.new) result }
 {
     let calls = calls_of(plan);
@@ -72,10 +73,10 @@ fn carry_switch<H: Manager>(
 ) -> Result<Outcome, HostFault>
     requires can { Told (H.host host.old) (CanSwitch plan.now) }
     requires links { links.now ≡ links_to system.now }
-    ensures ok { OnOk result (Leads (H.host host.old) (H.host host.new) (IsSwitched system.now plan.now.owed)) }
+    ensures ok { OnOk result (Leads (H.host host.old) (H.host host.new) (IsSwitched system.now (owed_of plan.now))) }
     ensures states { IfOk result (λ outcome. Told (H.host host.new) (λ v. outcome.states ≡ v.manager.states)) }
     ensures failed { IfOk result (λ outcome. IsTrue outcome.failed ↔ HasFailed plan.now.defs outcome.states) }
-    ensures moments { Passes (H.host host.old) (H.host host.new) (IsSwitchMoment system.now plan.now.owed) }
+    ensures moments { Passes (H.host host.old) (H.host host.new) (IsSwitchMoment system.now (owed_of plan.now)) }
     ensures cause { HasCause (H.host host.old) (H.host host.new) result }
 {
     switch_units(alloc, host, system, plan, links)?;
@@ -95,11 +96,11 @@ fn carry_units<H: Manager>(
 ) -> Result<Outcome, HostFault>
     requires can { IsTrue switches → Told (H.host host.old) (CanSwitch plan.now) }
     requires links { links.now ≡ links_to system.now }
-    ensures ok { OnOk result (Leads (H.host host.old) (H.host host.new) (IsSwitchedIf switches system.now plan.now.owed)) }
+    ensures ok { OnOk result (Leads (H.host host.old) (H.host host.new) (IsSwitchedIf switches system.now (owed_of plan.now))) }
     ensures states { IfOk result (λ outcome. IsTrue switches → Told (H.host host.new) (λ v. outcome.states ≡ v.manager.states)) }
     ensures failed { IfOk result (λ outcome. IsTrue switches → IsTrue outcome.failed ↔ HasFailed plan.now.defs outcome.states) }
     ensures none { switches ≡ false → IfOk result (λ outcome. outcome ≡ record { states = empty; failed = false }) }
-    ensures moments { Passes (H.host host.old) (H.host host.new) (IsSwitchMomentIf switches system.now plan.now.owed) }
+    ensures moments { Passes (H.host host.old) (H.host host.new) (IsSwitchMomentIf switches system.now (owed_of plan.now)) }
     ensures cause { HasCause (H.host host.old) (H.host host.new) result }
 {
     if !switches {

@@ -114,9 +114,18 @@ impl Plan {
 
     /// The changed units that get nothing, in byte order.
     pub fn left(&self) -> &Listed<UnitName>
-        ensures { result.now ≡ self.now.units.owed.left }
+        ensures { result.now ≡ self.now.units.left }
     {
         self.units.left()
+    }
+
+    /// Whether the marks of the targets and the lists of the world that the plan was made from don't
+    /// contradict each other, which is a premise of what is promised of a command that is cut. A command
+    /// that switches no units reads neither, and so it is true of each of its plans.
+    pub fn steady(&self) -> bool
+        ensures { result ≡ self.now.units.steady }
+    {
+        self.units.steady()
     }
 
     /// Whether the plan is that of a boot, which does nothing to the units.

@@ -1,5 +1,5 @@
 //! Plans what a command does, before anything is put or changed.
-ghost use Rattle.std.specs.Prelude.{◌≡◌, Bool, None, Some, IfOk, IsErrOf, OnOk, option_map};
+ghost use Rattle.std.specs.Prelude.{◌≡◌, ◌↔◌, Bool, None, Some, IfOk, IsErrOf, IsTrue, OnOk, option_map};
 ghost use Rattle.std.specs.Option.{option_copied};
 ghost use Rattle.generations.specs.Gens.{number_for_in};
 ghost use Rattle.generations.specs.ProfilePart.{profile_part};
@@ -9,6 +9,7 @@ ghost use Rattle.host_trait.specs.Reading.{IsReading, IsReadingOf};
 ghost use Rattle.host_trait.specs.World.{WorldState};
 ghost use Rattle.switch_engine.specs.Commands.{new_system, row_of};
 ghost use Rattle.switch_engine.specs.declared.plan.ProfilePlan.{ProfilePlan};
+ghost use Rattle.switch_engine.specs.Owing.{IsSteadyFor};
 ghost use Rattle.switch_engine.specs.Plan.{AreGensFor, ArePlanned, AreUnitsPlanned, IsNumbered, IsPlanOf, IsProfilePlanned};
 ghost use Rattle.switch_engine.specs.Rows.{part_if, parts_refusal, places, refusal, switch_part};
 ghost use Rattle.switch_parts.specs.declared.plan_fault.PlanFault.TheVariants.{Host, Refused};
@@ -69,6 +70,7 @@ fn plan_switch<H: Manager>(
     command: &Command,
 ) -> Result<UnitPlan, PlanFault>
     ensures plan { IfOk result (λ plan. Told (H.host host.old) (λ w. AreUnitsPlanned (row_of command.now).switches (new_system command.now w.leaves) w plan)) }
+    ensures steady { IfOk result (λ plan. Told (H.host host.old) (λ w. IsTrue plan.steady ↔ IsSteadyFor command.now w)) }
     ensures not_refused { OnOk result (Told (H.host host.old) (λ w. (part_if (row_of command.now).switches (switch_part (new_system command.now w.leaves))).refusal w.leaves ≡ None)) }
     ensures refused { (why : Refusal) → IsErrOf result (Refused why)
         → Told (H.host host.old) (λ w. (part_if (row_of command.now).switches (switch_part (new_system command.now w.leaves))).refusal w.leaves ≡ Some why) }
@@ -105,6 +107,7 @@ fn plan_profile(
 fn plan_parts<H: Manager>(alloc: Global, host: &mut H, command: &Command) -> Result<Plan, PlanFault>
     ensures command { IfOk result (λ plan. plan.command ≡ command.now) }
     ensures plan { IfOk result (λ plan. Told (H.host host.old) (λ w. ArePlanned command.now w plan)) }
+    ensures steady { IfOk result (λ plan. Told (H.host host.old) (λ w. IsTrue plan.units.steady ↔ IsSteadyFor command.now w)) }
     ensures numbered { IfOk result IsNumbered }
     ensures not_refused { OnOk result (Told (H.host host.old) (λ w. parts_refusal command.now w.leaves ≡ None)) }
     ensures refused { (why : Refusal) → IsErrOf result (Refused why) → Told (H.host host.old) (λ w. parts_refusal command.now w.leaves ≡ Some why) }
@@ -130,6 +133,7 @@ pub fn plan_all<H: Manager>(
 ) -> Result<Plan, PlanFault>
     ensures command { IfOk result (λ plan. plan.command ≡ command.now) }
     ensures plan { IfOk result (λ plan. Told (H.host host.old) (λ w. IsPlanOf w plan)) }
+    ensures steady { IfOk result (λ plan. Told (H.host host.old) (λ w. IsTrue plan.units.steady ↔ IsSteadyFor command.now w)) }
     ensures numbered { IfOk result IsNumbered }
     ensures refused { (why : Refusal) → IsErrOf result (Refused why) → Told (H.host host.old) (λ w. refusal command.now w.leaves ≡ Some why) }
     ensures reads { IsReadingOf (H.host host.old) (H.host host.new) (IsErrOf result (Host Device)) }

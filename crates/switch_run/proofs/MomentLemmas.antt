@@ -8,6 +8,8 @@ use Rattle.switch_engine.specs.Moments.{IsStepIf}
 use Rattle.switch_engine.specs.Rows.{refusal}
 use Rattle.switch_engine.proofs.LawLemmas.{begins_moment}
 use Rattle.switch_parts.specs.declared.refusal.Refusal.{Refusal}
+use Rattle.dry_report.proofs.RerunLemmas.{keeps_report, keeps_same}
+use Rattle.dry_report.specs.Report.{KeepsReport}
 use Rattle.switch_run.specs.Moments.{IsMomentBy, IsMomentOf}
 
 -- the world at the beginning is one
@@ -30,3 +32,11 @@ of_query command w m query moment = by (refusal command w.leaves) moment
     by : (o : Option Refusal) → IsMomentBy o command w m → m ≡ w
     by None moment = subst (λ b. IsStepIf b (set_to command w.leaves) (brought_to command w.leaves) w m) query moment.step
     by (Some why) moment = moment
+
+-- the report is kept at each moment
+pub of_report : (command : Command) (w m : WorldState) → IsMomentOf (Some command) w m → KeepsReport command w m
+of_report command w m moment = by (refusal command w.leaves) refl moment
+  where
+    by : (o : Option Refusal) → refusal command w.leaves ≡ o → IsMomentBy o command w m → KeepsReport command w m
+    by None none moment = keeps_report command w m none moment
+    by (Some why) is same = keeps_same command w m same

@@ -13,7 +13,7 @@ use Rattle.switch_engine.specs.Commands.{IsQuery}
 use Rattle.switch_engine.specs.Final.{IsEndOf}
 use Rattle.switch_engine.specs.Rows.{refusal}
 use Rattle.switch_parts.specs.declared.refusal.Refusal.{Refusal}
-use Rattle.dry_report.specs.Report.{IsReport}
+use Rattle.dry_report.specs.Report.{IsReport, KeepsReport}
 use Rattle.dry_report.proofs.PutLemmas.{puts_as}
 use Rattle.dry_report.proofs.ReportLemmas.{one_report}
 use Rattle.switch_run.specs.declared.run_fault.RunFault.{RunFault}
@@ -25,7 +25,7 @@ use Rattle.switch_run.specs.Moments.{IsMomentOf}
 use Rattle.switch_run.specs.Output.{IsBrokenOff, IsFailedOutput, IsIdle, IsPutFirst, IsWhole}
 use Rattle.switch_run.specs.Output.IsBrokenOff.{AfterReport, BeforeReport}
 use Rattle.switch_run.specs.Run.{Answers, IsAnswerTo, IsBroken, IsEnded, IsVerdict, status_of}
-use Rattle.switch_run.proofs.MomentLemmas.{begins, of_query}
+use Rattle.switch_run.proofs.MomentLemmas.{begins, of_query, of_report}
 
 -- ---- which ending has a status
 
@@ -179,6 +179,10 @@ module _ {host_state after : HostState} {sink put : SinkState} (given : Option C
   pub queries : (command : Command) → given ≡ Some command → IsQuery command → Passes host_state after IsSame
   queries command some query =
       passes_as is.moments IsSame (λ w m told moment. of_query command w m query (subst (λ (g : Option Command). IsMomentOf g w m) some moment))
+
+  pub same_report : (command : Command) → given ≡ Some command → Passes host_state after (KeepsReport command)
+  same_report command some =
+      passes_as is.moments (KeepsReport command) (λ w m told moment. of_report command w m (subst (λ (g : Option Command). IsMomentOf g w m) some moment))
 
   pub broken_off : IsBroken status → (command : Command) → given ≡ Some command → IsBrokenOff command host_state after sink put
   broken_off s command some = let it = broken_of ending (subst IsBroken tells s) in come_as (Some command) (Err (fault.Host it.0)) some it.1

@@ -9,6 +9,7 @@ ghost use Rattle.switch_engine.specs.Commands.{IsQuery};
 ghost use Rattle.switch_engine.specs.Final.{IsEndOf};
 ghost use Rattle.switch_engine.specs.Rows.{refusal};
 ghost use Rattle.switch_parts.specs.declared.refusal.Refusal.{Refusal};
+ghost use Rattle.dry_report.specs.Report.{KeepsReport};
 ghost use Rattle.switch_run.specs.Commands.{command_of};
 ghost use Rattle.switch_run.specs.Moments.{IsMomentOf};
 ghost use Rattle.switch_run.specs.Output.{IsBrokenOff, IsFailedOutput, IsIdle, IsPutFirst, IsWhole};
@@ -49,6 +50,9 @@ pub fn run<H: Manager, S: Sink>(alloc: Global, words: &[Text], host: &mut H, out
 
     // A query changes nothing.
     ensures queries { (command : Command) → command_of words.now ≡ Some command → IsQuery command → Passes (H.host host.old) (H.host host.new) IsSame }
+
+    // A boot that is cut and made again makes the same report, and so does a query.
+    ensures same_report { (command : Command) → command_of words.now ≡ Some command → Passes (H.host host.old) (H.host host.new) (KeepsReport command) }
 
     // The report comes before the change, and the closing text after it.
     ensures broken_off { IsBroken result → (command : Command) → command_of words.now ≡ Some command → IsBrokenOff command (H.host host.old) (H.host host.new) (S.sink out.old) (S.sink out.new) }

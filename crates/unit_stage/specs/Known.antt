@@ -1,11 +1,11 @@
 -- What is read of a world before a switch is planned: NixOS manual, "What happens during a system switch?".
-use Rattle.std.specs.Prelude.{◌≡◌, ℕ, List}
+use Rattle.std.specs.Prelude.{◌≡◌, ◌↔◌, ℕ, IsTrue, List}
 use Rattle.host_trait.specs.States.{state_of}
 use Rattle.host_trait.specs.World.{Leaves, WorldState}
 use Rattle.owed_lists.specs.Lists.{AreListsOf}
 use Rattle.owed_plan.specs.Calls.{calls_of}
-use Rattle.owed_plan.specs.Law.{lists_of}
 use Rattle.owed_plan.specs.Owed.{IsPlan}
+use Rattle.owed_plan.specs.Steady.{IsSteady}
 use Rattle.owed_plan.specs.Systems.{AreOldDefs, systems_in}
 use Rattle.unit_defs.specs.Defs.{AreDefsOf}
 use Rattle.unit_stage.specs.declared.known.Known.{Known}
@@ -13,6 +13,7 @@ use Rattle.unit_stage.specs.declared.known.OldSystem.{OldSystem}
 use Rattle.unit_stage.specs.declared.known.UnitStates.{UnitStates}
 use Rattle.unit_stage.specs.declared.unit_plan.UnitPlan.{UnitPlan}
 use Rattle.unit_stage.specs.declared.planning.OwedCalls.{OwedCalls}
+use Rattle.unit_stage.specs.Plan.{owed_of}
 use Rattle.unit_stage.specs.System.{current_system}
 
 -- this is the system in use, with its units
@@ -31,16 +32,20 @@ pub record IsKnownOf (system : List ℕ) (w : WorldState) (known : Known) : Type
   pub new : AreDefsOf w.leaves system known.new
   pub units : AreStatesOf w known.units
 
--- what is owed by what is known, with the lists that are recorded of it and its calls
+-- by what is known the marks of the targets and the lists don't contradict each other
+abbrev pub IsKnownSteady : Known → Type 0
+IsKnownSteady known = IsSteady (systems_in known.old.defs known.new) (state_of known.units.states) known.units.lists
+
+-- what is owed by what is known, with its calls
 pub record AreOwedCalls (known : Known) (calls : OwedCalls) : Type 0 where
   pub owed : IsPlan (systems_in known.old.defs known.new) (state_of known.units.states) known.units.lists calls.owed
-  pub recorded : calls.listed.recorded ≡ lists_of calls.owed
-  pub duties : calls.listed.duties ≡ calls_of calls.owed (state_of known.units.states)
+  pub steady : IsTrue calls.steady ↔ IsKnownSteady known
+  pub duties : calls.duties ≡ calls_of calls.owed (state_of known.units.states)
 
 -- the plan of a switch by what is known
 pub record IsPlanBy (known : Known) (plan : UnitPlan) : Type 0 where
   pub from : plan.from ≡ known.old.name
   pub defs : plan.defs ≡ known.new
-  pub owed : IsPlan (systems_in known.old.defs known.new) (state_of known.units.states) known.units.lists plan.owed
-  pub recorded : plan.recorded ≡ lists_of plan.owed
-  pub duties : plan.duties ≡ calls_of plan.owed (state_of known.units.states)
+  pub owed : IsPlan (systems_in known.old.defs known.new) (state_of known.units.states) known.units.lists (owed_of plan)
+  pub steady : IsTrue plan.steady ↔ IsKnownSteady known
+  pub duties : plan.duties ≡ calls_of (owed_of plan) (state_of known.units.states)

@@ -1,12 +1,11 @@
 -- What a switch to a system does to the units: NixOS manual, "What happens during a system switch?".
-use Rattle.std.specs.Prelude.{◌≡◌, ℕ, List, [], None}
+use Rattle.std.specs.Prelude.{◌≡◌, ℕ, List, [], None, true}
 use Rattle.host_trait.specs.States.{state_of}
 use Rattle.host_trait.specs.World.{WorldState}
 use Rattle.owed_lists.specs.declared.lists.Lists.{Lists}
 use Rattle.owed_lists.specs.Lists.{AreListsOf}
 use Rattle.owed_plan.specs.declared.owed.Owed.{Owed}
 use Rattle.owed_plan.specs.Calls.{calls_of}
-use Rattle.owed_plan.specs.Law.{lists_of}
 use Rattle.owed_plan.specs.Owed.{IsOwed, IsPlan}
 use Rattle.owed_plan.specs.Systems.{systems_at}
 use Rattle.unit_defs.specs.Defs.{AreDefsOf}
@@ -27,21 +26,26 @@ pub record IsPlannedIn (w : WorldState) (system : List ℕ) (lists : Lists) (owe
   pub listed : AreListsOf w.leaves lists
   pub planned : IsPlan (systems_at w.leaves (current_system w.leaves) system) (state_of w.manager.states) lists owed
 
+-- what is owed by a plan: the units to stop, those of its lists, and those that it leaves
+abbrev pub owed_of : UnitPlan → Owed
+owed_of plan = record { stops = plan.stops; reloads = plan.recorded.reloads; restarts = plan.recorded.restarts; starts = plan.recorded.starts; left = plan.left }
+
 -- the plan of a switch to a system: the units that it defines, what is owed, and the calls by which it is given
 pub record IsUnitPlanOf (system : List ℕ) (w : WorldState) (plan : UnitPlan) : Type 0 where
   pub from : plan.from ≡ current_system w.leaves
   pub defs : AreDefsOf w.leaves system plan.defs
   pub lists : Lists
-  pub planned : IsPlannedIn w system lists plan.owed
-  pub recorded : plan.recorded ≡ lists_of plan.owed
-  pub duties : plan.duties ≡ calls_of plan.owed (state_of w.manager.states)
+  pub planned : IsPlannedIn w system lists (owed_of plan)
+  pub duties : plan.duties ≡ calls_of (owed_of plan) (state_of w.manager.states)
 
 -- the plan that does nothing to the units
 abbrev pub no_units : UnitPlan
 no_units = record {
   from = None;
   defs = [];
-  owed = record { stops = []; reloads = []; restarts = []; starts = []; left = [] };
+  stops = [];
   recorded = record { starts = []; restarts = []; reloads = [] };
+  left = [];
+  steady = true;
   duties = [];
 }

@@ -2,6 +2,7 @@
 ghost use Rattle.std.specs.Prelude.{◌≡◌, take, drop};
 ghost use Rattle.host_trait.specs.declared.unit_state.State.{State};
 ghost use Rattle.owed_plan.specs.Calls.{calls_of};
+ghost use Rattle.unit_stage.specs.Plan.{owed_of};
 ghost use Rattle.unit_stage.specs.Steps.{AreCallsOf};
 ghost use Rattle.switch_names.specs.Names.{Name};
 
@@ -33,17 +34,20 @@ fn calls_after(calls: &[Duty], count: usize) -> &[Duty]
 
 /// The calls of a plan, each kind by itself.
 pub fn calls_of(plan: &UnitPlan) -> PlanCalls<'_>
-    ensures { (states : Name → State) → plan.now.duties ≡ calls_of plan.now.owed states
-        → AreCallsOf plan.now.owed states result.stops.now result.reloads.now result.restarts.now result.starts.now }
+    ensures { (states : Name → State) → plan.now.duties ≡ calls_of (owed_of plan.now) states
+        → AreCallsOf (owed_of plan.now) states result.stops.now result.reloads.now result.restarts.now result.starts.now }
 {
-    let owed = plan.owed();
+    let lists = plan.recorded();
     let calls = plan.duties().as_slice();
-    let others = calls_after(calls, owed.stops.as_slice().len());
-    let later = calls_after(others, owed.reloads.as_slice().len());
+    let stops = plan.stops().as_slice();
+    let reloads = lists.reloads.as_slice();
+    let restarts = lists.restarts.as_slice();
+    let others = calls_after(calls, stops.len());
+    let later = calls_after(others, reloads.len());
     PlanCalls {
-        stops: first_calls(calls, owed.stops.as_slice().len()),
-        reloads: first_calls(others, owed.reloads.as_slice().len()),
-        restarts: first_calls(later, owed.restarts.as_slice().len()),
-        starts: calls_after(later, owed.restarts.as_slice().len()),
+        stops: first_calls(calls, stops.len()),
+        reloads: first_calls(others, reloads.len()),
+        restarts: first_calls(later, restarts.len()),
+        starts: calls_after(later, restarts.len()),
     }
 }

@@ -1,6 +1,7 @@
 //! What a switch to a system does to the units.
 ghost use Rattle.std.specs.Prelude.{◌≡◌};
 ghost use Rattle.std.specs.Option.{option_copied};
+ghost use Rattle.owed_plan.specs.Law.{lists_of};
 ghost use Rattle.unit_stage.specs.Plan.{no_units};
 
 use owed_lists::Lists;
@@ -13,8 +14,10 @@ use unit_defs::Defs;
 pub struct UnitPlan {
     from: Option<SystemName>,
     defs: Defs,
-    owed: Owed,
+    stops: Listed<UnitName>,
     recorded: Lists,
+    left: Listed<UnitName>,
+    steady: bool,
     duties: Listed<Duty>,
 }
 
@@ -24,8 +27,10 @@ impl Drop for UnitPlan {
         let UnitPlan {
             from: _,
             defs: _,
-            owed: _,
+            stops: _,
             recorded: _,
+            left: _,
+            steady: _,
             duties: _,
         } = self;
     }
@@ -37,16 +42,19 @@ impl UnitPlan {
         from: Option<SystemName>,
         defs: Defs,
         owed: Owed,
-        recorded: Lists,
+        steady: bool,
         duties: Listed<Duty>,
     ) -> UnitPlan
-        ensures { result ≡ record { from = from; defs = defs; owed = owed; recorded = recorded; duties = duties } }
+        ensures { result ≡ record { from = from; defs = defs; stops = owed.stops; recorded = lists_of owed; left = owed.left; steady = steady; duties = duties } }
     {
+        let (stops, recorded, left) = owed.into_lists();
         UnitPlan {
             from,
             defs,
-            owed,
+            stops,
             recorded,
+            left,
+            steady,
             duties,
         }
     }
@@ -58,18 +66,14 @@ impl UnitPlan {
         UnitPlan {
             from: None,
             defs: Defs::none(alloc),
-            owed: Owed {
-                stops: Listed::new(alloc),
-                reloads: Listed::new(alloc),
-                restarts: Listed::new(alloc),
-                starts: Listed::new(alloc),
-                left: Listed::new(alloc),
-            },
+            stops: Listed::new(alloc),
             recorded: Lists {
                 starts: Listed::new(alloc),
                 restarts: Listed::new(alloc),
                 reloads: Listed::new(alloc),
             },
+            left: Listed::new(alloc),
+            steady: true,
             duties: Listed::new(alloc),
         }
     }
@@ -88,14 +92,22 @@ impl UnitPlan {
         &self.defs
     }
 
-    /// What is owed.
-    pub(crate) fn owed(&self) -> &Owed
-        ensures { result.now ≡ self.now.owed }
+    /// The units to stop, in byte order.
+    pub(crate) fn stops(&self) -> &Listed<UnitName>
+        ensures { result.now ≡ self.now.stops }
     {
-        &self.owed
+        &self.stops
     }
 
-    /// The lists that are recorded.
+    /// Whether the marks of the targets and the lists of the world that the plan was made from don't
+    /// contradict each other.
+    pub fn steady(&self) -> bool
+        ensures { result ≡ self.now.steady }
+    {
+        self.steady
+    }
+
+    /// The units to start, to restart and to reload, as they are recorded.
     pub fn recorded(&self) -> &Lists
         ensures { result.now ≡ self.now.recorded }
     {
@@ -111,8 +123,8 @@ impl UnitPlan {
 
     /// The changed units that get nothing, in byte order.
     pub fn left(&self) -> &Listed<UnitName>
-        ensures { result.now ≡ self.now.owed.left }
+        ensures { result.now ≡ self.now.left }
     {
-        &self.owed.left
+        &self.left
     }
 }

@@ -15,6 +15,7 @@ use Rattle.switch_engine.specs.Places.{links_to}
 use Rattle.switch_engine.proofs.WayOfCommand.{all_moments, begins, comes_to_end, failed_of, profile_can, set_moments, units_can, verdict_of}
 use Rattle.switch_names.specs.Names.{Name}
 use Rattle.unit_stage.specs.declared.unit_plan.UnitPlan.{UnitPlan}
+use Rattle.unit_stage.specs.Plan.{owed_of}
 use Rattle.switch_engine.proofs.carrying.carry_out.Goals as goal
 
 pub returns-in_err-links-clause-moments : goal.returns-in_err-links-clause-moments
@@ -54,7 +55,7 @@ returns-clause-ok g c =
     (subst (λ (o : Option ProfilePlan). Passes host then (IsSetStep (sets_by c.to-2.result.now o))) c.profile.ensures c.set_profile.ensures.moments)
     (subst (λ (o : Option ProfilePlan). Leads host then (λ w u. seen u ≡ set_world (sets_by c.to-2.result.now o) w)) c.profile.ensures c.in_ok-set_profile.ensures.ok)
     c.switches-switches.result (c.switches-switches.ensures ∙ ap (λ (command : Command). (row_of command).switches) c.command.ensures) c.to-3.result.now c.to-3.ensures
-    (subst (λ (units : UnitPlan). Leads then (g.H.Tree.host c.carry_units.new.host) (IsSwitchedIf c.switches-switches.result c.to-3.result.now units.owed)) c.units.ensures led)) c.carry_units.ensures.ok
+    (subst (λ (units : UnitPlan). Leads then (g.H.Tree.host c.carry_units.new.host) (IsSwitchedIf c.switches-switches.result c.to-3.result.now (owed_of units))) c.units.ensures led)) c.carry_units.ensures.ok
 
 pub returns-clause-failed : goal.returns-clause-failed
 returns-clause-failed g c =
@@ -69,7 +70,7 @@ returns-clause-verdict g c =
     (subst (λ (o : Option ProfilePlan). Passes host then (IsSetStep (sets_by c.to-2.result.now o))) c.profile.ensures c.set_profile.ensures.moments)
     (subst (λ (o : Option ProfilePlan). Leads host then (λ w u. seen u ≡ set_world (sets_by c.to-2.result.now o) w)) c.profile.ensures c.in_ok-set_profile.ensures.ok)
     c.switches-switches.result (c.switches-switches.ensures ∙ ap (λ (command : Command). (row_of command).switches) c.command.ensures) c.to-3.result.now c.to-3.ensures (g.H.Tree.host c.carry_units.new.host) c.carry_units.result
-    (subst (λ (units : UnitPlan). OnOk c.carry_units.result (Leads then (g.H.Tree.host c.carry_units.new.host) (IsSwitchedIf c.switches-switches.result c.to-3.result.now units.owed))) c.units.ensures c.carry_units.ensures.ok)
+    (subst (λ (units : UnitPlan). OnOk c.carry_units.result (Leads then (g.H.Tree.host c.carry_units.new.host) (IsSwitchedIf c.switches-switches.result c.to-3.result.now (owed_of units)))) c.units.ensures c.carry_units.ensures.ok)
     c.carry_units.ensures.states
     (subst (λ (units : UnitPlan). IfOk c.carry_units.result (λ outcome. IsTrue c.switches-switches.result → IsTrue outcome.failed ↔ HasFailed units.defs outcome.states)) c.units.ensures c.carry_units.ensures.failed)
     c.carry_units.ensures.none
@@ -81,4 +82,4 @@ returns-clause-moments g c =
     (subst (λ (o : Option ProfilePlan). Passes host then (IsSetStep (sets_by c.to-2.result.now o))) c.profile.ensures c.set_profile.ensures.moments)
     (subst (λ (o : Option ProfilePlan). Leads host then (λ w u. seen u ≡ set_world (sets_by c.to-2.result.now o) w)) c.profile.ensures c.in_ok-set_profile.ensures.ok)
     c.switches-switches.result (c.switches-switches.ensures ∙ ap (λ (command : Command). (row_of command).switches) c.command.ensures) c.to-3.result.now c.to-3.ensures
-    (subst (λ (units : UnitPlan). Passes then (g.H.Tree.host c.carry_units.new.host) (IsSwitchMomentIf c.switches-switches.result c.to-3.result.now units.owed)) c.units.ensures c.carry_units.ensures.moments)
+    (subst (λ (units : UnitPlan). Passes then (g.H.Tree.host c.carry_units.new.host) (IsSwitchMomentIf c.switches-switches.result c.to-3.result.now (owed_of units))) c.units.ensures c.carry_units.ensures.moments)

@@ -10,22 +10,23 @@ use Rattle.switch_engine.proofs.SwitchLemmas.{moment_self}
 use Rattle.unit_defs.specs.declared.unit.Unit.{Unit}
 use Rattle.unit_defs.specs.Defs.{AreDefsOf}
 use Rattle.unit_stage.proofs.CauseLemmas.{cause_end, handed}
+use Rattle.unit_stage.specs.Plan.{owed_of}
 use Rattle.switch_engine.proofs.carrying.carry_switch.Goals as goal
 
 pub returns-in_err-states-clause-moments : goal.returns-in_err-states-clause-moments
 returns-in_err-states-clause-moments g c =
     let way = c.switch_units.ensures.moments in
-    goes_on_same way way.tells c.units.ensures.reads.moments (IsSwitchMoment c.args.system.now c.args.plan.now.owed) (λ w m is moment. moment) (λ w v is moment. moment)
+    goes_on_same way way.tells c.units.ensures.reads.moments (IsSwitchMoment c.args.system.now (owed_of c.args.plan.now)) (λ w m is moment. moment) (λ w v is moment. moment)
 
 pub returns-clause-ok : goal.returns-clause-ok
 returns-clause-ok g c =
-    leads_then c.in_ok-switch_units.ensures.ok c.units.ensures.reads.moments.tells (IsSwitched c.args.system.now c.args.plan.now.owed)
-    (λ w v u is is_v final same. subst (IsSwitched c.args.system.now c.args.plan.now.owed w) (sym same) final)
+    leads_then c.in_ok-switch_units.ensures.ok c.units.ensures.reads.moments.tells (IsSwitched c.args.system.now (owed_of c.args.plan.now))
+    (λ w v u is is_v final same. subst (IsSwitched c.args.system.now (owed_of c.args.plan.now) w) (sym same) final)
 
 pub returns-clause-moments : goal.returns-clause-moments
 returns-clause-moments g c =
     let way = c.switch_units.ensures.moments in
-    goes_on_same way way.tells c.units.ensures.reads.moments (IsSwitchMoment c.args.system.now c.args.plan.now.owed) (λ w m is moment. moment) (λ w v is moment. moment)
+    goes_on_same way way.tells c.units.ensures.reads.moments (IsSwitchMoment c.args.system.now (owed_of c.args.plan.now)) (λ w m is moment. moment) (λ w v is moment. moment)
 
 pub returns-clause-states : goal.returns-clause-states
 returns-clause-states g c =

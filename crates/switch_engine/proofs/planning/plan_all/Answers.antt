@@ -47,3 +47,6 @@ returns-clause-plan g c =
           (has_system c.args.command.now w.leaves c.system-2.result.now (c.system-2.ensures w.leaves) (sym (c.in_ok-has_version.ensures.has.has w is) ∙ c.if-not-branch.false)
           ∙ (told_read c.has_version.ensures.reads c.in_ok-plan.ensures.not_refused).has w is);
     })
+
+pub returns-clause-steady : goal.returns-clause-steady
+returns-clause-steady g c = told_read c.has_version.ensures.reads c.in_ok-plan.ensures.steady

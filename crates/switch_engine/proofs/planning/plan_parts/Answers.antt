@@ -1,4 +1,4 @@
-use Rattle.std.proofs.Common.{◌≡◌, Err, None, Option, Some, sym, ap, subst, ◌∙◌}
+use Rattle.std.proofs.Common.{◌≡◌, ◌↔◌, Err, IsTrue, None, Option, Some, sym, ap, subst, ◌∙◌}
 use Rattle.std.proofs.lemmas.Result.{err_from_is_err_and}
 use Rattle.generations.specs.declared.gens.Gens.{Gens}
 use Rattle.host_trait.specs.declared.tree.HostFault.TheVariants.{Device}
@@ -9,6 +9,8 @@ use Rattle.host_trait.proofs.Readings.{nothing_read_of, read_of, reads_of, reads
 use Rattle.switch_engine.specs.Commands.{new_system, row_of}
 use Rattle.generations.specs.Gens.{number_for_in}
 use Rattle.switch_engine.specs.declared.command.Command.{Command}
+use Rattle.switch_engine.specs.declared.plan.Plan.{Plan}
+use Rattle.switch_engine.specs.Owing.{IsSteadyFor}
 use Rattle.switch_engine.specs.Plan.{ArePlanned, IsNumbered, IsProfilePlanned}
 use Rattle.switch_names.specs.Names.{Name}
 use Rattle.switch_engine.specs.Rows.{parts_refusal}
@@ -97,3 +99,8 @@ returns-clause-numbered g c =
 pub returns-clause-reads : goal.returns-clause-reads
 returns-clause-reads g c =
     reads_of (reads_then (reads_then (read_of c.gens_for.ensures.reads _ (λ e. e)) c.check_places.ensures.reads) c.plan_switch.ensures.reads) _ (λ e. absurd (no_err _ (Host Device) e))
+
+pub returns-clause-steady : goal.returns-clause-steady
+returns-clause-steady g c =
+    told_as (told_read c.gens_for.ensures.reads (told_before c.check_places.ensures.reads.moments c.in_ok-units.ensures.steady)) (λ w. IsTrue c.new.result.units.steady ↔ IsSteadyFor c.args.command.now w)
+    (λ w is told. subst (λ (plan : Plan). IsTrue plan.units.steady ↔ IsSteadyFor c.args.command.now w) (sym c.new.ensures) told)

@@ -37,6 +37,9 @@ returns-clause-put_first g c = run.put_first _ c.run_words-ending.result c.run_w
 pub returns-clause-queries : goal.returns-clause-queries
 returns-clause-queries g c = run.queries _ c.run_words-ending.result c.run_words-ending.ensures c.status_of.result c.status_of.ensures
 
+pub returns-clause-same_report : goal.returns-clause-same_report
+returns-clause-same_report g c = run.same_report _ c.run_words-ending.result c.run_words-ending.ensures c.status_of.result c.status_of.ensures
+
 pub returns-clause-broken_off : goal.returns-clause-broken_off
 returns-clause-broken_off g c = run.broken_off _ c.run_words-ending.result c.run_words-ending.ensures c.status_of.result c.status_of.ensures
 

@@ -1,18 +1,24 @@
-use Rattle.std.proofs.Common.{Err, sym, ap, ◌∙◌}
+use Rattle.std.proofs.Common.{◌↔◌, Err, IsTrue, sym, ap, ◌∙◌}
 use Rattle.std.proofs.lemmas.Result.{err_from_is_err_and}
 use Rattle.host_trait.specs.declared.tree.HostFault.TheVariants.{Device, Memory}
 use Rattle.host_trait.proofs.Moments.{told_as}
 use Rattle.host_trait.proofs.Readings.{reads_of}
 use Rattle.switch_parts.specs.declared.plan_fault.PlanFault.TheVariants.{Host, Refused}
+use Rattle.unit_stage.specs.Owes.{IsSteadyWorld}
 use Rattle.unit_stage.specs.Plan.{IsUnitPlanOf}
 use Rattle.unit_stage.proofs.CauseLemmas.{host_no_refusal, memory_no_device, no_err}
-use Rattle.unit_stage.proofs.KnownLemmas.{plan_is, same_fault}
+use Rattle.unit_stage.proofs.KnownLemmas.{plan_is, same_fault, steady_is}
 use Rattle.unit_stage.proofs.planning.plan_units.Goals as goal
 
 pub returns-clause-plan : goal.returns-clause-plan
 returns-clause-plan g c =
     told_as c.in_ok-known.ensures.known (λ w. IsUnitPlanOf c.args.system.now w c.in_ok-plan.plan)
     (λ w is known. plan_is c.args.system.now w c.in_ok-known.known c.in_ok-plan.plan known c.in_ok-plan.ensures)
+
+pub returns-clause-steady : goal.returns-clause-steady
+returns-clause-steady g c =
+    told_as c.in_ok-known.ensures.known (λ w. IsTrue c.in_ok-plan.plan.steady ↔ IsSteadyWorld w c.args.system.now)
+    (λ w is known. steady_is c.args.system.now w c.in_ok-known.known known c.in_ok-plan.plan c.in_ok-plan.ensures)
 
 pub returns-in_err-plan-clause-refused : goal.returns-in_err-plan-clause-refused
 returns-in_err-plan-clause-refused g c why e =

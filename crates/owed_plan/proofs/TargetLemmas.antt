@@ -1,0 +1,82 @@
+-- Tests on names tell whether the marks of the targets and the lists are steady.
+use Rattle.std.proofs.Common.{◌≡◌, ◌↔◌, ◌&&◌, Bool, true, false, IsTrue, List, None, not, sym, ap, ◌∙◌}
+use Rattle.std.specs.List.{list_any}
+use Rattle.std.proofs.lemmas.Bool.{and_from, and_parts, both_ways, false_from_ne_true, not-true, not_from_false}
+use Rattle.host_trait.specs.declared.unit_state.State.{State}
+use Rattle.owed_lists.specs.declared.lists.Lists.{Lists}
+use Rattle.owed_plan.specs.Pull.{Pulled}
+use Rattle.owed_plan.specs.Steady.{IsSteady, IsStoppedForGood, has_for_good, is_steady, is_target}
+use Rattle.owed_plan.specs.Systems.{systems_in}
+use Rattle.owed_plan.proofs.ActiveLemmas.{one_of}
+use Rattle.owed_plan.proofs.NameLemmas.{any_from_has}
+use Rattle.switch_names.specs.Names.{IsListOf, Name, has}
+use Rattle.switch_names.specs.declared.unit_kind.UnitKind.{UnitKind}
+use Rattle.switch_names.specs.declared.unit_kind.UnitKind.TheVariants.{Target}
+use Rattle.unit_decide.specs.declared.facts.Facts.{Facts}
+use Rattle.unit_decide.specs.Facts.{facts_of}
+use Rattle.unit_decide.specs.Kinds.{is_kind}
+use Rattle.unit_decide.proofs.TableLemmas.{target_from_test}
+use Rattle.unit_defs.specs.declared.unit.Unit.{Unit}
+use Rattle.unit_defs.specs.Defs.{found_in}
+
+-- a test that finds none among names, and what it tells of a name
+none_from : (test : Name → Bool) (P : Name → Type 0) (names : List Name) → ((unit : Name) → P unit → test unit ≡ true) → list_any test names ≡ false → (unit : Name) → has names unit ≡ true → P unit → ⊥
+none_from test P names tells none unit found holds = both_ways (list_any test names) none (any_from_has test names unit found (tells unit holds))
+
+none_to : (test : Name → Bool) (P : Name → Type 0) (names : List Name) → ((unit : Name) → test unit ≡ true → P unit) → ((unit : Name) → has names unit ≡ true → P unit → ⊥) → list_any test names ≡ false
+none_to test P names tells lacks =
+    false_from_ne_true (list_any test names) (λ some. let one = one_of test names some in lacks one.0 one.1 (tells one.0 one.2))
+
+module _ (old new : List Unit) where
+  for_good_from : (unit : Name) → has_for_good new unit ≡ true → IsStoppedForGood (systems_in old new) unit
+  for_good_from unit is =
+      let f : Facts = facts_of None (found_in new unit) unit in
+      let last = and_parts (is_kind f.kind Target && f.in_new && f.stop_on_reconfiguration) (not f.may_start) is in
+      let third = and_parts (is_kind f.kind Target && f.in_new) f.stop_on_reconfiguration last.0 in
+      let second = and_parts (is_kind f.kind Target) f.in_new third.0 in
+      (second.1, target_from_test f.kind second.0, third.1, not-true f.may_start last.1)
+
+  for_good_to : (unit : Name) → IsStoppedForGood (systems_in old new) unit → has_for_good new unit ≡ true
+  for_good_to unit is =
+      let f : Facts = facts_of None (found_in new unit) unit in
+      and_from (is_kind f.kind Target && f.in_new && f.stop_on_reconfiguration) (not f.may_start)
+      (and_from (is_kind f.kind Target && f.in_new) f.stop_on_reconfiguration
+      (and_from (is_kind f.kind Target) f.in_new (ap (λ (kind : UnitKind). is_kind kind Target) is.1) is.0) is.2)
+      (not_from_false f.may_start is.3)
+
+  abbrev IsTarget : Name → Type 0
+  IsTarget unit = ((systems_in old new).facts unit).kind ≡ Target
+
+  target_from : (unit : Name) → is_target unit ≡ true → IsTarget unit
+  target_from unit is = target_from_test ((systems_in old new).facts unit).kind is
+
+  target_to : (unit : Name) → IsTarget unit → is_target unit ≡ true
+  target_to unit is = ap (λ (kind : UnitKind). is_kind kind Target) is
+
+  module _ (states : Name → State) (lists : Lists) (pulled : List Name) (are : IsListOf pulled (Pulled (systems_in old new) states lists)) where
+    steady_from : is_steady new lists pulled ≡ true → IsSteady (systems_in old new) states lists
+    steady_from is =
+        let no_pull = not (list_any (has_for_good new) pulled) in
+        let no_start = not (list_any (has_for_good new) lists.starts) in
+        let no_restart = not (list_any is_target lists.restarts) in
+        let last = and_parts (no_pull && no_start && no_restart) (not (list_any is_target lists.reloads)) is in
+        let third = and_parts (no_pull && no_start) no_restart last.0 in
+        let second = and_parts no_pull no_start third.0 in
+        record {
+          pull = λ unit reached.
+              none_from (has_for_good new) (IsStoppedForGood (systems_in old new)) pulled for_good_to (not-true (list_any (has_for_good new) pulled) second.0) unit ((are.exact unit).1 reached);
+          starts = none_from (has_for_good new) (IsStoppedForGood (systems_in old new)) lists.starts for_good_to (not-true (list_any (has_for_good new) lists.starts) second.1);
+          restarts = none_from is_target IsTarget lists.restarts target_to (not-true (list_any is_target lists.restarts) third.1);
+          reloads = none_from is_target IsTarget lists.reloads target_to (not-true (list_any is_target lists.reloads) last.1);
+        }
+
+    steady_to : IsSteady (systems_in old new) states lists → is_steady new lists pulled ≡ true
+    steady_to is =
+        let pull = none_to (has_for_good new) (IsStoppedForGood (systems_in old new)) pulled for_good_from (λ unit found. is.pull unit ((are.exact unit).0 found)) in
+        let starts = none_to (has_for_good new) (IsStoppedForGood (systems_in old new)) lists.starts for_good_from is.starts in
+        let restarts = none_to is_target IsTarget lists.restarts target_from is.restarts in
+        let reloads = none_to is_target IsTarget lists.reloads target_from is.reloads in
+        λ i. not (pull i) && not (starts i) && not (restarts i) && not (reloads i)
+
+    pub steady_told : (told : Bool) → told ≡ is_steady new lists pulled → IsTrue told ↔ IsSteady (systems_in old new) states lists
+    steady_told told same = (λ is. steady_from (sym same ∙ is), λ steady. same ∙ steady_to steady)
