@@ -10,6 +10,7 @@ mod shadow;
 mod table;
 mod tables;
 
+pub use field::read_id;
 pub use group::{GroupRow, read_group, write_group};
 pub use order::{group_in_order, passwd_in_order};
 pub use passwd::{PasswdRow, read_passwd, write_passwd};

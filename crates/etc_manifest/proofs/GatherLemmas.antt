@@ -1,0 +1,48 @@
+-- Items that are gathered up to the first fault.
+use Rattle.std.proofs.Common.{◌≡◌, ◌+◌, ◌<◌, ℕ, suc, List, [], ◌∷◌, ◌++◌, length, get_or, drop, map, Result, Ok, Err, refl, sym, ap, ◌∙◌, append_assoc, arith}
+use Rattle.std.proofs.Math.Seq.{drop-cons}
+use Rattle.etc_manifest.specs.Manifest.{gathered, prefixed}
+
+module _ {T E : Type 0} where
+  prefixed_none : (r : Result (List T) E) → r ≡ prefixed [] r
+  prefixed_none (Ok xs) = refl
+  prefixed_none (Err e) = refl
+
+  prefixed_twice : (front back : List T) (r : Result (List T) E) → prefixed front (prefixed back r) ≡ prefixed (front ++ back) r
+  prefixed_twice front back (Ok xs) = ap (λ ys. Ok ys) (sym (append_assoc front back xs))
+  prefixed_twice front back (Err e) = refl
+
+  -- a fault stays one, whatever stands before it
+  pub prefixed_fault : (front : List T) (r : Result (List T) E) (e : E) → prefixed front r ≡ Err e → r ≡ Err e
+  prefixed_fault front (Ok xs) e is = absurd (cc)
+  prefixed_fault front (Err f) e is = is
+
+  pub prefixed_items : (front : List T) (r : Result (List T) E) (all : List T) → prefixed front r ≡ Ok all → (rest : List T) × (r ≡ Ok rest) × (all ≡ front ++ rest)
+  prefixed_items front (Ok xs) all is = (xs, refl, cc)
+  prefixed_items front (Err f) all is = absurd (cc)
+
+module _ {X T E : Type 0} (f : X → Result T E) where
+  pub gathered_ok : (x : X) (xs : List X) (y : T) → f x ≡ Ok y → gathered (map f (x ∷ xs)) ≡ prefixed (y ∷ []) (gathered (map f xs))
+  gathered_ok x xs y is = ap (λ (r : Result T E). gathered (r ∷ map f xs)) is
+
+  pub gathered_err : (x : X) (xs : List X) (e : E) → f x ≡ Err e → gathered (map f (x ∷ xs)) ≡ Err e
+  gathered_err x xs e is = ap (λ (r : Result T E). gathered (r ∷ map f xs)) is
+
+  -- before the first of them nothing is gathered
+  pub gathered_begins : (xs : List X) (ys : List T) → ys ≡ [] → gathered (map f xs) ≡ prefixed ys (gathered (map f (drop 0 xs)))
+  gathered_begins xs ys none = prefixed_none (gathered (map f xs)) ∙ ap (λ zs. prefixed zs (gathered (map f xs))) (sym none)
+
+  left_with : (xs : List X) (i : ℕ) (x : X) → i < length xs → x ≡ get_or xs i x → drop i xs ≡ x ∷ drop (i + 1) xs
+  left_with xs i x within is =
+      let next : suc i ≡ i + 1 = omega arith in
+      drop-cons xs i x within ∙ ap (λ y. y ∷ drop (suc i) xs) (sym is) ∙ ap (λ n. x ∷ drop n xs) next
+
+  -- the next is gathered after those before it
+  pub gathered_more : (xs : List X) (i : ℕ) (x : X) (y : T) (before now : List T) → i < length xs → x ≡ get_or xs i x → now ≡ before ++ y ∷ [] → f x ≡ Ok y →
+      gathered (map f xs) ≡ prefixed before (gathered (map f (drop i xs))) → gathered (map f xs) ≡ prefixed now (gathered (map f (drop (i + 1) xs)))
+  gathered_more xs i x y before now within is pushed fine so_far =
+      so_far
+      ∙ ap (λ zs. prefixed before (gathered (map f zs))) (left_with xs i x within is)
+      ∙ ap (prefixed before) (gathered_ok x (drop (i + 1) xs) y fine)
+      ∙ prefixed_twice before (y ∷ []) (gathered (map f (drop (i + 1) xs)))
+      ∙ ap (λ zs. prefixed zs (gathered (map f (drop (i + 1) xs)))) (sym pushed)

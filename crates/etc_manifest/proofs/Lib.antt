@@ -1,0 +1,12 @@
+pub mod AnswerLemmas
+pub mod ApartLemmas
+pub mod FirstLemmas
+pub mod GatherLemmas
+pub mod LeafLemmas
+pub mod ManifestLemmas
+pub mod ModeLemmas
+pub mod NameLemmas
+pub mod OwnerLemmas
+pub mod ReadLemmas
+pub mod TextLemmas
+pub mod WantedLemmas

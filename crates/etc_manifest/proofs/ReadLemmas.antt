@@ -1,0 +1,63 @@
+-- What is read of each entry is what the system wants.
+use Rattle.std.proofs.Common.{◌≡◌, ℕ, ◌+◌, ◌<◌, ◌++◌, Bool, false, List, [], ◌∷◌, length, get_or, take, codes, map, Option, Some, option_and_then, Result, sym, ap, subst, ◌∙◌}
+use Rattle.std.specs.List.{AllByRecursion}
+use Rattle.std.proofs.lemmas.List.{map-append, take_more}
+use Rattle.switch_names.specs.Names.{Name, has}
+use Rattle.switch_names.specs.SystemName.{IsSystemPath}
+use Rattle.host_trait.specs.World.{Leaves}
+use Rattle.etc_manifest.specs.declared.item.Item.{Item}
+use Rattle.etc_manifest.specs.declared.item.ItemKind.{ItemKind}
+use Rattle.etc_manifest.specs.declared.manifest_fault.ManifestFault.{ManifestFault}
+use Rattle.etc_manifest.specs.declared.mode.Mode.{Mode}
+use Rattle.etc_manifest.specs.Companion.{companion}
+use Rattle.etc_manifest.specs.Entries.{IsAnswer, entry_names, has_leaf, item_of, leaf_names, manifest_of}
+use Rattle.etc_manifest.specs.Kind.{kind_by, kind_of, kind_with, mode_of}
+use Rattle.etc_manifest.specs.Manifest.{gathered, places}
+use Rattle.etc_manifest.specs.Owners.{OwnerIds}
+use Rattle.etc_manifest.specs.Place.{etc_folder, is_reserved}
+use Rattle.etc_manifest.proofs.LeafLemmas.{has_leaf_name}
+
+module _ (has_name : Name → Bool) (leaves : Leaves) (folder : List ℕ) (owners : OwnerIds) (name : List ℕ) where
+  -- an entry with what its mode says
+  pub kind_read : (text : Option (List ℕ)) (mode : Option Mode) (r : Result ItemKind ManifestFault) → Some text ≡ companion has_name leaves folder name (codes ".mode") → mode ≡ option_and_then mode_of text →
+      IsAnswer r (kind_with has_name leaves folder owners name mode) → IsAnswer r (kind_of has_name leaves folder owners name)
+  kind_read text mode r says is answer =
+      subst (IsAnswer r) (ap (kind_with has_name leaves folder owners name) is ∙ ap (kind_by has_name leaves folder owners name) says) answer
+
+-- the entries of all names are what the system wants
+pub all_read : (leaves : Leaves) (system folder : List ℕ) (owners : OwnerIds) (names entries : List (List ℕ)) (r : Result (List Item) ManifestFault) → IsSystemPath system →
+    folder ≡ etc_folder system → names ≡ leaf_names leaves folder → entries ≡ entry_names (has names) names →
+    IsAnswer r (gathered (map (item_of (has names) leaves folder owners) entries)) → IsAnswer r (manifest_of leaves system owners)
+all_read leaves system folder owners names entries r named is_folder are_names are_entries answer = subst (IsAnswer r) same answer
+  where
+    names_are : names ≡ leaf_names leaves (etc_folder system)
+    names_are = are_names ∙ ap (leaf_names leaves) is_folder
+
+    has_same : (name : List ℕ) → has names name ≡ has_leaf leaves (etc_folder system) name
+    has_same name = ap (λ ns. has ns name) names_are ∙ has_leaf_name leaves system named name
+
+    same : gathered (map (item_of (has names) leaves folder owners) entries) ≡ manifest_of leaves system owners
+    same =
+        ap (λ es. gathered (map (item_of (has names) leaves folder owners) es)) are_entries
+        ∙ ap (λ f. gathered (map (item_of (has names) leaves f owners) (entry_names (has names) names))) is_folder
+        ∙ (λ i. gathered (map (item_of (λ name. has_same name i) leaves (etc_folder system) owners) (entry_names (λ name. has_same name i) (names_are i))))
+
+-- one place more of the entries
+pub place_more : (names : List (List ℕ)) (i : ℕ) (name : List ℕ) (item : Item) (before now : List Item) → i < length names → name ≡ get_or names i name → item.place ≡ name →
+    now ≡ before ++ item ∷ [] → places before ≡ take i names → places now ≡ take (i + 1) names
+place_more names i name item before now within is placed pushed so_far =
+    ap places pushed
+    ∙ map-append (λ (one : Item). one.place) before (item ∷ [])
+    ∙ (λ k. so_far k ++ (placed ∙ is) k ∷ [])
+    ∙ sym (take_more names i name within)
+
+all_push : (P : List ℕ → Type 0) (names : List (List ℕ)) (name : List ℕ) → AllByRecursion P names → P name → AllByRecursion P (names ++ name ∷ [])
+all_push P [] name all one = (one, tt)
+all_push P (n ∷ names) name all one = (all.0, all_push P names name all.1 one)
+
+-- one entry more isn't reserved
+pub free_more : (names : List (List ℕ)) (i : ℕ) (name : List ℕ) → i < length names → name ≡ get_or names i name → is_reserved name ≡ false →
+    AllByRecursion (λ n. is_reserved n ≡ false) (take i names) → AllByRecursion (λ n. is_reserved n ≡ false) (take (i + 1) names)
+free_more names i name within is free so_far =
+    subst (AllByRecursion (λ n. is_reserved n ≡ false)) (sym (take_more names i name within ∙ ap (λ n. take i names ++ n ∷ []) (sym is)))
+    (all_push (λ n. is_reserved n ≡ false) (take i names) name so_far free)

@@ -1,0 +1,17 @@
+use Rattle.std.proofs.Common.{sym, ◌∙◌}
+use Rattle.switch_names.specs.Names.{has}
+use Rattle.host_trait.proofs.Readings.{read_of, reads_then, told_read}
+use Rattle.etc_manifest.proofs.ReadLemmas.{kind_read}
+use Rattle.etc_manifest.proofs.entry.read_kind.Goals as goal
+
+pub returns-clause-kind : goal.returns-clause-kind
+returns-clause-kind g c =
+    let told = told_read c.companion.ensures.reads c.read_with.ensures.kind in
+    record {
+      has = λ w is.
+          kind_read (has c.args.names.now) w.leaves c.args.folder.now c.args.owners.now c.args.name.now c.in-Some.text c.mode_in-mode.result c.read_with.result
+          (sym c.in-Some.is ∙ c.in_ok-text.ensures.says.has w is) c.mode_in-mode.ensures.mode (told.has w is);
+    }
+
+pub returns-clause-reads : goal.returns-clause-reads
+returns-clause-reads g c = reads_then (read_of c.companion.ensures.reads ⊥ (λ none. absurd none)) c.read_with.ensures.reads

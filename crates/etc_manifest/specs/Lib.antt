@@ -1,0 +1,6 @@
+pub mod Place
+pub mod Owners
+pub mod Companion
+pub mod Kind
+pub mod Manifest
+pub mod Entries

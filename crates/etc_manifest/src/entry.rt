@@ -1,0 +1,212 @@
+//! Reads the entries of a system's etc.
+ghost use Rattle.std.specs.Prelude.{◌≡◌, ◌≤◌, ℕ, false, Some, IfOk, OnOk, IsErrOf, map, option_and_then};
+ghost use Rattle.std.specs.FinMap.{get};
+ghost use Rattle.std.specs.List.{AllByRecursion};
+ghost use Rattle.std.specs.List.Sorted.{IsStrictlySortedBy};
+ghost use Rattle.switch_names.specs.Names.{has};
+ghost use Rattle.host_trait.specs.declared.tree.HostFault.TheVariants.{Device};
+ghost use Rattle.host_trait.specs.Bytes.{bytes_cmp};
+ghost use Rattle.host_trait.specs.Host.{Told};
+ghost use Rattle.host_trait.specs.Reading.{IsReadingOf};
+ghost use Rattle.etc_manifest.specs.declared.manifest_fault.ManifestFault.TheVariants.{Host};
+ghost use Rattle.etc_manifest.specs.declared.mode.Mode.TheVariants.{Bits};
+ghost use Rattle.etc_manifest.specs.Entries.{IsAnswer, item_of};
+ghost use Rattle.etc_manifest.specs.Companion.{parts_of};
+ghost use Rattle.etc_manifest.specs.Kind.{copied_kind, direct_kind, kind_of, kind_with, mode_of, owned_kind, target_of};
+ghost use Rattle.etc_manifest.specs.Manifest.{gathered, places};
+ghost use Rattle.etc_manifest.specs.Place.{is_reserved, path_in};
+
+use crate::item::{Item, ItemKind};
+use crate::manifest_fault::ManifestFault;
+use crate::mode::{Mode, read_mode};
+use crate::owners::Owners;
+use crate::place::is_reserved;
+use crate::reading::{Parts, companion, read_parts, read_target};
+use host_trait::{Leaf, Tree};
+use std::alloc::Global;
+use switch_names::{Bytes, Listed, Path, Text};
+
+/// An entry that is placed as the link that it is itself.
+fn direct_kind(alloc: Global, name: &Path, target: Option<Text>) -> Result<ItemKind, ManifestFault>
+    ensures kind { IsAnswer result (direct_kind name.now target) }
+    ensures cause { IsErrOf result (Host Device) → ⊥ }
+{
+    match target {
+        Some(target) => Ok(ItemKind::Direct { target }),
+        None => Err(ManifestFault::Entry(name.copy(alloc)?)),
+    }
+}
+
+/// A copy with these owners, where both are known.
+fn owned_kind(
+    alloc: Global,
+    name: &Path,
+    bytes: Bytes,
+    mode: u16,
+    owners: (Option<u32>, Option<u32>),
+) -> Result<ItemKind, ManifestFault>
+    requires { mode ≤ 4095 }
+    ensures kind { IsAnswer result (owned_kind name.now bytes mode owners.0 owners.1) }
+    ensures cause { IsErrOf result (Host Device) → ⊥ }
+{
+    match owners {
+        (Some(uid), Some(gid)) => Ok(ItemKind::Copied {
+            leaf: Leaf::file(bytes, mode, uid, gid),
+        }),
+        _ => Err(ManifestFault::Owner(name.copy(alloc)?)),
+    }
+}
+
+/// A copy that is made of these parts.
+fn copied_kind(
+    alloc: Global,
+    owners: &Owners,
+    name: &Path,
+    mode: u16,
+    parts: Parts,
+) -> Result<ItemKind, ManifestFault>
+    requires { mode ≤ 4095 }
+    ensures kind { IsAnswer result (copied_kind owners.now name.now mode parts) }
+    ensures cause { IsErrOf result (Host Device) → ⊥ }
+{
+    let Some((uid, gid)) = parts.owners() else {
+        return Err(ManifestFault::Entry(name.copy(alloc)?));
+    };
+    let uid = owners.user(alloc, uid)?;
+    let gid = owners.group(alloc, gid)?;
+    let Some(bytes) = parts.into_bytes() else {
+        return Err(ManifestFault::Entry(name.copy(alloc)?));
+    };
+    owned_kind(alloc, name, bytes, mode, (uid, gid))
+}
+
+/// The mode that a companion says, where it has content.
+fn mode_in(text: Option<Bytes>) -> Option<Mode>
+    ensures mode { result ≡ option_and_then mode_of text }
+    ensures bits { (mode : ℕ) → result ≡ Some (Bits mode) → mode ≤ 4095 }
+{
+    let text = text?;
+    read_mode(text.as_slice())
+}
+
+/// Reads an entry that is placed as the link that it is itself.
+fn read_direct<T: Tree>(
+    alloc: Global,
+    host: &mut T,
+    folder: &Path,
+    name: &Path,
+) -> Result<ItemKind, ManifestFault>
+    ensures kind { Told (T.host host.old) (λ w. IsAnswer result (direct_kind name.now (target_of (get w.leaves (path_in folder.now name.now))))) }
+    ensures reads { IsReadingOf (T.host host.old) (T.host host.new) (IsErrOf result (Host Device)) }
+{
+    let target = read_target(alloc, host, folder, name)?;
+    direct_kind(alloc, name, target)
+}
+
+/// Reads an entry that is copied.
+fn read_copied<T: Tree>(
+    alloc: Global,
+    host: &mut T,
+    folder: &Path,
+    names: &[Path],
+    owners: &Owners,
+    name: &Path,
+    mode: u16,
+) -> Result<ItemKind, ManifestFault>
+    requires sorted { IsStrictlySortedBy bytes_cmp names.now }
+    requires bits { mode ≤ 4095 }
+    ensures kind { Told (T.host host.old) (λ w. IsAnswer result (copied_kind owners.now name.now mode (parts_of (has names.now) w.leaves folder.now name.now))) }
+    ensures reads { IsReadingOf (T.host host.old) (T.host host.new) (IsErrOf result (Host Device)) }
+{
+    let parts = read_parts(alloc, host, folder, names, name)?;
+    copied_kind(alloc, owners, name, mode, parts)
+}
+
+/// Reads an entry with this mode.
+fn read_with<T: Tree>(
+    alloc: Global,
+    host: &mut T,
+    folder: &Path,
+    names: &[Path],
+    owners: &Owners,
+    name: &Path,
+    mode: Option<Mode>,
+) -> Result<ItemKind, ManifestFault>
+    requires sorted { IsStrictlySortedBy bytes_cmp names.now }
+    requires bits { (bits : ℕ) → mode ≡ Some (Bits bits) → bits ≤ 4095 }
+    ensures kind { Told (T.host host.old) (λ w. IsAnswer result (kind_with (has names.now) w.leaves folder.now owners.now name.now mode)) }
+    ensures reads { IsReadingOf (T.host host.old) (T.host host.new) (IsErrOf result (Host Device)) }
+{
+    match mode {
+        Some(Mode::DirectSymlink) => read_direct(alloc, host, folder, name),
+        Some(Mode::Bits(mode)) => read_copied(alloc, host, folder, names, owners, name, mode),
+        None => Err(ManifestFault::Entry(name.copy(alloc)?)),
+    }
+}
+
+/// Reads how an entry is placed.
+fn read_kind<T: Tree>(
+    alloc: Global,
+    host: &mut T,
+    folder: &Path,
+    names: &[Path],
+    owners: &Owners,
+    name: &Path,
+) -> Result<ItemKind, ManifestFault>
+    requires { IsStrictlySortedBy bytes_cmp names.now }
+    ensures kind { Told (T.host host.old) (λ w. IsAnswer result (kind_of (has names.now) w.leaves folder.now owners.now name.now)) }
+    ensures reads { IsReadingOf (T.host host.old) (T.host host.new) (IsErrOf result (Host Device)) }
+{
+    let Some(text) = companion(alloc, host, folder, names, name, ".mode")? else {
+        return Ok(ItemKind::Linked);
+    };
+    let mode = mode_in(text);
+    read_with(alloc, host, folder, names, owners, name, mode)
+}
+
+/// Reads an entry.
+fn read_item<T: Tree>(
+    alloc: Global,
+    host: &mut T,
+    folder: &Path,
+    names: &[Path],
+    owners: &Owners,
+    name: &Path,
+) -> Result<Item, ManifestFault>
+    requires { IsStrictlySortedBy bytes_cmp names.now }
+    ensures item { Told (T.host host.old) (λ w. IsAnswer result (item_of (has names.now) w.leaves folder.now owners.now name.now)) }
+    ensures place { IfOk result (λ item. item.place ≡ name.now) }
+    ensures free { OnOk result (is_reserved name.now ≡ false) }
+    ensures reads { IsReadingOf (T.host host.old) (T.host host.new) (IsErrOf result (Host Device)) }
+{
+    if is_reserved(name) {
+        return Err(ManifestFault::Reserved(name.copy(alloc)?));
+    }
+    let kind = read_kind(alloc, host, folder, names, owners, name)?;
+    Ok(Item {
+        place: name.copy(alloc)?,
+        kind,
+    })
+}
+
+/// Reads entries in order, up to the first that is refused.
+pub fn read_items<T: Tree>(
+    alloc: Global,
+    host: &mut T,
+    folder: &Path,
+    names: &[Path],
+    owners: &Owners,
+    entries: &[Path],
+) -> Result<Listed<Item>, ManifestFault>
+    requires { IsStrictlySortedBy bytes_cmp names.now }
+    ensures items { Told (T.host host.old) (λ w. IsAnswer result (gathered (map (item_of (has names.now) w.leaves folder.now owners.now) entries.now))) }
+    ensures places { IfOk result (λ items. places items ≡ entries.now) }
+    ensures free { OnOk result (AllByRecursion (λ name. is_reserved name ≡ false) entries.now) }
+    ensures reads { IsReadingOf (T.host host.old) (T.host host.new) (IsErrOf result (Host Device)) }
+{
+    let mut items = Listed::new(alloc);
+    for name in entries {
+        items.push(read_item(alloc, host, folder, names, owners, name)?)?;
+    }
+    Ok(items)
+}

@@ -1,0 +1,101 @@
+//! What a system wants below `/etc`.
+ghost use Rattle.std.specs.Prelude.{◌≡◌, List, ℕ, Ok, Err, IfOk, IsErrOf};
+ghost use Rattle.host_trait.specs.declared.tree.HostFault.TheVariants.{Device};
+ghost use Rattle.host_trait.specs.Host.{Told};
+ghost use Rattle.host_trait.specs.Reading.{IsReadingOf};
+ghost use Rattle.etc_manifest.specs.declared.manifest_fault.ManifestFault.TheVariants.{Reserved, Entry, Owner, Host};
+ghost use Rattle.etc_manifest.specs.Entries.{IsAnswer, manifest_of};
+ghost use Rattle.etc_manifest.specs.Manifest.{AreApart, IsManifest, places};
+
+use crate::companion::entry_names;
+use crate::entry::read_items;
+use crate::item::Item;
+use crate::manifest_fault::ManifestFault;
+use crate::owners::Owners;
+use crate::place::etc_folder;
+use crate::reading::read_names;
+use host_trait::Tree;
+use std::alloc::Global;
+use std::marker::Model;
+use switch_names::{Listed, SystemName};
+
+/// The entries of a system's etc, each with what is wanted at its place.
+///
+/// Contracts see them in byte order of places: each place once, and none of them reserved.
+pub struct Manifest {
+    items: Listed<Item>,
+}
+
+/// One call: a derived drop is proved anew in each function that lets one go.
+impl Drop for Manifest {
+    fn drop(self) {
+        let Manifest { items: _ } = self;
+    }
+}
+
+impl Model for Manifest {
+    ghost use Rattle.std.specs.Prelude.{List};
+    ghost use Rattle.etc_manifest.specs.declared.item.Item.{Item};
+    ghost use Rattle.etc_manifest.specs.Manifest.{IsManifest};
+
+    ghost Value = { List Item };
+
+    ghost view = { λ manifest. manifest.items };
+
+    ghost invariant = { λ manifest. IsManifest manifest.items };
+}
+
+/// Reads the entries of a system's etc, up to the first that is refused.
+fn read_entries<T: Tree>(
+    alloc: Global,
+    host: &mut T,
+    system: &SystemName,
+    owners: &Owners,
+) -> Result<Listed<Item>, ManifestFault>
+    ensures items { Told (T.host host.old) (λ w. IsAnswer result (manifest_of w.leaves system.now owners.now)) }
+    ensures is_manifest { IfOk result IsManifest }
+    ensures apart { IfOk result (λ items. Told (T.host host.old) (λ w. AreApart (places items))) }
+    ensures reads { IsReadingOf (T.host host.old) (T.host host.new) (IsErrOf result (Host Device)) }
+{
+    let folder = etc_folder(alloc, system)?;
+    let listed = read_names(alloc, host, &folder)?;
+    let names = listed.as_slice();
+    let entries = entry_names(alloc, names)?;
+    read_items(alloc, host, &folder, names, owners, entries.as_slice())
+}
+
+impl Manifest {
+    /// Reads the entries of a system's etc, and their companions.
+    ///
+    /// It lists the folder once. Of an entry without a `.mode` nothing more is read, and of any other
+    /// each leaf once.
+    ///
+    /// Source: NixOS manual, `environment.etc`.
+    pub fn read<T: Tree>(
+        alloc: Global,
+        host: &mut T,
+        system: &SystemName,
+        owners: &Owners,
+    ) -> Result<Manifest, ManifestFault>
+        ensures manifest { IfOk result (λ manifest. Told (T.host host.old) (λ w. manifest_of w.leaves system.now owners.now ≡ Ok manifest)) }
+        ensures apart { IfOk result (λ manifest. Told (T.host host.old) (λ w. AreApart (places manifest))) }
+
+        // By the law `first_refused_is_found` that is the first refused entry in byte order.
+        ensures reserved { (place : List ℕ) → IsErrOf result (Reserved place) → Told (T.host host.old) (λ w. manifest_of w.leaves system.now owners.now ≡ Err (Reserved place)) }
+        ensures entry { (place : List ℕ) → IsErrOf result (Entry place) → Told (T.host host.old) (λ w. manifest_of w.leaves system.now owners.now ≡ Err (Entry place)) }
+        ensures owner { (place : List ℕ) → IsErrOf result (Owner place) → Told (T.host host.old) (λ w. manifest_of w.leaves system.now owners.now ≡ Err (Owner place)) }
+
+        ensures reads { IsReadingOf (T.host host.old) (T.host host.new) (IsErrOf result (Host Device)) }
+    {
+        let items = read_entries(alloc, host, system, owners)?;
+        Ok(Manifest { items })
+    }
+
+    /// The entries in byte order of their places.
+    pub fn items(&self) -> &Listed<Item>
+        ensures items { result.now ≡ self.now }
+        ensures is_manifest { IsManifest self.now }
+    {
+        &self.items
+    }
+}
