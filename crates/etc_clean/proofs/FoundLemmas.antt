@@ -1,0 +1,193 @@
+-- The leaves below etc are sorted one by one.
+use Rattle.std.proofs.Common.{◌≡◌, ℕ, ◌+◌, ◌<◌, ◌&&◌, ◌||◌, not, Bool, true, false, cond, List, [], ◌∷◌, ◌++◌, length, get_or, take, map, filter, Option, None, Some, is_some, refl, sym, ap, subst, ◌∙◌}
+use Rattle.std.proofs.lemmas.Bool.{both_ways}
+use Rattle.std.proofs.lemmas.List.{append-nil, map-append, take_more}
+use Rattle.std.proofs.lemmas.List.Elements.{filter-append}
+use Rattle.std.proofs.lemmas.List.Kept.{IsStrictlySortedBy-filter}
+use Rattle.std.specs.FinMap.{get}
+use Rattle.std.specs.List.{list_any}
+use Rattle.std.specs.List.Sorted.{IsStrictlySortedBy}
+use Rattle.switch_names.specs.Names.{IsListOf, Name, has}
+use Rattle.host_trait.specs.World.{Leaves, bytes_cmp, is_in_line}
+use Rattle.etc_manifest.specs.declared.item.Item.{Item}
+use Rattle.etc_manifest.specs.Manifest.{places}
+use Rattle.etc_manifest.specs.Place.{is_reserved}
+use Rattle.etc_clean.specs.declared.found.Found.{Found}
+use Rattle.etc_clean.specs.CleanList.{clean_of}
+use Rattle.etc_clean.specs.Farm.{at, is_blocked, is_entry, is_farm_link, is_foreign, is_gone, is_ours}
+use Rattle.etc_clean.specs.Found.{AreFound, TakesPath, is_foreign_by, is_free, is_gone_by}
+use Rattle.etc_clean.specs.Names.{etc_names, is_in_etc, name_of, names_below}
+use Rattle.etc_clean.specs.Obsolete.{IsSortedOf}
+use Rattle.etc_clean.proofs.ListLemmas.{any_among, any_filter, etc_names_sorted, has_filter, names_append}
+use Rattle.etc_clean.proofs.NameLemmas.{has_etc_name, in_etc, same_test}
+
+module _ (items : List Item) (clean : List Name) (leaves : Leaves) where
+  -- no name of a path is taken
+  pub no_name : (path : List ℕ) (found : Found) → is_in_etc path ≡ false → TakesPath items clean leaves path found found
+  no_name path found out = record {
+    gone = sym (ap (λ (names : List Name). found.gone ++ filter (is_gone_by items clean leaves) names) none ∙ append-nil found.gone);
+    foreign = sym (ap (λ (names : List Name). found.foreign ++ filter (is_foreign_by items clean leaves) names) none ∙ append-nil found.foreign);
+  }
+    where
+      none : names_below (path ∷ []) ≡ []
+      none = ap (λ b. map name_of (cond b (path ∷ []) [])) out
+
+  -- the one name of a path
+  one_name : (path : List ℕ) → is_in_etc path ≡ true → names_below (path ∷ []) ≡ name_of path ∷ []
+  one_name path inside = ap (λ b. map name_of (cond b (path ∷ []) [])) inside
+
+  free_by : (a b : Bool) → (a || b) ≡ true → (not a && not b) ≡ false
+  free_by true b is = refl
+  free_by false true is = refl
+  free_by false false is = absurd (both_ways false refl is)
+
+  free_to : (a b : Bool) → (a || b) ≡ false → (not a && not b) ≡ true
+  free_to true b is = absurd (both_ways true is refl)
+  free_to false true is = absurd (both_ways true is refl)
+  free_to false false is = refl
+
+  -- a name that is kept isn't taken
+  pub kept_name : (path : List ℕ) (found : Found) → is_in_etc path ≡ true → (is_reserved (name_of path) || is_entry items (name_of path)) ≡ true → TakesPath items clean leaves path found found
+  kept_name path found inside kept =
+      let q = name_of path in
+      let out : is_free items q ≡ false = free_by (is_reserved q) (is_entry items q) kept in
+      record {
+        gone = sym (ap (λ (names : List Name). found.gone ++ filter (is_gone_by items clean leaves) names) (one_name path inside)
+            ∙ ap (λ b. found.gone ++ cond (b && is_ours clean q (at leaves q)) (q ∷ []) []) out ∙ append-nil found.gone);
+        foreign = sym (ap (λ (names : List Name). found.foreign ++ filter (is_foreign_by items clean leaves) names) (one_name path inside)
+            ∙ ap (λ b. found.foreign ++ cond (b && not (is_ours clean q (at leaves q))) (q ∷ []) []) out ∙ append-nil found.foreign);
+      }
+
+  swapped : (b : Bool) (q : Name) → cond b [] (q ∷ []) ≡ cond (not b) (q ∷ []) []
+  swapped true q = refl
+  swapped false q = refl
+
+  -- a name that isn't kept is taken by whose its leaf is
+  pub new_name :
+      (path : List ℕ) (name : Name) (ours : Bool) (old new : Found) → is_in_etc path ≡ true → name ≡ name_of path → (is_reserved name || is_entry items name) ≡ false →
+      ours ≡ is_ours clean name (get leaves path) → new.gone ≡ old.gone ++ cond ours (name ∷ []) [] → new.foreign ≡ old.foreign ++ cond ours [] (name ∷ []) → TakesPath items clean leaves path old new
+  new_name path name ours old new inside is free whose gone foreign =
+      let q = name_of path in
+      let kept_free : is_free items q ≡ true = free_to (is_reserved q) (is_entry items q) (subst (λ x. (is_reserved x || is_entry items x) ≡ false) is free) in
+      let theirs : ours ≡ is_ours clean q (at leaves q) = whose ∙ ap (λ x. is_ours clean x (get leaves path)) is ∙ ap (λ p. is_ours clean q (get leaves p)) (in_etc path inside) in
+      record {
+        gone = gone ∙ ap (λ x. old.gone ++ cond ours (x ∷ []) []) is ∙ ap (λ b. old.gone ++ cond b (q ∷ []) []) theirs
+            ∙ sym (ap (λ (names : List Name). old.gone ++ filter (is_gone_by items clean leaves) names) (one_name path inside)
+            ∙ ap (λ b. old.gone ++ cond (b && is_ours clean q (at leaves q)) (q ∷ []) []) kept_free);
+        foreign = foreign ∙ ap (λ x. old.foreign ++ cond ours [] (x ∷ [])) is ∙ ap (λ b. old.foreign ++ cond b [] (q ∷ [])) theirs
+            ∙ ap (λ l. old.foreign ++ l) (swapped (is_ours clean q (at leaves q)) q)
+            ∙ sym (ap (λ (names : List Name). old.foreign ++ filter (is_foreign_by items clean leaves) names) (one_name path inside)
+            ∙ ap (λ b. old.foreign ++ cond (b && not (is_ours clean q (at leaves q))) (q ∷ []) []) kept_free);
+      }
+
+  pub none_found : (found : Found) → found.gone ≡ [] → found.foreign ≡ [] → AreFound items clean leaves [] found
+  none_found found gone foreign = record { gone = gone; foreign = foreign }
+
+  -- one more path
+  pub more_found : (ks : List (List ℕ)) (path : List ℕ) (old new : Found) → AreFound items clean leaves (names_below ks) old → TakesPath items clean leaves path old new → AreFound items clean leaves (names_below (ks ++ path ∷ [])) new
+  more_found ks path old new before takes = record {
+    gone = takes.gone ∙ ap (λ l. l ++ filter (is_gone_by items clean leaves) (names_below (path ∷ []))) before.gone
+        ∙ sym (filter-append (is_gone_by items clean leaves) (names_below ks) (names_below (path ∷ [])))
+        ∙ ap (filter (is_gone_by items clean leaves)) (sym (names_append ks (path ∷ [])));
+    foreign = takes.foreign ∙ ap (λ l. l ++ filter (is_foreign_by items clean leaves) (names_below (path ∷ []))) before.foreign
+        ∙ sym (filter-append (is_foreign_by items clean leaves) (names_below ks) (names_below (path ∷ [])))
+        ∙ ap (filter (is_foreign_by items clean leaves)) (sym (names_append ks (path ∷ [])));
+  }
+
+-- ---- all leaves below etc
+
+turned : (free ours some : Bool) → ((free && ours) && some) ≡ ((some && free) && ours)
+turned true true true = refl
+turned true true false = refl
+turned true false true = refl
+turned true false false = refl
+turned false ours true = refl
+turned false ours false = refl
+
+and_swap : (a b : Bool) → a && b ≡ b && a
+and_swap true true = refl
+and_swap true false = refl
+and_swap false true = refl
+and_swap false false = refl
+
+module _ (items : List Item) (clean : List Name) (leaves : Leaves) (listed : (q : Name) → has clean q ≡ has (clean_of leaves) q) where
+  ours_same : (q : Name) → is_ours clean q (at leaves q) ≡ is_ours (clean_of leaves) q (at leaves q)
+  ours_same q = ap (λ b. is_farm_link q (at leaves q) || b) (listed q)
+
+  gone_there : (q : Name) → has (filter (is_gone_by items clean leaves) (etc_names leaves)) q ≡ is_gone items leaves q
+  gone_there q =
+      has_filter (is_gone_by items clean leaves) (etc_names leaves) q
+      ∙ ap (λ b. is_gone_by items clean leaves q && b) (has_etc_name leaves q)
+      ∙ turned (is_free items q) (is_ours clean q (at leaves q)) (is_some (at leaves q))
+      ∙ ap (λ b. (is_some (at leaves q) && is_free items q) && b) (ours_same q)
+
+  -- what is found to be gone is gone
+  pub gone_list : (found : Found) → AreFound items clean leaves (etc_names leaves) found → IsListOf found.gone (λ q. is_gone items leaves q ≡ true)
+  gone_list found are = record {
+    sorted = subst (IsStrictlySortedBy bytes_cmp) (sym are.gone) (IsStrictlySortedBy-filter bytes_cmp (is_gone_by items clean leaves) (etc_names leaves) (etc_names_sorted leaves));
+    exact = λ q. let same = ap (λ (names : List Name). has names q) are.gone ∙ gone_there q in (λ is. sym same ∙ is, λ is. same ∙ is);
+  }
+
+  pub foreign_sorted : (found : Found) → AreFound items clean leaves (etc_names leaves) found → IsStrictlySortedBy bytes_cmp found.foreign
+  foreign_sorted found are =
+      subst (IsStrictlySortedBy bytes_cmp) (sym are.foreign) (IsStrictlySortedBy-filter bytes_cmp (is_foreign_by items clean leaves) (etc_names leaves) (etc_names_sorted leaves))
+
+  foreign_here : (p : Name) → has (etc_names leaves) p ≡ true → is_foreign_by items clean leaves p ≡ is_foreign items leaves p
+  foreign_here p there =
+      ap (λ b. is_free items p && not b) (ours_same p)
+      ∙ sym (ap (λ b. (b && is_free items p) && not (is_ours (clean_of leaves) p (at leaves p))) (sym (has_etc_name leaves p) ∙ there))
+
+  blocked_there : (found : Found) (q : Name) → AreFound items clean leaves (etc_names leaves) found → list_any (λ p. is_in_line p q) found.foreign ≡ is_blocked items leaves q
+  unfolding is_blocked
+  blocked_there found q are =
+      ap (list_any (λ p. is_in_line p q)) are.foreign
+      ∙ any_filter (λ p. is_in_line p q) (is_foreign_by items clean leaves) (etc_names leaves)
+      ∙ any_among (λ p. is_foreign_by items clean leaves p && is_in_line p q) (λ p. is_foreign items leaves p && is_in_line p q) (etc_names leaves)
+      (λ p there. ap (λ b. b && is_in_line p q) (foreign_here p there))
+
+  -- the places that are found to be blocked are
+  pub blocked_list : (found : Found) (names : List Name) → IsStrictlySortedBy bytes_cmp (places items) → AreFound items clean leaves (etc_names leaves) found →
+      names ≡ filter (λ q. list_any (λ p. is_in_line p q) found.foreign) (places items) → IsListOf names (λ q. (is_entry items q && is_blocked items leaves q) ≡ true)
+  blocked_list found names sorted are is = record {
+    sorted = subst (IsStrictlySortedBy bytes_cmp) (sym is) (IsStrictlySortedBy-filter bytes_cmp (λ q. list_any (λ p. is_in_line p q) found.foreign) (places items) sorted);
+    exact = λ q.
+        let same =
+        ap (λ (ns : List Name). has ns q) is ∙ has_filter (λ q. list_any (λ p. is_in_line p q) found.foreign) (places items) q
+        ∙ ap (λ b. b && has (places items) q) (blocked_there found q are)
+        ∙ and_swap (is_blocked items leaves q) (is_entry items q) in
+        (λ there. sym same ∙ there, λ there. same ∙ there);
+  }
+
+-- one more path of a list
+pub found_next : (items : List Item) (clean : List Name) (leaves : Leaves) (paths : List (List ℕ)) (i : ℕ) (path : List ℕ) (old new : Found) → i < length paths → path ≡ get_or paths i path →
+    AreFound items clean leaves (names_below (take i paths)) old → TakesPath items clean leaves path old new → AreFound items clean leaves (names_below (take (i + 1) paths)) new
+found_next items clean leaves paths i path old new inside is before takes =
+    subst (λ ks. AreFound items clean leaves (names_below ks) new) (sym (take_more paths i path inside ∙ ap (λ p. take i paths ++ p ∷ []) (sym is))) (more_found items clean leaves (take i paths) path old new before takes)
+
+-- what a name of a path is
+pub name_there : (b : Bool) (x name : Name) (o : Option Name) → o ≡ cond b (Some x) None → o ≡ Some name → (b ≡ true) × (name ≡ x)
+name_there true x name o is there = (refl, cc)
+name_there false x name o is there = absurd (cc)
+
+-- one more item is looked at
+pub blocked_next : (test : Name → Bool) (items : List Item) (i : ℕ) (item : Item) (old new : List Name) → i < length items → item ≡ get_or items i item →
+    old ≡ filter test (places (take i items)) → new ≡ old ++ filter test (item.place ∷ []) → new ≡ filter test (places (take (i + 1) items))
+blocked_next test items i item old new inside is before added =
+    added
+    ∙ ap (λ (names : List Name). names ++ filter test (item.place ∷ [])) before
+    ∙ sym (filter-append test (places (take i items)) (item.place ∷ []))
+    ∙ ap (filter test) (sym (ap places (take_more items i item inside ∙ ap (λ x. take i items ++ x ∷ []) (sym is)) ∙ map-append (λ (x : Item). x.place) (take i items) (item ∷ [])))
+
+-- all that is found in etc
+pub sorted_all :
+    (items : List Item) (leaves : Leaves) (clean : List Name) (found : Found) (gone blocked : List Name) → IsStrictlySortedBy bytes_cmp (places items) →
+    IsListOf clean (λ q. has (clean_of leaves) q ≡ true) → AreFound items clean leaves (etc_names leaves) found → gone ≡ found.gone →
+    (IsStrictlySortedBy bytes_cmp found.foreign → blocked ≡ filter (λ q. list_any (λ p. is_in_line p q) found.foreign) (places items)) →
+    IsSortedOf items leaves (record { gone = gone; blocked = blocked; clean = clean })
+sorted_all items leaves clean found gone blocked sorted list are is by =
+    let listed = λ (q : Name). same_test (has clean q) (has (clean_of leaves) q) (λ there. (list.exact q).0 there) (λ there. (list.exact q).1 there) in
+    record {
+      gone = subst (λ (names : List Name). IsListOf names (λ q. is_gone items leaves q ≡ true)) (sym is) (gone_list items clean leaves listed found are);
+      blocked = blocked_list items clean leaves listed found blocked sorted are (by (foreign_sorted items clean leaves listed found are));
+      clean = list;
+    }

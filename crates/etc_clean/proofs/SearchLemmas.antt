@@ -1,0 +1,225 @@
+-- Searches among names in byte order.
+use Rattle.std.proofs.Common.{◌≡◌, ◌⊎◌, ℕ, zero, suc, ◌||◌, Bool, true, false, nat_eq, List, [], ◌∷◌, ◌++◌, length, take, drop, map, Option, None, Some, IsNone, IfSome, Result, Ok, Err, refl, sym, ap, subst, ◌∙◌, inl, inr, ⊎_elim, append_assoc}
+use Rattle.std.proofs.lemmas.Bool.{both_ways, cases_Bool, or_left, or_right}
+use Rattle.std.proofs.lemmas.Bool.Decides.{Decides-eqb}
+use Rattle.std.proofs.lemmas.Cmp.{nat_cmp_total, tied_itself}
+use Rattle.std.proofs.lemmas.List.{append-nil}
+use Rattle.std.proofs.lemmas.Option.{slice_get_past, slice_get_read}
+use Rattle.std.specs.Borrow.{Bor}
+use Rattle.std.specs.Slice.{IsItemAt}
+use Rattle.std.proofs.lemmas.Slice.Eq.{starts_is}
+use Rattle.std.specs.List.{AllByRecursion, list_any, slice_get, starts_with}
+use Rattle.std.specs.List.Sorted.{IsBinarySearchResult, IsSearchInRange, IsStrictlySortedBy}
+use Rattle.std.specs.FinMap.{nat_cmp-IsAntisymmetric}
+use Rattle.std.specs.Ordering.{nat_cmp, ordering_reverse, ordering_then}
+use Rattle.std.specs.Option.{option_copied}
+use Rattle.std.specs.Result.{is_ok}
+use Rattle.std.specs.declared.cmp.Ordering.{Ordering}
+use Rattle.std.specs.declared.cmp.Ordering.TheVariants.{Less, Equal, Greater}
+use Rattle.switch_names.specs.Names.{Name, has, is_name}
+use Rattle.switch_names.specs.Path.{IsParentOf, is_below, slash}
+use Rattle.switch_names.proofs.Below.{below_front, rest_below}
+use Rattle.host_trait.specs.World.{bytes_cmp, is_in_line}
+use Rattle.host_trait.proofs.Orders.{AreAbove, AreBelow, found_name, missing_name}
+use Rattle.host_trait.proofs.Places.{bytes_total, itself}
+use Rattle.host_trait.proofs.Seen.{other_of}
+use Rattle.tree_put.proofs.BlockedLemmas.{IsLeft, above_is_left}
+use Rattle.etc_clean.proofs.ListLemmas.{none_among}
+use Rattle.etc_clean.proofs.NameLemmas.{passes_among, same_test}
+
+-- ---- a name among others
+
+has_at : (ks : List Name) (at : ℕ) (name : Name) → slice_get ks at ≡ Some name → has ks name ≡ true
+has_at [] zero name is = absurd (cc)
+has_at [] (suc at) name is = absurd (cc)
+has_at (k ∷ ks) zero name is = or_left (is_name name k) (has ks name) (let same : k ≡ name = cc in subst (λ x. is_name name x ≡ true) (sym same) (itself name))
+has_at (k ∷ ks) (suc at) name is = or_right (is_name name k) (has ks name) (has_at ks at name is)
+
+less_not_same : (r : Ordering) → r ≡ Less → r ≡ Equal → ⊥
+less_not_same r less equal = absurd (cc)
+
+pub lower_other : (k name : Name) → bytes_cmp k name ≡ Less → is_name name k ≡ false
+lower_other k name less = other_of name k (λ same. less_not_same (bytes_cmp k k) (subst (λ x. bytes_cmp k x ≡ Less) same less) (tied_itself bytes_total k))
+
+higher_other : (k name : Name) → bytes_cmp name k ≡ Less → is_name name k ≡ false
+higher_other k name less = other_of name k (λ same. less_not_same (bytes_cmp name name) (subst (λ x. bytes_cmp name x ≡ Less) (sym same) less) (tied_itself bytes_total name))
+
+module _ {X : Type 0} (key : X → Name) where
+  none_above : (xs : List X) (name : Name) → AllByRecursion (λ x. bytes_cmp name (key x) ≡ Less) xs → has (map key xs) name ≡ false
+  none_above [] name above = refl
+  none_above (x ∷ xs) name above = ap (λ b. b || has (map key xs) name) (higher_other (key x) name above.0) ∙ none_above xs name above.1
+
+  none_at_cut : (xs : List X) (at : ℕ) (name : Name) → AllByRecursion (λ x. bytes_cmp (key x) name ≡ Less) (take at xs) → AllByRecursion (λ x. bytes_cmp name (key x) ≡ Less) (drop at xs) → has (map key xs) name ≡ false
+  none_at_cut [] at name below above = refl
+  none_at_cut (x ∷ xs) zero name below above = none_above (x ∷ xs) name above
+  none_at_cut (x ∷ xs) (suc at) name below above = ap (λ b. b || has (map key xs) name) (lower_other (key x) name below.0) ∙ none_at_cut xs at name below.1 above
+
+  -- a binary search finds a name where it is there
+  pub searched : (xs : List X) (name : Name) (r : Result ℕ ℕ) → IsStrictlySortedBy bytes_cmp (map key xs) → IsSearchInRange r (length xs) →
+      IsBinarySearchResult (λ x. bytes_cmp (key x) name) xs r → is_ok r ≡ has (map key xs) name
+  searched xs name (Ok at) sorted within is = sym (has_at (map key xs) at name (found_name key xs name (Ok at) within is))
+  searched xs name (Err at) sorted within is =
+      let cut = missing_name key xs name (Err at) sorted within is in sym (none_at_cut xs at name cut.1 cut.2)
+
+pub map_self : {X : Type 0} (xs : List X) → map (λ x. x) xs ≡ xs
+map_self [] = refl
+map_self (x ∷ xs) = ap (λ ys. x ∷ ys) (map_self xs)
+
+pub searched_name : (names : List Name) (name : Name) (r : Result ℕ ℕ) → IsStrictlySortedBy bytes_cmp names → IsSearchInRange r (length names) →
+    IsBinarySearchResult (λ x. bytes_cmp x name) names r → is_ok r ≡ has names name
+searched_name names name r sorted within is =
+    searched (λ x. x) names name r (subst (IsStrictlySortedBy bytes_cmp) (sym (map_self names)) sorted) within is ∙ ap (λ (ns : List Name). has ns name) (map_self names)
+
+-- ---- names that begin with a text
+
+abbrev pub begins : List ℕ → Name → Bool
+begins front q = starts_with nat_eq q front
+
+begins_with : (front q : List ℕ) → begins front q ≡ true → (rest : List ℕ) × (q ≡ front ++ rest)
+begins_with front q is = (drop (length front) q, (starts_is Decides-eqb q front (starts_with nat_eq q front) refl).0 is)
+
+begins_there : (front rest : List ℕ) → begins front (front ++ rest) ≡ true
+begins_there front rest = (starts_is Decides-eqb (front ++ rest) front (starts_with nat_eq (front ++ rest) front) refl).1 rest refl
+
+-- what begins with a text isn't lower than it
+not_lower : (front rest : List ℕ) → bytes_cmp (front ++ rest) front ≡ Less → ⊥
+not_lower [] [] less = absurd (cc)
+not_lower [] (x ∷ rest) less = absurd (cc)
+not_lower (x ∷ front) rest less = not_lower front rest (sym (ap (λ r. ordering_then r (bytes_cmp (front ++ rest) front)) (tied_itself nat_cmp_total x)) ∙ less)
+
+pub lower_begins : (front q : List ℕ) → bytes_cmp q front ≡ Less → begins front q ≡ false
+lower_begins front q less = elim (cases_Bool (begins front q)) [
+  | inl is ↦ let with = begins_with front q is in absurd (not_lower front with.0 (subst (λ x. bytes_cmp x front ≡ Less) with.1 less))
+  | inr other ↦ other
+]
+
+greater_not_less : Greater ≡ Less → ⊥
+greater_not_less is = absurd (cc)
+
+between_step : (x y : ℕ) (front a rest : List ℕ) (r : Ordering) → nat_cmp x y ≡ r → (bytes_cmp front a ≡ Less → bytes_cmp a (front ++ rest) ≡ Less → begins front a ≡ true) →
+    ordering_then r (bytes_cmp front a) ≡ Less → ordering_then (nat_cmp y x) (bytes_cmp a (front ++ rest)) ≡ Less → begins (x ∷ front) (y ∷ a) ≡ true
+between_step x y front a rest Less is more low high =
+    let greater : nat_cmp y x ≡ Greater = nat_cmp_total.antisymm y x ∙ ap ordering_reverse is in
+    absurd (greater_not_less (sym (ap (λ r. ordering_then r (bytes_cmp a (front ++ rest))) greater) ∙ high))
+between_step x y front a rest Greater is more low high = absurd (cc)
+between_step x y front a rest Equal is more low high =
+    let same : x ≡ y = nat_cmp-IsAntisymmetric x y is in
+    let tied : nat_cmp y x ≡ Equal = nat_cmp_total.antisymm y x ∙ ap ordering_reverse is in
+    let with = begins_with front a (more low (sym (ap (λ r. ordering_then r (bytes_cmp a (front ++ rest))) tied) ∙ high)) in
+    subst (λ z. begins (x ∷ front) (z ∷ a) ≡ true) same (subst (λ b. begins (x ∷ front) (x ∷ b) ≡ true) (sym with.1) (begins_there (x ∷ front) with.0))
+
+-- what stands between a text and one that begins with it begins with it too
+between : (front a rest : List ℕ) → bytes_cmp front a ≡ Less → bytes_cmp a (front ++ rest) ≡ Less → begins front a ≡ true
+between [] a rest low high = begins_there [] a
+between (x ∷ front) [] rest low high = absurd (cc)
+between (x ∷ front) (y ∷ a) rest low high = between_step x y front a rest (nat_cmp x y) refl (between front a rest) low high
+
+-- whether the first of some names begins with a text
+abbrev pub first_begins : List ℕ → List Name → Bool
+first_begins front [] = false
+first_begins front (k ∷ ks) = begins front k
+
+none_after : (front k : Name) (ks : List Name) → bytes_cmp front k ≡ Less → AreAbove ks k → begins front k ≡ false → list_any (begins front) ks ≡ false
+none_after front k [] low above none = refl
+none_after front k (l ∷ ks) low above none = elim (cases_Bool (begins front l)) [
+  | inl is ↦ let with = begins_with front l is in absurd (both_ways _ none (between front k with.0 low (subst (λ x. bytes_cmp k x ≡ Less) with.1 above.0)))
+  | inr other ↦ ap (λ b. b || list_any (begins front) ks) other ∙ none_after front k ks low above.1 none
+]
+
+first_counts : (front k : Name) (ks : List Name) (b : Bool) → begins front k ≡ b → bytes_cmp front k ≡ Less → AreAbove ks k → (begins front k || list_any (begins front) ks) ≡ begins front k
+first_counts front k ks true is low above = ap (λ b. b || list_any (begins front) ks) is ∙ sym is
+first_counts front k ks false is low above = ap (λ b. b || list_any (begins front) ks) is ∙ none_after front k ks low above is ∙ sym is
+
+-- in order, the first name past a text tells whether one begins with it
+front_at_cut : (front : List ℕ) (names : List Name) (at : ℕ) → IsStrictlySortedBy bytes_cmp names → AreBelow (take at names) front → AreAbove (drop at names) front →
+    list_any (begins front) names ≡ first_begins front (drop at names)
+unfolding IsStrictlySortedBy
+front_at_cut front [] zero sorted below above = refl
+front_at_cut front [] (suc at) sorted below above = refl
+front_at_cut front (k ∷ ks) zero sorted below above = first_counts front k ks (begins front k) refl above.0 sorted.0
+front_at_cut front (k ∷ ks) (suc at) sorted below above = ap (λ b. b || list_any (begins front) ks) (lower_begins front k below.0) ∙ front_at_cut front ks at sorted.1 below.1 above
+
+first_some : (front : List ℕ) (names : List Name) (at : ℕ) (k : Name) → slice_get names at ≡ Some k → first_begins front (drop at names) ≡ begins front k
+first_some front [] zero k is = absurd (cc)
+first_some front [] (suc at) k is = absurd (cc)
+first_some front (l ∷ names) zero k is = let same : l ≡ k = cc in ap (begins front) same
+first_some front (l ∷ names) (suc at) k is = first_some front names at k is
+
+first_none : (front : List ℕ) (names : List Name) (at : ℕ) → slice_get names at ≡ None → first_begins front (drop at names) ≡ false
+first_none front [] zero is = refl
+first_none front [] (suc at) is = refl
+first_none front (l ∷ names) zero is = absurd (cc)
+first_none front (l ∷ names) (suc at) is = first_none front names at is
+
+-- what is lent at a place is what stands there
+pub item_at : (names : List Name) (at : ℕ) (lent : Option (Bor Name)) → IsItemAt names at lent → slice_get names at ≡ option_copied lent
+item_at names at None is = slice_get_past names at is.3
+item_at names at (Some name) is = slice_get_read names (length names) at name.now refl is.3.0 is.1
+
+module _ (front : List ℕ) (names : List Name) (sorted : IsStrictlySortedBy bytes_cmp names) where
+  in_self : IsStrictlySortedBy bytes_cmp (map (λ x. x) names)
+  in_self = subst (IsStrictlySortedBy bytes_cmp) (sym (map_self names)) sorted
+
+  pub front_found : (at : ℕ) → IsSearchInRange (Ok at) (length names) → IsBinarySearchResult (λ x. bytes_cmp x front) names (Ok at) → true ≡ list_any (begins front) names
+  front_found at within is =
+      sym (passes_among (begins front) names front
+      (has_at names at front (subst (λ (ns : List Name). slice_get ns at ≡ Some front) (map_self names) (found_name (λ x. x) names front (Ok at) within is)))
+      (subst (λ x. begins front x ≡ true) (append-nil front) (begins_there front [])))
+
+  pub front_cut : (at : ℕ) → IsSearchInRange (Err at) (length names) → IsBinarySearchResult (λ x. bytes_cmp x front) names (Err at) → list_any (begins front) names ≡ first_begins front (drop at names)
+  front_cut at within is =
+      let cut = missing_name (λ x. x) names front (Err at) in_self within is in front_at_cut front names at sorted cut.1 cut.2
+
+  pub front_some : (at : ℕ) (k : Name) → IsSearchInRange (Err at) (length names) → IsBinarySearchResult (λ x. bytes_cmp x front) names (Err at) → slice_get names at ≡ Some k → begins front k ≡ list_any (begins front) names
+  front_some at k within is there = sym (front_cut at within is ∙ first_some front names at k there)
+
+  pub front_none : (at : ℕ) → IsSearchInRange (Err at) (length names) → IsBinarySearchResult (λ x. bytes_cmp x front) names (Err at) → slice_get names at ≡ None → false ≡ list_any (begins front) names
+  front_none at within is there = sym (front_cut at within is ∙ first_none front names at there)
+
+-- ---- names below another
+
+below_is_front : (name q : Name) → begins (name ++ slash ∷ []) q ≡ is_below q name
+below_is_front name q = same_test (begins (name ++ slash ∷ []) q) (is_below q name)
+    (λ is. let with = begins_with (name ++ slash ∷ []) q is in subst (λ x. is_below x name ≡ true) (sym (with.1 ∙ append_assoc name (slash ∷ []) with.0)) (below_front name with.0))
+    (λ is. let rest = rest_below q name is in subst (λ x. begins (name ++ slash ∷ []) x ≡ true) (sym (rest.1 ∙ sym (append_assoc name (slash ∷ []) rest.0))) (begins_there (name ++ slash ∷ []) rest.0))
+
+pub any_below : (name : Name) (names : List Name) → list_any (begins (name ++ slash ∷ [])) names ≡ list_any (λ q. is_below q name) names
+any_below name names = λ i. list_any (λ q. below_is_front name q i) names
+
+-- ---- names above another
+
+-- above a path, there are names at most where it is left to look
+abbrev pub IsFreeBut : List Name → Name → Option Name → Type 0
+IsFreeBut names name next = (q : Name) → is_below name q ≡ true → (has names q ≡ false) ⊎ IsLeft next q
+
+pub free_next : (names : List Name) (name place : Name) (next : Option Name) → IsFreeBut names name (Some place) → has names place ≡ false →
+    (IsNone next → (q : Name) → is_below place q ≡ false) → IfSome next (IsParentOf place) → IsFreeBut names name next
+free_next names name place next free gone none some q line = ⊎_elim
+    (λ empty. inl empty)
+    (λ left. ⊎_elim (λ same. inl (ap (has names) same ∙ gone)) (λ below. inr (above_is_left place next none some q below)) left)
+    (free q line)
+
+pub free_last : (names : List Name) (name : Name) → IsFreeBut names name None → list_any (λ q. is_below name q) names ≡ false
+free_last names name free = none_among (λ q. is_below name q) names (λ q there. elim (cases_Bool (is_below name q)) [
+  | inl line ↦ absurd (⊎_elim (λ empty. both_ways _ empty there) (λ left. left) (free q line))
+  | inr other ↦ other
+])
+
+pub above_found : (names : List Name) (name place : Name) → is_below name place ≡ true → has names place ≡ true → true ≡ list_any (λ q. is_below name q) names
+above_found names name place above there = sym (passes_among (λ q. is_below name q) names place there above)
+
+-- ---- names in line with another
+
+either_passes : (p t : Name → Bool) (ks : List Name) → list_any (λ k. p k || t k) ks ≡ (list_any p ks || list_any t ks)
+either_passes p t [] = refl
+either_passes p t (k ∷ ks) = ap (λ b. (p k || t k) || b) (either_passes p t ks) ∙ swapped (p k) (t k) (list_any p ks) (list_any t ks)
+  where
+    swapped : (a b c d : Bool) → ((a || b) || (c || d)) ≡ ((a || c) || (b || d))
+    swapped true b c d = refl
+    swapped false true true d = refl
+    swapped false true false d = refl
+    swapped false false c d = refl
+
+-- what is in line with a name lies below it or above it
+pub below_or_above : (names : List Name) (name : Name) → list_any (λ q. is_in_line q name) names ≡ (list_any (λ q. is_below q name) names || list_any (λ q. is_below name q) names)
+below_or_above names name = either_passes (λ q. is_below q name) (λ q. is_below name q) names

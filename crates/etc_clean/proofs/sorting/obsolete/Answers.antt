@@ -1,0 +1,36 @@
+use Rattle.std.proofs.Common.{◌≡◌, filter, List, subst, ◌∙◌}
+use Rattle.std.specs.List.{list_any}
+use Rattle.std.specs.List.Sorted.{IsStrictlySortedBy}
+use Rattle.switch_names.specs.Names.{Name}
+use Rattle.host_trait.specs.World.{bytes_cmp, is_in_line}
+use Rattle.host_trait.proofs.Readings.{read_handed, read_ok, read_starved, read_then, told_read}
+use Rattle.etc_manifest.specs.declared.item.Item.{Item}
+use Rattle.etc_manifest.specs.Manifest.{places}
+use Rattle.etc_clean.specs.Found.{AreFound}
+use Rattle.etc_clean.specs.Names.{etc_names}
+use Rattle.etc_clean.proofs.FoundLemmas.{sorted_all}
+use Rattle.etc_clean.proofs.sorting.obsolete.Goals as goal
+
+pub returns-in_err-found-clause-reads : goal.returns-in_err-found-clause-reads
+returns-in_err-found-clause-reads g c = read_handed (read_then c.read_clean_set.ensures.reads c.in_err-found.ensures.reads) _ c.from_residual-in_err-found.ensures.1
+
+pub returns-in_err-blocked-clause-reads : goal.returns-in_err-blocked-clause-reads
+returns-in_err-blocked-clause-reads g c = read_starved (read_then c.read_clean_set.ensures.reads c.find_all.ensures.reads) _ c.from_residual-in_err-blocked.ensures.1
+
+pub returns-clause-reads : goal.returns-clause-reads
+returns-clause-reads g c = read_ok (read_then c.read_clean_set.ensures.reads c.find_all.ensures.reads) _
+
+pub returns-clause-sorted : goal.returns-clause-sorted
+returns-clause-sorted g c =
+    let told = told_read c.read_clean_set.ensures.reads c.in_ok-found.ensures.found in
+    let items = c.as_slice-items.ensures ∙ c.items.ensures.items in
+    record {
+      has = λ w is.
+          sorted_all c.args.manifest.now w.leaves c.in_ok-clean.clean c.in_ok-found.found c.into_gone.result c.in_ok-blocked.blocked c.items.ensures.is_manifest.sorted
+          (c.in_ok-clean.ensures.clean.has w is)
+          (subst (λ (list : List Item). AreFound list c.in_ok-clean.clean w.leaves (etc_names w.leaves) c.in_ok-found.found) items
+          (subst (λ (names : List Name). AreFound c.as_slice-items.result.now names w.leaves (etc_names w.leaves) c.in_ok-found.found) c.as_slice.ensures (told.has w is)))
+          c.into_gone.ensures
+          (subst (λ (list : List Item). IsStrictlySortedBy bytes_cmp c.in_ok-found.found.foreign → c.in_ok-blocked.blocked ≡ filter (λ q. list_any (λ p. is_in_line p q) c.in_ok-found.found.foreign) (places list)) items
+          (subst (λ (names : List Name). IsStrictlySortedBy bytes_cmp names → c.in_ok-blocked.blocked ≡ filter (λ q. list_any (λ p. is_in_line p q) names) (places c.as_slice-items.result.now)) c.as_slice-2.ensures c.in_ok-blocked.ensures));
+    }

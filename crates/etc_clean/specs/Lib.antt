@@ -1,0 +1,7 @@
+pub mod CleanList
+pub mod Etc
+pub mod Farm
+pub mod Found
+pub mod Keeps
+pub mod Names
+pub mod Obsolete

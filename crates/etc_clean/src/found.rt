@@ -1,0 +1,185 @@
+//! What the leaves below `etc` are.
+ghost use Rattle.std.specs.Prelude.{◌≡◌, ◌||◌, ◌++◌, ◌∷◌, [], codes, nat_eq, IfOk, OnOk, if◌then◌else◌};
+ghost use Rattle.std.specs.FinMap.{get};
+ghost use Rattle.std.specs.List.{starts_with};
+ghost use Rattle.std.specs.List.Sorted.{IsStrictlySortedBy};
+ghost use Rattle.host_trait.specs.Host.{Told};
+ghost use Rattle.host_trait.specs.Reading.{IsReading};
+ghost use Rattle.host_trait.specs.World.{bytes_cmp, is_path};
+ghost use Rattle.etc_manifest.specs.Manifest.{places};
+ghost use Rattle.etc_manifest.specs.Place.{is_reserved};
+ghost use Rattle.etc_clean.specs.Farm.{is_below_nixos, is_entry, is_farm_link, is_into_static, is_ours};
+ghost use Rattle.etc_clean.specs.Found.{AreFound, TakesPath};
+ghost use Rattle.etc_clean.specs.Names.{names_below};
+
+use crate::names::name_in_etc;
+use crate::search::{contains, has_item};
+use etc_manifest::{Item, is_reserved};
+use host_trait::{HostFault, Leaf, LeafKind, Tree};
+use std::alloc::{AllocError, Global};
+use switch_names::{Listed, Path};
+
+/// Names below `etc` that are neither reserved nor entries, in byte order.
+pub struct Found {
+    /// Those whose leaf is the farm's.
+    pub gone: Listed<Path>,
+    /// The others.
+    pub foreign: Listed<Path>,
+}
+
+/// One call: a derived drop is proved anew in each function that lets one go.
+impl Drop for Found {
+    fn drop(self) {
+        let Found {
+            gone: _,
+            foreign: _,
+        } = self;
+    }
+}
+
+impl Found {
+    /// No names.
+    fn new(alloc: Global) -> Found
+        ensures gone { result.gone ≡ [] }
+        ensures foreign { result.foreign ≡ [] }
+    {
+        Found {
+            gone: Listed::new(alloc),
+            foreign: Listed::new(alloc),
+        }
+    }
+
+    /// The names whose leaf is the farm's.
+    pub fn into_gone(self) -> Listed<Path>
+        ensures { result ≡ self.gone }
+    {
+        let Found { gone, foreign: _ } = self;
+        gone
+    }
+
+    /// Adds a name, by whether its leaf is the farm's.
+    fn add(&mut self, name: Path, ours: bool) -> Result<(), AllocError>
+        ensures gone { OnOk result (self.new.gone ≡ self.old.gone ++ (if ours then name ∷ [] else [])) }
+        ensures foreign { OnOk result (self.new.foreign ≡ self.old.foreign ++ (if ours then [] else name ∷ [])) }
+    {
+        if ours {
+            self.gone.push(name)
+        } else {
+            self.foreign.push(name)
+        }
+    }
+}
+
+/// Whether a target is `/etc/static`.
+fn is_static(target: &str) -> bool
+    ensures { result ≡ is_path target.now (codes "/etc/static") }
+{
+    target == "/etc/static"
+}
+
+/// Whether a target begins with `/etc/static` and a slash.
+fn is_below_static(target: &str) -> bool
+    ensures { result ≡ starts_with nat_eq target.now (codes "/etc/static/") }
+{
+    target.starts_with("/etc/static/")
+}
+
+/// Whether a target leads into `/etc/static`.
+#[tactic(auto, unfolding(crate::specs::Farm::is_into_static))]
+fn is_into_static(target: &str) -> bool
+    ensures { result ≡ is_into_static target.now }
+{
+    is_static(target) || is_below_static(target)
+}
+
+/// Whether a name lies below `nixos`.
+#[tactic(auto, unfolding(crate::specs::Farm::is_below_nixos))]
+fn is_below_nixos(name: &Path) -> bool
+    ensures { result ≡ is_below_nixos name.now }
+{
+    name.as_str().starts_with("nixos/")
+}
+
+/// Whether a leaf is a link into `/etc/static`, outside of `nixos`.
+fn is_farm_link(name: &Path, leaf: &Option<Leaf>) -> bool
+    ensures { result ≡ is_farm_link name.now leaf.now }
+{
+    let Some(leaf) = leaf else {
+        return false;
+    };
+    match leaf.kind() {
+        LeafKind::File { .. } => false,
+        LeafKind::Link { target } => is_into_static(target.as_str()) && !is_below_nixos(name),
+    }
+}
+
+/// Whether a name is reserved, or the place of one of these items.
+fn is_kept(items: &[Item], name: &Path) -> bool
+    requires { IsStrictlySortedBy bytes_cmp (places items.now) }
+    ensures { result ≡ (is_reserved name.now || is_entry items.now name.now) }
+{
+    is_reserved(name) || has_item(items, name)
+}
+
+/// Whether the leaf at a path is the farm's, given the names of the clean list.
+fn is_ours<T: Tree>(
+    alloc: Global,
+    host: &mut T,
+    clean: &[Path],
+    path: &Path,
+    name: &Path,
+) -> Result<bool, HostFault>
+    requires { IsStrictlySortedBy bytes_cmp clean.now }
+    ensures ours { IfOk result (λ ours. Told (T.host host.old) (λ w. ours ≡ is_ours clean.now name.now (get w.leaves path.now))) }
+    ensures reads { IsReading (T.host host.old) (T.host host.new) result }
+{
+    if contains(clean, name) {
+        return Ok(true);
+    }
+    let leaf = host.read(alloc, path)?;
+    Ok(is_farm_link(name, &leaf))
+}
+
+/// Adds the name of a path, where it is one below `etc` that is neither reserved nor an entry.
+fn take_path<T: Tree>(
+    alloc: Global,
+    host: &mut T,
+    items: &[Item],
+    clean: &[Path],
+    path: &Path,
+    found: &mut Found,
+) -> Result<(), HostFault>
+    requires items { IsStrictlySortedBy bytes_cmp (places items.now) }
+    requires clean { IsStrictlySortedBy bytes_cmp clean.now }
+    ensures found { OnOk result (Told (T.host host.old) (λ w. TakesPath items.now clean.now w.leaves path.now found.old found.new)) }
+    ensures reads { IsReading (T.host host.old) (T.host host.new) result }
+{
+    let Some(name) = name_in_etc(alloc, path)? else {
+        return Ok(());
+    };
+    if is_kept(items, &name) {
+        return Ok(());
+    }
+    let ours = is_ours(alloc, host, clean, path, &name)?;
+    Ok(found.add(name, ours)?)
+}
+
+/// Sorts the leaves at these paths.
+pub fn find<T: Tree>(
+    alloc: Global,
+    host: &mut T,
+    items: &[Item],
+    clean: &[Path],
+    paths: &[Path],
+) -> Result<Found, HostFault>
+    requires items { IsStrictlySortedBy bytes_cmp (places items.now) }
+    requires clean { IsStrictlySortedBy bytes_cmp clean.now }
+    ensures found { IfOk result (λ found. Told (T.host host.old) (λ w. AreFound items.now clean.now w.leaves (names_below paths.now) found)) }
+    ensures reads { IsReading (T.host host.old) (T.host host.new) result }
+{
+    let mut found = Found::new(alloc);
+    for path in paths {
+        take_path(alloc, host, items, clean, path, &mut found)?;
+    }
+    Ok(found)
+}

@@ -1,0 +1,120 @@
+//! What a switch finds in `/etc` before it puts its farm there.
+ghost use Rattle.std.specs.Prelude.{◌≡◌, ◌++◌, ◌∷◌, [], true, IfOk, OnOk, filter};
+ghost use Rattle.std.specs.List.{list_any};
+ghost use Rattle.std.specs.List.Sorted.{IsStrictlySortedBy};
+ghost use Rattle.switch_names.specs.Names.{IsListOf, has};
+ghost use Rattle.host_trait.specs.Host.{Told};
+ghost use Rattle.host_trait.specs.Reading.{IsReading};
+ghost use Rattle.host_trait.specs.World.{bytes_cmp, is_in_line};
+ghost use Rattle.etc_manifest.specs.Manifest.{places};
+ghost use Rattle.etc_clean.specs.CleanList.{clean_of};
+ghost use Rattle.etc_clean.specs.Found.{AreFound};
+ghost use Rattle.etc_clean.specs.Names.{etc_names};
+ghost use Rattle.etc_clean.specs.Obsolete.{IsSortedOf};
+
+use crate::clean_list::read_old;
+use crate::found::{Found, find};
+use crate::names::etc_folder;
+use crate::order::in_order;
+use crate::search::has_in_line;
+use etc_manifest::{Item, Manifest};
+use host_trait::{HostFault, Tree};
+use std::alloc::{AllocError, Global};
+use switch_names::{Listed, Path};
+
+/// What a switch finds in `/etc`: names below it, each list in byte order.
+pub struct Sorted {
+    /// The leaves to be removed.
+    pub gone: Listed<Path>,
+    /// The entries that are left out, because a foreign leaf stands above or below them.
+    pub blocked: Listed<Path>,
+    /// The names of the clean list that stands.
+    pub clean: Listed<Path>,
+}
+
+/// One call: a derived drop is proved anew in each function that lets one go.
+impl Drop for Sorted {
+    fn drop(self) {
+        let Sorted {
+            gone: _,
+            blocked: _,
+            clean: _,
+        } = self;
+    }
+}
+
+/// The names of the clean list that stands, in byte order.
+fn read_clean_set<T: Tree>(alloc: Global, host: &mut T) -> Result<Listed<Path>, HostFault>
+    ensures clean { IfOk result (λ clean. Told (T.host host.old) (λ w. IsListOf clean (λ q. has (clean_of w.leaves) q ≡ true))) }
+    ensures sorted { IfOk result (λ clean. IsStrictlySortedBy bytes_cmp clean) }
+    ensures reads { IsReading (T.host host.old) (T.host host.new) result }
+{
+    let names = read_old(alloc, host)?;
+    Ok(in_order(alloc, names.as_slice())?)
+}
+
+/// Sorts the leaves below `etc`.
+fn find_all<T: Tree>(
+    alloc: Global,
+    host: &mut T,
+    items: &[Item],
+    clean: &[Path],
+) -> Result<Found, HostFault>
+    requires items { IsStrictlySortedBy bytes_cmp (places items.now) }
+    requires clean { IsStrictlySortedBy bytes_cmp clean.now }
+    ensures found { IfOk result (λ found. Told (T.host host.old) (λ w. AreFound items.now clean.now w.leaves (etc_names w.leaves) found)) }
+    ensures reads { IsReading (T.host host.old) (T.host host.new) result }
+{
+    let folder = etc_folder(alloc)?;
+    let paths = host.list(alloc, &folder)?;
+    find(alloc, host, items, clean, paths.as_slice())
+}
+
+/// Adds the place of an item, where one of these names stands above or below it.
+fn add_blocked(
+    alloc: Global,
+    item: &Item,
+    foreign: &[Path],
+    blocked: &mut Listed<Path>,
+) -> Result<(), AllocError>
+    ensures { OnOk result (IsStrictlySortedBy bytes_cmp foreign.now → blocked.new ≡ blocked.old ++ filter (λ q. list_any (λ p. is_in_line p q) foreign.now) (item.now.place ∷ [])) }
+{
+    if !has_in_line(alloc, foreign, &item.place)? {
+        return Ok(());
+    }
+    blocked.push(item.place.copy(alloc)?)
+}
+
+/// The places of the items above or below which one of these names stands, where they are in byte order.
+fn blocked_by(alloc: Global, items: &[Item], foreign: &[Path]) -> Result<Listed<Path>, AllocError>
+    ensures { IfOk result (λ names. IsStrictlySortedBy bytes_cmp foreign.now → names ≡ filter (λ q. list_any (λ p. is_in_line p q) foreign.now) (places items.now)) }
+{
+    let mut blocked = Listed::new(alloc);
+    for item in items {
+        add_blocked(alloc, item, foreign, &mut blocked)?;
+    }
+    Ok(blocked)
+}
+
+/// What a manifest leaves to be removed and to be left out in `/etc`, with the clean list that stands.
+///
+/// It reads the clean list once, lists `etc` once, and reads each leaf there at most once.
+/// Source: setup-etc.pl of nixpkgs.
+pub fn obsolete<T: Tree>(
+    alloc: Global,
+    host: &mut T,
+    manifest: &Manifest,
+) -> Result<Sorted, HostFault>
+    ensures sorted { IfOk result (λ sorted. Told (T.host host.old) (λ w. IsSortedOf manifest.now w.leaves sorted)) }
+    ensures reads { IsReading (T.host host.old) (T.host host.new) result }
+{
+    let items = manifest.items().as_slice();
+    let clean = read_clean_set(alloc, host)?;
+    let found = find_all(alloc, host, items, clean.as_slice())?;
+    let blocked = blocked_by(alloc, items, found.foreign.as_slice())?;
+    Ok(Sorted {
+        gone: found.into_gone(),
+        blocked,
+        clean,
+    })
+}

@@ -1,0 +1,9 @@
+pub mod ApplyLemmas
+pub mod ClearLemmas
+pub mod EntryLemmas
+pub mod LineLemmas
+pub mod PartLemmas
+pub mod PlaceLemmas
+pub mod RemovalLemmas
+pub mod StageLemmas
+pub mod StepLemmas

@@ -1,0 +1,2 @@
+pub mod FarmPart
+pub mod Steps
