@@ -1,0 +1,64 @@
+-- Names, and rows by their names.
+use Rattle.std.proofs.Common.{◌≡◌, ℕ, ◌+◌, ◌<◌, ◌||◌, Bool, true, false, cond, Bor, List, [], ◌∷◌, ◌++◌, length, get_or, take, drop, map, Option, Some, option_map, refl, sym, ap, ◌∙◌, inl, inr}
+use Rattle.std.proofs.Math.Bool.{or-false, or_assoc}
+use Rattle.std.proofs.lemmas.Bool.{both_ways}
+use Rattle.std.proofs.lemmas.Cmp.{tied_itself}
+use Rattle.std.proofs.lemmas.List.{drop_more, map_more}
+use Rattle.std.proofs.lemmas.List.Folds.{list_any-append}
+use Rattle.std.specs.BTreeMap.{BTreeMap, get, is_at}
+use Rattle.std.specs.Ordering.{is_eq}
+use Rattle.host_trait.specs.Bytes.{bytes_cmp}
+use Rattle.host_trait.proofs.Places.{bytes_total, same_or_other}
+use Rattle.switch_names.proofs.Names.{name_turned}
+use Rattle.switch_names.specs.Names.{Name, has, is_name}
+use Rattle.account_text.specs.Order.{row_named}
+use Rattle.users_merge.specs.ByName.{found_in}
+
+pub name_itself : (a : Name) → is_name a a ≡ true
+name_itself a = ap is_eq (tied_itself bytes_total a)
+
+pub name_exact : (a b : Name) → is_name a b ≡ true → a ≡ b
+name_exact a b is = elim (same_or_other a b) [
+  | inl same ↦ same
+  | inr other ↦ absurd (both_ways _ other is)
+]
+
+pub has-append : (xs ys : List Name) (name : Name) → has (xs ++ ys) name ≡ (has xs name || has ys name)
+has-append xs ys name = list_any-append (is_name name) xs ys
+
+-- names that have those of some items have that of one item more
+pub has_next :
+    {N : Type 0} (name_of : N → Name) (items : List N) (i : ℕ) (item : N) (start old new : List Name) (added name : Name) →
+    i < length items → item ≡ get_or items i item → added ≡ name_of item →
+    has old name ≡ (has start name || has (map name_of (take i items)) name) → has new name ≡ (has old name || is_name name added) →
+    has new name ≡ (has start name || has (map name_of (take (i + 1) items)) name)
+has_next name_of items i item start old new added name inside is named was grown =
+    grown ∙ (λ k. was k || is_name name (named k))
+    ∙ or_assoc (has start name) (has (map name_of (take i items)) name) (is_name name (name_of item))
+    ∙ ap (λ b. has start name || b)
+    (ap (λ x. has (map name_of (take i items)) name || is_name name (name_of x)) is
+    ∙ ap (λ b. has (map name_of (take i items)) name || b) (sym (or-false (is_name name (name_of (get_or items i item)))))
+    ∙ sym (ap (λ (names : List Name). has names name) (map_more name_of items i item inside) ∙ has-append (map name_of (take i items)) (name_of (get_or items i item) ∷ []) name))
+
+option_cond : {X Y : Type 0} (f : X → Y) (b : Bool) (x : X) (o : Option X) → option_map f (cond b (Some x) o) ≡ cond b (Some (f x)) (option_map f o)
+option_cond f true x o = refl
+option_cond f false x o = refl
+
+-- rows are found from the last on, and so the first one of a name
+pub found_more :
+    {Row : Type 0} (name_of : Row → Name) (rows : List Row) (at : ℕ) (row : Row) (old new : BTreeMap Name (Bor Row)) (key : Name) (lent : Bor Row) →
+    at < length rows → row ≡ get_or rows at row → key ≡ name_of row → lent.now ≡ row →
+    ((q : Name) → get bytes_cmp new q ≡ cond (is_at (bytes_cmp key) q) (Some lent) (get bytes_cmp old q)) →
+    ((q : Name) → found_in old q ≡ row_named name_of (drop (at + 1) rows) q) →
+    (q : Name) → found_in new q ≡ row_named name_of (drop at rows) q
+found_more {Row} name_of rows at row old new key lent inside is named same updates was q =
+    ap (option_map (λ (r : Bor Row). r.now)) (updates q)
+    ∙ option_cond (λ (r : Bor Row). r.now) (is_at (bytes_cmp key) q) lent (get bytes_cmp old q)
+    ∙ (λ i. cond (is_name (named i) q) (Some (same i)) (was q i))
+    ∙ ap (λ b. cond b (Some row) (row_named name_of (drop (at + 1) rows) q)) (name_turned (name_of row) q)
+    ∙ ap (λ r. cond (is_name q (name_of r)) (Some r) (row_named name_of (drop (at + 1) rows) q)) is
+    ∙ sym (ap (λ rs. row_named name_of rs q) (drop_more rows at row inside))
+
+pub map_same : (names : List Name) → map (λ name. name) names ≡ names
+map_same [] = refl
+map_same (name ∷ names) = ap (λ rest. name ∷ rest) (map_same names)

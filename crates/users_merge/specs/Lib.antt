@@ -1,0 +1,15 @@
+pub mod Stored
+pub mod Account
+pub mod Rows
+pub mod Merge
+pub mod Order
+pub mod IdLaws
+pub mod Law
+pub mod ByName
+pub mod Given
+pub mod Taken
+pub mod Staying
+pub mod GroupRows
+pub mod UserRows
+pub mod ShadowRows
+pub mod Sides
