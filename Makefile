@@ -1,38 +1,34 @@
-# `make run` builds the program, boots the example system, shows what a switch would do and switches;
-# `make test` runs all tests.
+# The targets: make help.
 PROGRAM := crates/nixswitch/out/nixswitch
-SCRATCH ?= $(or $(TMPDIR),/tmp)/nixswitch-example
-MACHINE := $(SCRATCH)-machine
 SOURCES := crates.txt $(shell find crates \( -name '*.rt' -o -name '*.antt' \) -not -path '*/out/*')
+BENCHES := $(filter-out bench/common.sh bench/example.sh,$(wildcard bench/*.sh))
 
-.PHONY: run test
+.PHONY: help run build test check docs bench
 
-# Proves each crate below the program once, and links it.
+# What a target does stands behind its name.
+help: ## lists the targets
+	@sed -n 's/^\([a-z]*\):[^#]*## \(.*\)/make \1: \2/p' Makefile
+
+run: ## shows a boot and a switch on copies of the example roots: unproved, until make build has built the program
+	@if $(MAKE) -qs $(PROGRAM); then echo "Each crate of this program was proved before it was built."; bench/example.sh $(PROGRAM); \
+	else bench/example.sh; fi
+
+build: $(PROGRAM) ## proves each crate below the program, and leaves it at crates/nixswitch/out/nixswitch
+
 $(PROGRAM): $(SOURCES)
 	cd crates/nixswitch && rt run -- --version
 	@touch $(PROGRAM)
 
-run: $(PROGRAM)
-	@rm -rf $(SCRATCH) && cp -r crates/nixswitch/data/root $(SCRATCH)
-	$(PROGRAM) $(SCRATCH) boot nix/store/a-sys
-	@echo
-	@echo "the generation's link, $(SCRATCH)/tree/nix/var/nix/profiles/system-1-link:"
-	@cat $(SCRATCH)/tree/nix/var/nix/profiles/system-1-link
-	@echo "the profile's link, $(SCRATCH)/tree/nix/var/nix/profiles/system:"
-	@cat $(SCRATCH)/tree/nix/var/nix/profiles/system
-	@echo
-	@rm -rf $(MACHINE) && cp -r crates/nixswitch/data/example $(MACHINE)
-	@echo "what a switch would do on a copy of crates/nixswitch/data/example:"
-	$(PROGRAM) $(MACHINE) dry-activate nix/store/web-24.11
-	@echo
-	@echo "the switch, on which one unit fails:"
-	@echo "$(PROGRAM) $(MACHINE) test nix/store/web-24.11"
-	@$(PROGRAM) $(MACHINE) test nix/store/web-24.11; status=$$?; echo "exit status $$status"; [ $$status = 4 ]
-	@echo
-	@echo "the system in use, $(MACHINE)/tree/run/current-system:"
-	@cat $(MACHINE)/tree/run/current-system
-	@echo "the state of the service manager, $(MACHINE)/manager:"
-	@cat $(MACHINE)/manager
-
-test:
+test: ## runs the gate: documents, proofs, edits that must fail, tests, and programs as two compilers build them
 	.ci/run
+
+check: ## proves one crate and those below it that have changed, as make check CRATE=unit_text
+	@test -d "crates/$(CRATE)/src" || { echo "name a crate: make check CRATE=unit_text"; exit 1; }
+	cd crates/$(CRATE) && rt check
+
+docs: ## writes what each crate may use into docs/ARCHITECTURE.md
+	docs/check.sh --write
+
+bench: build ## runs the scripts of bench/ with the built program: speed, hostile roots and kills
+	@failed=; for script in $(BENCHES); do echo "== $$script"; $$script || failed="$$failed $$script"; done; \
+	[ -z "$$failed" ] || { echo "these ended with an error:$$failed"; exit 1; }

@@ -1,12 +1,12 @@
 //! What each act of the manager leaves, whole and cut.
-use crate::cases::{misread, number_of};
-use crate::outcome::{push_told, word_of};
+use crate::cases::number_of;
+use crate::outcome::{show_told, word_of};
 use host_memory::MemoryHost;
 use host_trait::{HostFault, Manager, State};
 use std::alloc::Global;
 use std::test::Fail;
 use switch_names::{Bytes, UnitName};
-use world_text::{push_journal, push_states, text_of};
+use world_text::{Lines, misread, show_journal, show_states, text_of};
 
 /// Does the act of a word to a unit, which has to be active for a reload, or loads definitions.
 fn act_on(
@@ -28,25 +28,26 @@ fn act_on(
     }
 }
 
-/// Appends how an act ends, the units and their states, what is loaded, the journal, and what is told.
-fn push_acted(
+/// Shows how an act ends, the units and their states, what is loaded, the journal, and what is told.
+fn show_act_on(
     alloc: Global,
-    out: &mut String,
+    lines: &mut Lines,
     host: &mut MemoryHost,
     word: &str,
     unit: &UnitName,
 ) -> Result<(), Fail> {
     let acted = act_on(alloc, host, word, unit)?;
-    writeln!(out, "{}", word_of(&acted)?)?;
-    push_states(out, host.world())?;
-    push_journal(out, host.world())?;
-    push_told(alloc, out, host, unit)
+    lines.add_word(word_of(&acted)?);
+    lines.end_line();
+    show_states(lines, host.world());
+    show_journal(lines, host.world());
+    show_told(alloc, lines, host, unit)
 }
 
-/// Appends the same of a host that is cut after so many calls with a pick, or isn't cut.
-pub fn push_act(
+/// Shows the same of a host that is cut after so many calls with a pick, or isn't cut.
+pub fn show_act(
     alloc: Global,
-    out: &mut String,
+    lines: &mut Lines,
     host: &mut MemoryHost,
     fields: &[Bytes],
 ) -> Result<(), Fail> {
@@ -57,5 +58,5 @@ pub fn push_act(
         host.arm(number_of(after)?, number_of(pick)?);
     }
     let unit = UnitName::parse(alloc, text_of(unit)?)?;
-    push_acted(alloc, out, host, text_of(word)?, &unit)
+    show_act_on(alloc, lines, host, text_of(word)?, &unit)
 }

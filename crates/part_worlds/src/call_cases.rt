@@ -1,6 +1,6 @@
 //! The calls by which what is owed is given.
-use crate::cases::{misread, names_of};
-use crate::writing::push_names;
+use crate::cases::names_of;
+use crate::writing::show_names;
 use host_memory::MemoryHost;
 use host_trait::States;
 use owed_lists::{Lists, load};
@@ -9,27 +9,29 @@ use std::alloc::{AllocError, Global};
 use std::test::Fail;
 use switch_names::{Bytes, Listed};
 use unit_defs::Defs;
+use world_text::{Lines, misread};
 
-/// Appends the units that are left, and the calls in some states, with a semicolon and a blank after each.
-fn push_calls(
+/// Shows the units that are left, and the calls in some states, a line each.
+fn show_calls(
     alloc: Global,
-    out: &mut String,
+    lines: &mut Lines,
     owed: &Owed,
     states: &States,
 ) -> Result<(), AllocError> {
-    push_names(out, owed.left.as_slice())?;
-    out.push_str("| ")?;
+    show_names(lines, "left", owed.left.as_slice());
     let duties = calls(alloc, owed, states)?;
     for duty in duties.as_slice() {
-        write!(out, "{:?} {}; ", duty.act, duty.unit.as_str())?;
+        lines.add_value(&duty.act);
+        lines.add_word(duty.unit.as_str());
+        lines.end_line();
     }
     Ok(())
 }
 
-/// Appends the units that are left, and the calls of what five fields give.
-pub fn push_given(
+/// Shows the units that are left, and the calls of what five fields give.
+pub fn show_calls_of(
     alloc: Global,
-    out: &mut String,
+    lines: &mut Lines,
     states: &States,
     given: &[Bytes],
 ) -> Result<(), Fail> {
@@ -43,7 +45,7 @@ pub fn push_given(
         starts: names_of(alloc, starts)?,
         left: names_of(alloc, left)?,
     };
-    Ok(push_calls(alloc, out, &owed, states)?)
+    Ok(show_calls(alloc, lines, &owed, states)?)
 }
 
 /// What is owed between two systems without units.
@@ -52,11 +54,11 @@ fn owed_without_units(alloc: Global, states: &States, lists: &Lists) -> Result<O
     plan(alloc, &none, &none, states, lists, &Listed::new(alloc))
 }
 
-/// Appends the units that are left between two systems without units, and the calls, by the states and
+/// Shows the units that are left between two systems without units, and the calls, by the states and
 /// the lists of a host.
-pub fn push_owed_on(alloc: Global, out: &mut String, host: &mut MemoryHost) -> Result<(), Fail> {
+pub fn show_owed(alloc: Global, lines: &mut Lines, host: &mut MemoryHost) -> Result<(), Fail> {
     let lists = load(alloc, host)?;
     let states = host.world().states();
     let owed = owed_without_units(alloc, states, &lists)?;
-    Ok(push_calls(alloc, out, &owed, states)?)
+    Ok(show_calls(alloc, lines, &owed, states)?)
 }

@@ -1,13 +1,8 @@
-//! What cases can't say, and their numbers and names of units.
+//! Numbers and names of units, as cases have them.
 use std::alloc::{AllocError, Global};
 use std::test::Fail;
 use switch_names::{Bytes, Listed, UnitName};
-use world_text::text_of;
-
-/// The answer where a case can't be read.
-pub fn misread<T>() -> Result<T, Fail> {
-    Err(Fail::new("a case can't be read"))
-}
+use world_text::{misread, text_of};
 
 /// The answer where memory is wanting.
 pub fn no_memory<T>() -> Result<T, Fail> {

@@ -1,12 +1,12 @@
 //! What counts as a change of a unit, and what is decided: NixOS manual, "Unit handling".
-use crate::cases::misread;
+use crate::writing::show_value;
 use std::alloc::Global;
 use std::test::Fail;
 use switch_names::{Bytes, UnitName};
 use unit_compare::compare;
 use unit_decide::decide;
 use unit_text::{TextFault, UnitText, parse};
-use world_text::text_of;
+use world_text::{Lines, misread, text_of};
 
 /// The text of a unit, where there is a file: `-` is none.
 fn parsed(alloc: Global, file: &Bytes) -> Result<Option<UnitText>, TextFault> {
@@ -16,10 +16,10 @@ fn parsed(alloc: Global, file: &Bytes) -> Result<Option<UnitText>, TextFault> {
     }
 }
 
-/// Appends the decision on an Active unit where it is told whether one of its sockets is live, and else
+/// Shows the decision on an Active unit where it is told whether one of its sockets is live, and else
 /// the comparison of its texts both ways.
-fn push_change(
-    out: &mut String,
+fn show_change_of(
+    lines: &mut Lines,
     unit: &UnitName,
     (old, new): (Option<&UnitText>, Option<&UnitText>),
     live: &[Bytes],
@@ -27,24 +27,25 @@ fn push_change(
     match (old, new, live) {
         (_, _, [live]) => {
             let live = text_of(live)?.parse::<bool>()?;
-            Ok(write!(out, "{:?}", decide(old, new, unit, live))?)
+            show_value(lines, &decide(old, new, unit, live));
+            Ok(())
         }
         (Some(old), Some(new), []) => {
-            let there = compare(unit.kind(), old, new);
-            let back = compare(unit.kind(), new, old);
-            Ok(write!(out, "{there:?} {back:?}")?)
+            lines.add_value(&compare(unit.kind(), old, new));
+            show_value(lines, &compare(unit.kind(), new, old));
+            Ok(())
         }
         _ => misread(),
     }
 }
 
-/// Appends the same of the unit that a field names and two define.
-pub fn push_changed(alloc: Global, out: &mut String, given: &[Bytes]) -> Result<(), Fail> {
+/// Shows the same of the unit that a field names and two define.
+pub fn show_change(alloc: Global, lines: &mut Lines, given: &[Bytes]) -> Result<(), Fail> {
     let [unit, old, new, live @ ..] = given else {
         return misread();
     };
     let unit = UnitName::parse(alloc, text_of(unit)?)?;
     let old = parsed(alloc, old)?;
     let new = parsed(alloc, new)?;
-    push_change(out, &unit, (old.as_ref(), new.as_ref()), live)
+    show_change_of(lines, &unit, (old.as_ref(), new.as_ref()), live)
 }

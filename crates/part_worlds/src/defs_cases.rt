@@ -1,73 +1,73 @@
 //! Which units a system defines, by the rules of systemd.unit(5), and which each wants.
-use crate::cases::{misread, names_of};
-use crate::pull_cases::push_pulls;
-use crate::writing::{push_names, push_values};
+use crate::cases::names_of;
+use crate::pull_cases::show_pulls;
+use crate::writing::{show_fault, show_names, show_values};
 use host_memory::MemoryHost;
 use host_trait::States;
-use std::alloc::{AllocError, Global};
+use std::alloc::Global;
 use std::test::Fail;
 use switch_names::{Bytes, Listed, SystemName, UnitName};
 use unit_defs::{Defs, DefsFault};
+use world_text::{Lines, misread};
 
-/// Appends the names that are defined, and for each of these units the values of `K` in the section `S`
-/// of its text, where it has one.
-fn push_found(out: &mut String, defs: &Defs, units: &[UnitName]) -> Result<(), AllocError> {
-    push_names(out, defs.names().as_slice())?;
+/// Shows the names that are defined, and for each of these units the values of `K` in the section `S`
+/// of its text, or that it has none.
+fn show_found(lines: &mut Lines, defs: &Defs, units: &[UnitName]) {
+    show_names(lines, "defined", defs.names().as_slice());
     for unit in units {
-        out.push_str(": ")?;
         match defs.find(unit) {
-            Some(text) => push_values(out, text.values("S", "K"))?,
-            None => out.push_str("none")?,
+            Some(text) => show_values(lines, text.values("S", "K")),
+            None => lines.add_word("none"),
         }
+        lines.end_last_line();
     }
-    Ok(())
 }
 
-/// Appends a line for each of these units, with what it wants.
-fn push_wants(out: &mut String, defs: &Defs, units: &[UnitName]) -> Result<(), AllocError> {
+/// Shows a line for each of these units, with what it wants.
+fn show_wants(lines: &mut Lines, defs: &Defs, units: &[UnitName]) {
     for unit in units {
-        write!(out, "{}: ", unit.as_str())?;
-        push_names(out, defs.wanted(unit).as_slice())?;
-        out.push('\n')?;
+        lines.add_word(unit.as_str());
+        show_names(lines, "wants", defs.wanted(unit).as_slice());
     }
-    Ok(())
 }
 
-/// Appends what definitions say of what is asked.
-fn push_by_defs(
+/// Shows what definitions say of what is asked.
+fn show_by_defs(
     alloc: Global,
-    out: &mut String,
+    lines: &mut Lines,
     command: &str,
     (defs, states): (&Defs, &States),
     units: &Listed<UnitName>,
 ) -> Result<(), Fail> {
     match command {
-        "found" | "found without a system" => Ok(push_found(out, defs, units.as_slice())?),
-        "pull" | "pull without a system" => Ok(push_pulls(alloc, out, defs, states, units)?),
-        "wanted without a system" => Ok(push_wants(out, defs, units.as_slice())?),
-        _ => misread(),
+        "found" | "found without a system" => show_found(lines, defs, units.as_slice()),
+        "pull" | "pull without a system" => show_pulls(alloc, lines, defs, states, units)?,
+        "wanted without a system" => show_wants(lines, defs, units.as_slice()),
+        _ => return misread(),
     }
+    Ok(())
 }
 
-/// Appends what these units want in a new system, or the first unit with a fault and its line.
-fn push_wanted(
+/// Shows what these units want in a new system, or the first unit with a fault and its line.
+fn show_wanted(
     alloc: Global,
-    out: &mut String,
+    lines: &mut Lines,
     host: &mut MemoryHost,
     system: &SystemName,
     units: &[UnitName],
 ) -> Result<(), Fail> {
     match Defs::read(alloc, host, system) {
-        Ok(defs) => Ok(push_wants(out, &defs, units)?),
-        Err(DefsFault::Text { unit, line }) => Ok(write!(out, "{} {line}", unit.as_str())?),
-        Err(DefsFault::Host(_)) => Err(Fail::new("a call on the host has failed")),
+        Ok(defs) => show_wants(lines, &defs, units),
+        Err(DefsFault::Text { unit, line }) => show_fault(lines, &unit, line),
+        Err(DefsFault::Host(_)) => return Err(Fail::new("a call on the host has failed")),
     }
+    Ok(())
 }
 
-/// Appends what is asked of the units of a field.
-pub fn push_of_units(
+/// Shows what is asked of the units of a field.
+pub fn show_units(
     alloc: Global,
-    out: &mut String,
+    lines: &mut Lines,
     command: &str,
     host: &mut MemoryHost,
     field: &Bytes,
@@ -75,11 +75,17 @@ pub fn push_of_units(
     let units = names_of(alloc, field)?;
     let system = SystemName::parse(alloc, "nix/store/a-sys")?;
     if command == "wanted" {
-        return push_wanted(alloc, out, host, &system, units.as_slice());
+        return show_wanted(alloc, lines, host, &system, units.as_slice());
     }
     let defs = match command {
         "found" | "pull" => Defs::read_old(alloc, host, &system)?,
         _ => Defs::none(alloc),
     };
-    push_by_defs(alloc, out, command, (&defs, host.world().states()), &units)
+    show_by_defs(
+        alloc,
+        lines,
+        command,
+        (&defs, host.world().states()),
+        &units,
+    )
 }

@@ -1,6 +1,5 @@
 //! What a folder's host reads, and what another one's acts have left.
-use crate::cases::misread;
-use crate::outcome::{push_told, word_of};
+use crate::outcome::{show_faults, show_told, word_of};
 use host_folder::FolderHost;
 use host_trait::{HostFault, Manager};
 use std::alloc::Global;
@@ -8,7 +7,7 @@ use std::fs;
 use std::rt::Files;
 use std::test::Fail;
 use switch_names::{Bytes, UnitName};
-use world_text::text_of;
+use world_text::{Lines, misread, text_of};
 
 /// Loads definitions, and starts a unit.
 fn load_and_start<M: Manager>(
@@ -20,41 +19,38 @@ fn load_and_start<M: Manager>(
     host.start(alloc, unit)
 }
 
-/// Appends what a host tells of a unit, and its faults before and after.
-fn push_asked<R: Files + AllocGlobal + Clone + Drop>(
+/// Shows what a new host tells of a unit, how it then starts it, and its faults before and after each.
+fn show_start<R: Files + AllocGlobal + Clone + Drop>(
     alloc: Global,
-    out: &mut String,
+    lines: &mut Lines,
     host: &mut FolderHost<R>,
     unit: &UnitName,
 ) -> Result<(), Fail> {
-    writeln!(out, "faults: {}", host.faults())?;
-    push_told(alloc, out, host, unit)?;
-    Ok(writeln!(out, ", faults: {}", host.faults())?)
+    show_faults(lines, host.faults());
+    show_told(alloc, lines, host, unit)?;
+    show_faults(lines, host.faults());
+    lines.add_word("start");
+    lines.add_word(word_of(&load_and_start(alloc, host, unit))?);
+    show_faults(lines, host.faults());
+    Ok(())
 }
 
-/// Appends the same of a new host, how it then starts the unit, and its faults.
-fn push_acted<R: Files + AllocGlobal + Clone + Drop>(
-    alloc: Global,
-    out: &mut String,
-    host: &mut FolderHost<R>,
-    unit: &UnitName,
+/// Shows the text of the manager's state in a root.
+fn show_manager_in<R: Files + AllocGlobal>(
+    rt: &R,
+    lines: &mut Lines,
+    root: &str,
 ) -> Result<(), Fail> {
-    push_asked(alloc, out, host, unit)?;
-    let started = word_of(&load_and_start(alloc, host, unit))?;
-    Ok(writeln!(out, "start: {started}, faults: {}", host.faults())?)
-}
-
-/// Appends the text of the manager's state in a root.
-fn push_state_in<R: Files + AllocGlobal>(rt: &R, out: &mut String, root: &str) -> Result<(), Fail> {
     let file = format!(in rt.alloc(); "{root}/manager")?;
     let text = fs::read_to_string(rt, file)?;
-    Ok(out.push_str(text.as_str())?)
+    lines.add_text(text.as_str());
+    Ok(())
 }
 
-/// Appends the same of a new host over a root, and the text of the manager's state that is left there.
-pub fn push_folder<R: Files + AllocGlobal + Clone + Drop>(
+/// Shows the start of a unit over a root, and the text of the manager's state that is left there.
+pub fn show_folder<R: Files + AllocGlobal + Clone + Drop>(
     rt: &R,
-    out: &mut String,
+    lines: &mut Lines,
     fields: &[Bytes],
 ) -> Result<(), Fail> {
     let [root, unit] = fields else {
@@ -63,6 +59,6 @@ pub fn push_folder<R: Files + AllocGlobal + Clone + Drop>(
     let root = text_of(root)?;
     let unit = UnitName::parse(rt.alloc(), text_of(unit)?)?;
     let mut host = FolderHost::open(rt, root)?;
-    push_acted(rt.alloc(), out, &mut host, &unit)?;
-    push_state_in(rt, out, root)
+    show_start(rt.alloc(), lines, &mut host, &unit)?;
+    show_manager_in(rt, lines, root)
 }

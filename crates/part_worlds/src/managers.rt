@@ -3,14 +3,14 @@ ghost use Rattle.std.specs.Prelude.{IfOk, IfSome};
 ghost use Rattle.host_trait.specs.Manager.{HasPlainTexts, IsPlain};
 ghost use Rattle.manager_core.specs.Call.{IsPlainCall};
 
-use crate::cases::{misread, no_memory};
-use crate::worlds::fill;
+use crate::cases::no_memory;
+use crate::writing::show_value;
 use host_trait::{Leaf, ManagerState, World, loaded_text};
 use manager_core::{Call, StateFault, read_state, step, write_state};
 use std::alloc::Global;
 use std::test::Fail;
 use switch_names::{Bytes, Text, UnitName};
-use world_text::{push_journal, push_states, text_of};
+use world_text::{Lines, misread, put_places, show_journal, show_states, text_of};
 
 /// Where the definitions lie to which a link leads, or the empty text where there is none.
 pub fn loaded_of(alloc: Global, target: &str) -> Result<Text, Fail>
@@ -72,57 +72,60 @@ fn make(alloc: Global, state: &mut ManagerState, calls: &[Bytes]) -> Result<(), 
     Ok(())
 }
 
-/// Appends the text of a state.
-fn push_state(alloc: Global, out: &mut String, state: &ManagerState) -> Result<(), Fail>
+/// Shows the text of a state.
+fn show_state(alloc: Global, lines: &mut Lines, state: &ManagerState) -> Result<(), Fail>
     requires { HasPlainTexts state.now }
 {
     let text = write_state(alloc, state)?;
-    out.push_str(std::str::from_utf8(text.as_slice())?)?;
+    lines.add_text(std::str::from_utf8(text.as_slice())?);
     Ok(())
 }
 
-/// Appends the text of the state that calls in turn make of one that is read, or the fault.
-pub fn push_manager(alloc: Global, out: &mut String, fields: &[Bytes]) -> Result<(), Fail> {
+/// Shows the text of the state that calls in turn make of one that is read, or the fault.
+pub fn show_manager(alloc: Global, lines: &mut Lines, fields: &[Bytes]) -> Result<(), Fail> {
     let [text, calls @ ..] = fields else {
         return misread();
     };
     match read_state(alloc, text.as_slice()) {
         Ok(mut state) => {
             make(alloc, &mut state, calls)?;
-            push_state(alloc, out, &state)
+            show_state(alloc, lines, &state)
         }
         Err(StateFault::Memory) => no_memory(),
-        Err(fault) => Ok(write!(out, "{fault:?}")?),
+        Err(fault) => {
+            show_value(lines, &fault);
+            Ok(())
+        }
     }
 }
 
-/// Appends what a world has of a manager, and the text of one that is in hand.
-fn push_both(
+/// Shows what a world has of a manager, and the text of one that is in hand.
+fn show_both(
     alloc: Global,
-    out: &mut String,
+    lines: &mut Lines,
     world: &World,
     in_hand: &ManagerState,
 ) -> Result<(), Fail>
     requires { HasPlainTexts in_hand.now }
 {
-    out.push_str("\nin the world:\n")?;
-    push_states(out, world)?;
-    push_journal(out, world)?;
-    out.push_str("in hand:\n")?;
-    push_state(alloc, out, in_hand)
+    lines.add_text("in the world:\n");
+    show_states(lines, world);
+    show_journal(lines, world);
+    lines.add_text("in hand:\n");
+    show_state(alloc, lines, in_hand)
 }
 
-/// Takes the manager out of a world and puts it back, and appends what is where each time.
-pub fn push_handed(
+/// Takes the manager out of a world and puts it back, and shows what is where each time.
+pub fn show_hand_over(
     alloc: Global,
-    out: &mut String,
+    lines: &mut Lines,
     world: &mut World,
-    files: &[Bytes],
+    places: &[Bytes],
 ) -> Result<(), Fail> {
-    fill(alloc, world, files)?;
+    put_places(alloc, world, places)?;
     let manager = world.swap_manager(ManagerState::new(alloc));
-    let pushed = push_both(alloc, out, world, &manager);
+    let shown = show_both(alloc, lines, world, &manager);
     let empty = world.swap_manager(manager);
-    pushed?;
-    push_both(alloc, out, world, &empty)
+    shown?;
+    show_both(alloc, lines, world, &empty)
 }

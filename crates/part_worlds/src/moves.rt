@@ -2,12 +2,13 @@
 ghost use Rattle.std.specs.Prelude.{◌≡◌, codes};
 ghost use Rattle.host_trait.specs.World.{empty_world};
 
-use crate::cases::misread;
-use crate::nodes::push_leaf;
+use crate::nodes::show_leaf;
+use crate::writing::show_value;
 use host_trait::{Leaf, World};
 use std::alloc::Global;
 use std::test::Fail;
 use switch_names::{Bytes, Path};
+use world_text::{Lines, misread};
 
 /// Puts a link to `b` at a place and moves it to another, and answers whether the places were free.
 fn put_and_move(
@@ -25,22 +26,22 @@ fn put_and_move(
     Ok((was.is_none(), replaced.is_none()))
 }
 
-/// Takes a leaf out, and appends its text and that of its copy.
-fn push_taken(alloc: Global, out: &mut String, world: &mut World, at: &Path) -> Result<(), Fail> {
+/// Takes a leaf out, and shows its text and that of its copy.
+fn show_taken(alloc: Global, lines: &mut Lines, world: &mut World, at: &Path) -> Result<(), Fail> {
     match world.take_leaf(at) {
         Some(leaf) => {
-            push_leaf(alloc, out, &leaf)?;
+            show_leaf(alloc, lines, &leaf)?;
             let copy = leaf.copy(alloc)?;
-            push_leaf(alloc, out, &copy)
+            show_leaf(alloc, lines, &copy)
         }
-        None => Ok(out.push_str("none")?),
+        None => misread(),
     }
 }
 
-/// Moves a link from `x` to `y` in an empty world and takes it out, and appends which places were free.
-pub fn push_moved(
+/// Moves a link from `x` to `y` in an empty world and takes it out, and shows which places were free.
+pub fn show_move(
     alloc: Global,
-    out: &mut String,
+    lines: &mut Lines,
     world: &mut World,
     fields: &[Bytes],
 ) -> Result<(), Fail>
@@ -52,7 +53,11 @@ pub fn push_moved(
     let from = Path::parse(alloc, "x")?;
     let to = Path::parse(alloc, "y")?;
     let (was_free, is_free) = put_and_move(alloc, world, &from, &to)?;
-    writeln!(out, "free before: {was_free} {is_free}")?;
-    push_taken(alloc, out, world, &to)?;
-    Ok(write!(out, "free then: {}", world.leaf(&from).is_none())?)
+    lines.add_word("free before");
+    lines.add_value(&was_free);
+    show_value(lines, &is_free);
+    show_taken(alloc, lines, world, &to)?;
+    lines.add_word("free then");
+    show_value(lines, &world.leaf(&from).is_none());
+    Ok(())
 }

@@ -1,51 +1,61 @@
 //! What a sink in memory takes, and standard output.
-use crate::cases::{misread, number_of};
+use crate::cases::number_of;
+use crate::outcome::show_faults;
+use crate::writing::show_value;
+use host_files::OutSink;
 use host_memory::MemorySink;
 use host_trait::Sink;
 use std::alloc::Global;
 use std::test::Fail;
 use switch_names::{Bytes, Listed};
-use world_text::text_of;
+use world_text::{Lines, misread, text_of};
 
-/// Makes room in a sink, fails a put, or puts bytes and appends how that ended, what the sink has, and
-/// its faults.
-fn push_step(
+/// Puts bytes, and shows how that ended, what the sink has, and its faults.
+fn show_put(lines: &mut Lines, sink: &mut MemorySink, bytes: &[u8]) -> Result<(), Fail> {
+    lines.add_value(&sink.put(bytes));
+    lines.add_word(std::str::from_utf8(sink.bytes())?);
+    show_faults(lines, sink.faults());
+    Ok(())
+}
+
+/// Makes room in a sink, fails a put, or puts bytes and shows how that ended.
+fn show_step(
     alloc: Global,
-    out: &mut String,
+    lines: &mut Lines,
     sink: &mut MemorySink,
-    word: &str,
-    field: &Bytes,
+    (word, field): (&str, &Bytes),
 ) -> Result<(), Fail> {
     match word {
         "room" => sink.room(usize::try_from(number_of(field)?)?)?,
         "fail" => sink.fail(Listed::from_vec([number_of(field)?].to_vec(alloc)?)),
-        "put" => {
-            let put = sink.put(field.as_slice());
-            let text = std::str::from_utf8(sink.bytes())?;
-            write!(out, "\n{put:?}, {text}, faults: {}", sink.faults())?;
-        }
+        "put" => show_put(lines, sink, field.as_slice())?,
         _ => return misread(),
     }
     Ok(())
 }
 
-/// Does the same in turn with a new sink.
-pub fn push_sink(alloc: Global, out: &mut String, steps: &[Bytes]) -> Result<(), Fail> {
+/// Shows the same in turn of a new sink.
+pub fn show_sink(alloc: Global, lines: &mut Lines, steps: &[Bytes]) -> Result<(), Fail> {
     let mut sink = MemorySink::new(alloc);
     for step in steps.chunks(2) {
         let [word, field] = step else {
             return misread();
         };
-        push_step(alloc, out, &mut sink, text_of(word)?, field)?;
+        show_step(alloc, lines, &mut sink, (text_of(word)?, field))?;
     }
     Ok(())
 }
 
-/// Puts bytes into a sink at once, and appends how that ended.
-pub fn push_output<S: Sink>(out: &mut String, sink: &mut S, fields: &[Bytes]) -> Result<(), Fail> {
+/// Puts bytes on standard output at once, and shows how that ended.
+pub fn show_output<R: Print + Clone + Drop>(
+    rt: &R,
+    lines: &mut Lines,
+    fields: &[Bytes],
+) -> Result<(), Fail> {
     let [bytes] = fields else {
         return misread();
     };
-    let put = sink.put(bytes.as_slice());
-    Ok(write!(out, "{put:?}")?)
+    let mut sink = OutSink::new(rt)?;
+    show_value(lines, &sink.put(bytes.as_slice()));
+    Ok(())
 }

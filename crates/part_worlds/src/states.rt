@@ -1,10 +1,10 @@
 //! What the states of units answer.
-use crate::cases::misread;
+use crate::writing::show_value;
 use host_trait::{State, World};
 use std::alloc::Global;
 use std::test::Fail;
 use switch_names::{Bytes, UnitName};
-use world_text::{push_states, text_of};
+use world_text::{Lines, misread, show_states, text_of};
 
 /// Brings a unit to the state of a word.
 pub fn bring(
@@ -24,24 +24,25 @@ pub fn bring(
     Ok(unit)
 }
 
-/// Brings a unit to the state of a word, and appends what is told of it, and the units that aren't inactive.
-fn push_brought(
+/// Brings a unit to the state of a word, and shows what is told of it, and the units that aren't inactive.
+fn show_state_set(
     alloc: Global,
-    out: &mut String,
+    lines: &mut Lines,
     world: &mut World,
-    unit: &Bytes,
-    state: &Bytes,
+    (unit, state): (&Bytes, &Bytes),
 ) -> Result<(), Fail> {
     let unit = bring(alloc, world, unit, state)?;
-    let told = world.states().of(&unit);
-    writeln!(out, "\n{} is {told:?}", unit.as_str())?;
-    Ok(push_states(out, world)?)
+    lines.add_word(unit.as_str());
+    lines.add_word("is");
+    show_value(lines, &world.states().of(&unit));
+    show_states(lines, world);
+    Ok(())
 }
 
-/// The same in turn.
-pub fn push_set(
+/// Shows the same in turn.
+pub fn show_states_set(
     alloc: Global,
-    out: &mut String,
+    lines: &mut Lines,
     world: &mut World,
     fields: &[Bytes],
 ) -> Result<(), Fail> {
@@ -49,7 +50,7 @@ pub fn push_set(
         let [unit, state] = pair else {
             return misread();
         };
-        push_brought(alloc, out, world, unit, state)?;
+        show_state_set(alloc, lines, world, (unit, state))?;
     }
     Ok(())
 }

@@ -4,14 +4,16 @@ ghost use Rattle.host_memory.specs.MemoryHost.{host_of};
 ghost use Rattle.host_trait.specs.Host.{Told};
 ghost use Rattle.host_trait.specs.World.{IsClear, empty_world, is_in_line, stage};
 
-use crate::cases::{misread, number_of};
-use crate::nodes::push_leaf;
-use crate::outcome::word_of;
+use crate::cases::number_of;
+use crate::nodes::show_leaf;
+use crate::outcome::{show_faults, word_of};
+use crate::writing::show_value;
 use host_memory::MemoryHost;
 use host_trait::{HostFault, Leaf, Tree, World, fixed_path, stage_path};
 use std::alloc::{AllocError, Global};
 use std::test::Fail;
 use switch_names::{Bytes, Listed, Path};
+use world_text::{Lines, misread};
 
 /// Where a leaf is put.
 pub fn place(alloc: Global) -> Result<Path, AllocError>
@@ -33,55 +35,59 @@ fn put_and_remove<T: Tree>(alloc: Global, host: &mut T, to: &Path) -> Result<(),
     host.remove(alloc, to)
 }
 
-/// Appends a path, and the text of the leaf that stands there.
-fn push_at(alloc: Global, out: &mut String, world: &World, at: &Path) -> Result<(), Fail> {
-    write!(out, "\n{}: ", at.as_str())?;
+/// Shows a path, and the text of the leaf that stands there.
+fn show_leaf_at(alloc: Global, lines: &mut Lines, world: &World, at: &Path) -> Result<(), Fail> {
+    lines.add_word(at.as_str());
     match world.leaf(at) {
-        Some(leaf) => push_leaf(alloc, out, leaf),
-        None => Ok(out.push_str("none")?),
+        Some(leaf) => show_leaf(alloc, lines, leaf)?,
+        None => lines.add_word("none"),
     }
+    lines.end_last_line();
+    Ok(())
 }
 
-/// Appends how a host reads a path, and its faults.
-fn push_read(
+/// Shows how a host reads a path, and its faults.
+fn show_read(
     alloc: Global,
-    out: &mut String,
+    lines: &mut Lines,
     host: &mut MemoryHost,
     at: &Path,
 ) -> Result<(), Fail> {
-    let word = word_of(&host.read(alloc, at))?;
-    Ok(write!(out, "\nread: {word}, faults: {}", host.faults())?)
+    lines.add_word("read");
+    lines.add_word(word_of(&host.read(alloc, at))?);
+    show_faults(lines, host.faults());
+    Ok(())
 }
 
-/// Appends how a host reads a path, and once it is revived how many leaves it lists there and how it reads.
-fn push_revived(
+/// Shows how a host reads a path, and once it is revived how many leaves it lists there and how it reads.
+fn show_revived(
     alloc: Global,
-    out: &mut String,
+    lines: &mut Lines,
     host: &mut MemoryHost,
     at: &Path,
 ) -> Result<(), Fail> {
-    push_read(alloc, out, host, at)?;
+    show_read(alloc, lines, host, at)?;
     host.revive();
-    let count = host.list(alloc, at)?.as_slice().len();
-    write!(out, "\nrevived, listed: {count}")?;
-    push_read(alloc, out, host, at)
+    lines.add_word("revived, listed");
+    show_value(lines, &host.list(alloc, at)?.as_slice().len());
+    show_read(alloc, lines, host, at)
 }
 
-/// Appends how `put_and_remove` ends on a host without leaves, and what stands at the stage and the place.
-fn push_end(alloc: Global, out: &mut String, host: &mut MemoryHost) -> Result<(), Fail>
+/// Shows how `put_and_remove` ends on a host without leaves, and what stands at the stage and the place.
+fn show_end(alloc: Global, lines: &mut Lines, host: &mut MemoryHost) -> Result<(), Fail>
     requires { (host_of host.old).world ≡ Some empty_world }
 {
     let to = place(alloc)?;
     let stage = stage_path(alloc)?;
-    let word = word_of(&put_and_remove(alloc, host, &to))?;
-    out.push_str(word)?;
-    push_at(alloc, out, host.world(), &stage)?;
-    push_at(alloc, out, host.world(), &to)?;
-    push_revived(alloc, out, host, &to)
+    lines.add_word(word_of(&put_and_remove(alloc, host, &to))?);
+    lines.end_line();
+    show_leaf_at(alloc, lines, host.world(), &stage)?;
+    show_leaf_at(alloc, lines, host.world(), &to)?;
+    show_revived(alloc, lines, host, &to)
 }
 
-/// Appends the same of a new host that is cut after so many calls with a pick, and fails one call.
-pub fn push_trouble(alloc: Global, out: &mut String, fields: &[Bytes]) -> Result<(), Fail> {
+/// Shows the same of a new host that is cut after so many calls with a pick, and fails one call.
+pub fn show_trouble(alloc: Global, lines: &mut Lines, fields: &[Bytes]) -> Result<(), Fail> {
     let [after, pick, failing] = fields else {
         return misread();
     };
@@ -90,5 +96,5 @@ pub fn push_trouble(alloc: Global, out: &mut String, fields: &[Bytes]) -> Result
     let mut host = MemoryHost::new(alloc, World::new(alloc));
     host.arm(after, pick);
     host.fail(failing);
-    push_end(alloc, out, &mut host)
+    show_end(alloc, lines, &mut host)
 }

@@ -1,42 +1,40 @@
 //! The cases of units.
-use crate::call_cases::{push_given, push_owed_on};
-use crate::cases::misread;
-use crate::change_cases::push_changed;
-use crate::defs_cases::push_of_units;
-use crate::list_cases::{push_loaded, push_recorded_anew};
-use crate::report_cases::push_switch;
-use crate::systems::fill;
-use crate::text_cases::{push_file_values, push_merged, push_of_file};
+use crate::call_cases::{show_calls_of, show_owed};
+use crate::change_cases::show_change;
+use crate::defs_cases::show_units;
+use crate::list_cases::{show_lists, show_recorded_anew};
+use crate::report_cases::show_switch;
+use crate::text_cases::{show_file, show_file_values, show_merged};
 use host_memory::MemoryHost;
 use host_trait::World;
 use std::alloc::Global;
 use std::test::Fail;
 use switch_names::Bytes;
-use world_text::text_of;
+use world_text::{Lines, misread, put_places, put_systems, text_of};
 
-/// Appends what is asked of a host.
-fn push_on_host(
+/// Shows what is asked of a host.
+fn show_host(
     alloc: Global,
-    out: &mut String,
+    lines: &mut Lines,
     command: &str,
     host: &mut MemoryHost,
     given: &[Bytes],
 ) -> Result<(), Fail> {
     match (command, given) {
-        ("lists", _) => push_loaded(alloc, out, host),
-        ("record", _) => push_recorded_anew(alloc, out, host),
-        ("owed", _) => push_owed_on(alloc, out, host),
-        ("report", _) => push_switch(alloc, out, host),
-        ("calls", _) => push_given(alloc, out, host.world().states(), given),
-        (_, [units, ..]) => push_of_units(alloc, out, command, host, units),
+        ("lists", _) => show_lists(alloc, lines, host),
+        ("record", _) => show_recorded_anew(alloc, lines, host),
+        ("owed", _) => show_owed(alloc, lines, host),
+        ("report", _) => show_switch(alloc, lines, host),
+        ("calls", _) => show_calls_of(alloc, lines, host.world().states(), given),
+        (_, [units, ..]) => show_units(alloc, lines, command, host, units),
         _ => misread(),
     }
 }
 
-/// Appends the same of a host with the two systems, and what stands after so many fields.
-fn push_on_systems(
+/// Shows the same of a host with the two systems, and what stands after so many fields.
+fn show_systems(
     alloc: Global,
-    out: &mut String,
+    lines: &mut Lines,
     command: &str,
     count: usize,
     given: &[Bytes],
@@ -45,33 +43,34 @@ fn push_on_systems(
         return misread();
     };
     let mut world = World::new(alloc);
-    fill(alloc, &mut world, places)?;
+    put_systems(alloc, &mut world)?;
+    put_places(alloc, &mut world, places)?;
     let mut host = MemoryHost::new(alloc, world);
-    push_on_host(alloc, out, command, &mut host, given)
+    show_host(alloc, lines, command, &mut host, given)
 }
 
-/// Appends what a case of units gives.
-pub fn push_of_case(
+/// Shows what a case of units gives.
+pub fn show_unit_case(
     alloc: Global,
-    out: &mut String,
+    lines: &mut Lines,
     command: &str,
     given: &[Bytes],
 ) -> Result<(), Fail> {
     match command {
         "values" | "start" | "merge" | "flags" | "sockets" | "assign" => match given {
-            [file] if command == "values" => push_file_values(alloc, out, file.as_slice()),
-            [file] if command == "start" => push_of_file(alloc, out, file.as_slice(), command, ""),
+            [file] if command == "values" => show_file_values(alloc, lines, file.as_slice()),
+            [file] if command == "start" => show_file(alloc, lines, file.as_slice(), command, ""),
             [first, later] if command == "merge" => {
-                push_merged(alloc, out, first.as_slice(), later.as_slice())
+                show_merged(alloc, lines, first.as_slice(), later.as_slice())
             }
             [file, asked] if command != "start" => {
-                push_of_file(alloc, out, file.as_slice(), command, text_of(asked)?)
+                show_file(alloc, lines, file.as_slice(), command, text_of(asked)?)
             }
             _ => misread(),
         },
-        "compare" | "decide" => push_changed(alloc, out, given),
-        "lists" | "record" | "owed" | "report" => push_on_systems(alloc, out, command, 0, given),
-        "calls" => push_on_systems(alloc, out, command, 5, given),
-        _ => push_on_systems(alloc, out, command, 1, given),
+        "compare" | "decide" => show_change(alloc, lines, given),
+        "lists" | "record" | "owed" | "report" => show_systems(alloc, lines, command, 0, given),
+        "calls" => show_systems(alloc, lines, command, 5, given),
+        _ => show_systems(alloc, lines, command, 1, given),
     }
 }

@@ -1,9 +1,10 @@
 //! Runs over a root folder, and all that its files say then.
-use crate::runs::push_run;
+use crate::runs::show_end;
 use host_folder::FolderHost;
 use std::fs;
 use std::fs::DirEntry;
 use std::test::Fail;
+use world_text::Lines;
 
 /// Adds what an entry of a folder names to the folders or the files.
 fn push_entry(
@@ -59,41 +60,27 @@ fn files_below(rt: &HostRuntime, root: &str) -> Result<Vec<String>, Fail> {
     Ok(files)
 }
 
-/// Appends a file, with its place on a line before its text.
-fn push_file(rt: &HostRuntime, out: &mut String, place: &str) -> Result<(), Fail> {
+/// Shows a file, with its place on a line before its text.
+fn show_file(rt: &HostRuntime, lines: &mut Lines, place: &str) -> Result<(), Fail> {
     let text = fs::read_to_string(rt, place)?;
-    out.push_str(place)?;
-    out.push('\n')?;
-    out.push_str(text.as_str())?;
+    lines.add_text(place);
+    lines.end_line();
+    lines.add_text(text.as_str());
+    lines.end_last_line();
     Ok(())
 }
 
-/// Appends all files below a root.
-fn push_root(rt: &HostRuntime, out: &mut String, root: &str) -> Result<(), Fail> {
-    for place in &files_below(rt, root)? {
-        push_file(rt, out, place.as_str())?;
-    }
-    Ok(())
-}
-
-/// Runs these words over a root, and appends how that ended.
-fn push_folder_run(
+/// Shows how a run of these words over a root ends, and all files then.
+pub fn show_folder(
     rt: &HostRuntime,
-    out: &mut String,
+    lines: &mut Lines,
     root: &str,
     words: &str,
 ) -> Result<(), Fail> {
     let mut host = FolderHost::open(rt, root)?;
-    push_run(rt.alloc(), out, &mut host, "-", words)
-}
-
-/// Runs these words over a root, and appends how that ended and all files then.
-pub fn push_folder(
-    rt: &HostRuntime,
-    out: &mut String,
-    root: &str,
-    words: &str,
-) -> Result<(), Fail> {
-    push_folder_run(rt, out, root, words)?;
-    push_root(rt, out, root)
+    show_end(rt.alloc(), lines, &mut host, "-", words)?;
+    for place in &files_below(rt, root)? {
+        show_file(rt, lines, place.as_str())?;
+    }
+    Ok(())
 }

@@ -1,16 +1,23 @@
 //! Runs over a host, and the whole worlds that they leave.
-use crate::worlds::{Case, host_of};
-use crate::writing::{push_after, push_status, whole_world};
+use crate::writing::{show_after, show_status, whole_world};
 use host_memory::{MemoryHost, MemorySink};
-use host_trait::Manager;
+use host_trait::{Manager, World};
 use std::alloc::{AllocError, Global};
 use std::test::Fail;
-use switch_names::{Listed, Text};
+use switch_names::{Bytes, Listed, Text};
 use switch_run::{Status, run};
+use world_text::{Lines, put_places};
 
 /// The list of a number.
 pub fn list_of(alloc: Global, number: u64) -> Result<Listed<u64>, AllocError> {
     Ok(Listed::from_vec([number].to_vec(alloc)?))
+}
+
+/// A host with the world of these places.
+pub fn host_of(alloc: Global, places: &[Bytes]) -> Result<MemoryHost, Fail> {
+    let mut world = World::new(alloc);
+    put_places(alloc, &mut world, places)?;
+    Ok(MemoryHost::new(alloc, world))
 }
 
 /// The words of a command; `-` is none.
@@ -24,32 +31,14 @@ fn words_of(alloc: Global, line: &str) -> Result<Vec<Text>, AllocError> {
     Ok(words)
 }
 
-/// Has the put with this number fail; `-` is none.
-fn fail_put(alloc: Global, sink: &mut MemorySink, put: &str) -> Result<(), Fail> {
-    if put != "-" {
-        sink.fail(list_of(alloc, put.parse::<u64>()?)?);
-    }
-    Ok(())
-}
-
-/// A sink with room for each report, in which the put with this number fails.
+/// A sink with room for each report, in which the put with this number fails; `-` is none.
 pub fn sink_of(alloc: Global, put: &str) -> Result<MemorySink, Fail> {
     let mut sink = MemorySink::new(alloc);
     sink.room(4096)?;
-    fail_put(alloc, &mut sink, put)?;
+    if put != "-" {
+        sink.fail(list_of(alloc, put.parse::<u64>()?)?);
+    }
     Ok(sink)
-}
-
-/// Appends a status and what was put.
-fn push_said(
-    alloc: Global,
-    out: &mut String,
-    status: &Status,
-    sink: &MemorySink,
-) -> Result<(), Fail> {
-    push_status(alloc, out, status)?;
-    out.push_str(std::str::from_utf8(sink.bytes())?)?;
-    Ok(())
 }
 
 /// The status of a run of these words.
@@ -63,40 +52,42 @@ pub fn status_of<H: Manager>(
     Ok(run(alloc, words.as_slice(), host, sink))
 }
 
-/// Runs these words, of which a put may fail, and appends how that ended.
-pub fn push_run<H: Manager>(
+/// Shows how a run of these words ends, of which a put may fail, and what was put.
+pub fn show_end<H: Manager>(
     alloc: Global,
-    out: &mut String,
+    lines: &mut Lines,
     host: &mut H,
     put: &str,
     words: &str,
 ) -> Result<(), Fail> {
     let mut sink = sink_of(alloc, put)?;
     let status = status_of(alloc, host, &mut sink, words)?;
-    push_said(alloc, out, &status, &sink)
+    show_status(alloc, lines, &status)?;
+    lines.add_text(std::str::from_utf8(sink.bytes())?);
+    Ok(())
 }
 
-/// Runs these words, and appends how that ended and the whole world then.
-pub fn push_outcome(
+/// Shows how a run of these words ends, and the whole world then.
+pub fn show_outcome(
     alloc: Global,
-    out: &mut String,
+    lines: &mut Lines,
     host: &mut MemoryHost,
     put: &str,
     words: &str,
 ) -> Result<(), Fail> {
     let before = whole_world(alloc, host.world())?;
-    push_run(alloc, out, host, put, words)?;
-    push_after(alloc, out, before.as_str(), host.world())
+    show_end(alloc, lines, host, put, words)?;
+    show_after(alloc, lines, &before, host.world())
 }
 
-/// Runs these words over the world of a case, and appends how that ended and the whole world then.
-pub fn push_case_run(
+/// Shows the same of a run over the world of these places.
+pub fn show_run(
     alloc: Global,
-    out: &mut String,
-    case: &Case,
+    lines: &mut Lines,
     put: &str,
     words: &str,
+    places: &[Bytes],
 ) -> Result<(), Fail> {
-    let mut host = host_of(alloc, case)?;
-    push_outcome(alloc, out, &mut host, put, words)
+    let mut host = host_of(alloc, places)?;
+    show_outcome(alloc, lines, &mut host, put, words)
 }

@@ -1,37 +1,39 @@
 //! Runs whose calls fail or are cut, and the same runs made again.
-use crate::runs::{list_of, push_outcome, sink_of, status_of};
-use crate::worlds::{Case, host_of};
-use crate::writing::{push_seen, push_status};
+use crate::runs::{host_of, list_of, show_outcome, sink_of, status_of};
+use crate::writing::{show_all_but_the_journal, show_status};
 use host_memory::MemoryHost;
-use host_trait::Manager;
 use std::alloc::{AllocError, Global};
 use std::test::Fail;
+use switch_names::Bytes;
+use world_text::Lines;
 
-/// Runs these words, and appends the line of the status.
-fn push_end<H: Manager>(
+/// Shows the status of a run of these words.
+fn show_status_of(
     alloc: Global,
-    out: &mut String,
-    host: &mut H,
+    lines: &mut Lines,
+    host: &mut MemoryHost,
     words: &str,
 ) -> Result<(), Fail> {
     let mut sink = sink_of(alloc, "-")?;
     let status = status_of(alloc, host, &mut sink, words)?;
-    push_status(alloc, out, &status)
+    show_status(alloc, lines, &status)
 }
 
-/// Appends the statuses of a run and of the same run over the host that is revived, with the faults
+/// Shows the statuses of a run and of the same run over the host that is revived, with the faults
 /// between them, and what is seen of the world then.
-fn push_both_ends(
+fn show_both_ends(
     alloc: Global,
-    out: &mut String,
+    lines: &mut Lines,
     host: &mut MemoryHost,
     words: &str,
 ) -> Result<(), Fail> {
-    push_end(alloc, out, host, words)?;
-    out.push_str(format!(in alloc; "faults {}\n", host.faults())?.as_str())?;
+    show_status_of(alloc, lines, host, words)?;
+    lines.add_word("faults");
+    lines.add_value(&host.faults());
+    lines.end_line();
     host.revive();
-    push_end(alloc, out, host, words)?;
-    push_seen(alloc, out, host.world())
+    show_status_of(alloc, lines, host, words)?;
+    show_all_but_the_journal(alloc, lines, host.world())
 }
 
 /// Has a call of a host fail: that with this number, or the cut with this number, where each call that
@@ -50,50 +52,41 @@ fn trouble(
     Ok(())
 }
 
-/// Appends how a run over a host ends of which a call fails: with the whole world, or made again.
-fn push_troubled(
-    alloc: Global,
-    out: &mut String,
-    host: &mut MemoryHost,
-    (kind, words, number): (&str, &str, u64),
-) -> Result<(), Fail> {
-    trouble(alloc, host, kind, number)?;
-    if kind == "fail" {
-        push_outcome(alloc, out, host, "-", words)
-    } else {
-        push_both_ends(alloc, out, host, words)
-    }
-}
-
-/// How a run over the world of a case ends of which a call fails.
+/// How a run over the world of some places ends of which a call fails: with the whole world, or made again.
 fn troubled(
     alloc: Global,
-    case: &Case,
-    kind: &str,
-    words: &str,
+    (kind, words, places): (&str, &str, &[Bytes]),
     number: u64,
-) -> Result<String, Fail> {
-    let mut text = String::new(alloc);
-    let mut host = host_of(alloc, case)?;
-    push_troubled(alloc, &mut text, &mut host, (kind, words, number))?;
-    Ok(text)
+) -> Result<Lines, Fail> {
+    let mut lines = Lines::new(alloc);
+    let mut host = host_of(alloc, places)?;
+    trouble(alloc, &mut host, kind, number)?;
+    if kind == "fail" {
+        show_outcome(alloc, &mut lines, &mut host, "-", words)?;
+    } else {
+        show_both_ends(alloc, &mut lines, &mut host, words)?;
+    }
+    Ok(lines)
 }
 
-/// Appends how a run ends of which each of so many calls fails in turn, where that is another end than
+/// Shows how a run ends of which each of so many calls fails in turn, where that is another end than
 /// with the call before.
-pub fn push_troubles(
+pub fn show_troubles(
     alloc: Global,
-    out: &mut String,
-    case: &Case,
-    (kind, words): (&str, &str),
+    lines: &mut Lines,
+    (kind, words, places): (&str, &str, &[Bytes]),
     count: u64,
 ) -> Result<(), Fail> {
-    let mut last = String::new(alloc);
+    let mut last = Lines::new(alloc);
     for number in 0..count {
-        let next = troubled(alloc, case, kind, words, number)?;
+        let next = troubled(alloc, (kind, words, places), number)?;
         if next.as_str() != last.as_str() {
-            out.push_str(format!(in alloc; "from {number} of {count}\n")?.as_str())?;
-            out.push_str(next.as_str())?;
+            lines.add_word("from");
+            lines.add_value(&number);
+            lines.add_word("of");
+            lines.add_value(&count);
+            lines.end_line();
+            lines.add_all(&next);
         }
         last = next;
     }

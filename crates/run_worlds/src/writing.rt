@@ -3,52 +3,61 @@ use host_trait::World;
 use std::alloc::Global;
 use std::test::Fail;
 use switch_run::Status;
-use world_text::{push_journal, push_leaves, push_states};
+use world_text::{Lines, show_journal, show_leaves, show_states};
 
-/// Appends the line of a status.
-pub fn push_status(alloc: Global, out: &mut String, status: &Status) -> Result<(), Fail> {
+/// Shows the number of a status, and what it says.
+pub fn show_status(alloc: Global, lines: &mut Lines, status: &Status) -> Result<(), Fail> {
     let said = status.text(alloc)?;
-    let line = format!(in alloc; "{} {}\n", status.number(), said.as_str())?;
-    out.push_str(line.as_str())?;
+    lines.add_value(&status.number());
+    if !said.as_str().is_empty() {
+        lines.add_word(said.as_str());
+    }
+    lines.end_line();
     Ok(())
 }
 
-/// Appends the lines of the statuses of faults.
-pub fn push_faults(alloc: Global, out: &mut String) -> Result<(), Fail> {
-    push_status(alloc, out, &Status::HostFault)?;
-    push_status(alloc, out, &Status::NoMemory)
+/// Shows the statuses of faults.
+pub fn show_faults(alloc: Global, lines: &mut Lines) -> Result<(), Fail> {
+    show_status(alloc, lines, &Status::HostFault)?;
+    show_status(alloc, lines, &Status::NoMemory)
 }
 
-/// Appends all of a world but the journal, and how many leaves there are.
-pub fn push_seen(alloc: Global, out: &mut String, world: &World) -> Result<(), Fail> {
-    push_states(out, world)?;
-    push_leaves(alloc, out, world, "etc")?;
-    push_leaves(alloc, out, world, "nix")?;
-    push_leaves(alloc, out, world, "run")?;
-    out.push_str(format!(in alloc; "{} leaves\n", world.leaf_count())?.as_str())?;
+/// Shows all of a world but the journal, and how many leaves there are.
+pub fn show_all_but_the_journal(
+    alloc: Global,
+    lines: &mut Lines,
+    world: &World,
+) -> Result<(), Fail> {
+    show_states(lines, world);
+    show_leaves(alloc, lines, world, "etc")?;
+    show_leaves(alloc, lines, world, "nix")?;
+    show_leaves(alloc, lines, world, "run")?;
+    lines.add_value(&world.leaf_count());
+    lines.add_word("leaves");
+    lines.end_line();
     Ok(())
 }
 
 /// A whole world, its journal last.
-pub fn whole_world(alloc: Global, world: &World) -> Result<String, Fail> {
-    let mut text = String::new(alloc);
-    push_seen(alloc, &mut text, world)?;
-    push_journal(&mut text, world)?;
-    Ok(text)
+pub fn whole_world(alloc: Global, world: &World) -> Result<Lines, Fail> {
+    let mut lines = Lines::new(alloc);
+    show_all_but_the_journal(alloc, &mut lines, world)?;
+    show_journal(&mut lines, world);
+    Ok(lines)
 }
 
-/// Appends a whole world, or that it is the one that this text tells.
-pub fn push_after(
+/// Shows a whole world, or that it is the one that was before.
+pub fn show_after(
     alloc: Global,
-    out: &mut String,
-    before: &str,
+    lines: &mut Lines,
+    before: &Lines,
     world: &World,
 ) -> Result<(), Fail> {
     let after = whole_world(alloc, world)?;
-    if after.as_str() == before {
-        out.push_str("unchanged\n")?;
+    if after.as_str() == before.as_str() {
+        lines.add_text("unchanged\n");
     } else {
-        out.push_str(after.as_str())?;
+        lines.add_all(&after);
     }
     Ok(())
 }

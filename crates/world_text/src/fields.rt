@@ -1,27 +1,23 @@
-//! Cases as lines of fields.
+//! Fields of cases.
 use bstr::ByteVec;
 use std::alloc::Global;
 use std::test::Fail;
-use switch_names::{Bytes, Listed};
+use switch_names::Bytes;
+
+/// The answer where a case can't be read.
+pub fn misread<T>() -> Result<T, Fail> {
+    Err(Fail::new("a case can't be read"))
+}
 
 /// The bytes of a field: none for `\e`, and else those of its text, in which `\n` and the like are bytes.
-fn field_of(alloc: Global, text: &str) -> Result<Bytes, Fail> {
+///
+/// Fails where the text is empty.
+pub fn field_of(alloc: Global, text: &str) -> Result<Bytes, Fail> {
     match text {
         "" => Err(Fail::new("a field is empty")),
         "\\e" => Ok(Bytes::from_vec(Vec::new(alloc))),
         _ => Ok(Bytes::from_vec(Vec::<u8>::unescape_bytes(alloc, text)?)),
     }
-}
-
-/// The fields of a line, between which there are bars with a blank on each side.
-///
-/// Fails where a field is empty: one without bytes is `\e`.
-pub fn fields_of(alloc: Global, line: &str) -> Result<Vec<Bytes>, Fail> {
-    let mut fields = Listed::new(alloc);
-    for text in line.split(" | ") {
-        fields.push(field_of(alloc, text)?)?;
-    }
-    Ok(fields.into_vec())
 }
 
 /// The text of a field.

@@ -1,13 +1,19 @@
-//! Worlds as the files of a root folder that holds them, and cases as lines of fields, for tests.
+//! The language of the cases that the test programs try: cases as lines of fields, each with the lines
+//! that it has to give, and worlds by what stands at places.
 //!
-//! A file is its place below the root and its text: `tree/` and the path of a leaf with the node's
-//! text, or `manager` with the text of the manager's state.
+//! The head of each program's `stdin` explains the language.
 #![tactic(auto)]
 
+mod cases;
 mod fields;
+mod lines;
 mod reading;
+mod tally;
 mod writing;
 
-pub use fields::{fields_of, text_of};
-pub use reading::put_file;
-pub use writing::{push_journal, push_leaves, push_states};
+pub use cases::{Case, cases_of};
+pub use fields::{misread, text_of};
+pub use lines::Lines;
+pub use reading::{put_places, put_systems};
+pub use tally::Tally;
+pub use writing::{show_journal, show_leaves, show_states};

@@ -2,7 +2,7 @@ use Rattle.std.proofs.Common.{sym, subst}
 use Rattle.host_trait.specs.World.{stage}
 use Rattle.tree_put.specs.Put.{AreApart}
 use Rattle.part_worlds.proofs.FallenLemmas.{can_put, place_apart}
-use Rattle.part_worlds.proofs.fallen.push_put.Goals as goal
+use Rattle.part_worlds.proofs.fallen.show_put.Goals as goal
 
 pub put-requires-clause-apart : goal.put-requires-clause-apart
 put-requires-clause-apart c = subst (λ p. AreApart p stage) (sym c.requires.at) place_apart

@@ -2,7 +2,7 @@ use Rattle.std.proofs.Common.{◌≡◌, ℕ, List, codes, false, true, Some, sy
 use Rattle.std.proofs.lemmas.Bool.{both_ways}
 use Rattle.std.specs.Cmp.Lexicographic.{nat_list_eq_equiv}
 use Rattle.std.specs.FinMap.{get-empty}
-use Rattle.part_worlds.proofs.troubles.push_end.Goals as goal
+use Rattle.part_worlds.proofs.troubles.show_end.Goals as goal
 use Rattle.host_trait.proofs.Moments.{one_world}
 use Rattle.host_trait.specs.Host.{HostState, Told}
 use Rattle.host_trait.specs.World.{IsClear, WorldState, empty_world, bytes_cmp, is_in_line, is_path, stage}
