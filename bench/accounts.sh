@@ -1,23 +1,25 @@
 #!/bin/bash
-# Measures how long it takes and how much memory it needs to read and write the account tables, and reads
-# tables beside pwck and grpck.
+# Measures how long it takes and how much memory it needs to read and write the account tables, a specification
+# of accounts and a map of ids, and reads tables beside pwck and grpck.
 #
 # bench/accounts.sh [ROWS [BYTES]]
 #
 # Needs bash 5, awk, the coreutils, /usr/bin/time and the toolchain's rt, by which it builds a small program
-# over account_text. The program stands in this script, and is built in a scratch copy of the crates that it
-# uses: a crate of its own in crates.txt would be proved, built and run at each run of the gate. Where pwck
-# and grpck aren't there, the second part is left out.
+# over account_text, users_spec and id_memory. The program stands in this script, and is built in a scratch copy
+# of the crates that it uses: a crate of its own in crates.txt would be proved, built and run at each run of the
+# gate. Where pwck and grpck aren't there, the last part is left out.
 #
-# It makes each table with that many rows (65,536), once with short rows and once so that the file has that many
-# bytes (16,000,000), and prints for each the milliseconds of the quickest of five runs that only read the bytes,
-# that read the rows, and that write them again too, and the peak memory beside a plain read, as so many times the
-# bytes. Then it reads this machine's own tables, where they can be read, and some wrong ones, and prints what the program
-# and pwck -r or grpck -r say of each. It ends with 1 where a table isn't read whole or isn't written as it
+# It makes each table with that many rows (65,536), once with the rows of accounts that can't log in, once with
+# short rows, and once so that the file has that many bytes (16,777,216), and prints for each the milliseconds of
+# the quickest of five runs that only read the bytes, that read the rows, and that write them again too, and the
+# peak memory beside a plain read, as so many times the bytes. Then it makes a specification and a map of ids with
+# that many bytes, and prints the same of them, beside runs that only parse the bytes into the library's JSON
+# value. Then it reads this machine's own tables, where they can be read, and some wrong ones, and prints what the
+# program and pwck -r or grpck -r say of each. It ends with 1 where a table isn't read whole or isn't written as it
 # was. It is no part of the gate.
 . "$(dirname "$0")/common.sh"
 rows=${1:-65536}
-bytes=${2:-16000000}
+bytes=${2:-16777216}
 if [ ! -x /usr/bin/time ]; then
     echo "no /usr/bin/time" >&2
     exit 1
@@ -26,28 +28,40 @@ fi
 # Builds the program in a scratch copy of the crates.
 build() {
     local crate part
-    mkdir -p "$work/copy/crates/read_tables/src"
+    mkdir -p "$work/copy/crates/read_accounts/src"
     : >"$work/empty"
     cp "$here/HANDLES" "$work/copy/"
-    for crate in switch_names account_text; do
+    for crate in switch_names host_trait account_text users_spec id_memory; do
         mkdir "$work/copy/crates/$crate"
         for part in src specs proofs; do
             [ ! -d "$here/crates/$crate/$part" ] || cp -r "$here/crates/$crate/$part" "$work/copy/crates/$crate/"
         done
         grep "^$crate:" "$here/crates.txt" >>"$work/copy/crates.txt"
     done
-    echo "read_tables: account_text switch_names" >>"$work/copy/crates.txt"
-    cat >"$work/copy/crates/read_tables/src/main.rt"
-    if ! (cd "$work/copy/crates/read_tables" && rt run -- plain passwd "$work/empty") >"$work/build" 2>&1; then
+    echo "read_accounts: account_text users_spec id_memory switch_names serde_json" >>"$work/copy/crates.txt"
+    cat >"$work/copy/crates/read_accounts/src/main.rt"
+    if ! (cd "$work/copy/crates/read_accounts" && rt run -- plain passwd "$work/empty") >"$work/build" 2>&1; then
         cat "$work/build"
         return 1
     fi
-    program=$work/copy/crates/read_tables/out/read_tables
+    program=$work/copy/crates/read_accounts/out/read_accounts
 }
 
-# make_table KIND WIDTH: a table whose rows have a text of this width.
+# make_table KIND WIDTH: a table whose rows have a text of this width, or those of accounts that can't log in
+# where it is `none`.
 make_table() {
     awk -v kind="$1" -v rows="$rows" -v width="$2" 'BEGIN {
+        if (width == "none") {
+            for (number = 1; number <= rows; number++) {
+                if (kind == "passwd")
+                    print "nixbld" number ":x:" 30000 + number ":30000:Nix build user " number ":/var/empty:/run/current-system/sw/bin/nologin"
+                else if (kind == "group")
+                    print "service-" number ":x:" number ":"
+                else
+                    print "nixbld" number ":!:1::::::"
+            }
+            exit
+        }
         text = sprintf("%" width "s", "")
         gsub(/ /, "t", text)
         for (number = 1; number <= rows; number++) {
@@ -58,6 +72,29 @@ make_table() {
             else
                 print "user-" number ":" text ":19000:0:99999:7:::"
         }
+    }' >"$work/table"
+}
+
+# make_json KIND: a specification of users and groups, or a map of ids, with about so many bytes as are asked for.
+make_json() {
+    awk -v kind="$1" -v bytes="$bytes" 'BEGIN {
+        if (kind == "ids") {
+            printf "{"
+            for (number = 100000; number < 100000 + bytes / 21; number++)
+                printf "%s\"user-%d\":%d", (number > 100000 ? "," : ""), number, number
+            print "}"
+            exit
+        }
+        printf "{\"mutableUsers\":true,\"groups\":["
+        for (number = 1; number <= bytes / 305; number++)
+            printf "%s{\"name\":\"group-%d\",\"gid\":null,\"members\":[\"user-%d\"]}", (number > 1 ? "," : ""), number, number
+        printf "],\"users\":["
+        for (number = 1; number <= bytes / 305; number++) {
+            printf "%s{\"name\":\"user-%d\",\"uid\":%d,\"group\":\"group-%d\",\"isSystemUser\":false,", (number > 1 ? "," : ""), number, number, number
+            printf "\"description\":\"User number %d\",\"home\":\"/home/user-%d\",\"shell\":\"/run/current-system/sw/bin/bash\",", number, number
+            printf "\"hashedPassword\":null,\"initialHashedPassword\":\"!\",\"createHome\":true}"
+        }
+        print "]}"
     }' >"$work/table"
 }
 
@@ -98,6 +135,30 @@ told() {
     }'
 }
 
+# told_json KIND COUNT: measures a specification or a map with this many accounts and prints a line.
+told_json() {
+    local size plain plain_peak value value_peak read read_peak
+    make_json "$1"
+    size=$(stat -c %s "$work/table")
+    measure plain "$1" "$size"
+    plain=$micros
+    plain_peak=$peak
+    measure value "$1" "$size"
+    value=$micros
+    value_peak=$peak
+    measure read "$1" "$2"
+    read=$micros
+    read_peak=$peak
+    awk -v kind="$1" -v size="$size" -v plain="$plain" -v value="$value" -v read="$read" -v a="$plain_peak" -v v="$value_peak" -v b="$read_peak" 'BEGIN {
+        printf "%-6s %9d bytes: read alone %6.1f ms, JSON value %6.1f ms, accounts %6.1f ms; memory %5.1f MB, JSON value %5.1f MB more (x%.2f), accounts %5.1f MB more (x%.2f)\n",
+            kind, size, plain / 1000, value / 1000, read / 1000, a / 1000, (v - a) / 1000, (v - a) * 1024 / size, (b - a) / 1000, (b - a) * 1024 / size
+    }'
+    if [ "$1" = ids ]; then
+        measure write "$1" "$size"
+        awk -v write="$micros" -v a="$plain_peak" -v c="$peak" 'BEGIN { printf "%-6s written too %6.1f ms; %5.1f MB more\n", "ids", write / 1000, (c - a) / 1000 }'
+    fi
+}
+
 # beside KIND FILE NAME [USERS]: what the program and the system's own checker say of a table.
 beside() {
     local kind=$1 file=$2 name=$3 users=${4:-$work/users} ours theirs status
@@ -119,16 +180,63 @@ wrong() {
 }
 
 build <<'RATTLE' || exit 1
-//! Reads a file and prints how many bytes it has, how many rows, or how many bytes are written of them, or the
-//! line that is no row.
+//! Reads a file and prints how many bytes it has, how many rows or accounts, or how many bytes are written of
+//! them, or what is wrong with it.
 #![tactic(auto)]
 
 use account_text::{RowFault, read_group, read_passwd, read_shadow, write_group, write_passwd, write_shadow};
-use std::alloc::Global;
+use id_memory::{IdFault, IdMap};
+use serde_json::Value;
+use std::alloc::{AllocError, Global};
 use std::{env, fs, io};
+use users_spec::{Spec, SpecFault};
+
+/// Why there is no number to print.
+#[derive(Drop)]
+enum Fault {
+    /// This line of a table is no row.
+    Line(u32),
+    /// A text is no specification, no map or no JSON value.
+    Form,
+    /// There was no memory.
+    Memory,
+}
+
+impl From<AllocError> for Fault {
+    fn from(_error: AllocError) -> Fault {
+        Fault::Memory
+    }
+}
+
+impl From<RowFault> for Fault {
+    fn from(fault: RowFault) -> Fault {
+        match fault {
+            RowFault::Line(number) => Fault::Line(number),
+            RowFault::Memory => Fault::Memory,
+        }
+    }
+}
+
+impl From<SpecFault> for Fault {
+    fn from(fault: SpecFault) -> Fault {
+        match fault {
+            SpecFault::Memory => Fault::Memory,
+            _ => Fault::Form,
+        }
+    }
+}
+
+impl From<IdFault> for Fault {
+    fn from(fault: IdFault) -> Fault {
+        match fault {
+            IdFault::Form => Fault::Form,
+            IdFault::Memory => Fault::Memory,
+        }
+    }
+}
 
 /// The number to print for a passwd table.
-fn passwd(alloc: Global, is_writing: bool, bytes: &[u8]) -> Result<usize, RowFault> {
+fn passwd(alloc: Global, is_writing: bool, bytes: &[u8]) -> Result<usize, Fault> {
     let rows = read_passwd(alloc, bytes)?;
     if is_writing {
         return Ok(write_passwd(alloc, &rows)?.as_slice().len());
@@ -137,7 +245,7 @@ fn passwd(alloc: Global, is_writing: bool, bytes: &[u8]) -> Result<usize, RowFau
 }
 
 /// The number to print for a group table.
-fn group(alloc: Global, is_writing: bool, bytes: &[u8]) -> Result<usize, RowFault> {
+fn group(alloc: Global, is_writing: bool, bytes: &[u8]) -> Result<usize, Fault> {
     let rows = read_group(alloc, bytes)?;
     if is_writing {
         return Ok(write_group(alloc, &rows)?.as_slice().len());
@@ -146,12 +254,51 @@ fn group(alloc: Global, is_writing: bool, bytes: &[u8]) -> Result<usize, RowFaul
 }
 
 /// The number to print for a shadow table.
-fn shadow(alloc: Global, is_writing: bool, bytes: &[u8]) -> Result<usize, RowFault> {
+fn shadow(alloc: Global, is_writing: bool, bytes: &[u8]) -> Result<usize, Fault> {
     let rows = read_shadow(alloc, bytes)?;
     if is_writing {
         return Ok(write_shadow(alloc, &rows)?.as_slice().len());
     }
     Ok(rows.as_slice().len())
+}
+
+/// How many users a specification declares.
+fn users(alloc: Global, bytes: &[u8]) -> Result<usize, Fault> {
+    let accounts = Spec::read(alloc, bytes)?;
+    Ok(accounts.users().as_slice().len())
+}
+
+/// The number to print for a map of ids.
+fn ids(alloc: Global, is_writing: bool, bytes: &[u8]) -> Result<usize, Fault> {
+    let map = IdMap::read(alloc, bytes)?;
+    if is_writing {
+        return Ok(map.write(alloc)?.as_slice().len());
+    }
+    Ok(map.rows().as_slice().len())
+}
+
+/// How many bytes were parsed into a JSON value, and nothing else.
+fn value(alloc: Global, bytes: &[u8]) -> Result<usize, Fault> {
+    match Value::from_slice(alloc, bytes) {
+        Ok(_value) => Ok(bytes.len()),
+        Err(_) => Err(Fault::Form),
+    }
+}
+
+/// The number to print for a word and a kind of file.
+fn number(alloc: Global, word: &str, kind: &str, bytes: &[u8]) -> Result<usize, Fault> {
+    let is_writing = word == "write";
+    match word {
+        "plain" => Ok(bytes.len()),
+        "value" => value(alloc, bytes),
+        _ => match kind {
+            "passwd" => passwd(alloc, is_writing, bytes),
+            "group" => group(alloc, is_writing, bytes),
+            "shadow" => shadow(alloc, is_writing, bytes),
+            "spec" => users(alloc, bytes),
+            _ => ids(alloc, is_writing, bytes),
+        },
+    }
 }
 
 fn main(rt: HostRuntime) -> io::Result<()> {
@@ -162,30 +309,23 @@ fn main(rt: HostRuntime) -> io::Result<()> {
         return Ok(());
     };
     let bytes = fs::read(&rt, file.as_str())?;
-    if word.as_str() == "plain" {
-        let len = bytes.len();
-        println!(rt; "{len}")?;
-        return Ok(());
-    }
-    let is_writing = word.as_str() == "write";
-    let found = match kind.as_str() {
-        "passwd" => passwd(rt.alloc(), is_writing, bytes.as_slice()),
-        "group" => group(rt.alloc(), is_writing, bytes.as_slice()),
-        _ => shadow(rt.alloc(), is_writing, bytes.as_slice()),
-    };
-    match found {
+    match number(rt.alloc(), word.as_str(), kind.as_str(), bytes.as_slice()) {
         Ok(number) => println!(rt; "{number}")?,
-        Err(RowFault::Line(number)) => println!(rt; "line {number}")?,
-        Err(RowFault::Memory) => println!(rt; "no memory")?,
+        Err(Fault::Line(number)) => println!(rt; "line {number}")?,
+        Err(Fault::Form) => println!(rt; "wrong")?,
+        Err(Fault::Memory) => println!(rt; "no memory")?,
     }
     Ok(())
 }
 RATTLE
 echo "$rows rows"
 for kind in passwd group shadow; do
+    told "$kind" none
     told "$kind" 8
     told "$kind" $(((bytes - rows * 50) / rows))
 done
+told_json spec $((bytes / 305))
+told_json ids $(((bytes + 20) / 21))
 if ! command -v pwck >"$work/stdout" || ! command -v grpck >"$work/stdout"; then
     exit 0
 fi

@@ -1,11 +1,11 @@
 -- Of rows with one name the first stands.
-use Rattle.std.proofs.Common.{◌≡◌, ◌&&◌, ◌||◌, Bool, true, false, cond, not, List, [], ◌∷◌, ◌++◌, map, Option, None, Some, refl, sym, ap, ◌∙◌}
+use Rattle.std.proofs.Common.{◌≡◌, ◌&&◌, ◌||◌, Bool, true, false, cond, not, List, [], ◌∷◌, ◌++◌, map, Some, refl, sym, ap, ◌∙◌}
 use Rattle.std.specs.Cmp.{eq_by_cmp_equiv}
 use Rattle.std.specs.Cmp.Lexicographic.{nat_list_cmp_total}
-use Rattle.std.specs.List.{filter, filter_map, cons_option, list_any, list_all}
+use Rattle.std.specs.List.{filter, list_any, list_all}
 use Rattle.std.proofs.lemmas.Bool.{and_parts, and_from, or_parts}
 use Rattle.std.proofs.lemmas.List.{append-nil, map-append}
-use Rattle.std.proofs.lemmas.List.Elements.{filter-append, filter_map-append}
+use Rattle.std.proofs.lemmas.List.Elements.{filter-append}
 use Rattle.std.proofs.lemmas.List.Folds.{list_any-append}
 use Rattle.std.proofs.lemmas.Map.Views.{any-filter_same}
 use Rattle.switch_names.proofs.Names.{name_turned}
@@ -103,16 +103,6 @@ module _ {Row : Type 0} (name_of : Row → Name) where
   firsts_push (first ∷ rows) row =
       ap (λ xs. first ∷ filter (is_other first) xs) (firsts_push rows row)
       ∙ pushed first row (firsts name_of rows) (is_name (name_of first) (name_of row)) (has (map name_of (firsts name_of rows)) (name_of row)) refl refl
-
-  -- a line more
-  pub firsts_more : {Line : Type 0} (row_in : Line → Option Row) (lines : List Line) (line : Line)
-      → firsts name_of (filter_map row_in (lines ++ line ∷ [])) ≡ with_row name_of (firsts name_of (filter_map row_in lines)) (row_in line)
-  firsts_more {Line} row_in lines line =
-      ap (firsts name_of) (filter_map-append row_in lines (line ∷ [])) ∙ by (row_in line)
-    where
-      by : (o : Option Row) → firsts name_of (filter_map row_in lines ++ cons_option o []) ≡ with_row name_of (firsts name_of (filter_map row_in lines)) o
-      by None = ap (firsts name_of) (append-nil (filter_map row_in lines))
-      by (Some row) = firsts_push (filter_map row_in lines) row
 
   -- ---- what stands is sound
 

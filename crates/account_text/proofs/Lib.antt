@@ -5,3 +5,4 @@ pub mod RowLemmas
 pub mod SoundLemmas
 pub mod BackLemmas
 pub mod OrderLemmas
+pub mod NameLemmas

@@ -1,20 +1,22 @@
 -- A table is read line by line.
-use Rattle.std.proofs.Common.{◌≡◌, ℕ, ◌+◌, ◌-◌, ◌||◌, Bool, true, false, cond, not, ltb, List, [], ◌∷◌, ◌++◌, length, length-append, length-drop, append_assoc, drop, take, map, min, Option, None, Some, option_map, refl, sym, ap, ◌∙◌, arith}
-use Rattle.std.specs.List.{filter_map, list_any, position, position_or_len}
+use Rattle.std.proofs.Common.{◌≡◌, ℕ, ◌+◌, ◌-◌, ◌<◌, ◌||◌, Bool, true, false, cond, not, ltb, List, [], ◌∷◌, ◌++◌, length, length-append, length-drop, append_assoc, drop, take, map, min, Option, None, Some, option_map, refl, sym, ap, ◌∙◌, arith}
+use Rattle.std.specs.List.{cons_option, filter_map, list_any, position, position_or_len}
 use Rattle.std.specs.Str.{IsUtf8, is_utf8}
 use Rattle.std.proofs.Math.Seq.{take-length}
-use Rattle.std.proofs.lemmas.Bool.{false_from_ne_true, lt-ltb, ltb-true, ltb-false, or_parts, or_from}
+use Rattle.std.proofs.lemmas.Bool.{false_from_ne_true, lt-ltb, ltb-true, or_parts, or_from}
 use Rattle.std.proofs.lemmas.List.{append-nil}
 use Rattle.std.proofs.lemmas.List.Splits.{slice_split_first, slice_split_none}
-use Rattle.std.proofs.lemmas.List.Sums.{fails_before_first}
+use Rattle.std.proofs.lemmas.List.Sums.{position_or_len_is}
+use Rattle.std.proofs.lemmas.List.Elements.{filter_map-append}
+use Rattle.std.proofs.lemmas.Grind.{get_or_default_zero}
+use Rattle.bstr.specs.Find.{IsFirstByte, is_byte}
 use Rattle.std.proofs.lemmas.List.Folds.{list_any-append}
 use Rattle.std.proofs.lemmas.Str.{IsUtf8-from_is_utf8, is_utf8-from_IsUtf8}
 use Rattle.switch_names.proofs.Names.{name_turned}
 use Rattle.switch_names.specs.Names.{Name, has, is_name}
 use Rattle.account_text.specs.Field.{fields, is_line_feed, lines}
-use Rattle.account_text.specs.Table.{row_in, rows_of, is_wrong, wrong_line, firsts}
-use Rattle.account_text.specs.Reading.{with_row}
-use Rattle.account_text.proofs.FirstLemmas.{firsts_more, has_more, not_true}
+use Rattle.account_text.specs.Table.{row_in, is_wrong, wrong_line}
+use Rattle.account_text.proofs.FirstLemmas.{has_more, not_true}
 
 module _ {Row : Type 0} (row_of : List (List ℕ) → Option Row) where
   pub utf8_row : (line text : List ℕ) → text ≡ line → IsUtf8 line → row_of (fields text) ≡ row_in row_of line
@@ -69,12 +71,12 @@ first_place {X} p before x after none passes =
 
 -- ---- the lines so far
 
-module _ {Row : Type 0} (row_of : List (List ℕ) → Option Row) (name_of : Row → Name) (text : List ℕ) where
+module _ {Row : Type 0} (row_of : List (List ℕ) → Option Row) (text : List ℕ) where
   -- these lines are left, and those before them are fine and their rows are read
   pub record IsReadUpTo (rows : List Row) (number : ℕ) (left : List (List ℕ)) : Type 0 where
     pub before : List (List ℕ)
     pub split : before ++ left ≡ lines text
-    pub read : rows ≡ firsts name_of (filter_map (row_in row_of) before)
+    pub read : rows ≡ filter_map (row_in row_of) before
     pub fine : list_any (is_wrong row_of) before ≡ false
     pub counted : number ≡ min (length before) 4294967295
 
@@ -87,20 +89,20 @@ module _ {Row : Type 0} (row_of : List (List ℕ) → Option Row) (name_of : Row
 
   -- one line more
   pub line_read : (rows new : List Row) (number next : ℕ) (line : List ℕ) (left rest : List (List ℕ)) → IsReadUpTo rows number left → left ≡ line ∷ rest
-      → true ≡ not (is_wrong row_of line) → new ≡ with_row name_of rows (row_in row_of line) → next ≡ min (number + 1) 4294967295 → IsReadUpTo new next rest
+      → true ≡ not (is_wrong row_of line) → new ≡ rows ++ cons_option (row_in row_of line) [] → next ≡ min (number + 1) 4294967295 → IsReadUpTo new next rest
   line_read rows new number next line left rest is cut fine read counted = record {
     before = is.before ++ line ∷ [];
     split = append_assoc is.before (line ∷ []) rest ∙ ap (λ ls. is.before ++ ls) (sym cut) ∙ is.split;
-    read = read ∙ ap (λ rs. with_row name_of rs (row_in row_of line)) is.read ∙ sym (firsts_more name_of (row_in row_of) is.before line);
+    read = read ∙ ap (λ rs. rs ++ cons_option (row_in row_of line) []) is.read ∙ sym (filter_map-append (row_in row_of) is.before (line ∷ []));
     fine = list_any-append (is_wrong row_of) is.before (line ∷ []) ∙ or_from _ _ is.fine (or_from _ _ (not_true (is_wrong row_of line) (sym fine)) refl);
     counted = let before = is.counted in omega (arith, length-append is.before (line ∷ []));
   }
 
   -- no line is left
-  pub all_read : (rows : List Row) (number : ℕ) → IsReadUpTo rows number [] → (rows ≡ rows_of row_of name_of text) × (wrong_line row_of text ≡ None)
+  pub all_read : (rows : List Row) (number : ℕ) → IsReadUpTo rows number [] → (rows ≡ filter_map (row_in row_of) (lines text)) × (wrong_line row_of text ≡ None)
   all_read rows number is =
       let all : is.before ≡ lines text = sym (append-nil is.before) ∙ is.split in (
-        is.read ∙ ap (λ ls. firsts name_of (filter_map (row_in row_of) ls)) all,
+        is.read ∙ ap (filter_map (row_in row_of)) all,
         ap (option_map (λ at. min (at + 1) 4294967295)) (no_place (is_wrong row_of) (lines text) (ap (list_any (is_wrong row_of)) (sym all) ∙ is.fine)),
       )
 
@@ -116,28 +118,18 @@ module _ {Row : Type 0} (row_of : List (List ℕ) → Option Row) (name_of : Row
 
 -- ---- cutting a line off
 
-cut_off : (text : List ℕ) (at : ℕ) → Some at ≡ position is_line_feed text → lines text ≡ take at text ∷ lines (drop (at + 1) text)
-cut_off text at is = by (ltb (position_or_len is_line_feed text) (length text)) refl is
-  where
-    by : (b : Bool) → ltb (position_or_len is_line_feed text) (length text) ≡ b → Some at ≡ cond b (Some (position_or_len is_line_feed text)) None
-        → lines text ≡ take at text ∷ lines (drop (at + 1) text)
-    by true less same =
-        let place : position_or_len is_line_feed text ≡ at = cc in
-        let within = ltb-true (position_or_len is_line_feed text) (length text) less in
-        slice_split_first is_line_feed text 0 within ∙ ap (λ n. take n text ∷ lines (drop (n + 1) text)) place
-    by false less same = absurd cc
+cut_off : (text : List ℕ) (at : ℕ) → at < length text → position_or_len is_line_feed text ≡ at → lines text ≡ take at text ∷ lines (drop (at + 1) text)
+cut_off text at within place =
+    slice_split_first is_line_feed text 0 (omega (arith, place)) ∙ ap (λ n. take n text ∷ lines (drop (n + 1) text)) place
 
-pub cut_at : (text : List ℕ) (at : ℕ) → Some at ≡ position is_line_feed text → lines text ≡ take at text ∷ lines (take (length text - (at + 1)) (drop (at + 1) text))
+pub cut_at : (text : List ℕ) (at : ℕ) → IsFirstByte (is_byte 10) text (Some at) → lines text ≡ take at text ∷ lines (take (length text - (at + 1)) (drop (at + 1) text))
 cut_at text at is =
-    let cut = cut_off text at is in
+    let within : at < length text = is.0.high in
+    let place = position_or_len_is is_line_feed text at 0 (omega arith) (λ k below. false_from_ne_true _ (is.0.before k (omega arith) below)) (λ _. is.1) in
     let len : length (drop (at + 1) text) ≡ length text - (at + 1) = length-drop (at + 1) text in
-    cut ∙ ap (λ rest. take at text ∷ lines rest) (sym (ap (λ n. take n (drop (at + 1) text)) (sym len) ∙ take-length (drop (at + 1) text)))
+    cut_off text at within place
+    ∙ ap (λ rest. take at text ∷ lines rest) (sym (ap (λ n. take n (drop (at + 1) text)) (sym len) ∙ take-length (drop (at + 1) text)))
 
-pub uncut : (text : List ℕ) → None ≡ position is_line_feed text → lines text ≡ text ∷ []
-uncut text is = by (ltb (position_or_len is_line_feed text) (length text)) refl is
-  where
-    by : (b : Bool) → ltb (position_or_len is_line_feed text) (length text) ≡ b → None ≡ cond b (Some (position_or_len is_line_feed text)) None → lines text ≡ text ∷ []
-    by true less same = absurd cc
-    by false less same =
-        let past = ltb-false (position_or_len is_line_feed text) (length text) less in
-        slice_split_none is_line_feed text (λ k d l. fails_before_first is_line_feed text k d (omega arith))
+pub uncut : (text : List ℕ) → IsFirstByte (is_byte 10) text None → lines text ≡ text ∷ []
+uncut text none =
+    slice_split_none is_line_feed text (λ k d within. ap is_line_feed (get_or_default_zero text k d within) ∙ false_from_ne_true _ (none k (omega arith) within))

@@ -32,14 +32,14 @@ none_same : (name : Name) (names : List Name) → AllByRecursion (λ other. is_n
 none_same name [] all = refl
 none_same name (other ∷ names) all = or_from _ _ all.0 (none_same name names all.1)
 
-distinct_to : (names : List Name) → are_distinct names ≡ true → IsDistinct is_name names
+pub distinct_to : (names : List Name) → are_distinct names ≡ true → IsDistinct is_name names
 unfolding IsDistinct
 distinct_to [] is = tt
 distinct_to (name ∷ names) is =
     let parts = and_parts (not (has names name)) (are_distinct names) is in
     (apart name names (not_true _ parts.0), distinct_to names parts.1)
 
-distinct_from : (names : List Name) → IsDistinct is_name names → are_distinct names ≡ true
+pub distinct_from : (names : List Name) → IsDistinct is_name names → are_distinct names ≡ true
 unfolding IsDistinct
 distinct_from [] is = refl
 distinct_from (name ∷ names) is = and_from _ _ (ap not (none_same name names is.0)) (distinct_from names is.1)

@@ -48,24 +48,25 @@ pub fn read_id(field: &str) -> Option<u32>
 }
 
 /// Adds a member, unless it is empty.
-fn add_member(alloc: Global, members: &mut Listed<Text>, member: &str) -> Result<(), AllocError>
-    ensures { OnOk result (members.new ≡ members.old ++ filter (λ name. not (is_empty name)) (member.now ∷ [])) }
+fn add_member(alloc: Global, members: &mut Vec<Text>, member: &str) -> Result<(), AllocError>
+    ensures { OnOk result (members.new.items ≡ members.old.items ++ filter (λ name. not (is_empty name)) (member.now ∷ [])) }
 {
-    if member.is_empty() {
-        return Ok(());
+    if !member.is_empty() {
+        members.push(Text::from_str(alloc, member)?)?;
     }
-    members.push(Text::from_str(alloc, member)?)
+    Ok(())
 }
 
 /// The members that a field says.
 pub fn read_members(alloc: Global, field: &str) -> Result<Listed<Text>, AllocError>
     ensures { IfOk result (λ members. members ≡ members_of field.now) }
 {
-    let mut members = Listed::new(alloc);
+    let mut members = Vec::new(alloc);
     for member in field.split(',') {
         add_member(alloc, &mut members, member)?;
     }
-    Ok(members)
+    members.shrink_to_fit();
+    Ok(Listed::from_vec(members))
 }
 
 /// Adds members to a field that has one.

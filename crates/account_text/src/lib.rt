@@ -2,6 +2,7 @@
 #![tactic(auto)]
 
 mod field;
+mod firsts;
 mod group;
 mod order;
 mod passwd;

@@ -1,14 +1,15 @@
 //! Tables of rows, read and written line by line.
-ghost use Rattle.std.specs.Prelude.{◌≡◌, ◌∷◌, ◌++◌, [], List, ℕ, Option, None, Some, not, string_bytes, IfOk, OnOk, IsErrOf, MatchOption, true, ◌≤◌, length, position};
-ghost use Rattle.std.specs.List.{list_all};
+ghost use Rattle.std.specs.Prelude.{◌≡◌, ◌∷◌, ◌++◌, [], List, ℕ, Option, None, Some, not, string_bytes, IfOk, OnOk, IsErrOf, true, ◌≤◌, length};
+ghost use Rattle.std.specs.List.{cons_option, filter_map, list_all};
 ghost use Rattle.std.specs.Str.{is_utf8};
-ghost use Rattle.account_text.specs.Field.{fields, is_line_feed, lines};
+ghost use Rattle.account_text.specs.Field.{fields, lines};
 ghost use Rattle.account_text.specs.Table.{row_in, rows_of, is_wrong, wrong_line, table_text};
-ghost use Rattle.account_text.specs.Reading.{with_row, AreNamesOf, lines_left, left_len};
+ghost use Rattle.account_text.specs.Reading.{lines_left, left_len};
 
+use crate::firsts::first_rows;
 use crate::row_fault::RowFault;
+use bstr::ByteSlice;
 use std::alloc::{AllocError, Global};
-use std::collections::BTreeSet;
 use switch_names::{Bytes, Listed, Text};
 
 /// A row of a table.
@@ -45,73 +46,18 @@ fn read_row<R: Row>(alloc: Global, line: &[u8]) -> Result<Option<R>, AllocError>
     }
 }
 
-/// What was read of a table.
-struct Reading<R> {
-    rows: Vec<R>,
-    names: BTreeSet<Text>,
-}
-
-/// One call: a derived drop is proved anew in each function that lets one go.
-impl<R: Drop> Drop for Reading<R> {
-    fn drop(self) {
-        let Reading { rows: _, names: _ } = self;
-    }
-}
-
-impl<R: Row> Reading<R> {
-    /// Nothing was read.
-    fn new(alloc: Global) -> Reading<R>
-        ensures rows { result.rows.items ≡ [] }
-        ensures names { AreNamesOf R.name_of result.rows.items result.names.keys }
-    {
-        Reading {
-            rows: Vec::new(alloc),
-            names: BTreeSet::new(alloc),
-        }
-    }
-
-    /// Adds a row, unless there is one of its name.
-    fn add(&mut self, alloc: Global, row: R) -> Result<(), AllocError>
-        requires { AreNamesOf R.name_of self.old.rows.items self.old.names.keys }
-        ensures rows { OnOk result (self.new.rows.items ≡ with_row R.name_of self.old.rows.items (Some row)) }
-        ensures names { OnOk result (AreNamesOf R.name_of self.new.rows.items self.new.names.keys) }
-    {
-        if self.names.insert(row.name().copy(alloc)?)? {
-            self.rows.push(row)?;
-        }
-        Ok(())
-    }
-
-    /// Takes a line, and says whether it is empty or a row.
-    fn take(&mut self, alloc: Global, line: &[u8]) -> Result<bool, AllocError>
-        requires { AreNamesOf R.name_of self.old.rows.items self.old.names.keys }
-        ensures fine { IfOk result (λ is_fine. is_fine ≡ not (is_wrong R.row_of line.now)) }
-        ensures rows { OnOk result (self.new.rows.items ≡ with_row R.name_of self.old.rows.items (row_in R.row_of line.now)) }
-        ensures names { OnOk result (AreNamesOf R.name_of self.new.rows.items self.new.names.keys) }
-    {
-        match read_row(alloc, line)? {
-            Some(row) => {
-                self.add(alloc, row)?;
-                Ok(true)
-            }
-            None => Ok(line.is_empty()),
-        }
-    }
-
-    /// The rows, without a copy.
-    fn into_rows(self) -> Vec<R>
-        ensures { result.items ≡ self.rows.items }
-    {
-        let Reading { rows, names: _ } = self;
-        rows
-    }
-}
-
-/// The place of the first line feed of a text.
-fn first_line_feed(text: &[u8]) -> Option<usize>
-    ensures { result ≡ position is_line_feed text.now }
+/// Adds the row that a line is, and says whether the line is empty or a row.
+fn take<R: Row>(alloc: Global, rows: &mut Vec<R>, line: &[u8]) -> Result<bool, AllocError>
+    ensures fine { IfOk result (λ is_fine. is_fine ≡ not (is_wrong R.row_of line.now)) }
+    ensures rows { OnOk result (rows.new.items ≡ rows.old.items ++ cons_option (row_in R.row_of line.now) []) }
 {
-    text.iter().position(|byte| *byte == b'\n')
+    match read_row(alloc, line)? {
+        Some(row) => {
+            rows.push(row)?;
+            Ok(true)
+        }
+        None => Ok(line.is_empty()),
+    }
 }
 
 /// The first line of a text, and what follows its line feed, if it has one.
@@ -119,10 +65,30 @@ fn cut_line(text: &[u8]) -> (&[u8], Option<&[u8]>)
     ensures cut { lines text.now ≡ result.0.now ∷ lines_left result.1 }
     ensures shorter { left_len result.1 ≤ length text.now }
 {
-    match first_line_feed(text) {
+    match text.find_byte(b'\n') {
         Some(at) => (&text[..at], Some(&text[at + 1..])),
         None => (text, None),
     }
+}
+
+/// The rows of all lines.
+fn all_rows<R: Row>(alloc: Global, text: &[u8]) -> Result<Vec<R>, RowFault>
+    ensures ok { IfOk result (λ rows. rows.items ≡ filter_map (row_in R.row_of) (lines text.now)) }
+    ensures complete { OnOk result (wrong_line R.row_of text.now ≡ None) }
+    ensures line { (number : ℕ) → IsErrOf result (RowFault.Line number) → wrong_line R.row_of text.now ≡ Some number }
+{
+    let mut rows = Vec::new(alloc);
+    let mut number: u32 = 0;
+    let mut left = Some(text);
+    while let Some(text) = left {
+        let (line, rest) = cut_line(text);
+        number = number.saturating_add(1);
+        if !take(alloc, &mut rows, line)? {
+            return Err(RowFault::Line(number));
+        }
+        left = rest;
+    }
+    Ok(rows)
 }
 
 /// The rows of a table.
@@ -131,18 +97,8 @@ pub fn read_rows<R: Row>(alloc: Global, text: &[u8]) -> Result<Listed<R>, RowFau
     ensures complete { OnOk result (wrong_line R.row_of text.now ≡ None) }
     ensures line { (number : ℕ) → IsErrOf result (RowFault.Line number) → wrong_line R.row_of text.now ≡ Some number }
 {
-    let mut reading = Reading::new(alloc);
-    let mut number: u32 = 0;
-    let mut left = Some(text);
-    while let Some(text) = left {
-        let (line, rest) = cut_line(text);
-        number = number.saturating_add(1);
-        if !reading.take(alloc, line)? {
-            return Err(RowFault::Line(number));
-        }
-        left = rest;
-    }
-    Ok(Listed::from_vec(reading.into_rows()))
+    let rows = all_rows(alloc, text)?;
+    Ok(Listed::from_vec(first_rows(alloc, rows)?))
 }
 
 /// Writes a row after a text.

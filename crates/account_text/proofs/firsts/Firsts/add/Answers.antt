@@ -1,7 +1,7 @@
 use Rattle.std.proofs.Common.{ap, sym, ◌∙◌, map}
 use Rattle.switch_names.specs.Names.{has}
 use Rattle.account_text.proofs.LineLemmas.{names_more}
-use Rattle.account_text.proofs.table.Reading.add.Goals as goal
+use Rattle.account_text.proofs.firsts.Firsts.add.Goals as goal
 
 pub returns-in_ok-push-clause-names : goal.returns-in_ok-push-clause-names
 returns-in_ok-push-clause-names g c = λ name.
