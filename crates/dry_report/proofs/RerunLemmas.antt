@@ -105,7 +105,8 @@ module _ (command : Command) (on : (row_of command).changes ≡ true) (off : (ro
 
   set_reports : (w m : WorldState) → refusal command w.leaves ≡ None → IsMomentOf command w m → (text : List ℕ) → IsReport command m text ↔ IsReport command w text
   set_reports w m none moment text =
-      let same = (λ i. profile_report (same_system command m.leaves w.leaves i) (number_same w m none (underway_from w m moment) i)) in
+      let same : profile_report (new_system command m.leaves) (number_if sets (new_system command m.leaves) m.leaves) ≡ profile_report (new_system command w.leaves) (number_if sets (new_system command w.leaves) w.leaves) =
+      λ i. profile_report (same_system command m.leaves w.leaves i) (number_same w m none (underway_from w m moment) i) in
       subst (λ b. IsReportBy b (number_if sets (new_system command m.leaves) m.leaves) (new_system command m.leaves) m text
           ↔ IsReportBy b (number_if sets (new_system command w.leaves) w.leaves) (new_system command w.leaves) w text) (sym off)
       (λ is. is ∙ same, λ is. is ∙ sym same)
@@ -114,8 +115,8 @@ module _ (command : Command) (on : (row_of command).changes ≡ true) (off : (ro
 
 -- a command that changes something and brings no units into use doesn't switch them
 no_units : (changes switches : Bool) (system : Name) → changes ≡ true → if_so (changes && switches) system ≡ None → switches ≡ false
-no_units changes true system on none = absurd (none-some system (sym none ∙ ap (λ b. if_so (b && true) system) on))
-no_units changes false system on none = refl
+no_units changes true to on none = absurd (none-some to (sym none ∙ ap (λ b. if_so (b && true) to) on))
+no_units changes false to on none = refl
 
 pub keeps_same : (command : Command) (w m : WorldState) → m ≡ w → KeepsReport command w m
 keeps_same command w m same units text =
