@@ -108,7 +108,7 @@ module _ (command : Command) (on : (row_of command).changes ≡ true) (off : (ro
       let same : profile_report (new_system command m.leaves) (number_if sets (new_system command m.leaves) m.leaves) ≡ profile_report (new_system command w.leaves) (number_if sets (new_system command w.leaves) w.leaves) =
       λ i. profile_report (same_system command m.leaves w.leaves i) (number_same w m none (underway_from w m moment) i) in
       subst (λ b. IsReportBy b (number_if sets (new_system command m.leaves) m.leaves) (new_system command m.leaves) m text
-          ↔ IsReportBy b (number_if sets (new_system command w.leaves) w.leaves) (new_system command w.leaves) w text) (sym off)
+      ↔ IsReportBy b (number_if sets (new_system command w.leaves) w.leaves) (new_system command w.leaves) w text) (sym off)
       (λ is. is ∙ same, λ is. is ∙ sym same)
 
 -- ---- a moment, and a chain of them

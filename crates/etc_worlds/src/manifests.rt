@@ -1,5 +1,4 @@
 //! What a system wants below `/etc`, by the rules of the NixOS manual, `environment.etc`.
-use crate::misread;
 use crate::worlds::fill;
 use account_text::{Tables, read_group, read_passwd, read_shadow};
 use etc_manifest::{Item, ItemKind, Manifest, ManifestFault, Owners};
@@ -7,11 +6,11 @@ use host_memory::MemoryHost;
 use host_trait::{Leaf, LeafKind, World};
 use std::alloc::Global;
 use std::test::Fail;
-use switch_names::{Bytes, Listed, SystemName};
-use world_text::text_of;
+use switch_names::{Bytes, Listed, Path, SystemName};
+use world_text::{Lines, misread, text_of};
 
-/// Appends a file that is copied.
-fn push_file(out: &mut String, leaf: &Leaf) -> Result<(), Fail> {
+/// Shows a file that is copied: its mode, its owners and its text.
+fn show_copy(lines: &mut Lines, leaf: &Leaf) -> Result<(), Fail> {
     match leaf.kind() {
         LeafKind::File {
             bytes,
@@ -19,41 +18,49 @@ fn push_file(out: &mut String, leaf: &Leaf) -> Result<(), Fail> {
             uid,
             gid,
         } => {
-            let text = text_of(bytes)?;
-            Ok(write!(out, "copied {mode} {uid} {gid} {text:?}")?)
+            lines.add_word("copied");
+            lines.add_value(mode);
+            lines.add_value(uid);
+            lines.add_value(gid);
+            lines.add_value(&text_of(bytes)?);
+            Ok(())
         }
         LeafKind::Link { .. } => Err(Fail::new("a copy is a link")),
     }
 }
 
-/// Appends the place of an item, and what is wanted there.
-fn push_item(out: &mut String, item: &Item) -> Result<(), Fail> {
-    write!(out, "{} ", item.place.as_str())?;
+/// Shows the place of an item, and what is wanted there.
+fn show_item(lines: &mut Lines, item: &Item) -> Result<(), Fail> {
+    lines.add_word(item.place.as_str());
     match &item.kind {
-        ItemKind::Linked => out.push_str("linked")?,
-        ItemKind::Copied { leaf } => push_file(out, leaf)?,
-        ItemKind::Direct { target } => write!(out, "direct {}", target.as_str())?,
+        ItemKind::Linked => lines.add_word("linked"),
+        ItemKind::Copied { leaf } => show_copy(lines, leaf)?,
+        ItemKind::Direct { target } => {
+            lines.add_word("direct");
+            lines.add_word(target.as_str());
+        }
     }
-    Ok(out.push('\n')?)
-}
-
-/// Appends items, a line each.
-fn push_items(out: &mut String, items: &[Item]) -> Result<(), Fail> {
-    for item in items {
-        push_item(out, item)?;
-    }
+    lines.end_line();
     Ok(())
 }
 
-/// Appends why a system is refused.
-fn push_fault(out: &mut String, fault: &ManifestFault) -> Result<(), Fail> {
+/// Shows a refused entry, after the word that says why it is.
+fn show_refused(lines: &mut Lines, word: &str, place: &Path) {
+    lines.add_word(word);
+    lines.add_word(place.as_str());
+}
+
+/// Shows why a system is refused.
+fn show_fault(lines: &mut Lines, fault: &ManifestFault) {
     match fault {
-        ManifestFault::Reserved(place) => writeln!(out, "reserved {}", place.as_str())?,
-        ManifestFault::Entry(place) => writeln!(out, "entry {}", place.as_str())?,
-        ManifestFault::Owner(place) => writeln!(out, "owner {}", place.as_str())?,
-        ManifestFault::Host(fault) => writeln!(out, "host {fault:?}")?,
+        ManifestFault::Reserved(place) => show_refused(lines, "reserved", place),
+        ManifestFault::Entry(place) => show_refused(lines, "entry", place),
+        ManifestFault::Owner(place) => show_refused(lines, "owner", place),
+        ManifestFault::Host(fault) => {
+            lines.add_word("host");
+            lines.add_value(fault);
+        }
     }
-    Ok(())
 }
 
 /// The owners of a table of users and one of groups.
@@ -79,8 +86,8 @@ fn host_with(alloc: Global, fails: &str, places: &[Bytes]) -> Result<MemoryHost,
     Ok(host)
 }
 
-/// Appends what a system wants, with the users and groups of two tables.
-pub fn push_manifest(alloc: Global, out: &mut String, fields: &[Bytes]) -> Result<(), Fail> {
+/// Shows what a system wants, with the users and groups of two tables.
+pub fn show_manifest(alloc: Global, lines: &mut Lines, fields: &[Bytes]) -> Result<(), Fail> {
     let [fails, passwd, group, places @ ..] = fields else {
         return misread();
     };
@@ -88,7 +95,12 @@ pub fn push_manifest(alloc: Global, out: &mut String, fields: &[Bytes]) -> Resul
     let mut host = host_with(alloc, text_of(fails)?, places)?;
     let system = SystemName::parse(alloc, "nix/store/a-sys")?;
     match Manifest::read(alloc, &mut host, &system, &owners) {
-        Ok(manifest) => push_items(out, manifest.items().as_slice()),
-        Err(fault) => push_fault(out, &fault),
+        Ok(manifest) => {
+            for item in manifest.items().as_slice() {
+                show_item(lines, item)?;
+            }
+        }
+        Err(fault) => show_fault(lines, &fault),
     }
+    Ok(())
 }

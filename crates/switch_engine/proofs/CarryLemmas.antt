@@ -121,10 +121,13 @@ module _ (system : Name) (named : IsSystemPath system) (owed : Owed) (w m : Worl
         keeps = (
           record {
             ends = λ q own. refl;
-            free = λ way refusal. (link_free m.leaves (record {
-              link = definitions_clear (link_clear w.leaves way).link;
-              staged = (clear_first m.leaves (written false stage) (written false current_place ∷ written true reloads_place ∷ written true restarts_place ∷ written true starts_place ∷ []) still.way).0;
-            }), refl);
+            free = λ way refusal. (
+              link_free m.leaves (record {
+                link = definitions_clear (link_clear w.leaves way).link;
+                staged = (clear_first m.leaves (written false stage) (written false current_place ∷ written true reloads_place ∷ written true restarts_place ∷ written true starts_place ∷ []) still.way).0;
+              }),
+              refl,
+            );
           },
           record {
             free = λ before. free_law system owed w m system_is is_owed moment.units beside before;

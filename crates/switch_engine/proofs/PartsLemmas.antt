@@ -101,11 +101,13 @@ definitions_is system = record {
   frame = λ w m same. record {
     ends = λ q own. refl;
     free = λ way refusal.
-        let clear = link_clear w.leaves way in
-        (link_free m.leaves (record {
-          link = λ q line. same.leaves q (near_definitions q line) ∙ clear.link q line;
-          staged = λ q line. same.leaves q (near_stage q line) ∙ clear.staged q line;
-        }), refl);
+        let clear = link_clear w.leaves way in (
+          link_free m.leaves (record {
+            link = λ q line. same.leaves q (near_definitions q line) ∙ clear.link q line;
+            staged = λ q line. same.leaves q (near_stage q line) ∙ clear.staged q line;
+          }),
+          refl,
+        );
   };
   reads_own = λ q own. or_left (is_among (definitions_place ∷ []) q) (is_near definitions_places q) own;
   no_stage = definitions_no_stage;

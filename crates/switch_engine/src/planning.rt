@@ -84,10 +84,7 @@ fn plan_switch<H: Manager>(
 }
 
 /// Plans a set of the profile to a system, or nothing where it isn't set.
-fn plan_profile(
-    gens: Option<Gens>,
-    system: &SystemName,
-) -> Result<Option<ProfilePlan>, PlanFault>
+fn plan_profile(gens: Option<Gens>, system: &SystemName) -> Result<Option<ProfilePlan>, PlanFault>
     ensures plan { IfOk result (λ plan. (sets : Bool) (w : WorldState) → AreGensFor sets w.leaves gens → IsProfilePlanned sets system.now w plan) }
     ensures numbered { IfOk result (λ plan. (profile : ProfilePlan) → plan ≡ Some profile → number_for_in profile.gens.list system.now ≡ Some profile.number) }
     ensures not_refused { OnOk result ((sets : Bool) (w : WorldState) → AreGensFor sets w.leaves gens → (part_if sets (profile_part system.now)).refusal w.leaves ≡ None) }
