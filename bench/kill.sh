@@ -5,15 +5,16 @@
 #
 # Needs bash, awk, the coreutils, findutils, and strace with leave to trace.
 #
-# An uncut run is traced first, from three roots: a boot without a profile, a boot with three
-# generations whose profile is the second, and a switch of the units of the example root. Then each of
+# An uncut run is traced first, from four roots: a boot without a profile, a boot with three
+# generations whose profile is the second, a switch of the units of the example root that leaves the
+# profile as it is, and one that makes a generation too. Then each of
 # its calls that change a file or write to standard output is a place for the kill, twice: at its entry,
 # where the call has no effect, and after it. As strace kills at an entry only, the kill after a call is
 # at the entry of the one that follows. strace counts each kind of call by itself, so a place is named by
 # kind and number.
 #
 # A row passes where the run was killed at its place, the profile then named what it named before
-# or, for a boot, the new system, the next run ended with the uncut run's status, and each file and
+# or, where the command sets it, the new system, the next run ended with the uncut run's status, and each file and
 # folder but the stage is as the uncut run leaves it: of the journal, which units were stopped, and which
 # were reloaded, restarted or started under which definitions. A boot has to put the same output again;
 # a switch tells what is left to do. Each place is tried with one kill, and with a second one at the same
@@ -56,6 +57,13 @@ make_example() {
     goal=none
     rm -rf "$root"
     cp -r "$here/crates/nixswitch/data/example" "$root"
+}
+
+# The example root, and a switch that makes a generation and then switches its units.
+make_switch() {
+    make_example
+    words=(switch nix/store/web-24.11)
+    goal=/nix/store/web-24.11
 }
 
 # Runs the command of the root, by way of the words given.
@@ -217,5 +225,6 @@ echo "strace kills at a call's entry only: a kill after a call is at the entry o
 root_rows 'a boot without a profile' make_empty 0
 root_rows 'a boot with three generations, the profile at the second' make_three 0
 root_rows 'a switch of the units' make_example 4
+root_rows 'a switch with a generation' make_switch 4
 echo "$passed passed, $failed failed"
 [ $failed = 0 ]

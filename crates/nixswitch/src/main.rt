@@ -15,12 +15,13 @@ use switch_run::{Status, run};
 const HELP: &str = "\
 nixswitch makes a built NixOS system the one of a root folder.
 
-usage: nixswitch ROOT test|boot|dry-activate SYSTEM
+usage: nixswitch ROOT switch|test|boot|dry-activate SYSTEM
        nixswitch --help | --version
 
 ROOT is a folder with the file tree below ROOT/tree, one node file for each file or link.
 SYSTEM is a built system: nix/store/NAME, with or without a slash before it.
 
+switch SYSTEM        makes a generation for the system, points the profile to it, and switches the units to it
 test SYSTEM          switches the units to the system, and leaves the profile as it is
 boot SYSTEM          makes a generation for the system and points the profile to it, for the next boot
 dry-activate SYSTEM  says what a switch to the system would do to the units, and changes nothing
