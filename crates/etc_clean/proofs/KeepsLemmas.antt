@@ -19,9 +19,9 @@ use Rattle.etc_manifest.specs.Manifest.{entry}
 use Rattle.etc_manifest.specs.Place.{is_reserved}
 use Rattle.etc_clean.specs.Names.{place}
 use Rattle.etc_clean.specs.CleanList.{clean_leaf, clean_name, clean_names, clean_of, clean_text, names_in}
-use Rattle.etc_clean.specs.Etc.{at_entry, is_owned, leaf_of, static_name}
+use Rattle.etc_clean.specs.Etc.{Farm, at_entry, etc, is_owned, leaf_of, static_name}
 use Rattle.etc_clean.specs.Farm.{at, is_blocked, is_entry, is_foreign, is_gone, placed}
-use Rattle.etc_clean.specs.Keeps.{AlikeLaw, AreAlike, AreFree, EndLaw, FirstListLaw, Keeps, LastListLaw, PutLaw, RemovalLaw, StaticLaw, StepsLaw}
+use Rattle.etc_clean.specs.Keeps.{AlikeLaw, AreAlike, AreFree, EndLaw, FirstListLaw, Keeps, LastListLaw, PutLaw, RemovalLaw, StaticLaw, StepsLaw, WholeLaw}
 use Rattle.etc_clean.proofs.NameLemmas.{clean_reserved, not_reserved_other, other_place, static_reserved}
 use Rattle.etc_clean.proofs.FarmLemmas.{absent_not_foreign, blocked_kept, entry_is, entry_not_foreign, foreign_parts, foreign_relisted, foreign_same, not_placed, placed_kept, reserved_not_foreign, stays}
 
@@ -54,14 +54,27 @@ owned_free false true reserved s c is = absurd (both_ways true c refl)
 owned_free false false true s c is = absurd (both_ways false refl is)
 owned_free false false false s c is = refl
 
-pub end_law : EndLaw
-end_law farm w m keeps q owned =
+not_owned_by : (static clean reserved : Bool) → static ≡ false → clean ≡ false → reserved ≡ true → (static || (clean || not reserved)) ≡ false
+not_owned_by true clean reserved s c r = absurd (both_ways true s refl)
+not_owned_by false true reserved s c r = absurd (both_ways true c refl)
+not_owned_by false false true s c r = refl
+not_owned_by false false false s c r = absurd (both_ways false refl r)
+
+-- the end at a name, where what stands there is kept if it isn't the farm's
+end_at : (farm : Farm) (w m : Leaves) → Keeps farm.items w m → (q : Name) → (is_owned q ≡ false → at m q ≡ at w q) → etc farm m q ≡ etc farm w q
+end_at farm w m keeps q beside =
     cond_same (is_name q static_name) (Some (Link farm.target)) (Some (Link farm.target)) _ _ (λ static. refl) (λ s.
     cond_same (is_name q clean_name) (Some (clean_leaf (placed farm.items m))) (Some (clean_leaf (placed farm.items w))) _ _
     (λ clean. ap (λ names. Some (clean_leaf names)) (placed_kept farm.items w m keeps.foreign)) (λ c.
-    let free = owned_free (is_name q static_name) (is_name q clean_name) (is_reserved q) s c owned in
-    cond_same (is_reserved q) (at m q) (at w q) _ _ (λ reserved. absurd (both_ways _ free reserved)) (λ free.
-    entry_kept farm.items w m keeps q (entry farm.items q) free refl)))
+    cond_same (is_reserved q) (at m q) (at w q) _ _
+    (λ reserved. beside (not_owned_by (is_name q static_name) (is_name q clean_name) (is_reserved q) s c reserved))
+    (λ free. entry_kept farm.items w m keeps q (entry farm.items q) free refl)))
+
+pub end_law : EndLaw
+end_law farm w m keeps q owned = end_at farm w m keeps q (λ other. absurd (both_ways _ other owned))
+
+pub whole_law : WholeLaw
+whole_law farm w m keeps beside q = end_at farm w m keeps q (beside q)
 
 -- ---- one step after another
 

@@ -43,6 +43,10 @@ pub record IsLastList (items : List Item) (w : Leaves) (names : List Name) : Typ
 abbrev pub EndLaw : Type 0
 EndLaw = (farm : Farm) (w m : Leaves) → Keeps farm.items w m → SameEtc farm w m
 
+-- where the places that aren't the farm's stay as well, the whole of etc has the same end
+abbrev pub WholeLaw : Type 0
+WholeLaw = (farm : Farm) (w m : Leaves) → Keeps farm.items w m → ((q : Name) → is_owned q ≡ false → at m q ≡ at w q) → (q : Name) → etc farm m q ≡ etc farm w q
+
 -- what is kept from one tree to the next, and on to a third, is kept from the first to the third
 abbrev pub StepsLaw : Type 0
 StepsLaw = (items : List Item) (w v m : Leaves) → Keeps items w v → Keeps items v m → Keeps items w m

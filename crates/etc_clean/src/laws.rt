@@ -1,6 +1,6 @@
 //! What holds of clean lists and of farms.
 ghost use Rattle.etc_clean.specs.CleanList.{ReadBackLaw};
-ghost use Rattle.etc_clean.specs.Keeps.{AlikeLaw, EndLaw, FirstListLaw, LastListLaw, PutLaw, RemovalLaw, StaticLaw, StepsLaw};
+ghost use Rattle.etc_clean.specs.Keeps.{AlikeLaw, EndLaw, FirstListLaw, LastListLaw, PutLaw, RemovalLaw, StaticLaw, StepsLaw, WholeLaw};
 
 /// Names that a clean list can have are read as they were written.
 ///
@@ -15,6 +15,7 @@ pub fn clean_lists_are_read_as_written()
 /// What is kept from one tree to the next is kept from the first to the last.
 pub fn kept_farms_end_alike()
     ensures end { EndLaw }
+    ensures whole { WholeLaw }
     ensures steps { StepsLaw }
 {}
 
