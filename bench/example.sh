@@ -69,7 +69,7 @@ if [ -z "$program" ]; then
     echo "make build proves it, which takes some twenty minutes the first time; from then on make run shows that one."
     plan 1-boot root boot nix/store/a-sys
     plan 2-dry-activate example dry-activate nix/store/web-24.11
-    plan 3-test example test nix/store/web-24.11
+    plan 3-switch example switch nix/store/web-24.11
     if ! (cd crates/nixswitch && rt try --cases "$runs") >"$runs/stdout" 2>"$runs/stderr"; then
         cat "$runs/stderr" >&2
         exit 1
@@ -83,7 +83,8 @@ show 1-boot 0 root boot nix/store/a-sys
 show_files root/tree/nix/var/nix/profiles/system-1-link root/tree/nix/var/nix/profiles/system
 show 2-dry-activate 0 example dry-activate nix/store/web-24.11
 echo
-show 3-test 4 example test nix/store/web-24.11
-show_files example/tree/run/current-system example/manager
+show 3-switch 4 example switch nix/store/web-24.11
+show_files example/tree/nix/var/nix/profiles/system-1-link example/tree/nix/var/nix/profiles/system \
+    example/tree/run/current-system example/manager
 rm -rf "$runs"
 exit "$failed"
