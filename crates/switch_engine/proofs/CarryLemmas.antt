@@ -2,13 +2,10 @@
 use Rattle.std.proofs.Common.{◌≡◌, ◌≢◌, ◌↔◌, ◌&&◌, ◌||◌, Bool, IsSome, IsTrue, true, false, cond, Option, None, Some, List, ℕ, ◌∷◌, [], ◌++◌, refl, sym, ap, subst, ◌∙◌, inl, inr, rules, unwrap_or, ⊎_elim}
 use Rattle.std.proofs.lemmas.Bool.{both_ways, cases_Bool, or_right}
 use Rattle.std.proofs.lemmas.List.{append-nil}
-use Rattle.std.proofs.lemmas.Option.{none-some}
 use Rattle.std.specs.Cmp.Lexicographic.{nat_list_eq_equiv, same_text}
 use Rattle.std.specs.FinMap.{empty, get, gets}
-use Rattle.generations.specs.Gens.{number_for_in}
-use Rattle.generations.specs.Places.{IsCurrent, Names, generation_at, link_path, profile}
+use Rattle.generations.specs.Places.{Names, link_path, profile}
 use Rattle.generations.specs.ProfilePart.{profile_part}
-use Rattle.generations.specs.Set.{NamesOldOrNew}
 use Rattle.generations.proofs.NamesLaws.{moment_names}
 use Rattle.generations.proofs.ProfileLemmas.{end_manager, moment_only, profile_at_end, profile_moment}
 use Rattle.generations.proofs.ProfilePlaces.{can_of_free, number_of_free}
@@ -18,7 +15,7 @@ use Rattle.host_trait.specs.declared.manager_state.ManagerState.{ManagerState}
 use Rattle.host_trait.specs.declared.unit_state.State.{State}
 use Rattle.host_trait.specs.declared.unit_state.State.TheVariants.{Failed, Inactive}
 use Rattle.host_trait.specs.Change.{definitions_place}
-use Rattle.host_trait.specs.States.{UnitStates, state_of}
+use Rattle.host_trait.specs.States.{state_of}
 use Rattle.host_trait.specs.World.{IsClear, Leaves, WorldState, bytes_cmp, is_in_line, is_path, seen, stage}
 use Rattle.host_trait.proofs.Seen.{seen_at}
 use Rattle.host_trait.proofs.Sound.{not_in_line}
@@ -32,10 +29,10 @@ use Rattle.switch_engine.specs.declared.plan.Plan.{Plan}
 use Rattle.switch_engine.specs.declared.plan.ProfilePlan.{ProfilePlan}
 use Rattle.switch_engine.specs.Carried.{CanSetBy, CanSwitch, IsSwitchMomentIf, IsSwitchedIf, sets_by}
 use Rattle.switch_engine.specs.Commands.{brought_to, if_so, new_system, row_of, set_to}
-use Rattle.switch_engine.specs.Final.{AreEntries, AreFinalUnits, HasFailed, IsEndOf, IsLeftFailed, LeavesFailed, LeavesFailedAt}
+use Rattle.switch_engine.specs.Final.{AreEntries, AreFinalUnits, HasFailed, IsEndOf, LeavesFailedAt}
 use Rattle.switch_engine.specs.Moments.{IsMomentOf, IsSetStep, IsStepIf, IsStepTo, IsSwitchMoment, IsSwitchStep, NamesOneOf, set_world}
 use Rattle.switch_engine.specs.Plan.{AreUnitsPlanned, IsPlanOf, IsProfilePlanned}
-use Rattle.switch_engine.specs.Rows.{part_if, part_of, parts, switch_part}
+use Rattle.switch_engine.specs.Rows.{part_if, part_of, switch_part}
 use Rattle.switch_engine.proofs.DefinedLemmas.{left_failed}
 use Rattle.switch_engine.proofs.PartsLemmas.{are_parted, link_clear, link_free, parts_are, profile_if_is, switch_if_is}
 use Rattle.switch_engine.proofs.PlaceLemmas.{definitions_not_read, near_not_own, stage_definitions}
@@ -44,17 +41,17 @@ use Rattle.switch_engine.proofs.WayLemmas.{switch_places_free}
 use Rattle.switch_names.specs.Names.{Name}
 use Rattle.switch_names.specs.SystemName.{IsSystemPath}
 use Rattle.switch_names.proofs.StorePaths.{NamesSystem-with_slash}
-use Rattle.switch_engine.specs.Places.{definitions_part, definitions_places}
-use Rattle.switch_parts.specs.Part.{IsFree, IsMomentOf as IsPartMoment, IsSameFor, Part, both, final_leaf}
-use Rattle.switch_parts.proofs.Parts.{first_free, first_moment, is_final, moment_then, only_beside, second_free, second_moment}
+use Rattle.switch_engine.specs.Places.{definitions_part}
+use Rattle.switch_parts.specs.Part.{IsFree, IsMomentOf as IsPartMoment, Part, both, final_leaf}
+use Rattle.switch_parts.proofs.Parts.{first_free, first_moment, is_final, moment_then, second_free, second_moment}
 use Rattle.tree_put.proofs.WayLemmas.{clear_first}
-use Rattle.tree_put.specs.WrittenPlace.{in_the_way, written}
+use Rattle.tree_put.specs.WrittenPlace.{written}
 use Rattle.unit_defs.specs.declared.unit.Unit.{Unit}
 use Rattle.unit_stage.specs.declared.unit_plan.UnitPlan.{UnitPlan}
-use Rattle.unit_stage.specs.End.{IsBrought, entries_of, state_after}
+use Rattle.unit_stage.specs.End.{IsBrought, entries_of}
 use Rattle.unit_stage.specs.Laws.{AreSameBeside}
-use Rattle.unit_stage.specs.Owned.{owns_units, reads_units, unit_places}
-use Rattle.unit_stage.specs.Plan.{IsOwedBy, IsUnitPlanOf, owed_of}
+use Rattle.unit_stage.specs.Owned.{owns_units, reads_units}
+use Rattle.unit_stage.specs.Plan.{IsOwedBy, owed_of}
 use Rattle.unit_stage.specs.System.{IsSystem, current_place, definitions_of}
 use Rattle.unit_stage.specs.Units.{units_part}
 use Rattle.unit_stage.proofs.EndLemmas.{one_end}

@@ -1,14 +1,12 @@
 -- What a command does is a part of a switch, whichever of its parts it has.
-use Rattle.std.proofs.Common.{◌≡◌, ◌≢◌, Bool, true, false, cond, ◌&&◌, ◌||◌, ◌++◌, ◌∷◌, List, [], codes, Option, None, Some, refl, sym, ap, subst, ◌∙◌, inl, inr}
+use Rattle.std.proofs.Common.{◌≡◌, Bool, true, false, ◌||◌, ◌++◌, ◌∷◌, [], codes, None, refl, sym, ap, ◌∙◌, inl, inr}
 use Rattle.std.proofs.lemmas.Bool.{both_ways, cases_Bool, or_left}
-use Rattle.std.specs.Cmp.Lexicographic.{same_text}
-use Rattle.std.specs.FinMap.{get}
 use Rattle.generations.specs.Places.{profiles}
 use Rattle.generations.specs.ProfilePart.{owns_profile, profile_part, reads_profile}
-use Rattle.generations.proofs.ProfileApart.{owned_fails}
+use Rattle.generations.proofs.ProfileApart.{both_false, owned_fails}
 use Rattle.generations.proofs.ProfileLemmas.{profile_is}
 use Rattle.host_trait.specs.Change.{definitions_place}
-use Rattle.host_trait.specs.World.{IsClear, Leaves, WorldState, is_in_line, is_path, stage}
+use Rattle.host_trait.specs.World.{IsClear, Leaves, is_in_line, stage}
 use Rattle.owed_lists.specs.Lists.{reloads_place, restarts_place, starts_place}
 use Rattle.owed_plan.specs.Store.{IsInStore}
 use Rattle.switch_engine.specs.Places.{definitions_part, definitions_places}
@@ -17,10 +15,9 @@ use Rattle.switch_engine.proofs.StoreApart.{store_not_owned}
 use Rattle.switch_names.specs.Names.{Name}
 use Rattle.switch_names.specs.Path.{is_below}
 use Rattle.switch_parts.specs.Leaves.{is_among, is_near}
-use Rattle.switch_parts.specs.Part.{AreParted, IsPart, IsSameFor, Part, both, no_part}
-use Rattle.switch_parts.proofs.LeafLemmas.{BeginApart, each_among, none_near, not_below, not_line}
-use Rattle.switch_parts.proofs.Parts.{both_part}
-use Rattle.tree_put.specs.declared.written_place.WrittenPlace.{WrittenPlace}
+use Rattle.switch_parts.specs.Part.{AreParted, IsPart, no_part}
+use Rattle.switch_parts.proofs.LeafLemmas.{each_among, none_near, not_below}
+use Rattle.switch_parts.proofs.Parts.{both_part, or_from_left, or_from_right}
 use Rattle.tree_put.specs.WrittenPlace.{in_the_way, written}
 use Rattle.tree_put.proofs.BlockedLemmas.{free_of_clear}
 use Rattle.tree_put.proofs.WayLemmas.{clear_first}
@@ -28,11 +25,8 @@ use Rattle.switch_engine.proofs.PlaceLemmas.{free_more}
 use Rattle.unit_stage.specs.Owned.{owned_places, owns_units, reads_units, unit_places}
 use Rattle.unit_stage.specs.System.{IsSystem, current_place}
 use Rattle.unit_stage.specs.Units.{units_part}
-use Rattle.unit_stage.proofs.OwnedLemmas.{not_owns_store, owned_not_stage}
+use Rattle.unit_stage.proofs.OwnedLemmas.{not_owns_store}
 use Rattle.unit_stage.proofs.UnitsPartLemmas.{units_part_law}
-
-both_false : (a b : Bool) → a ≡ false → b ≡ false → a || b ≡ false
-both_false a b first second = cc
 
 -- ---- a part that does nothing
 
@@ -59,21 +53,15 @@ definitions_no_stage = refl
 -- what lies above or below the link or the stage is looked at
 near_definitions : (q : Name) → is_in_line q definitions_place ≡ true → reads_definitions q ≡ true
 unfolding definitions_places
-near_definitions q line = ap (λ b. is_among (definitions_place ∷ []) q || (b || (is_in_line q stage || false))) line ∙ or_true (is_among (definitions_place ∷ []) q)
-  where
-    or_true : (b : Bool) → b || true ≡ true
-    or_true true = refl
-    or_true false = refl
+near_definitions q line =
+    or_from_right (is_among (definitions_place ∷ []) q) (is_in_line q definitions_place || (is_in_line q stage || false))
+    (or_from_left (is_in_line q definitions_place) (is_in_line q stage || false) line)
 
 near_stage : (q : Name) → is_in_line q stage ≡ true → reads_definitions q ≡ true
 unfolding definitions_places
 near_stage q line =
-    ap (λ b. is_among (definitions_place ∷ []) q || (is_in_line q definitions_place || (b || false))) line ∙ or_true (is_among (definitions_place ∷ []) q) (is_in_line q definitions_place)
-  where
-    or_true : (a b : Bool) → a || (b || true) ≡ true
-    or_true true b = refl
-    or_true false true = refl
-    or_true false false = refl
+    or_from_right (is_among (definitions_place ∷ []) q) (is_in_line q definitions_place || (is_in_line q stage || false))
+    (or_from_right (is_in_line q definitions_place) (is_in_line q stage || false) (or_from_left (is_in_line q stage) false line))
 
 -- both are clear
 pub record AreLinkClear (leaves : Leaves) : Type 0 where
@@ -165,14 +153,11 @@ units_apart rest =
 profile_unread : (q : Name) → owns_profile q ≡ true → reads_definitions q || reads_units q ≡ false
 profile_unread q own = owned_fails (λ x. reads_definitions x || reads_units x) (λ rest. both_false _ _ (definitions_apart rest) (units_apart rest)) q own
 
-parted : (switches sets : Bool) (system : Name) → AreParted (part_if switches (switch_part system)) (part_if sets (profile_part system))
-parted true true system = record { first = switch_unread; second = profile_unread; manager = refl }
-parted true false system = record { first = λ q own. refl; second = λ q own. absurd (both_ways false refl own); manager = refl }
-parted false true system = record { first = λ q own. absurd (both_ways false refl own); second = λ q own. refl; manager = refl }
-parted false false system = record { first = λ q own. refl; second = λ q own. refl; manager = refl }
-
 pub are_parted : (switches sets : Bool) (system : Name) → AreParted (part_if switches (switch_part system)) (part_if sets (profile_part system))
-are_parted = parted
+are_parted true true system = record { first = switch_unread; second = profile_unread; manager = refl }
+are_parted true false system = record { first = λ q own. refl; second = λ q own. absurd (both_ways false refl own); manager = refl }
+are_parted false true system = record { first = λ q own. absurd (both_ways false refl own); second = λ q own. refl; manager = refl }
+are_parted false false system = record { first = λ q own. refl; second = λ q own. refl; manager = refl }
 
 pub switch_if_is : (switches : Bool) (system : Name) → IsSystem system → IsPart (part_if switches (switch_part system))
 switch_if_is true system is_system = switch_is system is_system

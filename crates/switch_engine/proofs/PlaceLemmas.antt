@@ -1,17 +1,13 @@
 -- Where nothing is in the way of the places that a switch of the units writes, each is clear, and its parts are free.
-use Rattle.std.proofs.Common.{◌≡◌, ◌≢◌, Bool, true, false, cond, ◌||◌, List, [], ◌∷◌, ◌++◌, append_assoc, Option, None, Some, option_map, refl, sym, ap, subst, ◌∙◌, inl, inr}
-use Rattle.std.proofs.lemmas.Bool.{both_ways, cases_Bool}
-use Rattle.std.proofs.lemmas.Option.{none-some}
-use Rattle.std.specs.FinMap.{get}
+use Rattle.std.proofs.Common.{◌≡◌, ◌≢◌, true, false, cond, List, [], ◌∷◌, ◌++◌, append_assoc, None, Some, option_map, refl, ap, subst, ◌∙◌}
 use Rattle.std.specs.List.{find}
 use Rattle.host_trait.specs.Change.{definitions_place}
 use Rattle.host_trait.specs.World.{IsClear, Leaves, is_in_line, is_path, stage}
 use Rattle.owed_lists.specs.Lists.{reloads_place, restarts_place, starts_place}
 use Rattle.switch_names.specs.Names.{Name}
 use Rattle.tree_put.specs.declared.written_place.WrittenPlace.{WrittenPlace}
-use Rattle.tree_put.specs.Put.{AreApart, is_blocked}
+use Rattle.tree_put.specs.Put.{AreApart}
 use Rattle.tree_put.specs.WrittenPlace.{in_the_way, is_in_the_way, written}
-use Rattle.tree_put.proofs.BlockedLemmas.{clear_of_free, free_of_clear}
 use Rattle.tree_put.proofs.PutLemmas.{apart_ne}
 use Rattle.tree_put.proofs.WayLemmas.{clear_first}
 use Rattle.unit_stage.specs.Owned.{owns_units, reads_units, unit_places}

@@ -1,5 +1,5 @@
 -- No command writes in the store: Nix manual, "Store".
-use Rattle.std.proofs.Common.{◌≡◌, ◌≢◌, Bool, true, false, ◌++◌, List, ℕ, codes, refl, sym, subst, inl, inr}
+use Rattle.std.proofs.Common.{◌≡◌, ◌≢◌, true, false, ◌++◌, codes, refl, subst, inl, inr}
 use Rattle.std.proofs.lemmas.Bool.{both_ways, cases_Bool}
 use Rattle.generations.specs.ProfilePart.{owns_profile}
 use Rattle.generations.proofs.ProfileApart.{owned_fails}

@@ -1,5 +1,5 @@
 -- All steps of a switch of the units, one after the other.
-use Rattle.std.proofs.Common.{◌≡◌, ◌≢◌, ◌⊎◌, Bool, true, false, cond, ◌||◌, List, ℕ, length, [], ◌∷◌, ◌++◌, None, Some, refl, sym, ap, subst, ◌∙◌, inl, inr, ⊎_elim}
+use Rattle.std.proofs.Common.{◌≡◌, ◌≢◌, true, false, cond, ◌||◌, List, length, [], ◌∷◌, ◌++◌, None, Some, refl, sym, ap, subst, ◌∙◌, inl, inr, ⊎_elim}
 use Rattle.std.proofs.lemmas.Bool.{both_ways, cases_Bool}
 use Rattle.std.specs.Cmp.Lexicographic.{same_text}
 use Rattle.std.specs.FinMap.{get}
@@ -8,13 +8,11 @@ use Rattle.host_trait.specs.declared.leaf.LeafKind.TheVariants.{Link}
 use Rattle.host_trait.specs.declared.manager_state.ManagerState.{ManagerState}
 use Rattle.host_trait.specs.declared.unit_state.State.{State}
 use Rattle.host_trait.specs.Change.{definitions_place}
-use Rattle.host_trait.specs.Host.{HostState, Told, Comes, Leads, Passes}
 use Rattle.host_trait.specs.Manager.{loading}
 use Rattle.host_trait.specs.States.{state_of}
-use Rattle.host_trait.specs.World.{IsClear, Leaves, WorldState, is_in_line, is_path, seen, stage, with_leaf}
-use Rattle.host_trait.proofs.Moments.{goes_on, leads_then, passes_as, told_after, told_as}
+use Rattle.host_trait.specs.World.{IsClear, WorldState, is_in_line, is_path, seen, stage, with_leaf}
 use Rattle.host_trait.proofs.Places.{at_same}
-use Rattle.host_trait.proofs.Seen.{clear_seen, other_of, seen_at, seen_with_leaf, stage_clear_seen}
+use Rattle.host_trait.proofs.Seen.{clear_seen, other_of, seen_at, stage_clear_seen}
 use Rattle.host_trait.proofs.Sound.{clear_insert, clear_remove, get_other}
 use Rattle.owed_lists.specs.declared.lists.Lists.{Lists}
 use Rattle.owed_lists.specs.declared.lists.Which.TheVariants.{Restarts, Reloads}
@@ -26,24 +24,22 @@ use Rattle.owed_plan.specs.Calls.{reload_calls, restart_calls, start_calls, stop
 use Rattle.owed_plan.specs.Law.{lists_of}
 use Rattle.switch_engine.specs.Moments.{IsSwitchMoment, IsSwitched}
 use Rattle.switch_engine.specs.Rows.{switch_part}
-use Rattle.switch_engine.proofs.PlaceLemmas.{AreClear, all_clear, definitions_apart, definitions_itself, definitions_not_own, definitions_not_stage, stage_definitions}
+use Rattle.switch_engine.proofs.PlaceLemmas.{AreClear, definitions_itself, definitions_not_own, definitions_not_stage, stage_definitions}
 use Rattle.switch_names.specs.Names.{Name}
-use Rattle.switch_parts.specs.Part.{IsOnly, Part, final_leaf}
+use Rattle.switch_parts.specs.Part.{Part}
 use Rattle.switch_parts.proofs.Parts.{left_false, right_false}
 use Rattle.tree_put.specs.Put.{CanPut, IsOldOrNew}
-use Rattle.tree_put.specs.WrittenPlace.{in_the_way}
-use Rattle.tree_put.proofs.PutLemmas.{apart_ne}
 use Rattle.unit_stage.specs.Acts.{CanPerform, IsPerforming, performed, with_calls}
 use Rattle.unit_stage.specs.Owned.{owns_units}
-use Rattle.unit_stage.specs.Steps.{AreCallsOf, AreSameUnits, CanBring, IsBringMoment, IsBringStep, IsGiveMoment, IsStopMoment, IsStopStep, IsUnitMoment, with_brought, with_current, with_given, with_loaded, with_stops}
+use Rattle.unit_stage.specs.Steps.{AreSameUnits, CanBring, IsBringMoment, IsBringStep, IsGiveMoment, IsStopMoment, IsStopStep, IsUnitMoment, with_brought, with_given, with_loaded, with_stops}
 use Rattle.unit_stage.specs.System.{current_place, definitions_of, system_leaf}
-use Rattle.unit_stage.proofs.CallLemmas.{entered, same_bad, same_loaded}
-use Rattle.unit_stage.proofs.ElsewhereLemmas.{bring_elsewhere, lists_elsewhere, other_place, stop_elsewhere}
+use Rattle.unit_stage.proofs.CallLemmas.{same_bad, same_loaded}
+use Rattle.unit_stage.proofs.ElsewhereLemmas.{bring_elsewhere, lists_elsewhere, stop_elsewhere}
 use Rattle.unit_stage.proofs.OwnedLemmas.{owned_not_stage}
 use Rattle.unit_stage.proofs.SameLemmas.{same_bringing, units_seen, units_then}
 use Rattle.unit_stage.proofs.StandLemmas.{Stand, all_manager, current_stands, seen_stands, stands, without_reloads, without_restarts, without_starts}
 use Rattle.unit_stage.proofs.StepLemmas.{all_taken, manager_seen}
-use Rattle.unit_stage.proofs.TableLemmas.{all_entered, can_rest, can_stops, final_states, in_one, ready, started_all}
+use Rattle.unit_stage.proofs.TableLemmas.{all_entered, can_rest, final_states, in_one, ready, started_all}
 
 -- ---- what is clear stays so while the lists are recorded, and the units are stopped
 

@@ -1,11 +1,9 @@
 -- Where the work of a command's parts has come to a moment, the command is underway.
-use Rattle.std.proofs.Common.{◌≡◌, ◌≢◌, ◌⊎◌, ◌↔◌, ◌&&◌, Bool, true, false, cond, ◌||◌, ◌++◌, ◌∷◌, List, [], codes, append_assoc, Option, None, Some, is_none, option_map, refl, sym, ap, subst, ◌∙◌, inl, inr}
-use Rattle.std.proofs.lemmas.Bool.{both_ways, cases_Bool}
+use Rattle.std.proofs.Common.{◌≡◌, ◌≢◌, ◌⊎◌, ◌↔◌, ◌&&◌, Bool, true, false, cond, ◌++◌, List, [], codes, append_assoc, Option, None, Some, is_none, option_map, refl, sym, ap, subst, ◌∙◌}
 use Rattle.std.proofs.lemmas.List.{append-nil}
 use Rattle.std.proofs.lemmas.Option.{none-some}
 use Rattle.std.specs.FinMap.{get}
 use Rattle.std.specs.List.{AllByRecursion}
-use Rattle.std.specs.Option.{option_or}
 use Rattle.host_trait.specs.declared.entry.Act.{Act}
 use Rattle.host_trait.specs.declared.entry.Entry.{Entry}
 use Rattle.host_trait.specs.declared.manager_state.ManagerState.{ManagerState}
@@ -15,9 +13,9 @@ use Rattle.owed_plan.specs.Store.{AreSameInStore, IsInStore}
 use Rattle.owed_plan.proofs.StoreLemmas.{content_same}
 use Rattle.switch_engine.specs.declared.command.Command.{Command}
 use Rattle.switch_engine.specs.Commands.{brought_to, if_so, new_system, row_of, switched_to}
-use Rattle.switch_engine.specs.Final.{AreFinalUnits, IsFinalOf}
+use Rattle.switch_engine.specs.Final.{AreFinalUnits}
 use Rattle.switch_engine.specs.Owing.{IsPaidBy, IsSteadyFor, IsSteadyTo, IsUnderway, OwesActTo}
-use Rattle.switch_engine.specs.Rows.{final, part_of, parts, parts_refusal, places, refusal, refusal_by, switch_part}
+use Rattle.switch_engine.specs.Rows.{final, part_of, parts, places, refusal, refusal_by, switch_part}
 use Rattle.switch_engine.specs.System.{version_path}
 use Rattle.switch_engine.proofs.PartsLemmas.{not_in_store, parts_are}
 use Rattle.switch_engine.proofs.StoreApart.{store_not_stage}
@@ -35,8 +33,7 @@ use Rattle.switch_engine.specs.Places.{definitions_part}
 use Rattle.generations.specs.ProfilePart.{profile_part}
 use Rattle.switch_engine.specs.Rows.{part_if}
 use Rattle.tree_put.specs.WrittenPlace.{in_the_way}
-use Rattle.unit_stage.specs.System.{IsSystem}
-use Rattle.unit_stage.specs.Units.{AreUnitsFree, AreUnitsUnderway, units_part}
+use Rattle.unit_stage.specs.Units.{AreUnitsUnderway, units_part}
 use Rattle.unit_stage.proofs.SystemsLemmas.{is_system}
 
 -- ---- why a command isn't refused
@@ -129,11 +126,6 @@ since_none w m same = record {
   no_more_owed = λ unit owed. absurd owed.1;
   steady = tt;
 }
-
--- nothing but the units' part calls the manager
-no_call : (sets : Bool) → (parts false sets []).calls ≡ false
-no_call true = refl
-no_call false = refl
 
 since_by : (switches sets : Bool) (system : Name) (w m : WorldState) → IsFree (parts switches sets system) w.leaves → IsMomentOf (parts switches sets system) w m → IsSteadyTo (if_so switches system) w →
     IsSince (if_so switches system) w m

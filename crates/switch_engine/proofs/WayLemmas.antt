@@ -1,16 +1,13 @@
 -- Nothing is in the way of the places that a command writes where nothing is in the way of those of its parts.
-use Rattle.std.proofs.Common.{◌≡◌, Bool, true, false, List, [], ◌∷◌, ◌++◌, None, option_map, refl, sym, ap, subst, ◌∙◌}
-use Rattle.std.specs.List.{AllByRecursion}
+use Rattle.std.proofs.Common.{◌≡◌, Bool, true, false, List, [], ◌∷◌, ◌++◌, None, option_map, refl, sym, ap, subst}
 use Rattle.generations.specs.ProfilePart.{new_link, profile_places}
 use Rattle.host_trait.specs.Change.{definitions_place}
-use Rattle.host_trait.specs.World.{Leaves, is_in_line, stage}
+use Rattle.host_trait.specs.World.{Leaves, stage}
 use Rattle.owed_lists.specs.Lists.{reloads_place, restarts_place, starts_place}
 use Rattle.generations.specs.Places.{profile}
-use Rattle.generations.proofs.PlacesLemmas.{apart_joined}
 use Rattle.switch_engine.specs.Places.{definitions_places, etc_places, list_places, run_places, switch_places}
 use Rattle.switch_engine.specs.Rows.{middle_places, parts, places, switch_part}
 use Rattle.switch_names.specs.Names.{Name}
-use Rattle.switch_parts.specs.Part.{IsFree}
 use Rattle.switch_parts.proofs.Parts.{find_none, find_none_both, none_mapped}
 use Rattle.tree_put.specs.declared.written_place.WrittenPlace.{WrittenPlace}
 use Rattle.tree_put.specs.WrittenPlace.{AreApartFromStage, in_the_way, is_in_the_way, written}
@@ -70,10 +67,10 @@ switch_parts_way system leaves etc staged run =
     (subst (λ ps. in_the_way ps leaves ≡ None) (sym definitions_are) (way_joined etc_places stage_places leaves etc staged))
     (subst (λ ps. in_the_way ps leaves ≡ None) (sym units_are) (way_joined stage_places run_places leaves staged run))
 
-pub record IsWayFree (leaves : Leaves) : Type 0 where
-  pub etc : in_the_way etc_places leaves ≡ None
-  pub staged : in_the_way stage_places leaves ≡ None
-  pub run : in_the_way run_places leaves ≡ None
+record IsWayFree (leaves : Leaves) : Type 0 where
+  etc : in_the_way etc_places leaves ≡ None
+  staged : in_the_way stage_places leaves ≡ None
+  run : in_the_way run_places leaves ≡ None
 
 way_of_switch : (system : Name) (leaves : Leaves) → in_the_way ((switch_part system).places leaves) leaves ≡ None → IsWayFree leaves
 way_of_switch system leaves free =

@@ -6,7 +6,7 @@ use Rattle.host_trait.specs.declared.unit_state.State.{State}
 use Rattle.host_trait.specs.declared.unit_state.State.TheVariants.{Failed}
 use Rattle.host_trait.specs.declared.unit_state.UnitState.{UnitState}
 use Rattle.host_trait.specs.States.{UnitStates, state_of}
-use Rattle.host_trait.specs.World.{Leaves, WorldState, stage}
+use Rattle.host_trait.specs.World.{WorldState, stage}
 use Rattle.owed_plan.specs.declared.owed.Owed.{Owed}
 use Rattle.switch_engine.specs.declared.command.Command.{Command}
 use Rattle.switch_engine.specs.Commands.{brought_to}

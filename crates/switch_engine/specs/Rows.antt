@@ -1,5 +1,5 @@
 -- What a command leaves, and why it is refused, by its row: NixOS manual, "Changing the configuration".
-use Rattle.std.specs.Prelude.{◌∷◌, ◌++◌, Bool, true, false, List, [], Option, None, Some, is_none, option_map, if◌then◌else◌}
+use Rattle.std.specs.Prelude.{◌∷◌, ◌++◌, Bool, true, false, List, [], Option, Some, is_none, option_map, if◌then◌else◌}
 use Rattle.std.specs.FinMap.{get}
 use Rattle.std.specs.Option.{option_or}
 use Rattle.generations.specs.ProfilePart.{profile_part, profile_places}

@@ -1,6 +1,5 @@
 use Rattle.std.proofs.Common.{◌≡◌, ◌↔◌, IfOk, IsTrue, Option, OnOk, Some, sym, ap, subst, ◌∙◌}
 use Rattle.std.specs.FinMap.{empty}
-use Rattle.std.specs.Option.{option_copied}
 use Rattle.std.proofs.lemmas.Result.{on_ok_weaker}
 use Rattle.generations.specs.Gens.{number_for_in}
 use Rattle.host_trait.specs.Host.{Leads, Passes, Told}

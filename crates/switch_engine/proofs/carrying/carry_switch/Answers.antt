@@ -1,14 +1,11 @@
-use Rattle.std.proofs.Common.{List, refl, sym, subst, inl, ◌≡◌, ◌↔◌, IsTrue, ap, ◌∙◌}
+use Rattle.std.proofs.Common.{List, sym, subst, ◌≡◌, ◌↔◌, IsTrue, ap, ◌∙◌}
 use Rattle.std.proofs.lemmas.Result.{err_from_is_err_and}
 use Rattle.host_trait.specs.World.{WorldState}
 use Rattle.host_trait.proofs.Causes.{cause_on}
-use Rattle.host_trait.proofs.Moments.{goes_on_same, leads_then, started, told_after}
+use Rattle.host_trait.proofs.Moments.{goes_on_same, leads_then, told_after}
 use Rattle.switch_engine.specs.Final.{HasFailed}
 use Rattle.switch_engine.specs.Moments.{IsSwitchMoment, IsSwitched}
-use Rattle.switch_engine.proofs.DefinedLemmas.{left_failed}
-use Rattle.switch_engine.proofs.SwitchLemmas.{moment_self}
 use Rattle.unit_defs.specs.declared.unit.Unit.{Unit}
-use Rattle.unit_defs.specs.Defs.{AreDefsOf}
 use Rattle.unit_stage.proofs.CauseLemmas.{cause_end, handed}
 use Rattle.unit_stage.specs.Plan.{owed_of}
 use Rattle.switch_engine.proofs.carrying.carry_switch.Goals as goal

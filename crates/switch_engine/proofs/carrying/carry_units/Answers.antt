@@ -1,4 +1,4 @@
-use Rattle.std.proofs.Common.{◌≡◌, Bool, OnOk, false, refl, sym, subst, ◌∙◌}
+use Rattle.std.proofs.Common.{OnOk, false, refl, sym, subst}
 use Rattle.host_trait.specs.Host.{Leads, Passes}
 use Rattle.host_trait.proofs.Moments.{started}
 use Rattle.switch_engine.specs.Carried.{IsSwitchMomentIf, IsSwitchedIf}

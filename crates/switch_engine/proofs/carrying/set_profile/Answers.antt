@@ -1,4 +1,4 @@
-use Rattle.std.proofs.Common.{◌≡◌, None, Option, OnOk, Some, refl, sym, ap, subst}
+use Rattle.std.proofs.Common.{◌≡◌, None, Option, OnOk, refl, sym, ap, subst}
 use Rattle.std.specs.Option.{option_copied}
 use Rattle.generations.specs.Gens.{IsGensOf}
 use Rattle.generations.specs.Set.{CanSet}

@@ -1,4 +1,4 @@
-use Rattle.std.proofs.Common.{[], ◌++◌, ◌∙◌, ap, subst, sym}
+use Rattle.std.proofs.Common.{◌++◌, ◌∙◌, ap, subst, sym}
 use Rattle.generations.proofs.PlacesLemmas.{apart_joined}
 use Rattle.tree_put.specs.WrittenPlace.{AreApartFromStage}
 use Rattle.switch_engine.specs.Places.{etc_places, list_places}

@@ -1,9 +1,6 @@
-use Rattle.std.proofs.Common.{◌≡◌, ◌↔◌, Err, IsTrue, None, Option, Some, sym, ap, subst, ◌∙◌}
+use Rattle.std.proofs.Common.{◌≡◌, ◌↔◌, Err, IsTrue, None, Some, sym, ap, subst, ◌∙◌}
 use Rattle.std.proofs.lemmas.Result.{err_from_is_err_and}
-use Rattle.generations.specs.declared.gens.Gens.{Gens}
 use Rattle.host_trait.specs.declared.tree.HostFault.TheVariants.{Device}
-use Rattle.host_trait.specs.Host.{Told}
-use Rattle.host_trait.specs.World.{WorldState}
 use Rattle.host_trait.proofs.Moments.{told_as, told_before}
 use Rattle.host_trait.proofs.Readings.{nothing_read_of, read_of, reads_of, reads_then, told_read}
 use Rattle.switch_engine.specs.Commands.{new_system, row_of}

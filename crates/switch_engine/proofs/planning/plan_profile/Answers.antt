@@ -1,5 +1,4 @@
-use Rattle.std.proofs.Common.{◌≡◌, Option, None, Some, refl, sym, subst, ◌∙◌}
-use Rattle.generations.specs.declared.gens.Gens.{Gens}
+use Rattle.std.proofs.Common.{sym, subst, ◌∙◌}
 use Rattle.switch_engine.specs.Plan.{AreGensFor}
 use Rattle.switch_engine.proofs.PlanLemmas.{profile_free, profile_full, profile_planned, same_plan_fault}
 use Rattle.switch_parts.specs.declared.plan_fault.PlanFault.TheVariants.{Refused}
