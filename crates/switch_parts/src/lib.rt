@@ -6,4 +6,4 @@ mod plan_fault;
 mod refusal;
 
 pub use plan_fault::PlanFault;
-pub use refusal::Refusal;
+pub use refusal::{MapFile, Refusal, TableFile};

@@ -1,6 +1,27 @@
 //! Why a command is refused.
-use switch_names::{Path, UnitName};
+use switch_names::{Path, Text, UnitName};
 use thiserror::Error;
+use users_spec::SpecFault;
+
+/// A table of accounts.
+#[derive(Clone, Copy, Debug, PartialEq, Eq)]
+pub enum TableFile {
+    /// The groups, at `etc/group`.
+    Group,
+    /// The users, at `etc/passwd`.
+    Passwd,
+    /// The passwords of the users, at `etc/shadow`.
+    Shadow,
+}
+
+/// A map of the ids that accounts had.
+#[derive(Clone, Copy, Debug, PartialEq, Eq)]
+pub enum MapFile {
+    /// The ids of users, at `var/lib/nixos/uid-map`.
+    Uid,
+    /// The ids of groups, at `var/lib/nixos/gid-map`.
+    Gid,
+}
 
 /// Why a command is refused. Nothing was put then, and nothing changed.
 #[derive(Debug, Drop, Error)]
@@ -19,6 +40,40 @@ pub enum Refusal {
         /// The line of the first fault of its files, in the order in which they are applied.
         line: u32,
     },
+    /// The account specification of the new system can't be read. The fault is never want of memory.
+    #[error("the account specification can't be read")]
+    UsersSpec(SpecFault),
+    /// A line of an account table is no row of it.
+    #[error("an account table can't be read")]
+    Table {
+        /// The first such table: of the groups, of the users, of their passwords.
+        file: TableFile,
+        /// The first such line.
+        line: u32,
+    },
+    /// A map of remembered ids is no map of ids. The users' is sought before the groups'.
+    #[error("a map of ids can't be read")]
+    IdMap(MapFile),
+    /// No id is free for the declared account of this name.
+    #[error("no id is free for an account")]
+    NoFreeId(Text),
+    /// The group of a declared user is neither declared nor in the table of groups that results.
+    #[error("the group of a user is unknown")]
+    UnknownGroup {
+        /// The name of the user.
+        user: Text,
+        /// The name of its group.
+        group: Text,
+    },
+    /// The first name of this entry of the new system's etc is one that a switch keeps for itself.
+    #[error("a name is reserved")]
+    Reserved(Path),
+    /// This entry of the new system's etc can't be placed.
+    #[error("an entry can't be placed")]
+    EtcEntry(Path),
+    /// An owner of this entry of the new system's etc is neither an id nor the name of an account.
+    #[error("an owner is unknown")]
+    Owner(Path),
     /// The highest generation has the last number and names another system.
     #[error("no further generation")]
     GenerationsFull,
