@@ -1,4 +1,4 @@
 mod FreeLemmas
-mod LineFeedLemmas
-mod MemberLemmas
-mod RowLemmas
+pub mod LineFeedLemmas
+pub mod MemberLemmas
+pub mod RowLemmas

@@ -1,7 +1,7 @@
 -- There is one merge at most, and one where nothing keeps accounts from being merged.
 use Rattle.std.proofs.Common.{◌≡◌, ℕ, ◌||◌, ◌++◌, ◌∷◌, Bool, true, false, cond, List, [], Option, None, Some, option_map, is_some, inl, inr, refl, sym, ap, ap₂, ◌∙◌}
 use Rattle.std.proofs.lemmas.Bool.{both_ways, or_parts}
-use Rattle.std.specs.FinMap.{FinMap, contains_key-keys, find, from_entries, get, get-from_entries, keys}
+use Rattle.std.specs.FinMap.{FinMap, contains_key-keys, find, get, get-from_entries, keys}
 use Rattle.std.specs.List.{cons_option, filter_map}
 use Rattle.std.specs.Option.{option_or}
 use Rattle.host_trait.specs.Bytes.{bytes_cmp}
@@ -17,7 +17,7 @@ use Rattle.users_spec.specs.Spec.{Accounts, group_names, user_names}
 use Rattle.users_merge.specs.Stored.{Merged, Stored, ordered}
 use Rattle.users_merge.specs.Account.{Account, group_accounts, id_of, user_accounts}
 use Rattle.users_merge.specs.Rows.{group_row, passwd_row, shadow_row, stays}
-use Rattle.users_merge.specs.Merge.{IsMerge, fault, gid_of, group_at, group_id, group_ids, group_of, passwd_at, shadow_at, user_id, user_ids, user_of}
+use Rattle.users_merge.specs.Merge.{IsMerge, fault, gid_of, group_at, group_id, group_ids, group_of, map_at, merge_of, passwd_at, shadow_at, user_id, user_ids, user_of}
 use Rattle.users_merge.proofs.NameLemmas.{has-append, name_exact}
 use Rattle.users_merge.proofs.OrderedLemmas.{not_found}
 use Rattle.users_merge.proofs.GivenLemmas.{group_account_names, listed, names_of, user_account_names}
@@ -49,9 +49,6 @@ module _ {X : Type 0} (at : Name → Option X) where
   entry : Name → Option (Name × X)
   entry name = option_map (λ x. (name, x)) (at name)
 
-  pub made : List Name → FinMap bytes_cmp X
-  made names = from_entries (filter_map entry names)
-
   found_in_made : (names : List Name) (name : Name) → find bytes_cmp name (filter_map entry names) ≡ cond (has names name) (at name) None
   unfolding entry
   found_in_made [] name = refl
@@ -79,8 +76,8 @@ module _ {X : Type 0} (at : Name → Option X) where
   all_named true o none = refl
   all_named false o none = sym (none refl)
 
-  pub get-made : (names : List Name) → ((name : Name) → has names name ≡ false → at name ≡ None) → (name : Name) → get (made names) name ≡ at name
-  unfolding made
+  pub get-made : (names : List Name) → ((name : Name) → has names name ≡ false → at name ≡ None) → (name : Name) → get (map_at at names) name ≡ at name
+  unfolding entry
   get-made names none name =
       get-from_entries bytes_total (filter_map entry names) name ∙ found_in_made names name ∙ all_named (has names name) (at name) (none name)
 
@@ -156,21 +153,8 @@ module _ (spec : Accounts) (s : Stored) where
       let parts = apart (user_names spec) s.uids name absent in
       ap₂ option_or (no_id (user_accounts spec) (user_ids spec s) name (ap (λ names. has names name) (user_account_names spec.users) ∙ parts.0)) parts.1
 
-  merged : Merged
-  merged = record {
-    group = made (group_at spec s) (group_names spec ++ keys s.group);
-    passwd = made (passwd_at spec s) (user_names spec ++ keys s.passwd);
-    shadow = made (shadow_at spec s) (user_names spec ++ keys s.shadow);
-    uids = made uid_at (user_names spec ++ keys s.uids);
-    gids = made gid_at (group_names spec ++ keys s.gids);
-    users = ordered (user_names spec);
-    groups = ordered (group_names spec);
-    all_users = ordered (s.users ++ ordered (user_names spec));
-    all_groups = ordered (s.groups ++ ordered (group_names spec));
-  }
-
-  is_merge : fault spec s ≡ None → IsMerge spec s merged
-  unfolding merged gid_at uid_at
+  is_merge : fault spec s ≡ None → IsMerge spec s (merge_of spec s)
+  unfolding merge_of gid_at uid_at
   is_merge fine = record {
     fine = fine;
     group = get-made (group_at spec s) (group_names spec ++ keys s.group) group_none;
@@ -184,5 +168,5 @@ module _ (spec : Accounts) (s : Stored) where
     all_groups = refl;
   }
 
-pub some_merge : (spec : Accounts) (s : Stored) → fault spec s ≡ None → (m : Merged) × IsMerge spec s m
-some_merge spec s fine = (merged spec s, is_merge spec s fine)
+pub some_merge : (spec : Accounts) (s : Stored) → fault spec s ≡ None → IsMerge spec s (merge_of spec s)
+some_merge spec s fine = is_merge spec s fine

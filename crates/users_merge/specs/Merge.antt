@@ -1,7 +1,8 @@
 -- The merge of declared accounts with those that stand: NixOS manual, "User Management"; nixpkgs, update-users-groups.pl.
 use Rattle.std.specs.Prelude.{◌≡◌, ℕ, ◌==◌, Bool, true, false, not, List, [], ◌∷◌, ◌++◌, map, Option, None, Some, is_some, option_map, if◌then◌else◌}
-use Rattle.std.specs.FinMap.{get, values}
-use Rattle.std.specs.List.{find}
+use Rattle.std.specs.FinMap.{FinMap, from_entries, get, keys, values}
+use Rattle.std.specs.List.{filter_map, find}
+use Rattle.host_trait.specs.Bytes.{bytes_cmp}
 use Rattle.std.specs.Option.{option_or, option_map_or}
 use Rattle.switch_names.specs.Names.{Name, has, is_name}
 use Rattle.account_text.specs.declared.group.GroupRow.{GroupRow}
@@ -84,6 +85,24 @@ pub record IsMerge (spec : Accounts) (s : Stored) (m : Merged) : Type 0 where
   pub groups : m.groups ≡ ordered (group_names spec)
   pub all_users : m.all_users ≡ ordered (s.users ++ m.users)
   pub all_groups : m.all_groups ≡ ordered (s.groups ++ m.groups)
+
+-- the map with these values, of names that have one
+abbrev pub map_at : {X : Type 0} → (Name → Option X) → List Name → FinMap bytes_cmp X
+map_at at names = from_entries (filter_map (λ name. option_map (λ x. (name, x)) (at name)) names)
+
+-- the merge of declared accounts with what stands, where nothing keeps them from it
+unfoldable pub merge_of : Accounts → Stored → Merged
+merge_of spec s = record {
+  group = map_at (group_at spec s) (group_names spec ++ keys s.group);
+  passwd = map_at (passwd_at spec s) (user_names spec ++ keys s.passwd);
+  shadow = map_at (shadow_at spec s) (user_names spec ++ keys s.shadow);
+  uids = map_at (λ name. option_or (user_id spec s name) (get s.uids name)) (user_names spec ++ keys s.uids);
+  gids = map_at (λ name. option_or (group_id spec s name) (get s.gids name)) (group_names spec ++ keys s.gids);
+  users = ordered (user_names spec);
+  groups = ordered (group_names spec);
+  all_users = ordered (s.users ++ ordered (user_names spec));
+  all_groups = ordered (s.groups ++ ordered (group_names spec));
+}
 
 -- the account keeps an id that isn't the one that is asked for
 abbrev pub keeps_other : Account → ℕ → Bool

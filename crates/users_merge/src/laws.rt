@@ -2,7 +2,7 @@
 ghost use Rattle.std.specs.Prelude.{◌≡◌, None};
 ghost use Rattle.users_spec.specs.Spec.{Accounts};
 ghost use Rattle.users_merge.specs.Stored.{Merged, Stored};
-ghost use Rattle.users_merge.specs.Merge.{IsMerge, fault};
+ghost use Rattle.users_merge.specs.Merge.{IsMerge, fault, merge_of};
 ghost use Rattle.users_merge.specs.IdLaws.{IdsLaw};
 ghost use Rattle.users_merge.specs.Law.{Law, PrefixLaw, PutsLaw, RunsLaw};
 
@@ -13,7 +13,7 @@ pub fn one_merge()
 
 /// Accounts are merged wherever nothing keeps them from it.
 pub fn something_is_merged()
-    ensures { (spec : Accounts) (s : Stored) → fault spec s ≡ None → (m : Merged) × IsMerge spec s m }
+    ensures { (spec : Accounts) (s : Stored) → fault spec s ≡ None → IsMerge spec s (merge_of spec s) }
 {}
 
 /// A merge of which each part stands as it did before or is there already is the same merge when it

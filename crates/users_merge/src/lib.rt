@@ -26,9 +26,13 @@ mod taken;
 mod tests;
 mod users;
 
+pub use by_name::ByName;
 pub use declared_names::Declared;
 pub use kept::Kept;
 pub use merge_fault::MergeFault;
 pub use merged::Merged;
 pub use merging::merge;
+pub use name_set::NameSet;
+pub use named::{Named, Numbered};
+pub use names::ordered_names;
 pub use remembered::Remembered;

@@ -17,6 +17,13 @@ pub fn now_names<N: Named>(alloc: Global, now: &[N]) -> Result<Listed<Text>, All
     NameSet::of(alloc, now)?.into_names(alloc)
 }
 
+/// Names in byte order, each once.
+pub fn ordered_names(alloc: Global, names: &[Text]) -> Result<Listed<Text>, AllocError>
+    ensures { IfOk result (λ list. list ≡ ordered names.now) }
+{
+    now_names(alloc, names)
+}
+
 /// The names that are declared now or were so before, in byte order.
 pub fn all_names<N: Named>(
     alloc: Global,
