@@ -1,0 +1,49 @@
+-- Faults that the steps of planning and of setting accounts hand on, and the answer of a merge.
+use Rattle.std.proofs.Common.{◌≡◌, Result, Ok, Err, IsErrAnd, IsErrOf, ap, option_and_then}
+use Rattle.host_trait.specs.declared.tree.HostFault.{HostFault}
+use Rattle.host_trait.specs.declared.tree.HostFault.TheVariants.{Device, Memory}
+use Rattle.host_trait.specs.Host.{HasCause, HostState}
+use Rattle.host_trait.proofs.Causes.{cause_on}
+use Rattle.host_trait.proofs.Readings.{handed_on}
+use Rattle.switch_parts.specs.declared.plan_fault.PlanFault.{PlanFault}
+use Rattle.switch_parts.specs.declared.plan_fault.PlanFault.TheVariants.{Host, Refused}
+use Rattle.users_merge.proofs.ExistLemmas.{one_merge, some_merge}
+use Rattle.users_merge.specs.declared.merged.Merged as answered
+use Rattle.users_merge.specs.Merge.{IsMerge, fault, kept, merge_of}
+use Rattle.users_merge.specs.Order.{AreInOrder}
+use Rattle.users_merge.specs.Stored.{Stored, merged_of}
+use Rattle.users_spec.specs.Spec.{Accounts}
+use Rattle.accounts_stage.specs.AccountsPart.{merge_refusal}
+use Rattle.accounts_stage.specs.Answer.{Answers, IsMergedBy}
+
+pub ok_no_err : {X E : Type 0} (x : X) (y : E) → IsErrOf (Ok x) y → ⊥
+ok_no_err x y e = cc
+
+module _ {Y : Type 0} where
+  -- a fault that is handed on
+  pub err_handed : {X : Type 0} (f y : PlanFault) (s : Result Y PlanFault) → IsErrAnd s (λ x. x ≡ f) → IsErrOf s y → IsErrOf {T = X} (Err f) y
+  err_handed f y (Ok x) is e = absurd is
+  err_handed f y (Err x) is e = cc
+
+  -- want of memory is no fault of the device
+  pub no_device : (s : Result Y PlanFault) → IsErrAnd s (λ x. x ≡ Host Memory) → IsErrOf s (Host Device) → ⊥
+  no_device (Ok x) is e = absurd is
+  no_device (Err x) is e = cc
+
+-- the cause of a fault that is handed on
+pub cause_handed :
+    {a b c : HostState} {T U V : Type 0} {r : Result T HostFault} {f : HostFault} → HasCause a b r → HasCause {T = U} b c (Err f) → (s : Result V HostFault) → IsErrAnd s (λ x. x ≡ f) → HasCause a c s
+cause_handed {f = f} first second s is = cause_on first second (handed_on f s is)
+
+-- the answer of a merge is the one merge that there is
+pub merge_made :
+    (spec : Accounts) (s : Stored) (answer : answered.Merged) → IsMerge spec s (merged_of answer) → AreInOrder answer → answer.kept ≡ kept spec s →
+    Answers (option_and_then merge_refusal (fault spec s)) (IsMergedBy spec s) (Ok answer)
+merge_made spec s answer is order keeps = record {
+  ok = record {
+    is = record { merged = one_merge spec s (merged_of answer) (merge_of spec s) is (some_merge spec s is.fine); order = order };
+    kept = keeps;
+  };
+  not_refused = ap (option_and_then merge_refusal) is.fine;
+  refused = λ why e. absurd (ok_no_err answer (Refused why) e);
+}

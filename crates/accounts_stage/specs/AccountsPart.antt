@@ -1,0 +1,118 @@
+-- The part of a switch that sets the accounts: nixpkgs, update-users-groups.pl; NixOS manual, "User Management".
+use Rattle.std.specs.Prelude.{◌≡◌, ◌||◌, Bool, false, Option, None, Some, option_map, option_and_then, Ok, Err, is_none}
+use Rattle.std.specs.FinMap.{get}
+use Rattle.std.specs.List.{starts_with}
+use Rattle.std.specs.Option.{option_or}
+use Rattle.std.specs.Prelude.{codes, nat_eq, ℕ, if◌then◌else◌}
+use Rattle.account_text.specs.declared.tables.Tables.{Tables}
+use Rattle.account_text.specs.Group.{group_row}
+use Rattle.account_text.specs.Passwd.{passwd_row}
+use Rattle.account_text.specs.Shadow.{shadow_row}
+use Rattle.account_text.specs.Table.{wrong_line}
+use Rattle.host_trait.specs.declared.leaf.LeafKind.{LeafKind}
+use Rattle.host_trait.specs.World.{Leaves, WorldState}
+use Rattle.switch_names.specs.Names.{Name}
+use Rattle.switch_parts.specs.declared.refusal.MapFile.{MapFile}
+use Rattle.switch_parts.specs.declared.refusal.MapFile.TheVariants.{Uid, Gid}
+use Rattle.switch_parts.specs.declared.refusal.Refusal.{Refusal}
+use Rattle.switch_parts.specs.declared.refusal.Refusal.TheVariants.{IdMap, NoFreeId, Table, UnknownGroup, UsersSpec}
+use Rattle.switch_parts.specs.declared.refusal.TableFile.{TableFile}
+use Rattle.switch_parts.specs.declared.refusal.TableFile.TheVariants.{Group, Passwd, Shadow}
+use Rattle.switch_parts.specs.Leaves.{EndsSame, is_near}
+use Rattle.switch_parts.specs.Part.{Part}
+use Rattle.users_merge.specs.declared.merge_fault.MergeFault.{MergeFault}
+use Rattle.users_merge.specs.declared.merge_fault.MergeFault as faults
+use Rattle.users_merge.specs.Merge.{fault, merge_of}
+use Rattle.users_merge.specs.Order.{group_rows, passwd_rows, shadow_rows}
+use Rattle.users_merge.specs.Stored.{Merged}
+use Rattle.users_spec.specs.Fields.{Read}
+use Rattle.users_spec.specs.Spec.{Accounts}
+use Rattle.accounts_stage.specs.Files.{merged_end}
+use Rattle.accounts_stage.specs.Places.{account_places, gids_place, group_place, owns_accounts, passwd_place, shadow_place, uids_place}
+use Rattle.accounts_stage.specs.Standing.{bytes_at, declared_by, ids_at, stored_in, tables_in}
+
+-- why a table can't be read, or nothing: its first line that is no row
+abbrev pub wrong_table : TableFile → Option ℕ → Option Refusal
+wrong_table file line = option_map (λ at. Table file at) line
+
+-- why the tables can't be read, or nothing
+abbrev pub table_refusal : Leaves → Option Refusal
+table_refusal leaves =
+    option_or (wrong_table Group (wrong_line group_row (bytes_at leaves group_place)))
+    (option_or (wrong_table Passwd (wrong_line passwd_row (bytes_at leaves passwd_place)))
+    (wrong_table Shadow (wrong_line shadow_row (bytes_at leaves shadow_place))))
+
+-- why a map of ids can't be read, or nothing
+abbrev pub wrong_map : MapFile → Leaves → Name → Option Refusal
+wrong_map file leaves at = if is_none (ids_at leaves at) then Some (IdMap file) else None
+
+-- why the maps of ids can't be read, or nothing
+abbrev pub map_refusal : Leaves → Option Refusal
+map_refusal leaves = option_or (wrong_map Uid leaves uids_place) (wrong_map Gid leaves gids_place)
+
+-- a fault of a merge as a refusal; want of memory is none
+abbrev pub merge_refusal : MergeFault → Option Refusal
+merge_refusal (faults.TheVariants.NoFreeId name) = Some (NoFreeId name)
+merge_refusal (faults.TheVariants.UnknownGroup user group) = Some (UnknownGroup user group)
+merge_refusal faults.TheVariants.Memory = None
+
+-- why accounts that are declared so are refused, or nothing: without a declaration the tables alone are read
+abbrev pub refusal_of : Leaves → Option (Read Accounts) → Option Refusal
+refusal_of leaves None = table_refusal leaves
+refusal_of leaves (Some (Err why)) = Some (UsersSpec why)
+refusal_of leaves (Some (Ok spec)) = option_or (table_refusal leaves) (option_or (map_refusal leaves) (option_and_then merge_refusal (fault spec (stored_in leaves))))
+
+-- the merge of accounts that are declared so
+abbrev pub merged_by : Leaves → Option (Read Accounts) → Option Merged
+merged_by leaves None = None
+merged_by leaves (Some (Err why)) = None
+merged_by leaves (Some (Ok spec)) = Some (merge_of spec (stored_in leaves))
+
+-- the merge that a switch to a system makes, where that declares accounts
+abbrev pub merged_in : Name → Leaves → Option Merged
+merged_in system leaves = merged_by leaves (declared_by system leaves)
+
+-- the leaf at a place of accounts after a merge, and as it was without one
+abbrev pub end_by : Option Merged → Leaves → Name → Option LeafKind
+end_by None leaves q = get leaves q
+end_by (Some m) leaves q = merged_end m q
+
+abbrev pub accounts_end : Name → Leaves → Name → Option LeafKind
+accounts_end system leaves q = end_by (merged_in system leaves) leaves q
+
+abbrev pub accounts_refusal : Name → Leaves → Option Refusal
+accounts_refusal system leaves = refusal_of leaves (declared_by system leaves)
+
+-- the rows of tables after a merge, and as they were without one
+abbrev pub tables_by : Option Merged → Leaves → Tables
+tables_by None leaves = tables_in leaves
+tables_by (Some m) leaves = record { group = group_rows m; passwd = passwd_rows m; shadow = shadow_rows m }
+
+-- the rows of the tables that a switch to a system leaves
+abbrev pub tables_after : Name → Leaves → Tables
+tables_after system leaves = tables_by (merged_in system leaves) leaves
+
+-- a path lies in the store
+unfoldable pub is_in_store : Name → Bool
+is_in_store q = starts_with nat_eq q (codes "nix/store/")
+
+-- what setting accounts looks at: their places, the store, to which a link at one of them may lead, and what could be in the way
+abbrev pub reads_accounts : Name → Bool
+reads_accounts q = owns_accounts q || (is_in_store q || is_near account_places q)
+
+-- each moment keeps what is left at the end, the rows of the tables that are left, and that nothing is in the way
+pub record KeepsAccounts (system : Name) (w m : WorldState) : Type 0 where
+  pub same : EndsSame owns_accounts (λ leaves. account_places) (accounts_refusal system) (accounts_end system) w m
+  pub tables : tables_after system m.leaves ≡ tables_after system w.leaves
+
+-- the part that sets the accounts
+abbrev pub accounts_part : Name → Part
+accounts_part system = record {
+  owns = owns_accounts;
+  reads = reads_accounts;
+  calls = false;
+  places = λ leaves. account_places;
+  refusal = accounts_refusal system;
+  end = accounts_end system;
+  Keeps = KeepsAccounts system;
+}

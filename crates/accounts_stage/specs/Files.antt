@@ -1,0 +1,63 @@
+-- The files of accounts that a merge leaves, and the order in which they are put: nixpkgs, update-users-groups.pl.
+use Rattle.std.specs.Prelude.{ℕ, ◌∷◌, ◌++◌, List, [], Option, None, Some, if◌then◌else◌}
+use Rattle.std.specs.List.{flat_map}
+use Rattle.account_text.specs.Group.{group_text}
+use Rattle.account_text.specs.Passwd.{passwd_text}
+use Rattle.account_text.specs.Shadow.{shadow_text}
+use Rattle.host_trait.specs.declared.leaf.LeafKind.{LeafKind}
+use Rattle.host_trait.specs.declared.leaf.LeafKind.TheVariants.{File}
+use Rattle.host_trait.specs.World.{WorldState, is_path, with_leaf}
+use Rattle.id_memory.specs.Json.{ids_text}
+use Rattle.switch_names.specs.Names.{Name}
+use Rattle.users_merge.specs.Order.{group_rows, passwd_rows, shadow_rows}
+use Rattle.users_merge.specs.Stored.{Merged}
+use Rattle.accounts_stage.specs.declared.file_put.FilePut.{FilePut}
+use Rattle.accounts_stage.specs.Places.{gids_place, group_place, groups_place, passwd_place, shadow_place, uids_place, users_place}
+
+-- a file of mode 0644 that root owns
+abbrev pub open_file : List ℕ → LeafKind
+open_file text = File text 420 0 0
+
+-- a file of mode 0600 that root owns
+abbrev pub closed_file : List ℕ → LeafKind
+closed_file text = File text 384 0 0
+
+-- names as they are written: one a line
+abbrev pub names_text : List Name → List ℕ
+names_text names = flat_map (λ name. name ++ 10 ∷ []) names
+
+-- the leaf that a merge leaves at a place of accounts
+abbrev pub merged_end : Merged → Name → Option LeafKind
+merged_end m q =
+    if is_path q group_place then Some (open_file (group_text (group_rows m)))
+    else if is_path q passwd_place then Some (open_file (passwd_text (passwd_rows m)))
+    else if is_path q shadow_place then Some (closed_file (shadow_text (shadow_rows m)))
+    else if is_path q groups_place then Some (open_file (names_text m.groups))
+    else if is_path q users_place then Some (open_file (names_text m.users))
+    else if is_path q gids_place then Some (open_file (ids_text m.gids))
+    else if is_path q uids_place then Some (open_file (ids_text m.uids))
+    else None
+
+-- a leaf that is put at a place
+abbrev pub put_at : Name → LeafKind → FilePut
+put_at at leaf = record { at = at; leaf = leaf }
+
+-- The nine puts of a merge in their order: the names with the earlier ones go first, and those that are declared
+-- now last, so that whoever is dropped from a table counts as declared until then.
+unfoldable pub account_puts : Merged → List FilePut
+account_puts m =
+    put_at users_place (open_file (names_text m.all_users))
+    ∷ put_at groups_place (open_file (names_text m.all_groups))
+    ∷ put_at uids_place (open_file (ids_text m.uids))
+    ∷ put_at gids_place (open_file (ids_text m.gids))
+    ∷ put_at group_place (open_file (group_text (group_rows m)))
+    ∷ put_at passwd_place (open_file (passwd_text (passwd_rows m)))
+    ∷ put_at shadow_place (closed_file (shadow_text (shadow_rows m)))
+    ∷ put_at users_place (open_file (names_text m.users))
+    ∷ put_at groups_place (open_file (names_text m.groups))
+    ∷ []
+
+-- the world after some puts
+abbrev pub with_puts : List FilePut → WorldState → WorldState
+with_puts [] w = w
+with_puts (one ∷ rest) w = with_puts rest (with_leaf one.at one.leaf w)

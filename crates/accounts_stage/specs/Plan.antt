@@ -1,0 +1,61 @@
+-- What is planned for accounts, and the steps in which they are set: nixpkgs, update-users-groups.pl.
+use Rattle.std.specs.Prelude.{◌≡◌, ℕ, ◌≤◌, List, [], length, take, Option, None, Some, Ok, Err}
+use Rattle.host_trait.specs.World.{Leaves, WorldState, seen}
+use Rattle.switch_names.specs.Names.{Name}
+use Rattle.switch_parts.specs.Part.{IsFree}
+use Rattle.users_merge.specs.declared.merged.Merged as answered
+use Rattle.users_merge.specs.Merge.{kept, merge_of}
+use Rattle.users_merge.specs.Order.{AreInOrder}
+use Rattle.users_merge.specs.Stored.{Merged, merged_of}
+use Rattle.users_spec.specs.Fields.{Read}
+use Rattle.users_spec.specs.Spec.{Accounts}
+use Rattle.accounts_stage.specs.declared.accounts_plan.AccountsPlan.{AccountsPlan}
+use Rattle.accounts_stage.specs.declared.file_put.FilePut.{FilePut}
+use Rattle.accounts_stage.specs.AccountsPart.{accounts_part, merged_in}
+use Rattle.accounts_stage.specs.Files.{account_puts, with_puts}
+use Rattle.accounts_stage.specs.Standing.{declared_by, stored_in, tables_in}
+
+-- an answer of a merge is this merge, with its rows in order
+pub record IsAnswerOf (m : Merged) (answer : answered.Merged) : Type 0 where
+  pub merged : merged_of answer ≡ m
+  pub order : AreInOrder answer
+
+-- what is planned for accounts that are declared so: their merge, and those that keep other ids than the ones that are asked for
+abbrev pub IsMergePlanned : Leaves → Option (Read Accounts) → Option answered.Merged → Type 0
+IsMergePlanned leaves None answer = answer ≡ None
+IsMergePlanned leaves (Some (Err why)) answer = ⊥
+IsMergePlanned leaves (Some (Ok spec)) None = ⊥
+IsMergePlanned leaves (Some (Ok spec)) (Some answer) = IsAnswerOf (merge_of spec (stored_in leaves)) answer × (answer.kept ≡ kept spec (stored_in leaves))
+
+-- the plan for the accounts of a system: the tables as they stand, and the merge where it declares accounts
+pub record IsAccountsPlanOf (system : Name) (leaves : Leaves) (plan : AccountsPlan) : Type 0 where
+  pub tables : plan.tables ≡ tables_in leaves
+  pub merged : IsMergePlanned leaves (declared_by system leaves) plan.merged
+
+-- a plan can be carried out: it is that of these leaves, and nothing is in its way
+pub record CanSetAccounts (system : Name) (plan : AccountsPlan) (w : WorldState) : Type 0 where
+  pub planned : IsAccountsPlanOf system w.leaves plan
+  pub free : IsFree (accounts_part system) w.leaves
+
+-- the puts of a merge, and none without one
+abbrev pub puts_by : Option Merged → List FilePut
+puts_by None = []
+puts_by (Some m) = account_puts m
+
+-- the puts that a switch to a system makes
+abbrev pub puts_of : Name → Leaves → List FilePut
+puts_of system leaves = puts_by (merged_in system leaves)
+
+-- but for the stage, a moment is the world after the first so many of some puts
+pub record IsPutting (puts : List FilePut) (w m : WorldState) : Type 0 where
+  pub count : ℕ
+  pub some : count ≤ length puts
+  pub world : seen m ≡ seen (with_puts (take count puts) w)
+
+-- a moment of setting the accounts of a system is exactly at one of its puts
+abbrev pub IsSettingAccounts : Name → WorldState → WorldState → Type 0
+IsSettingAccounts system w m = IsPutting (puts_of system w.leaves) w m
+
+-- but for the stage, the world after all puts
+abbrev pub AreAccountsSet : Name → WorldState → WorldState → Type 0
+AreAccountsSet system w v = seen v ≡ seen (with_puts (puts_of system w.leaves) w)

@@ -1,0 +1,20 @@
+//! Sets the accounts that a system declares.
+#![tactic(auto)]
+
+mod accounts_plan;
+mod file_put;
+mod laws;
+mod memory;
+mod names;
+mod places;
+mod planning;
+mod puts;
+mod reading;
+mod setting;
+
+pub use accounts_plan::AccountsPlan;
+pub use file_put::FilePut;
+pub use laws::{account_plans_stay, setting_accounts_is_a_part};
+pub use planning::plan_accounts;
+pub use reading::read_tables;
+pub use setting::set_accounts;

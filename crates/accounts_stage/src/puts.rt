@@ -1,0 +1,109 @@
+//! The files that a plan for accounts puts.
+ghost use Rattle.std.specs.Prelude.{◌≡◌, ◌++◌, IfOk, OnOk};
+ghost use Rattle.accounts_stage.specs.Files.{closed_file, names_text, open_file, put_at};
+ghost use Rattle.accounts_stage.specs.Puts.{AreAtAccounts, answer_puts, ids_puts, names_puts, plan_puts, table_puts};
+ghost use Rattle.id_memory.specs.Json.{ids_text};
+
+use crate::accounts_plan::AccountsPlan;
+use crate::file_put::FilePut;
+use crate::names::write_names;
+use crate::places::{
+    gids_path, group_path, groups_path, passwd_path, shadow_path, uids_path, users_path,
+};
+use account_text::{Tables, write_group, write_passwd, write_shadow};
+use host_trait::Leaf;
+use id_memory::IdMap;
+use std::alloc::{AllocError, Global};
+use switch_names::{Bytes, Listed, Path, Text};
+use users_merge::{Declared, Merged, Remembered};
+
+/// A file of mode 0644 that root owns.
+fn open_put(at: Path, bytes: Bytes) -> FilePut
+    ensures { result ≡ put_at at (open_file bytes) }
+{
+    FilePut {
+        at,
+        leaf: Leaf::file(bytes, 0o644, 0, 0),
+    }
+}
+
+/// A file of mode 0600 that root owns.
+fn closed_put(at: Path, bytes: Bytes) -> FilePut
+    ensures { result ≡ put_at at (closed_file bytes) }
+{
+    FilePut {
+        at,
+        leaf: Leaf::file(bytes, 0o600, 0, 0),
+    }
+}
+
+/// The file of names.
+fn names_put(alloc: Global, at: Path, names: &Listed<Text>) -> Result<FilePut, AllocError>
+    ensures { IfOk result (λ put. put ≡ put_at at (open_file (names_text names.now))) }
+{
+    let text = write_names(alloc, names.as_slice())?;
+    Ok(open_put(at, text))
+}
+
+/// The file of a map of ids.
+fn ids_put(alloc: Global, at: Path, ids: &IdMap) -> Result<FilePut, AllocError>
+    ensures { IfOk result (λ put. put ≡ put_at at (open_file (ids_text ids.now))) }
+{
+    let text = ids.write(alloc)?;
+    Ok(open_put(at, text))
+}
+
+/// Adds the files of names.
+fn add_names(alloc: Global, puts: &mut Listed<FilePut>, names: &Declared) -> Result<(), AllocError>
+    ensures { OnOk result (puts.new ≡ puts.old ++ names_puts names.now) }
+{
+    let users = names_put(alloc, users_path(alloc)?, &names.users)?;
+    let groups = names_put(alloc, groups_path(alloc)?, &names.groups)?;
+    puts.push(users)?;
+    puts.push(groups)
+}
+
+/// Adds the files of the maps of ids.
+fn add_ids(alloc: Global, puts: &mut Listed<FilePut>, ids: &Remembered) -> Result<(), AllocError>
+    ensures { OnOk result (puts.new ≡ puts.old ++ ids_puts ids.now) }
+{
+    let uids = ids_put(alloc, uids_path(alloc)?, &ids.uids)?;
+    let gids = ids_put(alloc, gids_path(alloc)?, &ids.gids)?;
+    puts.push(uids)?;
+    puts.push(gids)
+}
+
+/// Adds the files of the tables.
+fn add_tables(alloc: Global, puts: &mut Listed<FilePut>, tables: &Tables) -> Result<(), AllocError>
+    ensures { OnOk result (puts.new ≡ puts.old ++ table_puts tables.now) }
+{
+    let group = open_put(group_path(alloc)?, write_group(alloc, &tables.group)?);
+    let passwd = open_put(passwd_path(alloc)?, write_passwd(alloc, &tables.passwd)?);
+    let shadow = closed_put(shadow_path(alloc)?, write_shadow(alloc, &tables.shadow)?);
+    puts.push(group)?;
+    puts.push(passwd)?;
+    puts.push(shadow)
+}
+
+/// The nine files of a merge, in the order in which they are put.
+fn answer_puts(alloc: Global, merged: &Merged) -> Result<Listed<FilePut>, AllocError>
+    ensures { IfOk result (λ puts. puts ≡ answer_puts merged.now) }
+{
+    let mut puts = Listed::new(alloc);
+    add_names(alloc, &mut puts, &merged.union)?;
+    add_ids(alloc, &mut puts, &merged.remembered)?;
+    add_tables(alloc, &mut puts, &merged.tables)?;
+    add_names(alloc, &mut puts, &merged.declared)?;
+    Ok(puts)
+}
+
+/// The files that a plan puts, in the order in which it does.
+pub fn plan_puts(alloc: Global, plan: &AccountsPlan) -> Result<Listed<FilePut>, AllocError>
+    ensures puts { IfOk result (λ puts. puts ≡ plan_puts plan.now) }
+    ensures places { IfOk result AreAtAccounts }
+{
+    match &plan.merged {
+        Some(merged) => answer_puts(alloc, merged),
+        None => Ok(Listed::new(alloc)),
+    }
+}
