@@ -1,2 +1,3 @@
+pub mod EtcPart
 pub mod FarmPart
 pub mod Steps

@@ -1,0 +1,146 @@
+-- Making /etc what a system wants is a part of a switch.
+use Rattle.std.proofs.Common.{◌≡◌, ◌&&◌, Bool, true, false, cond, List, Option, None, Result, Ok, Err, is_some, refl, sym, ap, subst, ◌∙◌, inl, inr}
+use Rattle.std.proofs.lemmas.Bool.{both_ways, cases_Bool}
+use Rattle.switch_names.specs.Names.{IsListOf, Name, has}
+use Rattle.switch_names.specs.SystemName.{IsSystemPath}
+use Rattle.host_trait.specs.World.{Leaves, WorldState}
+use Rattle.switch_parts.specs.Part.{IsAtEnd, IsMomentOf, IsPart, IsSameFor}
+use Rattle.etc_manifest.specs.declared.item.Item.{Item}
+use Rattle.etc_manifest.specs.declared.item.ItemKind.{ItemKind}
+use Rattle.etc_manifest.specs.declared.manifest_fault.ManifestFault.{ManifestFault}
+use Rattle.etc_manifest.specs.declared.manifest_fault.ManifestFault.TheVariants.{Reserved}
+use Rattle.etc_manifest.specs.Entries.{entries_of, has_leaf, kind_in, manifest_of, with_place}
+use Rattle.etc_manifest.specs.Kind.{kind_of}
+use Rattle.etc_manifest.specs.Owners.{OwnerIds}
+use Rattle.etc_manifest.specs.Place.{etc_folder, is_reserved}
+use Rattle.etc_manifest.proofs.WantedLemmas.{entry_is}
+use Rattle.etc_clean.specs.declared.sorting.Sorted.{Sorted}
+use Rattle.etc_clean.specs.CleanList.{clean_of}
+use Rattle.etc_clean.specs.Etc.{etc}
+use Rattle.etc_clean.specs.Farm.{is_blocked, is_entry, is_gone}
+use Rattle.etc_clean.specs.Keeps.{AreFree}
+use Rattle.etc_clean.specs.Names.{name_of}
+use Rattle.etc_clean.specs.Obsolete.{IsSortedOf}
+use Rattle.etc_clean.proofs.FarmLemmas as farm
+use Rattle.etc_clean.proofs.FarmLemmas.{blocked_kept}
+use Rattle.etc_clean.proofs.KeepsLemmas.{alike_law, end_law, owned_name}
+use Rattle.etc_farm.specs.declared.etc_plan.EtcPlan.{EtcPlan}
+use Rattle.etc_farm.specs.EtcPart.{CanPutEtc, EtcPartLaw, EtcPlanLaw, KeepsEtc, etc_part, items_in, items_of, refusal_in}
+use Rattle.etc_farm.specs.FarmPart.{CanApply, KeepsFarm, farm_of, farm_part}
+use Rattle.etc_farm.proofs.ClearLemmas.{gone_same, reserved_not_gone}
+use Rattle.etc_farm.proofs.PartLemmas.{farm_is, frame_alike, keeps_farm_self, keeps_farm_then}
+use Rattle.etc_farm.proofs.PlaceLemmas.{owned_read, place_of_owned, stage_unread, store_read}
+use Rattle.etc_farm.proofs.StoreLemmas.{manifest_same, store_not_owned, store_not_stage}
+
+-- ---- what is wanted isn't reserved
+
+no_kind : (there : Bool) (name : Name) (wanted : Result ItemKind ManifestFault) (reserved : Bool) → reserved ≡ true →
+    cond there (kind_in (cond reserved (Err (Reserved name)) (with_place name wanted))) None ≡ None
+no_kind true name wanted true is = refl
+no_kind false name wanted true is = refl
+no_kind there name wanted false is = absurd (both_ways false refl is)
+
+-- what is read of a manifest isn't reserved
+pub wanted_free : (leaves : Leaves) (system : Name) (owners : OwnerIds) (items : List Item) → manifest_of leaves system owners ≡ Ok items → AreFree items
+wanted_free leaves system owners items is q known = elim (cases_Bool (is_reserved q)) [
+  | inl reserved ↦
+      let none =
+      entry_is leaves system owners items is q
+      ∙ no_kind (has (entries_of leaves system) q) q (kind_of (has_leaf leaves (etc_folder system)) leaves (etc_folder system) owners q) (is_reserved q) reserved in
+      absurd (both_ways _ (ap (λ (kind : Option ItemKind). is_some kind) none) (farm.entry_is items q ∙ known))
+  | inr free ↦ free
+]
+
+free_in : (leaves : Leaves) (system : Name) (owners : OwnerIds) (r : Result (List Item) ManifestFault) → manifest_of leaves system owners ≡ r → AreFree (items_in r)
+free_in leaves system owners (Ok items) is = wanted_free leaves system owners items is
+free_in leaves system owners (Err why) is = λ q known. absurd (both_ways false refl known)
+
+module _ (system : Name) (owners : OwnerIds) where
+  items_free : (leaves : Leaves) → AreFree (items_of system owners leaves)
+  items_free leaves = free_in leaves system owners (manifest_of leaves system owners) refl
+
+  module _ (named : IsSystemPath system) where
+    pub etc_frame : (w m : WorldState) → IsSameFor (etc_part system owners) w m → KeepsEtc system owners w m
+    etc_frame w m same = record {
+      manifest = manifest_same w.leaves m.leaves (λ path inside. same.leaves path (store_read path inside)) system named owners;
+      farm = (farm_is (farm_of system (items_of system owners w.leaves)) (items_free w.leaves)).frame w m (record { leaves = same.leaves; manager = same.manager });
+    }
+
+    pub etc_is : IsPart (etc_part system owners)
+    etc_is = record {
+      keeps_self = λ w. record { manifest = refl; farm = keeps_farm_self (items_of system owners w.leaves) w };
+      keeps_then = λ w v m first then. record {
+        manifest = then.manifest ∙ first.manifest;
+        farm = keeps_farm_then (items_of system owners w.leaves) w v m first.farm (subst (λ items. KeepsFarm items v m) (ap items_in first.manifest) then.farm);
+      };
+      same_end = λ w m keeps q own.
+          ap (λ items. etc (farm_of system items) m.leaves (name_of q)) (ap items_in keeps.manifest)
+          ∙ end_law (farm_of system (items_of system owners w.leaves)) w.leaves m.leaves keeps.farm.keeps (name_of q) (place_of_owned q own).1;
+      stays_free = λ w m keeps free. record { way = keeps.farm.free free.way; refusal = ap refusal_in keeps.manifest ∙ free.refusal };
+      frame = etc_frame;
+      reads_own = owned_read;
+      no_stage = stage_unread;
+    }
+
+pub etc_part_law : EtcPartLaw
+etc_part_law system owners named = etc_is system owners named
+
+-- ---- a plan stays one
+
+module _ (items : List Item) (free : AreFree items) (w u : WorldState) (system : Name) (same : IsSameFor (farm_part (farm_of system items)) w u) where
+  gone_alike : (q : Name) → is_gone items u.leaves q ≡ is_gone items w.leaves q
+  gone_alike q = elim (cases_Bool (is_reserved q)) [
+    | inl reserved ↦ reserved_not_gone items u.leaves q reserved ∙ sym (reserved_not_gone items w.leaves q reserved)
+    | inr other ↦
+        let alike = frame_alike (farm_of system items) w u free same in
+        gone_same items w.leaves u.leaves q (alike.leaves q (owned_name q other)) (ap (λ (names : List Name). has names q) alike.clean)
+  ]
+
+  blocked_alike : (q : Name) → is_blocked items u.leaves q ≡ is_blocked items w.leaves q
+  blocked_alike q = blocked_kept items w.leaves u.leaves (alike_law items w.leaves u.leaves free (frame_alike (farm_of system items) w u free same)).foreign q
+
+  list_as : (names : List Name) (p t : Name → Bool) → ((q : Name) → p q ≡ t q) → IsListOf names (λ q. t q ≡ true) → IsListOf names (λ q. p q ≡ true)
+  list_as names p t agree list = record {
+    sorted = list.sorted;
+    exact = λ q. (λ there. agree q ∙ (list.exact q).0 there, λ is. (list.exact q).1 (sym (agree q) ∙ is));
+  }
+
+  pub sorted_alike : (sorted : Sorted) → IsSortedOf items w.leaves sorted → IsSortedOf items u.leaves sorted
+  sorted_alike sorted are = record {
+    gone = list_as sorted.gone (is_gone items u.leaves) (is_gone items w.leaves) gone_alike are.gone;
+    blocked = list_as sorted.blocked (λ q. is_entry items q && is_blocked items u.leaves q) (λ q. is_entry items q && is_blocked items w.leaves q) (λ q. ap (λ b. is_entry items q && b) (blocked_alike q)) are.blocked;
+    clean = list_as sorted.clean (λ q. has (clean_of u.leaves) q) (λ q. has (clean_of w.leaves) q)
+        (λ q. ap (λ (names : List Name). has names q) (frame_alike (farm_of system items) w u free same).clean) are.clean;
+  }
+
+pub etc_plan_law : EtcPlanLaw
+etc_plan_law system w u plan named same is = record {
+  wanted = manifest_same w.leaves u.leaves (λ path inside. same.leaves path (store_read path inside)) system named plan.owners ∙ is.wanted;
+  apart = is.apart;
+  sorted = sorted_alike plan.manifest (wanted_free w.leaves system plan.owners plan.manifest is.wanted) w u system (record { leaves = same.leaves; manager = same.manager }) plan.sorted is.sorted;
+}
+
+-- ---- a plan is carried out
+
+module _ (system : Name) (plan : EtcPlan) (w : WorldState) (can : CanPutEtc system plan w) where
+  pub can_apply : CanApply (farm_of system plan.manifest) plan.sorted w
+  can_apply = record {
+    free = record { way = can.free.way; refusal = refl };
+    apart = can.planned.apart;
+    sorted = can.planned.sorted;
+  }
+
+  wanted_is : items_of system plan.owners w.leaves ≡ plan.manifest
+  wanted_is = ap items_in can.planned.wanted
+
+  pub end_as : (v : WorldState) → IsAtEnd (farm_part (farm_of system plan.manifest)) w v → IsAtEnd (etc_part system plan.owners) w v
+  end_as v end q own = end q own ∙ sym (ap (λ items. etc (farm_of system items) w.leaves (name_of q)) wanted_is)
+
+  pub moment_as : IsSystemPath system → (m : WorldState) → IsMomentOf (farm_part (farm_of system plan.manifest)) w m → IsMomentOf (etc_part system plan.owners) w m
+  moment_as named m moment = record {
+    keeps = record {
+      manifest = manifest_same w.leaves m.leaves (λ path inside. moment.only.leaves path (store_not_owned path inside) (store_not_stage path inside)) system named plan.owners;
+      farm = subst (λ items. KeepsFarm items w m) (sym wanted_is) moment.keeps;
+    };
+    only = record { leaves = moment.only.leaves; manager = moment.only.manager };
+  }

@@ -1,0 +1,21 @@
+use Rattle.std.proofs.lemmas.Result.{on_ok_weaker}
+use Rattle.host_trait.proofs.Moments.{leads_as, passes_as, told_as}
+use Rattle.switch_parts.specs.Part.{IsAtEnd, IsMomentOf}
+use Rattle.etc_farm.specs.EtcPart.{etc_part}
+use Rattle.etc_farm.specs.FarmPart.{CanApply, farm_of}
+use Rattle.etc_farm.proofs.EtcLemmas.{can_apply, end_as, moment_as}
+use Rattle.etc_farm.proofs.putting.put_etc.Goals as goal
+
+pub apply-requires : goal.apply-requires
+apply-requires g c = told_as c.requires (CanApply (farm_of c.args.system.now c.args.plan.now.manifest) c.args.plan.now.sorted) (λ w is can. can_apply c.args.system.now c.args.plan.now w can)
+
+pub returns-clause-ok : goal.returns-clause-ok
+returns-clause-ok g c =
+    on_ok_weaker c.apply.result
+    (λ led. leads_as led (IsAtEnd (etc_part c.args.system.now c.args.plan.now.owners)) (λ w v is end. end_as c.args.system.now c.args.plan.now w (c.requires.has w is) v end))
+    c.apply.ensures.ok
+
+pub returns-clause-moments : goal.returns-clause-moments
+returns-clause-moments g c =
+    passes_as c.apply.ensures.moments (IsMomentOf (etc_part c.args.system.now c.args.plan.now.owners))
+    (λ w m is moment. moment_as c.args.system.now c.args.plan.now w (c.requires.has w is) c.path-path.ensures.names m moment)

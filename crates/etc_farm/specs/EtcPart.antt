@@ -1,0 +1,78 @@
+-- The part of a switch that makes /etc what a system wants: NixOS manual, `environment.etc`; setup-etc.pl of nixpkgs.
+use Rattle.std.specs.Prelude.{◌≡◌, false, List, [], Option, None, Some, Result, Ok, Err}
+use Rattle.etc_clean.specs.Etc.{etc}
+use Rattle.etc_clean.specs.Names.{name_of}
+use Rattle.etc_clean.specs.Obsolete.{IsSortedOf}
+use Rattle.etc_manifest.specs.declared.item.Item.{Item}
+use Rattle.etc_manifest.specs.declared.manifest_fault.ManifestFault.{ManifestFault}
+use Rattle.etc_manifest.specs.declared.manifest_fault.ManifestFault as faults
+use Rattle.etc_manifest.specs.Entries.{manifest_of}
+use Rattle.etc_manifest.specs.Manifest.{AreApart, places}
+use Rattle.etc_manifest.specs.Owners.{OwnerIds}
+use Rattle.host_trait.specs.World.{Leaves, WorldState}
+use Rattle.switch_names.specs.Names.{Name}
+use Rattle.switch_names.specs.SystemName.{IsSystemPath}
+use Rattle.switch_parts.specs.declared.refusal.Refusal.{Refusal}
+use Rattle.switch_parts.specs.declared.refusal.Refusal.TheVariants.{EtcEntry, Owner, Reserved}
+use Rattle.switch_parts.specs.Part.{IsFree, IsPart, IsSameFor, Part}
+use Rattle.etc_farm.specs.declared.etc_plan.EtcPlan.{EtcPlan}
+use Rattle.etc_farm.specs.FarmPart.{KeepsFarm, farm_of, fixed_places, owns_farm, reads_farm}
+
+-- a fault of a manifest as a refusal; a fault of the host is none
+abbrev pub manifest_refusal : ManifestFault → Option Refusal
+manifest_refusal (faults.TheVariants.Reserved place) = Some (Reserved place)
+manifest_refusal (faults.TheVariants.Entry place) = Some (EtcEntry place)
+manifest_refusal (faults.TheVariants.Owner place) = Some (Owner place)
+manifest_refusal (faults.TheVariants.Host why) = None
+
+-- why what is read of a manifest is refused, or nothing
+abbrev pub refusal_in : Result (List Item) ManifestFault → Option Refusal
+refusal_in (Ok items) = None
+refusal_in (Err why) = manifest_refusal why
+
+-- the items that were read, and none where they can't be
+abbrev pub items_in : Result (List Item) ManifestFault → List Item
+items_in (Ok items) = items
+items_in (Err why) = []
+
+-- what a system wants below /etc, with the owners of these ids
+abbrev pub items_of : Name → OwnerIds → Leaves → List Item
+items_of system owners leaves = items_in (manifest_of leaves system owners)
+
+-- each moment keeps what the system wants, and what its farm looks at
+pub record KeepsEtc (system : Name) (owners : OwnerIds) (w m : WorldState) : Type 0 where
+  pub manifest : manifest_of m.leaves system owners ≡ manifest_of w.leaves system owners
+  pub farm : KeepsFarm (items_of system owners w.leaves) w m
+
+-- the part that puts the farm of a system
+abbrev pub etc_part : Name → OwnerIds → Part
+etc_part system owners = record {
+  owns = owns_farm;
+  reads = reads_farm;
+  calls = false;
+  places = λ leaves. fixed_places;
+  refusal = λ leaves. refusal_in (manifest_of leaves system owners);
+  end = λ leaves path. etc (farm_of system (items_of system owners leaves)) leaves (name_of path);
+  Keeps = KeepsEtc system owners;
+}
+
+-- the plan for /etc of a system: what it wants there, and what of /etc is gone, blocked and on the clean list
+pub record IsEtcPlanOf (system : Name) (leaves : Leaves) (plan : EtcPlan) : Type 0 where
+  pub wanted : manifest_of leaves system plan.owners ≡ Ok plan.manifest
+  pub apart : AreApart (places plan.manifest)
+  pub sorted : IsSortedOf plan.manifest leaves plan.sorted
+
+-- a plan can be carried out: it is that of these leaves, and nothing is in its way
+pub record CanPutEtc (system : Name) (plan : EtcPlan) (w : WorldState) : Type 0 where
+  pub planned : IsEtcPlanOf system w.leaves plan
+  pub free : IsFree (etc_part system plan.owners) w.leaves
+
+-- making /etc what a system wants is a part of a switch
+abbrev pub EtcPartLaw : Type 0
+EtcPartLaw = (system : Name) (owners : OwnerIds) → IsSystemPath system → IsPart (etc_part system owners)
+
+-- a plan stays one where nothing has changed that the part looks at
+abbrev pub EtcPlanLaw : Type 0
+EtcPlanLaw =
+    (system : Name) (w u : WorldState) (plan : EtcPlan) → IsSystemPath system → IsSameFor (etc_part system plan.owners) w u →
+    IsEtcPlanOf system w.leaves plan → IsEtcPlanOf system u.leaves plan

@@ -1,0 +1,76 @@
+//! Plans what is done to `/etc`.
+ghost use Rattle.std.specs.Prelude.{◌≡◌, None, Some, Ok, IfOk, IsErrOf, OnOk};
+ghost use Rattle.host_trait.specs.declared.tree.HostFault.TheVariants.{Device};
+ghost use Rattle.host_trait.specs.Host.{Told};
+ghost use Rattle.host_trait.specs.Reading.{IsReadingOf};
+ghost use Rattle.switch_parts.specs.declared.plan_fault.PlanFault.TheVariants.{Host, Refused};
+ghost use Rattle.switch_parts.specs.declared.refusal.Refusal.{Refusal};
+ghost use Rattle.etc_manifest.specs.declared.manifest_fault.ManifestFault.TheVariants as faults;
+ghost use Rattle.etc_manifest.specs.Entries.{manifest_of};
+ghost use Rattle.etc_manifest.specs.Manifest.{AreApart, places};
+ghost use Rattle.etc_farm.specs.EtcPart.{IsEtcPlanOf, manifest_refusal, refusal_in};
+
+use crate::etc_plan::EtcPlan;
+use etc_clean::obsolete;
+use etc_manifest::{Manifest, ManifestFault, Owners};
+use host_trait::Tree;
+use std::alloc::Global;
+use switch_names::SystemName;
+use switch_parts::{PlanFault, Refusal};
+
+/// A fault of a manifest as one of a plan.
+fn plan_fault(fault: ManifestFault) -> PlanFault
+    ensures refused { (why : Refusal) → result ≡ Refused why → manifest_refusal fault ≡ Some why }
+    ensures device { result ≡ Host Device → fault ≡ faults.Host Device }
+{
+    match fault {
+        ManifestFault::Reserved(place) => PlanFault::Refused(Refusal::Reserved(place)),
+        ManifestFault::Entry(place) => PlanFault::Refused(Refusal::EtcEntry(place)),
+        ManifestFault::Owner(place) => PlanFault::Refused(Refusal::Owner(place)),
+        ManifestFault::Host(fault) => PlanFault::Host(fault),
+    }
+}
+
+/// Reads what a system wants below `/etc`.
+fn read_manifest<T: Tree>(
+    alloc: Global,
+    host: &mut T,
+    system: &SystemName,
+    owners: &Owners,
+) -> Result<Manifest, PlanFault>
+    ensures manifest { IfOk result (λ manifest. Told (T.host host.old) (λ w. manifest_of w.leaves system.now owners.now ≡ Ok manifest)) }
+    ensures apart { IfOk result (λ manifest. Told (T.host host.old) (λ w. AreApart (places manifest))) }
+    ensures refused { (why : Refusal) → IsErrOf result (Refused why) → Told (T.host host.old) (λ w. refusal_in (manifest_of w.leaves system.now owners.now) ≡ Some why) }
+    ensures reads { IsReadingOf (T.host host.old) (T.host host.new) (IsErrOf result (Host Device)) }
+{
+    match Manifest::read(alloc, host, system, owners) {
+        Ok(manifest) => Ok(manifest),
+        Err(fault) => Err(plan_fault(fault)),
+    }
+}
+
+/// Plans what is done to `/etc` for a system, and changes nothing.
+///
+/// The entries are read in byte order, and the first that is refused is named. Of an entry that it is
+/// reserved is sought first, then that it can't be placed, and then that an owner is unknown.
+/// Source: setup-etc.pl of nixpkgs.
+pub fn plan_etc<T: Tree>(
+    alloc: Global,
+    host: &mut T,
+    system: &SystemName,
+    owners: Owners,
+) -> Result<EtcPlan, PlanFault>
+    ensures plan { IfOk result (λ plan. Told (T.host host.old) (λ w. IsEtcPlanOf system.now w.leaves plan)) }
+    ensures owners { IfOk result (λ plan. plan.owners ≡ owners) }
+    ensures not_refused { OnOk result (Told (T.host host.old) (λ w. refusal_in (manifest_of w.leaves system.now owners) ≡ None)) }
+    ensures refused { (why : Refusal) → IsErrOf result (Refused why) → Told (T.host host.old) (λ w. refusal_in (manifest_of w.leaves system.now owners) ≡ Some why) }
+    ensures reads { IsReadingOf (T.host host.old) (T.host host.new) (IsErrOf result (Host Device)) }
+{
+    let manifest = read_manifest(alloc, host, system, &owners)?;
+    let sorted = obsolete(alloc, host, &manifest)?;
+    Ok(EtcPlan {
+        owners,
+        manifest,
+        sorted,
+    })
+}

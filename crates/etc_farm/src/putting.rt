@@ -1,0 +1,31 @@
+//! Puts the farm of a system as planned.
+ghost use Rattle.std.specs.Prelude.{OnOk};
+ghost use Rattle.host_trait.specs.Host.{HasCause, Leads, Passes, Told};
+ghost use Rattle.switch_parts.specs.Part.{IsAtEnd, IsMomentOf};
+ghost use Rattle.etc_farm.specs.EtcPart.{CanPutEtc, etc_part};
+
+use crate::etc_plan::EtcPlan;
+use crate::farm::apply;
+use host_trait::{HostFault, Tree};
+use std::alloc::Global;
+use switch_names::SystemName;
+
+/// Makes `/etc` what a system wants, as planned.
+///
+/// A cut leaves `/etc` in the making: planned again, it has the same end.
+/// Source: setup-etc.pl of nixpkgs.
+pub fn put_etc<T: Tree>(
+    alloc: Global,
+    host: &mut T,
+    system: &SystemName,
+    plan: &EtcPlan,
+) -> Result<(), HostFault>
+    requires { Told (T.host host.old) (CanPutEtc system.now plan.now) }
+    ensures ok { OnOk result (Leads (T.host host.old) (T.host host.new) (IsAtEnd (etc_part system.now plan.now.owners))) }
+    ensures moments { Passes (T.host host.old) (T.host host.new) (IsMomentOf (etc_part system.now plan.now.owners)) }
+    ensures cause { HasCause (T.host host.old) (T.host host.new) result }
+{
+    // The moments hold of a path of the store alone.
+    let _path = system.path();
+    apply(alloc, host, system, &plan.manifest, &plan.sorted)
+}
