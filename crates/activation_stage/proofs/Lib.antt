@@ -1,0 +1,4 @@
+pub mod ActivationLemmas
+pub mod OwnerLemmas
+pub mod PartedLemmas
+pub mod PlaceLemmas

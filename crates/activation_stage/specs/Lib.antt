@@ -1,0 +1,3 @@
+pub mod ActivationPart
+pub mod Owners
+pub mod Places

@@ -1,0 +1,14 @@
+//! Sets the accounts of a system and makes `/etc` what it wants, between the stops and the starts of a switch.
+#![tactic(auto)]
+
+mod activating;
+mod activation_plan;
+mod laws;
+mod places;
+mod planning;
+
+pub use activating::activate;
+pub use activation_plan::ActivationPlan;
+pub use laws::{an_activation_is_a_part, owners_stay, plans_stay};
+pub use places::{add_etc_places, add_memory_places};
+pub use planning::plan_activation;
