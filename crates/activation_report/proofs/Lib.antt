@@ -1,0 +1,3 @@
+pub mod ChangeLemmas
+pub mod ReportLemmas
+pub mod PlanLemmas
