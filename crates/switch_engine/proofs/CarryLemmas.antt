@@ -1,12 +1,17 @@
 -- What carrying a planned command out leaves at each moment and at its end, whichever of its parts it has.
-use Rattle.std.proofs.Common.{◌≡◌, ◌≢◌, ◌↔◌, ◌&&◌, ◌||◌, Bool, IsSome, IsTrue, true, false, cond, Option, None, Some, List, ℕ, ◌∷◌, [], ◌++◌, refl, sym, ap, subst, ◌∙◌, inl, inr, rules, unwrap_or, ⊎_elim}
-use Rattle.std.proofs.lemmas.Bool.{both_ways, cases_Bool, or_right}
+use Rattle.std.proofs.Common.{◌≡◌, ◌≢◌, ◌↔◌, ◌&&◌, ◌||◌, Bool, IsSome, IsTrue, true, false, cond, is_some, Option, None, Some, List, ℕ, [], ◌++◌, refl, sym, ap, subst, ◌∙◌, inl, inr, rules, unwrap_or, ⊎_elim}
+use Rattle.std.proofs.lemmas.Bool.{both_ways, cases_Bool, or_left}
 use Rattle.std.proofs.lemmas.List.{append-nil}
-use Rattle.std.specs.Cmp.Lexicographic.{nat_list_eq_equiv, same_text}
+use Rattle.std.specs.Cmp.Lexicographic.{nat_list_eq_equiv}
 use Rattle.std.specs.FinMap.{empty, get, gets}
+use Rattle.activation_stage.specs.ActivationPart.{activation_in, activation_part}
+use Rattle.activation_stage.specs.declared.activation_plan.ActivationPlan.{ActivationPlan}
+use Rattle.activation_stage.specs.Owners.{owners_after}
+use Rattle.etc_manifest.specs.Owners.{OwnerIds}
 use Rattle.generations.specs.Places.{Names, link_path, profile}
-use Rattle.generations.specs.ProfilePart.{profile_part}
+use Rattle.generations.specs.ProfilePart.{owns_profile, profile_part}
 use Rattle.generations.proofs.NamesLaws.{moment_names}
+use Rattle.generations.proofs.ProfileApart.{link_owned, profile_owned}
 use Rattle.generations.proofs.ProfileLemmas.{end_manager, moment_only, profile_at_end, profile_moment}
 use Rattle.generations.proofs.ProfilePlaces.{can_of_free, number_of_free}
 use Rattle.generations.proofs.SetLaws.{generation_of, number_is}
@@ -14,12 +19,9 @@ use Rattle.host_trait.specs.declared.entry.Entry.{Entry}
 use Rattle.host_trait.specs.declared.manager_state.ManagerState.{ManagerState}
 use Rattle.host_trait.specs.declared.unit_state.State.{State}
 use Rattle.host_trait.specs.declared.unit_state.State.TheVariants.{Failed, Inactive}
-use Rattle.host_trait.specs.Change.{definitions_place}
 use Rattle.host_trait.specs.States.{state_of}
-use Rattle.host_trait.specs.World.{IsClear, Leaves, WorldState, bytes_cmp, is_in_line, is_path, seen, stage}
+use Rattle.host_trait.specs.World.{Leaves, WorldState, bytes_cmp, is_path, seen, stage}
 use Rattle.host_trait.proofs.Seen.{seen_at}
-use Rattle.host_trait.proofs.Sound.{not_in_line}
-use Rattle.owed_lists.specs.Lists.{reloads_place, restarts_place, starts_place}
 use Rattle.owed_plan.specs.declared.owed.Owed.{Owed}
 use Rattle.owed_plan.specs.Calls.{calls_of}
 use Rattle.owed_plan.specs.FinalStates.{final_state}
@@ -27,35 +29,29 @@ use Rattle.switch_engine.specs.declared.command.Command.{Command}
 use Rattle.switch_engine.specs.declared.outcome.Outcome.{Outcome}
 use Rattle.switch_engine.specs.declared.plan.Plan.{Plan}
 use Rattle.switch_engine.specs.declared.plan.ProfilePlan.{ProfilePlan}
-use Rattle.switch_engine.specs.Carried.{CanSetBy, CanSwitch, IsSwitchMomentIf, IsSwitchedIf, sets_by}
+use Rattle.switch_engine.specs.Carried.{CanSetBy, CanSwitchBy, IsSwitchMomentIf, IsSwitchedIf, sets_by}
 use Rattle.switch_engine.specs.Commands.{brought_to, if_so, new_system, row_of, set_to}
 use Rattle.switch_engine.specs.Final.{AreEntries, AreFinalUnits, HasFailed, IsEndOf, LeavesFailedAt}
-use Rattle.switch_engine.specs.Moments.{IsMomentOf, IsSetStep, IsStepIf, IsStepTo, IsSwitchMoment, IsSwitchStep, NamesOneOf, set_world}
-use Rattle.switch_engine.specs.Plan.{AreUnitsPlanned, IsPlanOf, IsProfilePlanned}
-use Rattle.switch_engine.specs.Rows.{part_if, part_of, switch_part}
+use Rattle.switch_engine.specs.Moments.{IsMomentOf, IsSetStep, IsStepIf, IsStepTo, IsSwitchStep, NamesOneOf, set_world}
+use Rattle.switch_engine.specs.Plan.{AreUnitsPlanned, IsActivationPlanned, IsPlanOf, IsProfilePlanned}
+use Rattle.switch_engine.specs.Rows.{part_if, part_of, switch_in, switch_part}
+use Rattle.activation_stage.proofs.ActivationLemmas.{activation_part_law, activation_plan_law, owners_law}
 use Rattle.switch_engine.proofs.DefinedLemmas.{left_failed}
-use Rattle.switch_engine.proofs.PartsLemmas.{are_parted, link_clear, link_free, parts_are, profile_if_is, switch_if_is}
-use Rattle.switch_engine.proofs.PlaceLemmas.{definitions_not_read, near_not_own, stage_definitions}
+use Rattle.switch_engine.proofs.PartsLemmas.{are_parted, parts_are, profile_if_is, profile_parted, switch_if_is}
+use Rattle.switch_engine.proofs.SwitchLemmas.{switch_part_moment}
 use Rattle.switch_engine.proofs.UnderwayLemmas.{IsFreeCommand, free_command, underway}
-use Rattle.switch_engine.proofs.WayLemmas.{switch_places_free}
 use Rattle.switch_names.specs.Names.{Name}
 use Rattle.switch_names.specs.SystemName.{IsSystemPath}
 use Rattle.switch_names.proofs.StorePaths.{NamesSystem-with_slash}
-use Rattle.switch_engine.specs.Places.{definitions_part}
-use Rattle.switch_parts.specs.Part.{IsFree, IsMomentOf as IsPartMoment, Part, both, final_leaf}
-use Rattle.switch_parts.proofs.Parts.{first_free, first_moment, is_final, moment_then, second_free, second_moment}
-use Rattle.tree_put.proofs.WayLemmas.{clear_first}
-use Rattle.tree_put.specs.WrittenPlace.{written}
+use Rattle.switch_parts.specs.Part.{IsFree, IsMomentOf as IsPartMoment, IsPart, IsSameFor, Part, both, final_leaf}
+use Rattle.switch_parts.proofs.Parts.{first_free, first_moment, is_final, moment_then, only_beside, second_free, second_moment}
 use Rattle.unit_defs.specs.declared.unit.Unit.{Unit}
 use Rattle.unit_stage.specs.declared.unit_plan.UnitPlan.{UnitPlan}
 use Rattle.unit_stage.specs.End.{IsBrought, entries_of}
-use Rattle.unit_stage.specs.Laws.{AreSameBeside}
-use Rattle.unit_stage.specs.Owned.{owns_units, reads_units}
-use Rattle.unit_stage.specs.Plan.{IsOwedBy, owed_of}
-use Rattle.unit_stage.specs.System.{IsSystem, current_place, definitions_of}
-use Rattle.unit_stage.specs.Units.{units_part}
+use Rattle.unit_stage.specs.Owned.{reads_units}
+use Rattle.unit_stage.specs.Plan.{IsOwedBy, IsUnitPlanOf, owed_of}
+use Rattle.unit_stage.specs.System.{definitions_of}
 use Rattle.unit_stage.proofs.EndLemmas.{one_end}
-use Rattle.unit_stage.proofs.MomentLemmas.{free_law, underway_law}
 use Rattle.unit_stage.proofs.OwnedLemmas.{not_reads_stage}
 use Rattle.unit_stage.proofs.StepLemmas.{manager_seen}
 use Rattle.unit_stage.proofs.SystemsLemmas.{is_system}
@@ -83,60 +79,9 @@ module _ (system : Name) (w : WorldState) where
 
 -- ---- a switch of the units
 
-module _ (system : Name) (named : IsSystemPath system) (owed : Owed) (w m : WorldState) (is_owed : IsOwedBy w system owed)
-    (free : IsFree (switch_part system) w.leaves) (moment : IsSwitchMoment system owed w m) where
-  other_than_definitions : (q : Name) → reads_units q ≡ true → is_path q definitions_place ≡ false
-  other_than_definitions q read = elim (cases_Bool (is_path q definitions_place)) [
-    | inl same ↦ absurd (both_ways _ definitions_not_read (subst (λ x. reads_units x ≡ true) (same_text q definitions_place (sym same)) read))
-    | inr other ↦ other
-  ]
-
-  beside : AreSameBeside w m
-  beside q read none =
-      moment.only.leaves q (λ i. (other_than_definitions q read i || false) || none i)
-      (λ same. both_ways _ not_reads_stage (subst (λ x. reads_units x ≡ true) same read))
-
-  -- what lies above or below the link to the definitions is as it was
-  definitions_clear : IsClear w.leaves definitions_place → IsClear m.leaves definitions_place
-  definitions_clear clear q line =
-      moment.only.leaves q (λ i. (not_there i || false) || near_not_own q line i)
-      (λ same. both_ways _ stage_definitions (subst (λ x. is_in_line x definitions_place ≡ true) same line))
-      ∙ clear q line
-    where
-      not_there : is_path q definitions_place ≡ false
-      not_there = elim (cases_Bool (is_path q definitions_place)) [
-        | inl same ↦ absurd (both_ways _ (not_in_line definitions_place) (subst (λ x. is_in_line x definitions_place ≡ true) (same_text q definitions_place (sym same)) line))
-        | inr other ↦ other
-      ]
-
-  switch_part_moment : IsPartMoment (switch_part system) w m
-  switch_part_moment =
-      let system_is = is_system system named in
-      let units = second_free (definitions_part system) (units_part system) w.leaves free in
-      let still = free_law system owed w m system_is is_owed moment.units beside (record { way = units.way; refusal = units.refusal }) in
-      record {
-        keeps = (
-          record {
-            ends = λ q own. refl;
-            free = λ way refusal. (
-              link_free m.leaves (record {
-                link = definitions_clear (link_clear w.leaves way).link;
-                staged = (clear_first m.leaves (written false stage) (written false current_place ∷ written true reloads_place ∷ written true restarts_place ∷ written true starts_place ∷ []) still.way).0;
-              }),
-              refl,
-            );
-          },
-          record {
-            free = λ before. free_law system owed w m system_is is_owed moment.units beside before;
-            underway = λ before steady. underway_law system owed w m system_is is_owed before steady moment.units beside;
-          },
-        );
-        only = moment.only;
-      }
-
-switch_if_moment : (switches : Bool) (system : Name) → IsSystemPath system → (owed : Owed) (u m : WorldState) → (switches ≡ true → IsOwedBy u system owed) → IsFree (part_if switches (switch_part system)) u.leaves →
-    IsSwitchMomentIf switches system owed u m → IsPartMoment (part_if switches (switch_part system)) u m
-switch_if_moment true system named owed u m is_owed free moment = switch_part_moment system named owed u m (is_owed refl) free moment
+switch_if_moment : (switches : Bool) (system : Name) → IsSystemPath system → (owed : Owed) (u m : WorldState) → (switches ≡ true → IsOwedBy u system owed) → IsFree (part_if switches (switch_in system u.leaves)) u.leaves →
+    IsSwitchMomentIf switches system owed u m → IsPartMoment (part_if switches (switch_in system u.leaves)) u m
+switch_if_moment true system named owed u m is_owed free moment = switch_part_moment system named owed u (is_owed refl) free m moment
 switch_if_moment false system named owed u m is_owed free same = record {
   keeps = tt;
   only = record { leaves = λ q none ne. ap (λ (x : WorldState). get x.leaves q) same; manager = λ none. ap (λ (x : WorldState). x.manager) same };
@@ -146,15 +91,11 @@ switch_step : (switches : Bool) (system : Name) (owed : Owed) (u m : WorldState)
 switch_step true system owed u m is_owed moment = (owed, is_owed refl, moment)
 switch_step false system owed u m is_owed same = ap seen same
 
-switch_final : (switches : Bool) (system : Name) (owed : Owed) (u v : WorldState) → IsSwitchedIf switches system owed u v → (q : Name) → q ≢ stage → get v.leaves q ≡ final_leaf (part_if switches (switch_part system)) u.leaves q
+switch_final : (switches : Bool) (system : Name) (owed : Owed) (u v : WorldState) → IsSwitchedIf switches system owed u v → (q : Name) → q ≢ stage → get v.leaves q ≡ final_leaf (part_if switches (switch_in system u.leaves)) u.leaves q
 switch_final true system owed u v is q ne = is.leaves q ne
 switch_final false system owed u v is q ne = ap (λ (x : WorldState). get x.leaves q) is
 
 -- ---- the profile names the same while it isn't written
-
-profile_not_own : (is_path profile definitions_place || false) || owns_units profile ≡ false
-unfolding profile definitions_place current_place reloads_place restarts_place starts_place
-profile_not_own = refl
 
 profile_apart_stage : is_path profile stage ≡ false
 unfolding profile stage
@@ -162,10 +103,6 @@ profile_apart_stage = refl
 
 profile_not_stage : profile ≢ stage
 profile_not_stage same = both_ways _ profile_apart_stage (subst (λ x. is_path profile x ≡ true) same (nat_list_eq_equiv.refl profile))
-
-link_not_own : (n : ℕ) → (is_path (link_path n) definitions_place || false) || owns_units (link_path n) ≡ false
-unfolding link_path definitions_place current_place reloads_place restarts_place starts_place
-link_not_own n = refl
 
 link_apart_stage : (n : ℕ) → is_path (link_path n) stage ≡ false
 unfolding link_path stage
@@ -196,9 +133,17 @@ names_by w m same links other = (
 seen_names : (w m : WorldState) → seen m ≡ seen w → SameNames w m
 seen_names w m same = names_by w m (seen_at m w same profile profile_not_stage) (λ n. seen_at m w same (link_path n) (link_not_stage n))
 
-switch_names : (switches : Bool) (system : Name) (owed : Owed) (u m : WorldState) → IsSwitchMomentIf switches system owed u m → SameNames u m
-switch_names true system owed u m moment = names_by u m (moment.only.leaves profile profile_not_own profile_not_stage) (λ n. moment.only.leaves (link_path n) (link_not_own n) (link_not_stage n))
-switch_names false system owed u m same = names_by u m (ap (λ (x : WorldState). get x.leaves profile) same) (λ n. ap (λ (x : WorldState). get x.leaves (link_path n)) same)
+-- no place of the profile is one of a switch of the units
+not_own : (switches : Bool) (system : Name) → IsSystemPath system → (owners : OwnerIds) (q : Name) → owns_profile q ≡ true → (part_if switches (switch_part system owners)).owns q ≡ false
+not_own switches system named owners q own = elim (cases_Bool ((part_if switches (switch_part system owners)).owns q)) [
+  | inl is ↦ absurd (both_ways _ ((are_parted switches true system owners).second q own) ((switch_if_is switches system named owners).reads_own q is))
+  | inr other ↦ other
+]
+
+switch_names : (switches : Bool) (system : Name) → IsSystemPath system → (owners : OwnerIds) (u m : WorldState) → IsPartMoment (part_if switches (switch_part system owners)) u m → SameNames u m
+switch_names switches system named owners u m moment =
+    names_by u m (moment.only.leaves profile (not_own switches system named owners profile profile_owned) profile_not_stage)
+    (λ n. moment.only.leaves (link_path n) (not_own switches system named owners (link_path n) (link_owned n)) (link_not_stage n))
 
 set_names : (sets : Bool) (system : Name) → IsSystemPath system → (w m : WorldState) → IsFree (part_if sets (profile_part system)) w.leaves → IsSetStep (if_so sets system) w m → NamesOneOf (if_so sets system) w m
 set_names true system named w m free step = moment_names system w m (number_is w.leaves system (number_of_free system w.leaves free)) (NamesSystem-with_slash system named) step
@@ -314,13 +259,24 @@ can_set sets system w (Some plan) planned free = record {
   can = can_of_free system w (subst (λ b. IsFree (part_if b (profile_part system)) w.leaves) planned.0 free);
 }
 
--- the calls of a plan can be made where the profile has been set
-pub can_switch : (switches : Bool) (system : Name) (w u : WorldState) (plan : UnitPlan) → AreUnitsPlanned switches system w plan → u.manager ≡ w.manager → IsFree (part_if switches (switch_part system)) u.leaves → switches ≡ true → CanSwitch plan u
-can_switch true system w u plan planned same free on = record {
-  duties = planned.duties ∙ ap (λ (k : ManagerState). calls_of (owed_of plan) (state_of k.states)) (sym same);
-  way = switch_places_free system u.leaves free.way;
-}
-can_switch false system w u plan planned same free on = absurd (both_ways _ refl on)
+-- the units are switched where an activation is planned
+pub switches_same : (switches : Bool) (system : Name) (w : WorldState) (o : Option ActivationPlan) → IsActivationPlanned switches system w o → is_some o ≡ switches
+switches_same switches system w None planned = sym planned
+switches_same switches system w (Some activation) planned = sym planned.0
+
+-- a planned switch of the units can be made where the profile has been set
+pub can_switch : (switches : Bool) (system : Name) → IsSystemPath system → (w u : WorldState) (plan : UnitPlan) (o : Option ActivationPlan) → AreUnitsPlanned switches system w plan → IsActivationPlanned switches system w o →
+    u.manager ≡ w.manager → (switches ≡ true → IsOwedBy u system (owed_of plan)) → IsSameFor (activation_in system w.leaves) w u → IsFree (part_if switches (switch_in system u.leaves)) u.leaves → CanSwitchBy system plan o u
+can_switch switches system named w u plan None units planned manager is_owed same free = tt
+can_switch switches system named w u plan (Some activation) units planned manager is_owed same free =
+    let of_units : IsUnitPlanOf system w plan = subst (λ b. AreUnitsPlanned b system w plan) planned.0 units in
+    record {
+      named = named;
+      is_owed = is_owed planned.0;
+      duties = of_units.duties ∙ ap (λ (k : ManagerState). calls_of (owed_of plan) (state_of k.states)) (sym manager);
+      planned = activation_plan_law system w u activation named same planned.1;
+      free = subst (λ b. IsFree (part_if b (switch_in system u.leaves)) u.leaves) planned.0 free;
+    }
 
 -- ---- which units have failed
 
@@ -370,22 +326,26 @@ module _ (command : Command) (owed : Owed) (w : WorldState) (carried : IsCarried
   abbrev system : Name
   system = new_system command w.leaves
 
+  abbrev owners : OwnerIds
+  owners = owners_after system w.leaves
+
   abbrev first : Part
-  first = part_if switches (switch_part system)
+  first = part_if switches (switch_part system owners)
 
   abbrev second : Part
   second = part_if sets (profile_part system)
 
-  system_is : IsSystem system
-  system_is = is_system system carried.named
+  first_is : IsPart first
+  first_is = switch_if_is switches system carried.named owners
 
   pub set_free : IsFree second w.leaves
   set_free = second_free first second w.leaves carried.free.parts
 
+  set_alone : (m : WorldState) → IsSetStep (if_so sets system) w m → IsPartMoment second w m
+  set_alone m step = set_part_moment system carried.named w sets set_free m step
+
   set_of_parts : (m : WorldState) → IsSetStep (if_so sets system) w m → IsPartMoment (both first second) w m
-  set_of_parts m step =
-      second_moment first second (switch_if_is switches system system_is) (profile_if_is sets system) (are_parted switches sets system) w m
-      (set_part_moment system carried.named w sets set_free m step)
+  set_of_parts m step = second_moment first second first_is (profile_if_is sets system) (are_parted switches sets system owners) w m (set_alone m step)
 
   -- each moment of a set of the profile is one of the command
   pub set_moment : (m : WorldState) → IsSetStep (if_so sets system) w m → IsMomentOf command w m
@@ -399,41 +359,58 @@ module _ (command : Command) (owed : Owed) (w : WorldState) (carried : IsCarried
     at_set : IsPartMoment (both first second) w u
     at_set = set_of_parts u (set_step system w sets u is)
 
-    pub switch_free : IsFree first u.leaves
-    switch_free = first_free first second u.leaves ((parts_are switches sets system system_is).stays_free w u at_set.keeps carried.free.parts)
-
     pub same_manager : u.manager ≡ w.manager
     same_manager = set_calls system w sets u is
 
+    -- an activation sees the same as before
+    pub activation_same : IsSameFor (activation_part system owners) w u
+    activation_same =
+        only_beside second (activation_part system owners) (activation_part_law system owners carried.named) (profile_parted sets system owners).first (profile_parted sets system owners).manager w u
+        (set_alone u (set_step system w sets u is)).only
+
+    -- and so the tables that it leaves have the same owners
+    same_owners : owners_after system u.leaves ≡ owners
+    same_owners = owners_law system owners w u ((activation_part_law system owners carried.named).frame w u activation_same)
+
+    pub switch_free : IsFree (part_if switches (switch_in system u.leaves)) u.leaves
+    switch_free =
+        subst (λ (o : OwnerIds). IsFree (part_if switches (switch_part system o)) u.leaves) (sym same_owners)
+        (first_free first second u.leaves ((parts_are switches sets system carried.named owners).stays_free w u at_set.keeps carried.free.parts))
+
     -- the units' part sees the same as before
-    owed_still : switches ≡ true → IsOwedBy u system owed
-    owed_still switched = by switches switched (are_parted switches sets system).second (carried.is_owed switched)
+    pub owed_still : switches ≡ true → IsOwedBy u system owed
+    owed_still switched = by switches switched (are_parted switches sets system owners).second (carried.is_owed switched)
       where
         unchanged : (at : Name) → (second.owns at ≡ true → ⊥) → at ≢ stage → get u.leaves at ≡ get w.leaves at
         unchanged at none ne = elim (cases_Bool (second.owns at)) [
           | inl own ↦ absurd (none own)
-          | inr other ↦ (set_part_moment system carried.named w sets set_free u (set_step system w sets u is)).only.leaves at other ne
+          | inr other ↦ (set_alone u (set_step system w sets u is)).only.leaves at other ne
         ]
 
-        by : (b : Bool) → b ≡ true → ((at : Name) → second.owns at ≡ true → (part_if b (switch_part system)).reads at ≡ false) → IsOwedBy w system owed → IsOwedBy u system owed
-        by true same_b apart is_owed = owed_same system w u system_is (record {
-          leaves = λ at read. unchanged at (λ own. both_ways _ (apart at own) (or_right _ _ read)) (λ same. both_ways _ not_reads_stage (subst (λ x. reads_units x ≡ true) same read));
+        by : (b : Bool) → b ≡ true → ((at : Name) → second.owns at ≡ true → (part_if b (switch_part system owners)).reads at ≡ false) → IsOwedBy w system owed → IsOwedBy u system owed
+        by true same_b apart is_owed = owed_same system w u (is_system system carried.named) (record {
+          leaves = λ at read. unchanged at (λ own. both_ways _ (apart at own) (or_left _ _ read)) (λ same. both_ways _ not_reads_stage (subst (λ x. reads_units x ≡ true) same read));
           manager = λ call. same_manager;
         }) owed is_owed
         by false same_b apart is_owed = absurd (both_ways _ refl same_b)
 
+    switch_moment_of : (m : WorldState) → IsSwitchMomentIf switches system owed u m → IsPartMoment first u m
+    switch_moment_of m moment =
+        subst (λ (o : OwnerIds). IsPartMoment (part_if switches (switch_part system o)) u m) same_owners
+        (switch_if_moment switches system carried.named owed u m owed_still switch_free moment)
+
     -- each moment of a switch of the units is one of the command
     pub switch_moment : (m : WorldState) → IsSwitchMomentIf switches system owed u m → IsMomentOf command w m
     switch_moment m moment =
-        let later = first_moment first second (switch_if_is switches system system_is) (profile_if_is sets system) (are_parted switches sets system) u m
-        (switch_if_moment switches system carried.named owed u m owed_still switch_free moment) in
+        let part = switch_moment_of m moment in
+        let later = first_moment first second first_is (profile_if_is sets system) (are_parted switches sets system owners) u m part in
         record {
           step = subst (λ b. IsStepIf b (if_so (b && sets) system) (if_so (b && switches) system) w m) (sym carried.on)
               (IsStepTo.Switching u is (switch_step switches system owed u m owed_still moment));
-          underway = underway command w m carried.on (carried.same m.leaves) carried.named carried.free (moment_then (both first second) (parts_are switches sets system system_is) w u m at_set later);
+          underway = underway command w m carried.on (carried.same m.leaves) carried.named carried.free (moment_then (both first second) (parts_are switches sets system carried.named owners) w u m at_set later);
           named = names_then (set_to command w.leaves) w u m
               (subst (λ b. NamesOneOf (if_so (b && sets) system) w u) (sym carried.on) (set_names sets system carried.named w u set_free (set_step system w sets u is)))
-              (switch_names switches system owed u m moment);
+              (switch_names switches system carried.named owners u m part);
         }
 
     -- the world that both leave is the one at the end of the command
@@ -444,8 +421,10 @@ module _ (command : Command) (owed : Owed) (w : WorldState) (carried : IsCarried
         record {
           final = record {
             leaves = λ q ne.
-                final_then first second w u v (switch_final switches system owed u v end) (set_final system w sets u is)
-                (λ at own. (switch_if_is switches system system_is).same_end w u at_set.keeps.0 at own) q ne
+                final_then first second w u v
+                (λ at other. switch_final switches system owed u v end at other ∙ ap (λ (o : OwnerIds). final_leaf (part_if switches (switch_part system o)) u.leaves at) same_owners)
+                (set_final system w sets u is)
+                (λ at own. first_is.same_end w u at_set.keeps.0 at own) q ne
                 ∙ sym (ap (λ b. cond b (final_leaf (part_of command w.leaves) w.leaves q) (get w.leaves q)) carried.on);
             units = subst (λ to. AreFinalUnits to w v) brought units.units;
             bad = units.bad;

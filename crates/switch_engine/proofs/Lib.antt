@@ -1,3 +1,4 @@
+pub mod ActivationApart
 pub mod CarryLemmas
 pub mod DefinedLemmas
 pub mod FailedLemmas

@@ -2,6 +2,8 @@
 use Rattle.std.proofs.Common.{◌≡◌, ◌↔◌, IsTrue, ℕ, ◌^◌, Bool, true, false, cond, nat_lt, Err, IsErrOf, List, Option, None, Some, is_none, is_some, option_map, refl, sym, ap, subst, ◌∙◌, if◌then◌else◌}
 use Rattle.std.proofs.lemmas.Option.{none-some}
 use Rattle.std.specs.Option.{option_or}
+use Rattle.activation_stage.specs.ActivationPart.{IsActivationPlanOf, activation_in}
+use Rattle.activation_stage.specs.declared.activation_plan.ActivationPlan.{ActivationPlan}
 use Rattle.generations.specs.declared.gens.Gens.{Gens}
 use Rattle.generations.specs.Gens.{IsGensOf, number_for_in}
 use Rattle.generations.specs.Places.{number_after}
@@ -11,8 +13,8 @@ use Rattle.host_trait.specs.World.{Leaves, WorldState, content_of}
 use Rattle.switch_engine.specs.declared.command.Command.{Command}
 use Rattle.switch_engine.specs.Commands.{if_so, new_system, row_of}
 use Rattle.switch_engine.specs.Owing.{IsSteadyTo}
-use Rattle.switch_engine.specs.Plan.{AreGensFor, AreUnitsPlanned, IsProfilePlanned}
-use Rattle.switch_engine.specs.Rows.{part_if, parts_refusal, places, refusal, refusal_by, switch_part}
+use Rattle.switch_engine.specs.Plan.{AreGensFor, AreUnitsPlanned, IsActivationPlanned, IsProfilePlanned}
+use Rattle.switch_engine.specs.Rows.{part_if, parts_refusal, places, refusal, refusal_by, switch_in}
 use Rattle.switch_engine.specs.System.{version_path}
 use Rattle.switch_names.specs.Names.{Name}
 use Rattle.switch_parts.specs.declared.plan_fault.PlanFault.{PlanFault}
@@ -25,27 +27,51 @@ use Rattle.unit_stage.specs.declared.unit_plan.UnitPlan.{UnitPlan}
 use Rattle.unit_stage.specs.Owes.{IsSteadyWorld}
 use Rattle.unit_stage.specs.Plan.{IsUnitPlanOf, no_units}
 use Rattle.unit_stage.specs.System.{unit_refusal}
+use Rattle.unit_stage.specs.Units.{units_part}
 
 module _ (switches sets : Bool) (system : Name) (leaves : Leaves) where
   abbrev way : Option Name
   way = in_the_way (places switches sets system leaves) leaves
 
-  abbrev first : Option Refusal
-  first = (part_if switches (switch_part system)).refusal leaves
+  abbrev units_reason : Option Refusal
+  units_reason = (part_if switches (units_part system)).refusal leaves
 
-  abbrev second : Option Refusal
-  second = (part_if sets (profile_part system)).refusal leaves
+  abbrev activation_reason : Option Refusal
+  activation_reason = (part_if switches (activation_in system leaves)).refusal leaves
+
+  abbrev profile_reason : Option Refusal
+  profile_reason = (part_if sets (profile_part system)).refusal leaves
+
+  -- the reasons in their order
+  reasons : refusal_by switches sets system leaves ≡ option_or (option_map InTheWay way) (option_or (option_or units_reason activation_reason) profile_reason)
+  reasons = by switches
+    where
+      by : (b : Bool) →
+          option_or (option_map InTheWay way) (option_or ((part_if b (switch_in system leaves)).refusal leaves) profile_reason)
+          ≡ option_or (option_map InTheWay way) (option_or (option_or ((part_if b (units_part system)).refusal leaves) ((part_if b (activation_in system leaves)).refusal leaves)) profile_reason)
+      by true = refl
+      by false = refl
 
   -- something is in the way
   pub way_refused : (why : Refusal) → option_map InTheWay way ≡ Some why → refusal_by switches sets system leaves ≡ Some why
-  way_refused why is = ap (λ o. option_or o (option_or first second)) is
+  way_refused why is = reasons ∙ ap (λ o. option_or o (option_or (option_or units_reason activation_reason) profile_reason)) is
 
-  -- nothing is, and so the parts are refused for what a part is refused for
-  pub part_refused : (why : Option Refusal) → way ≡ None → first ≡ None → second ≡ why → refusal_by switches sets system leaves ≡ why
-  part_refused why free none is = ap (λ o. option_or (option_map InTheWay o) (option_or first second)) free ∙ ap (λ o. option_or o second) none ∙ is
+  module _ (free : way ≡ None) where
+    free_reasons : refusal_by switches sets system leaves ≡ option_or (option_or units_reason activation_reason) profile_reason
+    free_reasons = reasons ∙ ap (λ o. option_or (option_map InTheWay o) (option_or (option_or units_reason activation_reason) profile_reason)) free
 
-  pub switch_refused : (why : Refusal) → way ≡ None → first ≡ Some why → refusal_by switches sets system leaves ≡ Some why
-  switch_refused why free is = ap (λ o. option_or (option_map InTheWay o) (option_or first second)) free ∙ ap (λ o. option_or o second) is
+    -- nothing is, and so the units are refused
+    pub units_refused : (why : Refusal) → units_reason ≡ Some why → refusal_by switches sets system leaves ≡ Some why
+    units_refused why is = free_reasons ∙ ap (λ o. option_or (option_or o activation_reason) profile_reason) is
+
+    module _ (none : units_reason ≡ None) where
+      -- or they aren't, and so the activation is
+      pub activation_refused : (why : Refusal) → activation_reason ≡ Some why → refusal_by switches sets system leaves ≡ Some why
+      activation_refused why is = free_reasons ∙ ap (λ o. option_or (option_or o activation_reason) profile_reason) none ∙ ap (λ o. option_or o profile_reason) is
+
+      -- or it isn't, and so the parts are refused for what the profile is refused for
+      pub profile_refused : (why : Option Refusal) → activation_reason ≡ None → profile_reason ≡ why → refusal_by switches sets system leaves ≡ why
+      profile_refused why other is = free_reasons ∙ ap (λ o. option_or (option_or o activation_reason) profile_reason) none ∙ ap (λ o. option_or o profile_reason) other ∙ is
 
 -- what the list of the generations says of the number
 pub further_of : (leaves : Leaves) (gens : Gens) (system : Name) (n : ℕ) → IsGensOf leaves gens → number_for_in gens.list system ≡ Some n → (n ≡ number_after leaves system) × (has_number leaves system ≡ true)
@@ -107,18 +133,23 @@ pub placed : (command : Command) (leaves : Leaves) (switches : Bool) (system : N
 placed command leaves switches system by named is = is ∙ (λ i. places (by i) (row_of command).sets (named i) leaves)
 
 -- a switch of the units is refused for what their part is refused for
-pub refused_switch : (switches : Bool) (named system : Name) (leaves : Leaves) (why : Option Refusal) → switches ≡ true → named ≡ system → unit_refusal leaves named ≡ why → (part_if switches (switch_part system)).refusal leaves ≡ why
-refused_switch switches named system leaves why on is refused = ap (λ b. (part_if b (switch_part system)).refusal leaves) on ∙ ap (unit_refusal leaves) (sym is) ∙ refused
+pub refused_switch : (switches : Bool) (named system : Name) (leaves : Leaves) (why : Option Refusal) → switches ≡ true → named ≡ system → unit_refusal leaves named ≡ why → (part_if switches (units_part system)).refusal leaves ≡ why
+refused_switch switches named system leaves why on is refused = ap (λ b. (part_if b (units_part system)).refusal leaves) on ∙ ap (unit_refusal leaves) (sym is) ∙ refused
 
--- with nothing in the way, and units that can be read
+-- and for what the activation is refused for
+pub refused_activation : (switches : Bool) (named system : Name) (leaves : Leaves) (why : Option Refusal) → switches ≡ true → named ≡ system → (activation_in named leaves).refusal leaves ≡ why → (part_if switches (activation_in system leaves)).refusal leaves ≡ why
+refused_activation switches named system leaves why on is refused =
+    ap (λ b. (part_if b (activation_in system leaves)).refusal leaves) on ∙ ap (λ s. (activation_in s leaves).refusal leaves) (sym is) ∙ refused
+
+-- with nothing in the way, units that can be read, and an activation that can be made
 module _ (switches sets : Bool) (named system : Name) (w : WorldState) (is : named ≡ system) (free : in_the_way (places switches sets system w.leaves) w.leaves ≡ None)
-    (none : (part_if switches (switch_part system)).refusal w.leaves ≡ None) where
+    (none : (part_if switches (units_part system)).refusal w.leaves ≡ None) (other : (part_if switches (activation_in system w.leaves)).refusal w.leaves ≡ None) where
   -- a set of the profile that finds no number is refused
   pub full_refused : (why : Refusal) → (part_if sets (profile_part named)).refusal w.leaves ≡ Some GenerationsFull → GenerationsFull ≡ why → refusal_by switches sets system w.leaves ≡ Some why
-  full_refused why full same = part_refused switches sets system w.leaves (Some why) free none (ap (λ s. (part_if sets (profile_part s)).refusal w.leaves) (sym is) ∙ full ∙ ap Some same)
+  full_refused why full same = profile_refused switches sets system w.leaves free none (Some why) other (ap (λ s. (part_if sets (profile_part s)).refusal w.leaves) (sym is) ∙ full ∙ ap Some same)
 
   pub not_refused : (part_if sets (profile_part named)).refusal w.leaves ≡ None → refusal_by switches sets system w.leaves ≡ None
-  not_refused profile = part_refused switches sets system w.leaves None free none (ap (λ s. (part_if sets (profile_part s)).refusal w.leaves) (sym is) ∙ profile)
+  not_refused profile = profile_refused switches sets system w.leaves free none None other (ap (λ s. (part_if sets (profile_part s)).refusal w.leaves) (sym is) ∙ profile)
 
 -- what a plan says of its world's steadiness is said for its command
 pub steady_off : (switches : Bool) (system : Name) (w : WorldState) (units : UnitPlan) → switches ≡ false → units ≡ no_units → IsTrue units.steady ↔ IsSteadyTo (if_so switches system) w
@@ -132,3 +163,6 @@ steady_on switches named system w units on is told =
 -- what is planned for a system is planned for its command
 pub planned_on : (switches : Bool) (named system : Name) (w : WorldState) (units : UnitPlan) → switches ≡ true → named ≡ system → IsUnitPlanOf named w units → AreUnitsPlanned switches system w units
 planned_on switches named system w units on is planned = subst (λ b. AreUnitsPlanned b system w units) (sym on) (subst (λ s. IsUnitPlanOf s w units) is planned)
+
+pub activation_on : (switches : Bool) (named system : Name) (w : WorldState) (plan : ActivationPlan) → switches ≡ true → named ≡ system → IsActivationPlanOf named w.leaves plan → IsActivationPlanned switches system w (Some plan)
+activation_on switches named system w plan on is planned = (on, subst (λ s. IsActivationPlanOf s w.leaves plan) is planned)

@@ -4,6 +4,9 @@ use Rattle.std.proofs.lemmas.List.{append-nil}
 use Rattle.std.proofs.lemmas.Option.{none-some}
 use Rattle.std.specs.FinMap.{get}
 use Rattle.std.specs.List.{AllByRecursion}
+use Rattle.activation_stage.specs.ActivationPart.{activation_part}
+use Rattle.activation_stage.specs.Owners.{owners_after}
+use Rattle.etc_manifest.specs.Owners.{OwnerIds}
 use Rattle.host_trait.specs.declared.entry.Act.{Act}
 use Rattle.host_trait.specs.declared.entry.Entry.{Entry}
 use Rattle.host_trait.specs.declared.manager_state.ManagerState.{ManagerState}
@@ -15,8 +18,9 @@ use Rattle.switch_engine.specs.declared.command.Command.{Command}
 use Rattle.switch_engine.specs.Commands.{brought_to, if_so, new_system, row_of, switched_to}
 use Rattle.switch_engine.specs.Final.{AreFinalUnits}
 use Rattle.switch_engine.specs.Owing.{IsPaidBy, IsSteadyFor, IsSteadyTo, IsUnderway, OwesActTo}
-use Rattle.switch_engine.specs.Rows.{final, part_of, parts, places, refusal, refusal_by, switch_part}
+use Rattle.switch_engine.specs.Rows.{final, part_if, part_of, parts, parts_in, places, refusal, refusal_by, switch_part}
 use Rattle.switch_engine.specs.System.{version_path}
+use Rattle.activation_stage.proofs.ActivationLemmas.{owners_law}
 use Rattle.switch_engine.proofs.PartsLemmas.{not_in_store, parts_are}
 use Rattle.switch_engine.proofs.StoreApart.{store_not_stage}
 use Rattle.switch_engine.proofs.WayLemmas.{parts_way, places_way}
@@ -28,20 +32,17 @@ use Rattle.switch_names.proofs.StorePaths.{IsStorePath-from_named, store_path_is
 use Rattle.switch_parts.specs.declared.refusal.Refusal.{Refusal}
 use Rattle.switch_parts.specs.declared.refusal.Refusal.TheVariants.{InTheWay, NoSystem}
 use Rattle.switch_parts.specs.Part.{IsFree, IsMomentOf, final_leaf}
-use Rattle.switch_parts.proofs.Parts.{ends_alike, first_free, none_mapped, none_or, or_none, second_free}
-use Rattle.switch_engine.specs.Places.{definitions_part}
+use Rattle.switch_parts.proofs.Parts.{ends_alike, first_free, none_mapped, none_or, or_none}
 use Rattle.generations.specs.ProfilePart.{profile_part}
-use Rattle.switch_engine.specs.Rows.{part_if}
 use Rattle.tree_put.specs.WrittenPlace.{in_the_way}
 use Rattle.unit_stage.specs.Units.{AreUnitsUnderway, units_part}
-use Rattle.unit_stage.proofs.SystemsLemmas.{is_system}
 
 -- ---- why a command isn't refused
 
 -- what a command has that isn't refused: its system's file stands, and its parts are free
 pub record IsFreeBy (switches sets : Bool) (system : Name) (leaves : Leaves) : Type 0 where
   pub version : is_none (content_of leaves (version_path system)) ≡ false
-  pub parts : IsFree (parts switches sets system) leaves
+  pub parts : IsFree (parts_in switches sets system leaves) leaves
 
 abbrev refused_by : Bool → Bool → Name → Leaves → Option Refusal
 refused_by switches sets system leaves = cond (is_none (content_of leaves (version_path system))) (Some NoSystem) (refusal_by switches sets system leaves)
@@ -49,10 +50,10 @@ refused_by switches sets system leaves = cond (is_none (content_of leaves (versi
 free_by : (switches sets : Bool) (system : Name) (leaves : Leaves) → refused_by switches sets system leaves ≡ None → IsFreeBy switches sets system leaves
 free_by switches sets system leaves none =
     let first = split (is_none (content_of leaves (version_path system))) (refusal_by switches sets system leaves) none in
-    let second = or_none (option_map InTheWay (in_the_way (places switches sets system leaves) leaves)) ((parts switches sets system).refusal leaves) first.1 in
+    let second = or_none (option_map InTheWay (in_the_way (places switches sets system leaves) leaves)) ((parts_in switches sets system leaves).refusal leaves) first.1 in
     record {
       version = first.0;
-      parts = record { way = parts_way switches sets system leaves (none_mapped InTheWay (in_the_way (places switches sets system leaves) leaves) second.0); refusal = second.1 };
+      parts = record { way = parts_way switches sets system (owners_after system leaves) leaves (none_mapped InTheWay (in_the_way (places switches sets system leaves) leaves) second.0); refusal = second.1 };
     }
   where
     split : (b : Bool) (o : Option Refusal) → cond b (Some NoSystem) o ≡ None → (b ≡ false) × (o ≡ None)
@@ -62,8 +63,8 @@ free_by switches sets system leaves none =
 by_free : (switches sets : Bool) (system : Name) (leaves : Leaves) → IsFreeBy switches sets system leaves → refused_by switches sets system leaves ≡ None
 by_free switches sets system leaves free =
     ap (λ b. cond b (Some NoSystem) (refusal_by switches sets system leaves)) free.version
-    ∙ none_or (option_map InTheWay (in_the_way (places switches sets system leaves) leaves)) ((parts switches sets system).refusal leaves)
-    (ap (option_map InTheWay) (places_way switches sets system leaves free.parts.way)) free.parts.refusal
+    ∙ none_or (option_map InTheWay (in_the_way (places switches sets system leaves) leaves)) ((parts_in switches sets system leaves).refusal leaves)
+    (ap (option_map InTheWay) (places_way switches sets system (owners_after system leaves) leaves free.parts.way)) free.parts.refusal
 
 abbrev pub IsFreeCommand : Command → Leaves → Type 0
 IsFreeCommand command leaves = IsFreeBy (row_of command).switches (row_of command).sets (new_system command leaves) leaves
@@ -127,14 +128,29 @@ since_none w m same = record {
   steady = tt;
 }
 
-since_by : (switches sets : Bool) (system : Name) (w m : WorldState) → IsFree (parts switches sets system) w.leaves → IsMomentOf (parts switches sets system) w m → IsSteadyTo (if_so switches system) w →
+since_by : (switches sets : Bool) (system : Name) (owners : OwnerIds) (w m : WorldState) → IsFree (parts switches sets system owners) w.leaves → IsMomentOf (parts switches sets system owners) w m → IsSteadyTo (if_so switches system) w →
     IsSince (if_so switches system) w m
-since_by true sets system w m free moment steady =
-    let both = first_free (switch_part system) (part_if sets (profile_part system)) w.leaves free in
-    let units = second_free (definitions_part system) (units_part system) w.leaves both in
-    since_units system w m (moment.keeps.0.1.underway (record { way = units.way; refusal = units.refusal }) steady)
-since_by false true system w m free moment steady = since_none w m (moment.only.manager refl)
-since_by false false system w m free moment steady = since_none w m (moment.only.manager refl)
+since_by true sets system owners w m free moment steady =
+    let both = first_free (switch_part system owners) (part_if sets (profile_part system)) w.leaves free in
+    let units = first_free (units_part system) (activation_part system owners) w.leaves both in
+    since_units system w m (moment.keeps.0.0.underway (record { way = units.way; refusal = units.refusal }) steady)
+since_by false true system owners w m free moment steady = since_none w m (moment.only.manager refl)
+since_by false false system owners w m free moment steady = since_none w m (moment.only.manager refl)
+
+-- ---- the owners of what is put below /etc
+
+-- a moment of the parts keeps them where the units are switched, and without that nothing asks for them
+module _ (sets : Bool) (system : Name) (w m : WorldState) where
+  final_owners : (switches : Bool) → IsMomentOf (parts_in switches sets system w.leaves) w m → (q : Name) →
+      final_leaf (parts_in switches sets system m.leaves) m.leaves q ≡ final_leaf (parts_in switches sets system w.leaves) m.leaves q
+  final_owners true moment q =
+      ap (λ (o : OwnerIds). final_leaf (parts true sets system o) m.leaves q) (owners_law system (owners_after system w.leaves) w m moment.keeps.0.1)
+  final_owners false moment q = refl
+
+  free_owners : (switches : Bool) → IsMomentOf (parts_in switches sets system w.leaves) w m → IsFree (parts_in switches sets system w.leaves) m.leaves → IsFree (parts_in switches sets system m.leaves) m.leaves
+  free_owners true moment free =
+      subst (λ (o : OwnerIds). IsFree (parts true sets system o) m.leaves) (sym (owners_law system (owners_after system w.leaves) w m moment.keeps.0.1)) free
+  free_owners false moment free = free
 
 -- ---- a command is underway
 
@@ -150,7 +166,7 @@ module _ (command : Command) (w m : WorldState) (on : (row_of command).changes �
   system = new_system command w.leaves
 
   same_store : AreSameInStore m.leaves w.leaves
-  same_store q inside = moment.only.leaves q (not_in_store switches sets system q inside) (store_not_stage q inside)
+  same_store q inside = moment.only.leaves q (not_in_store switches sets system (owners_after system w.leaves) q inside) (store_not_stage q inside)
 
   same_to : switched_to command m.leaves ≡ switched_to command w.leaves
   same_to = ap (if_so switches) same
@@ -161,14 +177,15 @@ module _ (command : Command) (w m : WorldState) (on : (row_of command).changes �
   final_same : (q : Name) → q ≢ stage → final command m.leaves q ≡ final command w.leaves q
   final_same q ne =
       ap (λ b. cond b (final_leaf (part_of command m.leaves) m.leaves q) (get m.leaves q)) on
-      ∙ ap (λ s. final_leaf (parts switches sets s) m.leaves q) same
-      ∙ ends_alike (parts switches sets system) (parts_are switches sets system (is_system system named)) w m moment q ne
+      ∙ ap (λ s. final_leaf (parts_in switches sets s m.leaves) m.leaves q) same
+      ∙ final_owners sets system w m switches moment q
+      ∙ ends_alike (parts_in switches sets system w.leaves) (parts_are switches sets system named (owners_after system w.leaves)) w m moment q ne
       ∙ sym (ap (λ b. cond b (final_leaf (part_of command w.leaves) w.leaves q) (get w.leaves q)) on)
 
   still_free : IsFreeBy switches sets system m.leaves
   still_free = record {
     version = ap is_none (content_same m.leaves w.leaves same_store (version_path system) (version_inside system named)) ∙ free.version;
-    parts = (parts_are switches sets system (is_system system named)).stays_free w m moment.keeps free.parts;
+    parts = free_owners sets system w m switches moment ((parts_are switches sets system named (owners_after system w.leaves)).stays_free w m moment.keeps free.parts);
   }
 
   still_not_refused : refusal command m.leaves ≡ None
@@ -176,7 +193,7 @@ module _ (command : Command) (w m : WorldState) (on : (row_of command).changes �
 
   pub underway : IsSteadyFor command w → IsUnderway w command m
   underway steady =
-      let since = since_by switches sets system w m free.parts moment steady in
+      let since = since_by switches sets system (owners_after system w.leaves) w m free.parts moment steady in
       let to_m = sym same_to in
       record {
         same_end = λ v. (

@@ -1,11 +1,17 @@
 -- Nothing is in the way of the places that a command writes where nothing is in the way of those of its parts.
 use Rattle.std.proofs.Common.{◌≡◌, Bool, true, false, List, [], ◌∷◌, ◌++◌, None, option_map, refl, sym, ap, subst}
+use Rattle.accounts_stage.specs.Places.{account_places, gids_place, group_place, groups_place, memory_places, passwd_place, shadow_place, table_places, uids_place, users_place}
+use Rattle.activation_stage.specs.Places.{etc_places}
+use Rattle.etc_clean.specs.CleanList.{clean_name}
+use Rattle.etc_clean.specs.Etc.{static_name}
+use Rattle.etc_clean.specs.Names.{place}
+use Rattle.etc_farm.specs.FarmPart.{fixed_places}
+use Rattle.etc_manifest.specs.Owners.{OwnerIds}
 use Rattle.generations.specs.ProfilePart.{new_link, profile_places}
-use Rattle.host_trait.specs.Change.{definitions_place}
 use Rattle.host_trait.specs.World.{Leaves, stage}
 use Rattle.owed_lists.specs.Lists.{reloads_place, restarts_place, starts_place}
 use Rattle.generations.specs.Places.{profile}
-use Rattle.switch_engine.specs.Places.{definitions_places, etc_places, list_places, run_places, switch_places}
+use Rattle.switch_engine.specs.Places.{list_places, run_places}
 use Rattle.switch_engine.specs.Rows.{middle_places, parts, places, switch_part}
 use Rattle.switch_names.specs.Names.{Name}
 use Rattle.switch_parts.proofs.Parts.{find_none, find_none_both, none_mapped}
@@ -28,19 +34,32 @@ way_joined ps qs leaves first second =
 abbrev stage_places : List WrittenPlace
 stage_places = written false stage ∷ []
 
-definitions_are : definitions_places ≡ etc_places ++ stage_places
-unfolding definitions_places etc_places
-definitions_are = refl
-
 units_are : unit_places ≡ stage_places ++ run_places
 unfolding list_places
 units_are = refl
 
+abbrev clean_places : List WrittenPlace
+clean_places = written true (place clean_name) ∷ []
+
+abbrev static_places : List WrittenPlace
+static_places = written false (place static_name) ∷ []
+
+etc_are : etc_places ≡ clean_places ++ (table_places ++ static_places)
+unfolding etc_places table_places
+etc_are = refl
+
+fixed_are : fixed_places ≡ clean_places ++ (static_places ++ stage_places)
+fixed_are = refl
+
 -- ---- the stage is apart from each
 
 pub etc_apart : AreApartFromStage etc_places
-unfolding etc_places stage definitions_place
-etc_apart = (refl, tt)
+unfolding etc_places stage place clean_name group_place passwd_place shadow_place static_name
+etc_apart = (refl, (refl, (refl, (refl, (refl, tt)))))
+
+pub memory_apart : AreApartFromStage memory_places
+unfolding memory_places stage groups_place users_place gids_place uids_place
+memory_apart = (refl, (refl, (refl, (refl, tt))))
 
 pub current_apart : AreApartFromStage (written false current_place ∷ [])
 unfolding stage current_place
@@ -59,54 +78,75 @@ stage_of true system leaves free =
     (way_split (new_link leaves system) stage_places leaves rest.1).1
 stage_of false system leaves free = free
 
--- where nothing is in the way of a switch of the units, nothing is in the way of its parts
-switch_parts_way : (system : Name) (leaves : Leaves) → in_the_way etc_places leaves ≡ None → in_the_way stage_places leaves ≡ None → in_the_way run_places leaves ≡ None →
-    in_the_way ((switch_part system).places leaves) leaves ≡ None
-switch_parts_way system leaves etc staged run =
-    way_joined definitions_places unit_places leaves
-    (subst (λ ps. in_the_way ps leaves ≡ None) (sym definitions_are) (way_joined etc_places stage_places leaves etc staged))
-    (subst (λ ps. in_the_way ps leaves ≡ None) (sym units_are) (way_joined stage_places run_places leaves staged run))
-
+-- nothing is in the way of the places of a switch of the units
 record IsWayFree (leaves : Leaves) : Type 0 where
   etc : in_the_way etc_places leaves ≡ None
   staged : in_the_way stage_places leaves ≡ None
   run : in_the_way run_places leaves ≡ None
+  memory : in_the_way memory_places leaves ≡ None
 
-way_of_switch : (system : Name) (leaves : Leaves) → in_the_way ((switch_part system).places leaves) leaves ≡ None → IsWayFree leaves
-way_of_switch system leaves free =
-    let both = way_split definitions_places unit_places leaves free in
-    let first = way_split etc_places stage_places leaves (subst (λ ps. in_the_way ps leaves ≡ None) definitions_are both.0) in
-    let second = way_split stage_places run_places leaves (subst (λ ps. in_the_way ps leaves ≡ None) units_are both.1) in
-    record { etc = first.0; staged = first.1; run = second.1 }
+module _ (system : Name) (owners : OwnerIds) (leaves : Leaves) where
+  -- and so nothing is in the way of its parts
+  switch_parts_way : IsWayFree leaves → in_the_way ((switch_part system owners).places leaves) leaves ≡ None
+  switch_parts_way way =
+      let etc = way_split clean_places (table_places ++ static_places) leaves (subst (λ ps. in_the_way ps leaves ≡ None) etc_are way.etc) in
+      let rest = way_split table_places static_places leaves etc.1 in
+      way_joined unit_places (account_places ++ fixed_places) leaves
+      (subst (λ ps. in_the_way ps leaves ≡ None) (sym units_are) (way_joined stage_places run_places leaves way.staged way.run))
+      (way_joined account_places fixed_places leaves
+      (way_joined table_places (stage_places ++ memory_places) leaves rest.0 (way_joined stage_places memory_places leaves way.staged way.memory))
+      (way_joined clean_places (static_places ++ stage_places) leaves etc.0 (way_joined static_places stage_places leaves rest.1 way.staged)))
 
-pub switch_places_free : (system : Name) (leaves : Leaves) → in_the_way ((switch_part system).places leaves) leaves ≡ None → in_the_way switch_places leaves ≡ None
-switch_places_free system leaves free =
-    let way = way_of_switch system leaves free in
-    way_joined etc_places (stage_places ++ run_places) leaves way.etc (way_joined stage_places run_places leaves way.staged way.run)
+  way_of_switch : in_the_way ((switch_part system owners).places leaves) leaves ≡ None → IsWayFree leaves
+  way_of_switch free =
+      let first = way_split unit_places (account_places ++ fixed_places) leaves free in
+      let units = way_split stage_places run_places leaves (subst (λ ps. in_the_way ps leaves ≡ None) units_are first.0) in
+      let second = way_split account_places fixed_places leaves first.1 in
+      let tables = way_split table_places (stage_places ++ memory_places) leaves second.0 in
+      let memory = way_split stage_places memory_places leaves tables.1 in
+      let clean = way_split clean_places (static_places ++ stage_places) leaves second.1 in
+      let fixed = way_split static_places stage_places leaves clean.1 in
+      record {
+        etc = subst (λ ps. in_the_way ps leaves ≡ None) (sym etc_are) (way_joined clean_places (table_places ++ static_places) leaves clean.0 (way_joined table_places static_places leaves tables.0 fixed.0));
+        staged = units.0;
+        run = units.1;
+        memory = memory.1;
+      }
 
-pub parts_way : (switches sets : Bool) (system : Name) (leaves : Leaves) → in_the_way (places switches sets system leaves) leaves ≡ None →
-    in_the_way ((parts switches sets system).places leaves) leaves ≡ None
-parts_way true true system leaves free =
-    let outer = way_split etc_places (middle_places true system leaves ++ run_places) leaves free in
-    let inner = way_split (middle_places true system leaves) run_places leaves outer.1 in
-    way_joined ((switch_part system).places leaves) (profile_places leaves system) leaves
-    (switch_parts_way system leaves outer.0 (stage_of true system leaves inner.0) inner.1) inner.0
-parts_way true false system leaves free =
-    let outer = way_split etc_places (middle_places false system leaves ++ run_places) leaves free in
-    let inner = way_split (middle_places false system leaves) run_places leaves outer.1 in
-    way_joined ((switch_part system).places leaves) [] leaves (switch_parts_way system leaves outer.0 inner.0 inner.1) refl
-parts_way false true system leaves free = free
-parts_way false false system leaves free = refl
+-- what is known of the places of a switch of the units, with those of the profile
+record AreFree (sets : Bool) (system : Name) (leaves : Leaves) : Type 0 where
+  middle : in_the_way (middle_places sets system leaves) leaves ≡ None
+  way : IsWayFree leaves
 
-pub places_way : (switches sets : Bool) (system : Name) (leaves : Leaves) → in_the_way ((parts switches sets system).places leaves) leaves ≡ None →
+switched_way : (sets : Bool) (system : Name) (leaves : Leaves) → in_the_way (places true sets system leaves) leaves ≡ None → AreFree sets system leaves
+switched_way sets system leaves free =
+    let outer = way_split etc_places (middle_places sets system leaves ++ (run_places ++ memory_places)) leaves free in
+    let inner = way_split (middle_places sets system leaves) (run_places ++ memory_places) leaves outer.1 in
+    let last = way_split run_places memory_places leaves inner.1 in
+    record { middle = inner.0; way = record { etc = outer.0; staged = stage_of sets system leaves inner.0; run = last.0; memory = last.1 } }
+
+way_switched : (sets : Bool) (system : Name) (leaves : Leaves) → AreFree sets system leaves → in_the_way (places true sets system leaves) leaves ≡ None
+way_switched sets system leaves free =
+    way_joined etc_places (middle_places sets system leaves ++ (run_places ++ memory_places)) leaves free.way.etc
+    (way_joined (middle_places sets system leaves) (run_places ++ memory_places) leaves free.middle (way_joined run_places memory_places leaves free.way.run free.way.memory))
+
+pub parts_way : (switches sets : Bool) (system : Name) (owners : OwnerIds) (leaves : Leaves) → in_the_way (places switches sets system leaves) leaves ≡ None →
+    in_the_way ((parts switches sets system owners).places leaves) leaves ≡ None
+parts_way true true system owners leaves free =
+    let all = switched_way true system leaves free in
+    way_joined ((switch_part system owners).places leaves) (profile_places leaves system) leaves (switch_parts_way system owners leaves all.way) all.middle
+parts_way true false system owners leaves free =
+    way_joined ((switch_part system owners).places leaves) [] leaves (switch_parts_way system owners leaves (switched_way false system leaves free).way) refl
+parts_way false true system owners leaves free = free
+parts_way false false system owners leaves free = refl
+
+pub places_way : (switches sets : Bool) (system : Name) (owners : OwnerIds) (leaves : Leaves) → in_the_way ((parts switches sets system owners).places leaves) leaves ≡ None →
     in_the_way (places switches sets system leaves) leaves ≡ None
-places_way true true system leaves free =
-    let both = way_split ((switch_part system).places leaves) (profile_places leaves system) leaves free in
-    let way = way_of_switch system leaves both.0 in
-    way_joined etc_places (middle_places true system leaves ++ run_places) leaves way.etc (way_joined (profile_places leaves system) run_places leaves both.1 way.run)
-places_way true false system leaves free =
-    let both = way_split ((switch_part system).places leaves) [] leaves free in
-    let way = way_of_switch system leaves both.0 in
-    way_joined etc_places (middle_places false system leaves ++ run_places) leaves way.etc (way_joined stage_places run_places leaves way.staged way.run)
-places_way false true system leaves free = free
-places_way false false system leaves free = refl
+places_way true true system owners leaves free =
+    let both = way_split ((switch_part system owners).places leaves) (profile_places leaves system) leaves free in
+    way_switched true system leaves (record { middle = both.1; way = way_of_switch system owners leaves both.0 })
+places_way true false system owners leaves free =
+    let way = way_of_switch system owners leaves (way_split ((switch_part system owners).places leaves) [] leaves free).0 in
+    way_switched false system leaves (record { middle = way.staged; way = way })
+places_way false true system owners leaves free = free
+places_way false false system owners leaves free = refl

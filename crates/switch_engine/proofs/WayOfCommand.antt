@@ -1,19 +1,20 @@
 -- The steps of a planned command over a host: a set of the profile, and then a switch of the units.
-use Rattle.std.proofs.Common.{◌≡◌, ◌↔◌, ◌&&◌, Bool, List, IfOk, IsTrue, OnOk, true, false, Option, Some, Result, Ok, Err, refl, sym, ap, subst, ◌∙◌}
+use Rattle.std.proofs.Common.{◌≡◌, ◌↔◌, ◌&&◌, Bool, List, IfOk, IsTrue, OnOk, is_some, true, false, Option, Some, Result, Ok, Err, refl, sym, ap, subst, ◌∙◌, inl, inr}
+use Rattle.std.proofs.lemmas.Bool.{cases_Bool}
 use Rattle.std.specs.FinMap.{empty}
 use Rattle.host_trait.specs.declared.tree.HostFault.{HostFault}
 use Rattle.host_trait.specs.Host.{HostState, Leads, Passes, Told}
 use Rattle.host_trait.specs.World.{Leaves, WorldState, seen}
-use Rattle.host_trait.proofs.Moments.{goes_on, leads_then, passes_as, started, told_after, told_as}
+use Rattle.host_trait.proofs.Moments.{goes_on, leads_then, none_not_some, none_or_some, passes_as, started, told_after, told_as}
 use Rattle.owed_plan.specs.declared.owed.Owed.{Owed}
 use Rattle.switch_engine.specs.declared.outcome.Outcome.{Outcome}
 use Rattle.switch_engine.specs.declared.plan.Plan.{Plan}
-use Rattle.switch_engine.specs.Carried.{CanSetBy, CanSwitch, IsSwitchMomentIf, IsSwitchedIf, sets_by}
+use Rattle.switch_engine.specs.Carried.{CanSetBy, CanSwitchBy, IsSwitchMomentIf, IsSwitchedIf, sets_by}
 use Rattle.switch_engine.specs.Commands.{if_so, new_system, row_of}
 use Rattle.switch_engine.specs.Final.{HasFailed, IsEndOf, LeavesFailed, LeavesFailedAt}
 use Rattle.switch_engine.specs.Moments.{IsMomentOf, IsSetStep, set_world}
 use Rattle.switch_engine.specs.Plan.{IsPlanOf}
-use Rattle.switch_engine.proofs.CarryLemmas.{IsCarriedFrom, can_set, can_switch, carried_from, changes_on, ends, none_failed, same_manager, set_free, set_moment, sets_same, switch_free, switch_moment, verdict}
+use Rattle.switch_engine.proofs.CarryLemmas.{IsCarriedFrom, activation_same, can_set, can_switch, carried_from, changes_on, ends, none_failed, owed_still, same_manager, set_free, set_moment, sets_same, switch_free, switch_moment, switches_same, verdict}
 use Rattle.switch_engine.proofs.LawLemmas.{begins_moment}
 use Rattle.switch_names.specs.Names.{Name}
 use Rattle.unit_defs.specs.declared.unit.Unit.{Unit}
@@ -36,6 +37,10 @@ module _ (plan : Plan) (changes : (row_of plan.command).changes ≡ false → �
   abbrev named : WorldState → Name
   named w = new_system plan.command w.leaves
 
+  -- whether an activation is planned
+  abbrev by : Bool
+  by = is_some plan.activation
+
   abbrev owed : Owed
   owed = owed_of plan.units
 
@@ -55,6 +60,10 @@ module _ (plan : Plan) (changes : (row_of plan.command).changes ≡ false → �
     same_set : (w : WorldState) → a.world ≡ Some w → sets_by system plan.profile ≡ if_so sets (named w)
     same_set w is = ap (λ s. sets_by s plan.profile) (to w.leaves) ∙ sets_same sets (named w) w plan.profile (planned.has w is).planned.profile
 
+    -- the units are switched where an activation is planned
+    is_by : (w : WorldState) → a.world ≡ Some w → by ≡ switches
+    is_by w is = switches_same switches (named w) w plan.activation (planned.has w is).planned.activation
+
     module _ {b : HostState} (set_way : Passes a b (IsSetStep (sets_by system plan.profile))) where
       set_as : (w m : WorldState) → a.world ≡ Some w → IsSetStep (sets_by system plan.profile) w m → IsMomentOf plan.command w m
       set_as w m is step = set_moment plan.command owed w (from w is) m (subst (λ (to : Option Name). IsSetStep to w m) (same_set w is) step)
@@ -66,23 +75,40 @@ module _ (plan : Plan) (changes : (row_of plan.command).changes ≡ false → �
         came : (w u : WorldState) → a.world ≡ Some w → seen u ≡ set_world (sets_by system plan.profile) w → seen u ≡ set_world (if_so sets (named w)) w
         came w u is set = subst (λ (to : Option Name). seen u ≡ set_world to w) (same_set w is) set
 
-        pub units_can : switches ≡ true → Told b (CanSwitch plan.units)
-        units_can on =
-            told_after set_way led (CanSwitch plan.units)
-            (λ w u is set. can_switch switches (named w) w u plan.units (planned.has w is).planned.units (same_manager plan.command owed w (from w is) u (came w u is set))
-            (switch_free plan.command owed w (from w is) u (came w u is set)) on)
+        module _ (last : Name) (to_last : (leaves : Leaves) → last ≡ new_system plan.command leaves) where
+          pub units_can : Told b (CanSwitchBy last plan.units plan.activation)
+          units_can =
+              told_after set_way led (CanSwitchBy last plan.units plan.activation)
+              (λ w u is set. let from_w = from w is in let there = came w u is set in
+              subst (λ s. CanSwitchBy s plan.units plan.activation u) (sym (to_last w.leaves))
+              (can_switch switches (named w) from_w.named w u plan.units plan.activation (planned.has w is).planned.units (planned.has w is).planned.activation
+              (same_manager plan.command owed w from_w u there) (owed_still plan.command owed w from_w u there) (activation_same plan.command owed w from_w u there)
+              (switch_free plan.command owed w from_w u there)))
 
-        module _ (by : Bool) (is_by : by ≡ switches) (last : Name) (to_last : (leaves : Leaves) → last ≡ new_system plan.command leaves) where
           moment_as : (w u m : WorldState) → a.world ≡ Some w → IsSwitchMomentIf by last owed u m → IsSwitchMomentIf switches (named w) owed u m
-          moment_as w u m is moment = subst (λ b. IsSwitchMomentIf b (named w) owed u m) is_by (subst (λ s. IsSwitchMomentIf by s owed u m) (to_last w.leaves) moment)
+          moment_as w u m is moment = subst (λ b. IsSwitchMomentIf b (named w) owed u m) (is_by w is) (subst (λ s. IsSwitchMomentIf by s owed u m) (to_last w.leaves) moment)
 
           end_as : (w u v : WorldState) → a.world ≡ Some w → IsSwitchedIf by last owed u v → IsSwitchedIf switches (named w) owed u v
-          end_as w u v is end = subst (λ b. IsSwitchedIf b (named w) owed u v) is_by (subst (λ s. IsSwitchedIf by s owed u v) (to_last w.leaves) end)
+          end_as w u v is end = subst (λ b. IsSwitchedIf b (named w) owed u v) (is_by w is) (subst (λ s. IsSwitchedIf by s owed u v) (to_last w.leaves) end)
 
           pub all_moments : {d : HostState} → Passes b d (IsSwitchMomentIf by last owed) → Passes a d (IsMomentOf plan.command)
           all_moments second =
               goes_on set_way led second (IsMomentOf plan.command) set_as
               (λ w u m is is_u set moment. switch_moment plan.command owed w (from w is) u (came w u is set) m (moment_as w u m is moment))
+
+          -- what the outcome says of the units where they are switched
+          pub states_of : {d : HostState} → Passes b d (IsSwitchMomentIf by last owed) → (r : Result Outcome HostFault) → IfOk r (λ outcome. IsTrue by → Told d (λ v. outcome.states ≡ v.manager.states)) →
+              IfOk r (λ outcome. (switches ≡ false → ⊥) → Told d (λ v. outcome.states ≡ v.manager.states))
+          states_of second (Err f) told = tt
+          states_of {d = d} second (Ok outcome) told = λ not_boot. record {
+            has = λ v is_v. elim (none_or_some a.world) [
+              | inl none ↦ absurd (none_not_some d.world v ((all_moments second).silent none) is_v)
+              | inr some ↦ (told (is_by some.0 some.1 ∙ switched not_boot)).has v is_v
+            ];
+          }
+            where
+              switched : (switches ≡ false → ⊥) → switches ≡ true
+              switched not_boot = elim (cases_Bool switches) [ inl on ↦ on | inr off ↦ absurd (not_boot off) ]
 
           pub comes_to_end : {d : HostState} → Leads b d (IsSwitchedIf by last owed) → Leads a d (IsEndOf plan.command)
           comes_to_end second =
@@ -99,7 +125,7 @@ module _ (plan : Plan) (changes : (row_of plan.command).changes ≡ false → �
                 let v = second.to u.0 u.1 in
                 subst (λ b. IsTrue outcome.failed ↔ LeavesFailedAt (if_so (b && switches) (named w)) w) (sym (changes_on plan.command changes))
                 (verdict switches (named w) plan.units w u.0 v.0 outcome (planned.has w is).planned.units (same_manager plan.command owed w (from w is) u.0 (came w u.0 is u.2)) (end_as w u.0 v.0 is v.2)
-                (λ on. (states (is_by ∙ on)).has v.0 v.1)
+                (λ on. (states (is_by w is ∙ on)).has v.0 v.1)
                 (failed_of by plan.units.defs (Ok outcome) failed none)
-                (λ off. none (is_by ∙ off)));
+                (λ off. none (is_by w is ∙ off)));
           }

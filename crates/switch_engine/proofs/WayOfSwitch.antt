@@ -1,88 +1,102 @@
 -- The steps of a switch of the units over a host, one call after another.
 use Rattle.std.proofs.Common.{◌≡◌, List, Some, sym, subst, ◌∙◌}
-use Rattle.host_trait.specs.declared.leaf.LeafKind.{LeafKind}
-use Rattle.host_trait.specs.declared.leaf.LeafKind.TheVariants.{Link}
-use Rattle.host_trait.specs.Change.{definitions_place}
+use Rattle.activation_stage.specs.ActivationPart.{CanActivate, IsActivated, IsActivating, activation_in}
+use Rattle.activation_stage.specs.declared.activation_plan.ActivationPlan.{ActivationPlan}
+use Rattle.host_trait.specs.declared.unit_state.State.{State}
 use Rattle.host_trait.specs.Host.{HostState, Told, Comes, Leads, Passes}
 use Rattle.host_trait.specs.States.{state_of}
-use Rattle.host_trait.specs.World.{WorldState, seen, with_leaf}
-use Rattle.host_trait.proofs.Moments.{goes_on, leads_then, passes_as, told_after, told_as}
+use Rattle.host_trait.specs.World.{WorldState, seen}
+use Rattle.host_trait.proofs.Moments.{goes_on, leads_as, leads_then, one_world, passes_as, told_after, told_as}
 use Rattle.owed_lists.specs.declared.lists.Lists.{Lists}
 use Rattle.owed_lists.specs.Record.{CanRecord}
+use Rattle.owed_plan.specs.Calls.{calls_of}
 use Rattle.owed_plan.specs.declared.duty.Duty.{Duty}
 use Rattle.owed_plan.specs.declared.owed.Owed.{Owed}
-use Rattle.owed_plan.specs.Calls.{stop_calls}
 use Rattle.owed_plan.specs.Law.{lists_of}
-use Rattle.switch_engine.specs.Moments.{IsSwitchMoment, IsSwitched}
-use Rattle.switch_engine.proofs.PlaceLemmas.{AreClear}
-use Rattle.switch_engine.proofs.SwitchLemmas.{bring_moment, can_bring, can_define, can_record, define_moment, stop_moment, switched}
+use Rattle.switch_engine.specs.Carried.{CanSwitch}
+use Rattle.switch_engine.specs.Moments.{AreStopped, HasActivated, IsSwitchMoment, IsSwitched}
+use Rattle.switch_engine.proofs.PlaceLemmas.{all_clear}
+use Rattle.switch_engine.proofs.SwitchLemmas.{bringing, can_activate, can_bring, switched}
 use Rattle.switch_names.specs.Names.{Name}
-use Rattle.tree_put.specs.Put.{CanPut, IsOldOrNew}
+use Rattle.switch_parts.proofs.Parts.{first_free}
 use Rattle.unit_stage.specs.Acts.{CanPerform}
+use Rattle.unit_stage.specs.declared.unit_plan.UnitPlan.{UnitPlan}
+use Rattle.unit_stage.specs.Plan.{owed_of}
 use Rattle.unit_stage.specs.Steps.{AreCallsOf, CanBring, IsBringMoment, IsStopMoment, with_brought, with_stops}
-use Rattle.unit_stage.specs.System.{definitions_of}
+use Rattle.unit_stage.specs.Units.{units_part}
 use Rattle.unit_stage.proofs.TableLemmas.{can_stops}
 
--- what is known at the beginning: the lists and calls are those of what is owed, and nothing is in the way
-pub record IsGiven (owed : Owed) (lists : Lists) (stops reloads restarts starts : List Duty) (w : WorldState) : Type 0 where
-  pub recorded : lists ≡ lists_of owed
-  pub calls : AreCallsOf owed (state_of w.manager.states) stops reloads restarts starts
-  pub clear : AreClear w.leaves
+-- what a host comes to has what two calls say of it
+leads_both : {a b : HostState} {P Q : WorldState → WorldState → Type 0} → Leads a b P → Leads a b Q → (R : WorldState → WorldState → Type 0) → ((w v : WorldState) → P w v → Q w v → R w v) → Leads a b R
+leads_both {b = b} {P = P} first second R both = record {
+  to = λ w is.
+      let one = first.to w is in let two = second.to w is in
+      (two.0, two.1, both w two.0 (subst (λ v. P w v) (one_world b.world one.0 two.0 one.1 two.1) one.2) two.2);
+}
 
--- the world in which the link to the definitions has moved, after the stops
-pub record IsReady (owed : Owed) (leaf : LeafKind) (w x : WorldState) : Type 0 where
-  pub stopped : WorldState
-  pub came : seen stopped ≡ seen (with_stops (lists_of owed) (stop_calls owed) w)
-  pub defined : seen x ≡ seen (with_leaf definitions_place leaf stopped)
+-- the world in which the system can come into use
+record IsReady (system : Name) (owed : Owed) (w v : WorldState) : Type 0 where
+  stopped : WorldState
+  came : AreStopped owed w stopped
+  activated : HasActivated system stopped v
 
-module _ (system : Name) (owed : Owed) (lists : Lists) (stops reloads restarts starts : List Duty) (leaf : LeafKind) (is_leaf : leaf ≡ Link (definitions_of system))
-    {a : HostState} (given : Told a (IsGiven owed lists stops reloads restarts starts)) where
+module _ (system : Name) (plan : UnitPlan) (activation : ActivationPlan) (lists : Lists) (stops reloads restarts starts : List Duty) (recorded : lists ≡ lists_of (owed_of plan))
+    (calls : (states : Name → State) → plan.duties ≡ calls_of (owed_of plan) states → AreCallsOf (owed_of plan) states stops reloads restarts starts)
+    {a : HostState} (can : Told a (CanSwitch system plan activation)) where
+  abbrev owed : Owed
+  owed = owed_of plan
+
+  calls_at : (w : WorldState) → a.world ≡ Some w → AreCallsOf owed (state_of w.manager.states) stops reloads restarts starts
+  calls_at w is = calls (state_of w.manager.states) (can.has w is).duties
+
   pub lists_can : Told a CanRecord
-  lists_can = told_as given CanRecord (λ w is known. can_record w known.clear)
+  lists_can = told_as can CanRecord (λ w is known.
+      let clear = all_clear w.leaves (first_free (units_part system) (activation_in system w.leaves) w.leaves known.free).way in
+      record { stage = clear.stage; starts = clear.starts; restarts = clear.restarts; reloads = clear.reloads })
 
   pub stops_can : Told a (λ w. CanPerform stops w.manager)
-  stops_can = told_as given (λ w. CanPerform stops w.manager) (λ w is known. subst (λ calls. CanPerform calls w.manager) (sym known.calls.are_stops) (can_stops owed w.manager))
+  stops_can = told_as can (λ w. CanPerform stops w.manager) (λ w is known. subst (λ calls. CanPerform calls w.manager) (sym (calls_at w is).are_stops) (can_stops owed w.manager))
 
   module _ {b : HostState} (stop_way : Passes a b (IsStopMoment lists stops)) where
     stop_as : (w m : WorldState) → a.world ≡ Some w → IsStopMoment lists stops w m → IsSwitchMoment system owed w m
-    stop_as w m is moment = let known = given.has w is in stop_moment system owed w lists stops m known.recorded known.calls.are_stops moment
+    stop_as w m is moment = IsSwitchMoment.Stopping (subst (λ calls. IsStopMoment (lists_of owed) calls w m) (calls_at w is).are_stops (subst (λ l. IsStopMoment l stops w m) recorded moment))
 
     pub first_way : Passes a b (IsSwitchMoment system owed)
     first_way = passes_as stop_way (IsSwitchMoment system owed) stop_as
 
     module _ (stopped : Comes a b (with_stops lists stops)) where
-      came_as : (w v : WorldState) → a.world ≡ Some w → seen v ≡ seen (with_stops lists stops w) → seen v ≡ seen (with_stops (lists_of owed) (stop_calls owed) w)
-      came_as w v is came = let known = given.has w is in came ∙ (λ i. seen (with_stops (known.recorded i) (known.calls.are_stops i) w))
+      came : Leads a b (AreStopped owed)
+      came = leads_as stopped (AreStopped owed) (λ w u is is_u. is_u ∙ (λ i. seen (with_stops (recorded i) ((calls_at w is).are_stops i) w)))
 
-      pub definitions_can : Told b (CanPut definitions_place)
-      definitions_can = told_after stop_way stopped (CanPut definitions_place) (λ w v is came. can_define lists stops w v (given.has w is).clear came)
+      pub activation_can : Told b (CanActivate system activation)
+      activation_can =
+          told_after stop_way came (CanActivate system activation)
+          (λ w u is came. let known = can.has w is in can_activate system known.named owed w known.is_owed known.free u came activation known.planned)
 
-      module _ {c : HostState} (define_way : Passes b c (IsOldOrNew definitions_place leaf)) where
+      module _ {c : HostState} (activate_way : Passes b c (IsActivating system)) where
         pub second_way : Passes a c (IsSwitchMoment system owed)
-        second_way =
-            goes_on stop_way stopped define_way (IsSwitchMoment system owed) stop_as
-            (λ w v m is is_v came moment. define_moment system owed w leaf v (came_as w v is came) m moment)
+        second_way = goes_on stop_way came activate_way (IsSwitchMoment system owed) stop_as (λ w u m is is_u came moment. IsSwitchMoment.Activating u came moment)
 
-        module _ (defined : Comes b c (with_leaf definitions_place leaf)) where
-          pub gets_ready : Leads a c (IsReady owed leaf)
+        module _ (activated : Leads b c (IsActivated system)) where
+          gets_ready : Leads a c (IsReady system owed)
           gets_ready =
-              leads_then stopped defined (IsReady owed leaf)
-              (λ w v x is is_v came new. record { stopped = v; came = came_as w v is came; defined = new })
+              leads_then came (leads_both activate_way.tells activated (HasActivated system) (λ u v moment end. record { moment = moment; end = end })) (IsReady system owed)
+              (λ w u v is is_u came activated. record { stopped = u; came = came; activated = activated })
 
           pub units_can : Told c (CanBring system reloads restarts starts)
           units_can =
               told_after second_way gets_ready (CanBring system reloads restarts starts)
-              (λ w x is at. let known = given.has w is in
-              can_bring system owed w leaf at.stopped at.came x at.defined reloads restarts starts known.calls.are_reloads known.calls.are_restarts known.calls.are_starts known.clear is_leaf)
+              (λ w v is at. let known = can.has w is in let calls = calls_at w is in
+              can_bring system known.named owed w known.is_owed known.free at.stopped at.came v at.activated reloads restarts starts calls.are_reloads calls.are_restarts calls.are_starts)
 
           pub third_way : {d : HostState} → Passes c d (IsBringMoment system reloads restarts starts) → Passes a d (IsSwitchMoment system owed)
           third_way bring_way =
               goes_on second_way gets_ready bring_way (IsSwitchMoment system owed) (λ w m is moment. moment)
-              (λ w x m is is_x at moment. let known = given.has w is in
-              bring_moment system owed w leaf at.stopped at.came x at.defined reloads restarts starts known.calls.are_reloads known.calls.are_restarts known.calls.are_starts m moment)
+              (λ w v m is is_v at moment. let known = can.has w is in let calls = calls_at w is in
+              bringing system known.named owed w known.is_owed known.free at.stopped at.came v at.activated reloads restarts starts calls.are_reloads calls.are_restarts calls.are_starts m moment)
 
           pub ends : {d : HostState} → Comes c d (with_brought system reloads restarts starts) → Leads a d (IsSwitched system owed)
           ends brought =
               leads_then gets_ready brought (IsSwitched system owed)
-              (λ w x d is is_x at came. let known = given.has w is in
-              switched system owed w leaf at.stopped at.came x at.defined reloads restarts starts known.calls.are_reloads known.calls.are_restarts known.calls.are_starts known.clear is_leaf d came)
+              (λ w v d is is_v at came. let known = can.has w is in let calls = calls_at w is in
+              switched system known.named owed w known.is_owed known.free at.stopped at.came v at.activated reloads restarts starts calls.are_reloads calls.are_restarts calls.are_starts d came)

@@ -1,5 +1,7 @@
 -- What each step of carrying a plan out needs, and what it leaves: NixOS manual, "What happens during a system switch?".
 use Rattle.std.specs.Prelude.{◌≡◌, Bool, true, false, Option, None, Some}
+use Rattle.activation_stage.specs.ActivationPart.{IsActivationPlanOf}
+use Rattle.activation_stage.specs.declared.activation_plan.ActivationPlan.{ActivationPlan}
 use Rattle.generations.specs.Gens.{IsGensOf}
 use Rattle.generations.specs.Set.{CanSet}
 use Rattle.host_trait.specs.States.{state_of}
@@ -8,11 +10,12 @@ use Rattle.owed_plan.specs.declared.owed.Owed.{Owed}
 use Rattle.owed_plan.specs.Calls.{calls_of}
 use Rattle.switch_engine.specs.declared.plan.ProfilePlan.{ProfilePlan}
 use Rattle.switch_engine.specs.Moments.{IsSwitchMoment, IsSwitched}
-use Rattle.switch_engine.specs.Places.{switch_places}
+use Rattle.switch_engine.specs.Rows.{switch_in}
 use Rattle.switch_names.specs.Names.{Name}
-use Rattle.tree_put.specs.WrittenPlace.{in_the_way}
+use Rattle.switch_names.specs.SystemName.{IsSystemPath}
+use Rattle.switch_parts.specs.Part.{IsFree}
 use Rattle.unit_stage.specs.declared.unit_plan.UnitPlan.{UnitPlan}
-use Rattle.unit_stage.specs.Plan.{owed_of}
+use Rattle.unit_stage.specs.Plan.{IsOwedBy, owed_of}
 
 -- the system to which the profile is set, where that is planned
 abbrev pub sets_by : Name → Option ProfilePlan → Option Name
@@ -29,10 +32,18 @@ abbrev pub CanSetBy : Name → Option ProfilePlan → WorldState → Type 0
 CanSetBy system None w = Unit {0}
 CanSetBy system (Some plan) w = CanSetTo system plan w
 
--- the calls of a plan are those of what is owed, and nothing is in the way
-pub record CanSwitch (plan : UnitPlan) (w : WorldState) : Type 0 where
+-- what is owed and the calls of a plan are those of this world, and so is the activation, and nothing is in the way
+pub record CanSwitch (system : Name) (plan : UnitPlan) (activation : ActivationPlan) (w : WorldState) : Type 0 where
+  pub named : IsSystemPath system
+  pub is_owed : IsOwedBy w system (owed_of plan)
   pub duties : plan.duties ≡ calls_of (owed_of plan) (state_of w.manager.states)
-  pub way : in_the_way switch_places w.leaves ≡ None
+  pub planned : IsActivationPlanOf system w.leaves activation
+  pub free : IsFree (switch_in system w.leaves) w.leaves
+
+-- the same, where an activation is planned, as it is where the units are switched
+abbrev pub CanSwitchBy : Name → UnitPlan → Option ActivationPlan → WorldState → Type 0
+CanSwitchBy system plan None w = Unit {0}
+CanSwitchBy system plan (Some activation) w = CanSwitch system plan activation w
 
 -- a moment of a switch of the units, where they are switched
 abbrev pub IsSwitchMomentIf : Bool → Name → Owed → WorldState → WorldState → Type 0

@@ -1,29 +1,45 @@
 -- What holds at each moment of a command: NixOS manual, "What happens during a system switch?".
 use Rattle.std.specs.Prelude.{◌≡◌, ◌≢◌, ◌↔◌, Bool, true, false, List, [], ◌∷◌, Option, None, Some, ℕ}
 use Rattle.std.specs.FinMap.{get}
+use Rattle.activation_stage.specs.ActivationPart.{IsActivated, IsActivating}
 use Rattle.generations.specs.Places.{Names, set_end}
 use Rattle.generations.specs.Set.{IsSetMoment, NamesOldOrNew}
+use Rattle.host_trait.specs.States.{state_of}
 use Rattle.host_trait.specs.World.{WorldState, seen, stage}
+use Rattle.owed_plan.specs.Calls.{reload_calls, restart_calls, start_calls, stop_calls}
 use Rattle.owed_plan.specs.declared.owed.Owed.{Owed}
+use Rattle.owed_plan.specs.Law.{lists_of}
 use Rattle.switch_engine.specs.declared.command.Command.{Command}
 use Rattle.switch_engine.specs.Commands.{brought_to, row_of, set_to}
 use Rattle.switch_engine.specs.Final.{IsEndOf}
 use Rattle.switch_engine.specs.Owing.{IsSteadyFor, IsUnderway}
-use Rattle.switch_engine.specs.Rows.{switch_part}
+use Rattle.switch_engine.specs.Rows.{switch_in}
 use Rattle.switch_names.specs.Names.{Name}
-use Rattle.switch_parts.specs.Part.{IsOnly, final_leaf}
+use Rattle.switch_parts.specs.Part.{final_leaf}
 use Rattle.unit_stage.specs.End.{IsBrought}
 use Rattle.unit_stage.specs.Plan.{IsOwedBy}
-use Rattle.unit_stage.specs.Steps.{IsUnitMoment}
+use Rattle.unit_stage.specs.Steps.{IsBringMoment, IsStopMoment, with_stops}
 
--- a moment of a switch of the units: they are at one of its steps, and nothing has changed but what its parts own
-pub record IsSwitchMoment (system : Name) (owed : Owed) (w m : WorldState) : Type 0 where
-  pub units : IsUnitMoment system owed w m
-  pub only : IsOnly (switch_part system) w m
+-- but for the stage, the world in which what is owed is on the lists, and units have been stopped
+abbrev pub AreStopped : Owed → WorldState → WorldState → Type 0
+AreStopped owed w u = seen u ≡ seen (with_stops (lists_of owed) (stop_calls owed) w)
+
+-- an activation has come to its end, which is its last moment
+pub record HasActivated (system : Name) (u v : WorldState) : Type 0 where
+  pub moment : IsActivating system u v
+  pub end : IsActivated system u v
+
+-- A moment of a switch of the units is one of three: the lists are being recorded and units stopped, the accounts are being
+-- set and /etc is being made, or the system comes into use and units are reloaded, restarted and started.
+pub data IsSwitchMoment (system : Name) (owed : Owed) (w m : WorldState) : Type 0 where
+  Stopping : IsStopMoment (lists_of owed) (stop_calls owed) w m → IsSwitchMoment system owed w m
+  Activating : (u : WorldState) → AreStopped owed w u → IsActivating system u m → IsSwitchMoment system owed w m
+  Bringing : (u v : WorldState) → AreStopped owed w u → HasActivated system u v →
+      IsBringMoment system (reload_calls owed (state_of w.manager.states)) (restart_calls owed) (start_calls owed) v m → IsSwitchMoment system owed w m
 
 -- the world that a switch of the units leaves: each place is at its end, and so is each unit
 pub record IsSwitched (system : Name) (owed : Owed) (w v : WorldState) : Type 0 where
-  pub leaves : (q : Name) → q ≢ stage → get v.leaves q ≡ final_leaf (switch_part system) w.leaves q
+  pub leaves : (q : Name) → q ≢ stage → get v.leaves q ≡ final_leaf (switch_in system w.leaves) w.leaves q
   pub units : IsBrought system owed w v
 
 -- a step of a set of the profile, where it is set to a system

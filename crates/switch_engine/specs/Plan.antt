@@ -1,5 +1,7 @@
 -- What is planned for a command: NixOS manual, "What happens during a system switch?".
 use Rattle.std.specs.Prelude.{◌≡◌, Bool, true, false, Option, None, Some}
+use Rattle.activation_stage.specs.ActivationPart.{IsActivationPlanOf}
+use Rattle.activation_stage.specs.declared.activation_plan.ActivationPlan.{ActivationPlan}
 use Rattle.generations.specs.declared.gens.Gens.{Gens}
 use Rattle.generations.specs.Gens.{IsGensOf, number_for_in}
 use Rattle.generations.specs.Places.{number_after}
@@ -24,6 +26,11 @@ abbrev pub AreUnitsPlanned : Bool → Name → WorldState → UnitPlan → Type 
 AreUnitsPlanned true system w plan = IsUnitPlanOf system w plan
 AreUnitsPlanned false system w plan = plan ≡ no_units
 
+-- what is planned for the accounts and /etc, where the units are switched to a system
+abbrev pub IsActivationPlanned : Bool → Name → WorldState → Option ActivationPlan → Type 0
+IsActivationPlanned switches system w None = switches ≡ false
+IsActivationPlanned switches system w (Some plan) = (switches ≡ true) × IsActivationPlanOf system w.leaves plan
+
 -- the generations that stand, where the profile is set
 abbrev pub AreGensFor : Bool → Leaves → Option Gens → Type 0
 AreGensFor sets leaves None = sets ≡ false
@@ -37,6 +44,7 @@ IsProfilePlanned sets system w (Some plan) = (sets ≡ true) × IsProfilePlanOf 
 -- the parts that are planned for a command
 pub record ArePlanned (command : Command) (w : WorldState) (plan : Plan) : Type 0 where
   pub units : AreUnitsPlanned (row_of command).switches (new_system command w.leaves) w plan.units
+  pub activation : IsActivationPlanned (row_of command).switches (new_system command w.leaves) w plan.activation
   pub profile : IsProfilePlanned (row_of command).sets (new_system command w.leaves) w plan.profile
 
 -- the number for the profile, where that is set, is the one that its generations give the system

@@ -2,12 +2,17 @@
 use Rattle.std.specs.Prelude.{◌∷◌, ◌++◌, Bool, true, false, List, [], Option, Some, is_none, option_map, if◌then◌else◌}
 use Rattle.std.specs.FinMap.{get}
 use Rattle.std.specs.Option.{option_or}
+use Rattle.accounts_stage.specs.Places.{memory_places}
+use Rattle.activation_stage.specs.ActivationPart.{activation_part}
+use Rattle.activation_stage.specs.Owners.{owners_after}
+use Rattle.activation_stage.specs.Places.{etc_places}
+use Rattle.etc_manifest.specs.Owners.{OwnerIds}
 use Rattle.generations.specs.ProfilePart.{profile_part, profile_places}
 use Rattle.host_trait.specs.declared.leaf.LeafKind.{LeafKind}
 use Rattle.host_trait.specs.World.{Leaves, content_of, stage}
 use Rattle.switch_engine.specs.declared.command.Command.{Command}
 use Rattle.switch_engine.specs.Commands.{new_system, row_of}
-use Rattle.switch_engine.specs.Places.{definitions_part, etc_places, run_places}
+use Rattle.switch_engine.specs.Places.{run_places}
 use Rattle.switch_engine.specs.System.{version_path}
 use Rattle.switch_names.specs.Names.{Name}
 use Rattle.switch_parts.specs.declared.refusal.Refusal.{Refusal}
@@ -17,9 +22,14 @@ use Rattle.tree_put.specs.declared.written_place.WrittenPlace.{WrittenPlace}
 use Rattle.tree_put.specs.WrittenPlace.{in_the_way, written}
 use Rattle.unit_stage.specs.Units.{units_part}
 
--- what is brought into use by a switch to a system; the link to its definitions moves between the stops and the starts
-abbrev pub switch_part : Name → Part
-switch_part system = both (definitions_part system) (units_part system)
+-- what is brought into use by a switch to a system, where these are the owners of what is put below /etc; that is made
+-- between the stops and the starts
+abbrev pub switch_part : Name → OwnerIds → Part
+switch_part system owners = both (units_part system) (activation_part system owners)
+
+-- the same with the owners of the tables that are left
+abbrev pub switch_in : Name → Leaves → Part
+switch_in system leaves = switch_part system (owners_after system leaves)
 
 -- a part, where this is so
 abbrev pub part_if : Bool → Part → Part
@@ -27,8 +37,12 @@ part_if true part = part
 part_if false part = no_part
 
 -- the parts of a command that is about a system: what it switches, and the profile
-abbrev pub parts : Bool → Bool → Name → Part
-parts switches sets system = both (part_if switches (switch_part system)) (part_if sets (profile_part system))
+abbrev pub parts : Bool → Bool → Name → OwnerIds → Part
+parts switches sets system owners = both (part_if switches (switch_part system owners)) (part_if sets (profile_part system))
+
+-- the same with the owners of the tables that are left
+abbrev pub parts_in : Bool → Bool → Name → Leaves → Part
+parts_in switches sets system leaves = parts switches sets system (owners_after system leaves)
 
 -- the places of the profile where that is set, with the stage
 abbrev pub middle_places : Bool → Name → Leaves → List WrittenPlace
@@ -36,17 +50,17 @@ middle_places sets system leaves = if sets then profile_places leaves system els
 
 -- the places that a command writes, in byte order
 abbrev pub places : Bool → Bool → Name → Leaves → List WrittenPlace
-places true sets system leaves = etc_places ++ (middle_places sets system leaves ++ run_places)
+places true sets system leaves = etc_places ++ (middle_places sets system leaves ++ (run_places ++ memory_places))
 places false sets system leaves = if sets then profile_places leaves system else []
 
 -- the parts of a command
 abbrev pub part_of : Command → Leaves → Part
-part_of command leaves = parts (row_of command).switches (row_of command).sets (new_system command leaves)
+part_of command leaves = parts_in (row_of command).switches (row_of command).sets (new_system command leaves) leaves
 
 -- why the parts of a command that is about a system are refused, or nothing: something is in the way, or a part is refused
 abbrev pub refusal_by : Bool → Bool → Name → Leaves → Option Refusal
 refusal_by switches sets system leaves =
-    option_or (option_map InTheWay (in_the_way (places switches sets system leaves) leaves)) ((parts switches sets system).refusal leaves)
+    option_or (option_map InTheWay (in_the_way (places switches sets system leaves) leaves)) ((parts_in switches sets system leaves).refusal leaves)
 
 -- the same for a command
 abbrev pub parts_refusal : Command → Leaves → Option Refusal

@@ -1,27 +1,27 @@
 //! Carries a planned command out.
-ghost use Rattle.std.specs.Prelude.{◌≡◌, ◌↔◌, IfOk, IsTrue, Some, OnOk, false};
+ghost use Rattle.std.specs.Prelude.{◌≡◌, ◌↔◌, IfOk, IsTrue, Some, OnOk, false, is_some};
 ghost use Rattle.std.specs.FinMap.{empty};
 ghost use Rattle.std.specs.Option.{option_copied};
 ghost use Rattle.generations.specs.Gens.{number_for_in};
 ghost use Rattle.host_trait.specs.World.{seen};
 ghost use Rattle.host_trait.specs.Host.{Told, Leads, Passes, HasCause};
-ghost use Rattle.switch_engine.specs.Carried.{CanSetBy, CanSwitch, IsSwitchMomentIf, IsSwitchedIf, sets_by};
+ghost use Rattle.switch_engine.specs.Carried.{CanSetBy, CanSwitch, CanSwitchBy, IsSwitchMomentIf, IsSwitchedIf, sets_by};
 ghost use Rattle.switch_engine.specs.Commands.{IsBoot, IsQuery};
 ghost use Rattle.switch_engine.specs.declared.plan.ProfilePlan.{ProfilePlan};
 ghost use Rattle.switch_engine.specs.Final.{HasFailed, IsEndOf, LeavesFailed};
 ghost use Rattle.switch_engine.specs.Moments.{IsMomentOf, IsSetStep, IsSwitchMoment, IsSwitched, set_world};
-ghost use Rattle.switch_engine.specs.Places.{links_to};
 ghost use Rattle.switch_engine.specs.Plan.{IsNumbered, IsPlanOf};
 ghost use Rattle.unit_stage.specs.Plan.{owed_of};
+ghost use Rattle.unit_stage.specs.System.{system_leaf};
 
-use crate::links::{Links, links_to, put_definitions};
 use crate::outcome::{Outcome, has_failed};
 use crate::plan::{Plan, ProfilePlan};
+use activation_stage::{ActivationPlan, activate};
 use generations::set_number;
-use host_trait::{HostFault, Manager, Tree};
+use host_trait::{HostFault, Leaf, Manager, Tree};
 use std::alloc::Global;
 use switch_names::SystemName;
-use unit_stage::{UnitPlan, bring_units, calls_of, stop_units};
+use unit_stage::{UnitPlan, bring_units, calls_of, stop_units, system_leaf};
 
 /// Sets the profile to a system, where that is planned.
 fn set_profile<T: Tree>(
@@ -48,18 +48,19 @@ fn switch_units<H: Manager>(
     host: &mut H,
     system: &SystemName,
     plan: &UnitPlan,
-    links: &Links,
+    activation: &ActivationPlan,
+    current: &Leaf,
 ) -> Result<(), HostFault>
-    requires can { Told (H.host host.old) (CanSwitch plan.now) }
-    requires links { links.now ≡ links_to system.now }
+    requires can { Told (H.host host.old) (CanSwitch system.now plan.now activation.now) }
+    requires current { current.now ≡ system_leaf system.now }
     ensures ok { OnOk result (Leads (H.host host.old) (H.host host.new) (IsSwitched system.now (owed_of plan.now))) }
     ensures moments { Passes (H.host host.old) (H.host host.new) (IsSwitchMoment system.now (owed_of plan.now)) }
     ensures cause { HasCause (H.host host.old) (H.host host.new) result }
 {
     let calls = calls_of(plan);
     stop_units(alloc, host, plan.recorded(), calls.stops)?;
-    put_definitions(alloc, host, &links.definitions)?;
-    bring_units(alloc, host, system, &links.current, calls)?;
+    activate(alloc, host, system, activation)?;
+    bring_units(alloc, host, system, current, calls)?;
     Ok(())
 }
 
@@ -69,52 +70,54 @@ fn carry_switch<H: Manager>(
     host: &mut H,
     system: &SystemName,
     plan: &UnitPlan,
-    links: &Links,
+    activation: &ActivationPlan,
+    current: &Leaf,
 ) -> Result<Outcome, HostFault>
-    requires can { Told (H.host host.old) (CanSwitch plan.now) }
-    requires links { links.now ≡ links_to system.now }
+    requires can { Told (H.host host.old) (CanSwitch system.now plan.now activation.now) }
+    requires current { current.now ≡ system_leaf system.now }
     ensures ok { OnOk result (Leads (H.host host.old) (H.host host.new) (IsSwitched system.now (owed_of plan.now))) }
     ensures states { IfOk result (λ outcome. Told (H.host host.new) (λ v. outcome.states ≡ v.manager.states)) }
     ensures failed { IfOk result (λ outcome. IsTrue outcome.failed ↔ HasFailed plan.now.defs outcome.states) }
     ensures moments { Passes (H.host host.old) (H.host host.new) (IsSwitchMoment system.now (owed_of plan.now)) }
     ensures cause { HasCause (H.host host.old) (H.host host.new) result }
 {
-    switch_units(alloc, host, system, plan, links)?;
+    switch_units(alloc, host, system, plan, activation, current)?;
     let states = host.units(alloc)?;
     let failed = has_failed(plan.defs(), &states);
     Ok(Outcome { states, failed })
 }
 
-/// Carries a planned switch of the units out where they are switched. Else no state is told.
+/// Carries a planned switch of the units out where they are switched, and with them an activation is
+/// planned. Else no state is told.
 fn carry_units<H: Manager>(
     alloc: Global,
     host: &mut H,
-    switches: bool,
     system: &SystemName,
     plan: &UnitPlan,
-    links: &Links,
+    activation: Option<&ActivationPlan>,
+    current: &Leaf,
 ) -> Result<Outcome, HostFault>
-    requires can { IsTrue switches → Told (H.host host.old) (CanSwitch plan.now) }
-    requires links { links.now ≡ links_to system.now }
-    ensures ok { OnOk result (Leads (H.host host.old) (H.host host.new) (IsSwitchedIf switches system.now (owed_of plan.now))) }
-    ensures states { IfOk result (λ outcome. IsTrue switches → Told (H.host host.new) (λ v. outcome.states ≡ v.manager.states)) }
-    ensures failed { IfOk result (λ outcome. IsTrue switches → IsTrue outcome.failed ↔ HasFailed plan.now.defs outcome.states) }
-    ensures none { switches ≡ false → IfOk result (λ outcome. outcome ≡ record { states = empty; failed = false }) }
-    ensures moments { Passes (H.host host.old) (H.host host.new) (IsSwitchMomentIf switches system.now (owed_of plan.now)) }
+    requires can { Told (H.host host.old) (CanSwitchBy system.now plan.now (option_copied activation)) }
+    requires current { current.now ≡ system_leaf system.now }
+    ensures ok { OnOk result (Leads (H.host host.old) (H.host host.new) (IsSwitchedIf (is_some (option_copied activation.entry)) system.now (owed_of plan.now))) }
+    ensures states { IfOk result (λ outcome. IsTrue (is_some (option_copied activation.entry)) → Told (H.host host.new) (λ v. outcome.states ≡ v.manager.states)) }
+    ensures failed { IfOk result (λ outcome. IsTrue (is_some (option_copied activation.entry)) → IsTrue outcome.failed ↔ HasFailed plan.now.defs outcome.states) }
+    ensures none { is_some (option_copied activation.entry) ≡ false → IfOk result (λ outcome. outcome ≡ record { states = empty; failed = false }) }
+    ensures moments { Passes (H.host host.old) (H.host host.new) (IsSwitchMomentIf (is_some (option_copied activation.entry)) system.now (owed_of plan.now)) }
     ensures cause { HasCause (H.host host.old) (H.host host.new) result }
 {
-    if !switches {
-        return Ok(Outcome::none(alloc));
+    match activation {
+        Some(activation) => carry_switch(alloc, host, system, plan, activation, current),
+        None => Ok(Outcome::none(alloc)),
     }
-    carry_switch(alloc, host, system, plan, links)
 }
 
 /// Carries a planned command out.
 ///
 /// A set of the profile makes the generation where it is new, and points the profile to it. A switch of
-/// the units records the lists, stops units, puts the links to the new definitions and the new system,
-/// loads the definitions, and reloads, restarts and starts units. Each list goes after the last of its
-/// calls. A command that does both sets the profile first.
+/// the units records the lists, stops units, sets the accounts, makes `/etc`, puts the link to the new
+/// system, loads its definitions, and reloads, restarts and starts units. Each list goes after the last
+/// of its calls. A command that does both sets the profile first.
 /// Source: NixOS manual, "What happens during a system switch?".
 pub fn carry_out<H: Manager>(alloc: Global, host: &mut H, plan: &Plan) -> Result<Outcome, HostFault>
     requires planned { Told (H.host host.old) (λ w. IsPlanOf w plan.now) }
@@ -127,8 +130,8 @@ pub fn carry_out<H: Manager>(alloc: Global, host: &mut H, plan: &Plan) -> Result
     ensures moments { Passes (H.host host.old) (H.host host.new) (IsMomentOf plan.now.command) }
     ensures cause { HasCause (H.host host.old) (H.host host.new) result }
 {
-    let links = links_to(alloc, plan.to())?;
+    let current = system_leaf(alloc, plan.to())?;
     set_profile(alloc, host, plan.to(), plan.profile())?;
-    let switches = plan.command().switches();
-    carry_units(alloc, host, switches, plan.to(), plan.units(), &links)
+    let activation = plan.activation();
+    carry_units(alloc, host, plan.to(), plan.units(), activation, &current)
 }

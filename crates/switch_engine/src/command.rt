@@ -9,9 +9,10 @@ use switch_names::SystemName;
 /// What a run is asked to do with a system.
 #[derive(Debug, Drop)]
 pub enum Command {
-    /// Makes a generation for a system, points the profile to it, and switches the units to it.
+    /// Makes a generation for a system, points the profile to it, and switches the accounts, `/etc` and
+    /// the units to it.
     Switch(SystemName),
-    /// Switches the units to a system, and leaves the profile as it is.
+    /// Switches the accounts, `/etc` and the units to a system, and leaves the profile as it is.
     Test(SystemName),
     /// Makes a generation for a system and points the profile to it, for the next boot.
     Boot(SystemName),

@@ -4,7 +4,6 @@
 mod carrying;
 mod command;
 pub mod laws;
-mod links;
 mod outcome;
 mod places;
 mod plan;
@@ -16,5 +15,5 @@ pub use command::Command;
 pub use outcome::{Outcome, is_failed_of};
 pub use plan::{Plan, ProfilePlan};
 pub use planning::plan_all;
-pub use switch_parts::{PlanFault, Refusal};
+pub use switch_parts::{MapFile, PlanFault, Refusal, TableFile};
 pub use system::version_path;

@@ -8,14 +8,15 @@ ghost use Rattle.host_trait.specs.World.{Leaves};
 ghost use Rattle.switch_parts.specs.declared.plan_fault.PlanFault.TheVariants.{Host, Refused};
 ghost use Rattle.switch_parts.specs.declared.refusal.Refusal.{Refusal};
 ghost use Rattle.switch_parts.specs.declared.refusal.Refusal.TheVariants.{InTheWay};
-ghost use Rattle.switch_engine.specs.Places.{etc_places, list_places};
+ghost use Rattle.switch_engine.specs.Places.{list_places};
 ghost use Rattle.switch_engine.specs.Plan.{AreGensFor};
 ghost use Rattle.switch_engine.specs.Rows.{middle_places, places};
 ghost use Rattle.unit_stage.specs.System.{current_place};
 ghost use Rattle.tree_put.specs.WrittenPlace.{AreApartFromStage, in_the_way, written};
 
+use activation_stage::{add_etc_places, add_memory_places};
 use generations::{Gens, add_profile_places};
-use host_trait::{Tree, definitions_path, stage_path};
+use host_trait::{Tree, stage_path};
 use owed_lists::{Which, list_path};
 use std::alloc::{AllocError, Global};
 use switch_names::{Listed, Path, SystemName};
@@ -28,13 +29,6 @@ fn written(at: Path, is_read: bool) -> WrittenPlace
     ensures { result ≡ written is_read at }
 {
     WrittenPlace { at, is_read }
-}
-
-/// Adds the places below /etc that a switch of the units writes.
-fn add_etc(alloc: Global, places: &mut Listed<WrittenPlace>) -> Result<(), AllocError>
-    ensures { OnOk result (places.new ≡ places.old ++ etc_places) }
-{
-    places.push(written(definitions_path(alloc)?, false))
 }
 
 /// Adds the places of the profile, given the generations that stand where it is set, with the stage.
@@ -79,10 +73,11 @@ fn switched_places(
     ensures apart { IfOk result (λ list. AreApartFromStage list) }
 {
     let mut list = Listed::new(alloc);
-    add_etc(alloc, &mut list)?;
+    add_etc_places(alloc, &mut list)?;
     add_middle(alloc, &mut list, gens, system)?;
     add_current(alloc, &mut list)?;
     add_lists(alloc, &mut list)?;
+    add_memory_places(alloc, &mut list)?;
     Ok(list)
 }
 

@@ -5,6 +5,7 @@ ghost use Rattle.host_trait.specs.World.{Leaves};
 ghost use Rattle.switch_engine.specs.Commands.{IsBoot, new_system};
 
 use crate::command::Command;
+use activation_stage::ActivationPlan;
 use generations::Gens;
 use owed_plan::Duty;
 use switch_names::{Listed, SystemName, UnitName};
@@ -30,6 +31,7 @@ impl Drop for ProfilePlan {
 pub struct Plan {
     command: Command,
     units: UnitPlan,
+    activation: Option<ActivationPlan>,
     profile: Option<ProfilePlan>,
 }
 
@@ -39,6 +41,7 @@ impl Drop for Plan {
         let Plan {
             command: _,
             units: _,
+            activation: _,
             profile: _,
         } = self;
     }
@@ -46,12 +49,18 @@ impl Drop for Plan {
 
 impl Plan {
     /// A plan of these parts.
-    pub(crate) fn new(command: Command, units: UnitPlan, profile: Option<ProfilePlan>) -> Plan
-        ensures { result ≡ record { command = command; units = units; profile = profile } }
+    pub(crate) fn new(
+        command: Command,
+        units: UnitPlan,
+        activation: Option<ActivationPlan>,
+        profile: Option<ProfilePlan>,
+    ) -> Plan
+        ensures { result ≡ record { command = command; units = units; activation = activation; profile = profile } }
     {
         Plan {
             command,
             units,
+            activation,
             profile,
         }
     }
@@ -68,6 +77,13 @@ impl Plan {
         ensures { result.now ≡ self.now.units }
     {
         &self.units
+    }
+
+    /// What is done to the accounts and to `/etc`, where the units are switched.
+    pub fn activation(&self) -> Option<&ActivationPlan>
+        ensures { option_copied result ≡ self.now.activation }
+    {
+        self.activation.as_ref()
     }
 
     /// What is done to the profile, where that is set.

@@ -1,6 +1,7 @@
 //! Plans what a command does, before anything is put or changed.
 ghost use Rattle.std.specs.Prelude.{◌≡◌, ◌↔◌, Bool, None, Some, IfOk, IsErrOf, IsTrue, OnOk, option_map};
 ghost use Rattle.std.specs.Option.{option_copied};
+ghost use Rattle.activation_stage.specs.ActivationPart.{activation_in};
 ghost use Rattle.generations.specs.Gens.{number_for_in};
 ghost use Rattle.generations.specs.ProfilePart.{profile_part};
 ghost use Rattle.host_trait.specs.declared.tree.HostFault.TheVariants.{Device};
@@ -10,18 +11,20 @@ ghost use Rattle.host_trait.specs.World.{WorldState};
 ghost use Rattle.switch_engine.specs.Commands.{new_system, row_of};
 ghost use Rattle.switch_engine.specs.declared.plan.ProfilePlan.{ProfilePlan};
 ghost use Rattle.switch_engine.specs.Owing.{IsSteadyFor};
-ghost use Rattle.switch_engine.specs.Plan.{AreGensFor, ArePlanned, AreUnitsPlanned, IsNumbered, IsPlanOf, IsProfilePlanned};
-ghost use Rattle.switch_engine.specs.Rows.{part_if, parts_refusal, places, refusal, switch_part};
+ghost use Rattle.switch_engine.specs.Plan.{AreGensFor, ArePlanned, AreUnitsPlanned, IsActivationPlanned, IsNumbered, IsPlanOf, IsProfilePlanned};
+ghost use Rattle.switch_engine.specs.Rows.{part_if, parts_refusal, places, refusal};
 ghost use Rattle.switch_parts.specs.declared.plan_fault.PlanFault.TheVariants.{Host, Refused};
 ghost use Rattle.switch_parts.specs.declared.plan_fault.PlanFault.{PlanFault};
 ghost use Rattle.switch_parts.specs.declared.refusal.Refusal.{Refusal};
 ghost use Rattle.switch_parts.specs.declared.refusal.Refusal.TheVariants.{GenerationsFull, InTheWay};
 ghost use Rattle.tree_put.specs.WrittenPlace.{in_the_way};
+ghost use Rattle.unit_stage.specs.Units.{units_part};
 
 use crate::command::Command;
 use crate::places::{check_way, places_of};
 use crate::plan::{Plan, ProfilePlan};
 use crate::system::has_version;
+use activation_stage::{ActivationPlan, plan_activation};
 use generations::{Gens, all, number_for};
 use host_trait::{HostFault, Manager, Tree};
 use std::alloc::Global;
@@ -71,9 +74,9 @@ fn plan_switch<H: Manager>(
 ) -> Result<UnitPlan, PlanFault>
     ensures plan { IfOk result (λ plan. Told (H.host host.old) (λ w. AreUnitsPlanned (row_of command.now).switches (new_system command.now w.leaves) w plan)) }
     ensures steady { IfOk result (λ plan. Told (H.host host.old) (λ w. IsTrue plan.steady ↔ IsSteadyFor command.now w)) }
-    ensures not_refused { OnOk result (Told (H.host host.old) (λ w. (part_if (row_of command.now).switches (switch_part (new_system command.now w.leaves))).refusal w.leaves ≡ None)) }
+    ensures not_refused { OnOk result (Told (H.host host.old) (λ w. (part_if (row_of command.now).switches (units_part (new_system command.now w.leaves))).refusal w.leaves ≡ None)) }
     ensures refused { (why : Refusal) → IsErrOf result (Refused why)
-        → Told (H.host host.old) (λ w. (part_if (row_of command.now).switches (switch_part (new_system command.now w.leaves))).refusal w.leaves ≡ Some why) }
+        → Told (H.host host.old) (λ w. (part_if (row_of command.now).switches (units_part (new_system command.now w.leaves))).refusal w.leaves ≡ Some why) }
     ensures reads { IsReadingOf (H.host host.old) (H.host host.new) (IsErrOf result (Host Device)) }
 {
     if !command.switches() {
@@ -81,6 +84,25 @@ fn plan_switch<H: Manager>(
     }
     let plan = plan_units(alloc, host, command.system())?;
     Ok(plan)
+}
+
+/// Plans the accounts and `/etc` where a command switches the units, or nothing.
+fn plan_accounts_and_etc<T: Tree>(
+    alloc: Global,
+    host: &mut T,
+    command: &Command,
+) -> Result<Option<ActivationPlan>, PlanFault>
+    ensures plan { IfOk result (λ plan. Told (T.host host.old) (λ w. IsActivationPlanned (row_of command.now).switches (new_system command.now w.leaves) w plan)) }
+    ensures not_refused { OnOk result (Told (T.host host.old) (λ w. (part_if (row_of command.now).switches (activation_in (new_system command.now w.leaves) w.leaves)).refusal w.leaves ≡ None)) }
+    ensures refused { (why : Refusal) → IsErrOf result (Refused why)
+        → Told (T.host host.old) (λ w. (part_if (row_of command.now).switches (activation_in (new_system command.now w.leaves) w.leaves)).refusal w.leaves ≡ Some why) }
+    ensures reads { IsReadingOf (T.host host.old) (T.host host.new) (IsErrOf result (Host Device)) }
+{
+    if !command.switches() {
+        return Ok(None);
+    }
+    let plan = plan_activation(alloc, host, command.system())?;
+    Ok(Some(plan))
 }
 
 /// Plans a set of the profile to a system, or nothing where it isn't set.
@@ -114,14 +136,16 @@ fn plan_parts<H: Manager>(alloc: Global, host: &mut H, command: &Command) -> Res
     let gens = gens_for(alloc, host, command)?;
     check_places(alloc, host, command, gens.as_ref())?;
     let units = plan_switch(alloc, host, command)?;
+    let activation = plan_accounts_and_etc(alloc, host, command)?;
     let profile = plan_profile(gens, command.system())?;
-    Ok(Plan::new(planned, units, profile))
+    Ok(Plan::new(planned, units, activation, profile))
 }
 
 /// Plans what a command does, before anything is put or changed, and changes nothing.
 ///
-/// The refusals are sought in this order: `NoSystem`, `InTheWay`, `UnitText` of a switch of the units,
-/// and `GenerationsFull` of a set of the profile.
+/// The refusals are sought in this order: `NoSystem`, `InTheWay`; of a switch of the units `UnitText`,
+/// `UsersSpec`, `Table`, `IdMap`, then the first of `NoFreeId` and `UnknownGroup`, and then the first of
+/// `Reserved`, `EtcEntry` and `Owner`; and of a set of the profile `GenerationsFull`.
 /// Source: NixOS manual, "What happens during a system switch?".
 pub fn plan_all<H: Manager>(
     alloc: Global,

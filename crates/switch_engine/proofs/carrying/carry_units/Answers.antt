@@ -1,24 +1,32 @@
-use Rattle.std.proofs.Common.{OnOk, false, refl, sym, subst}
-use Rattle.host_trait.specs.Host.{Leads, Passes}
+use Rattle.std.proofs.Common.{Option, OnOk, false, is_some, refl, sym, ap, subst}
+use Rattle.std.specs.Option.{option_copied}
+use Rattle.activation_stage.specs.declared.activation_plan.ActivationPlan.{ActivationPlan}
+use Rattle.host_trait.specs.Host.{Leads, Passes, Told}
 use Rattle.host_trait.proofs.Moments.{started}
-use Rattle.switch_engine.specs.Carried.{IsSwitchMomentIf, IsSwitchedIf}
+use Rattle.switch_engine.specs.Carried.{CanSwitchBy, IsSwitchMomentIf, IsSwitchedIf}
 use Rattle.unit_stage.specs.Plan.{owed_of}
 use Rattle.switch_engine.proofs.carrying.carry_units.Goals as goal
 
-pub returns-then-not-switches-clause-ok : goal.returns-then-not-switches-clause-ok
-returns-then-not-switches-clause-ok g c =
-    subst (λ b. Leads (g.H.Tree.host c.args.host.now) (g.H.Tree.host c.args.host.now) (IsSwitchedIf b c.args.system.now (owed_of c.args.plan.now))) (sym c.if-not-switches.true)
-    (record { to = λ w is. (w, is, refl) })
+pub carry_switch-requires-clause-can : goal.carry_switch-requires-clause-can
+carry_switch-requires-clause-can g c =
+    subst (λ (o : Option ActivationPlan). Told (g.H.Tree.host c.args.host.now) (CanSwitchBy c.args.system.now c.args.plan.now o)) (ap option_copied c.in-Some.is) c.requires.can
 
-pub returns-then-not-switches-clause-moments : goal.returns-then-not-switches-clause-moments
-returns-then-not-switches-clause-moments g c =
-    subst (λ b. Passes (g.H.Tree.host c.args.host.now) (g.H.Tree.host c.args.host.now) (IsSwitchMomentIf b c.args.system.now (owed_of c.args.plan.now))) (sym c.if-not-switches.true)
-    (started (IsSwitchMomentIf false c.args.system.now (owed_of c.args.plan.now)) (λ w is. refl))
+pub returns-in-Some-clause-ok : goal.returns-in-Some-clause-ok
+returns-in-Some-clause-ok g c =
+    subst (λ (o : Option ActivationPlan). OnOk c.carry_switch.result (Leads (g.H.Tree.host c.args.host.now) (g.H.Tree.host c.carry_switch.new.host) (IsSwitchedIf (is_some o) c.args.system.now (owed_of c.args.plan.now))))
+    (sym (ap option_copied c.in-Some.is)) c.carry_switch.ensures.ok
 
-pub returns-clause-ok : goal.returns-clause-ok
-returns-clause-ok g c =
-    subst (λ b. OnOk c.carry_switch.result (Leads (g.H.Tree.host c.args.host.now) (g.H.Tree.host c.carry_switch.new.host) (IsSwitchedIf b c.args.system.now (owed_of c.args.plan.now)))) (sym c.if-not-switches.false) c.carry_switch.ensures.ok
+pub returns-in-Some-clause-moments : goal.returns-in-Some-clause-moments
+returns-in-Some-clause-moments g c =
+    subst (λ (o : Option ActivationPlan). Passes (g.H.Tree.host c.args.host.now) (g.H.Tree.host c.carry_switch.new.host) (IsSwitchMomentIf (is_some o) c.args.system.now (owed_of c.args.plan.now)))
+    (sym (ap option_copied c.in-Some.is)) c.carry_switch.ensures.moments
 
-pub returns-clause-moments : goal.returns-clause-moments
-returns-clause-moments g c =
-    subst (λ b. Passes (g.H.Tree.host c.args.host.now) (g.H.Tree.host c.carry_switch.new.host) (IsSwitchMomentIf b c.args.system.now (owed_of c.args.plan.now))) (sym c.if-not-switches.false) c.carry_switch.ensures.moments
+pub returns-in-None-clause-ok : goal.returns-in-None-clause-ok
+returns-in-None-clause-ok g c =
+    subst (λ (o : Option ActivationPlan). Leads (g.H.Tree.host c.args.host.now) (g.H.Tree.host c.args.host.now) (IsSwitchedIf (is_some o) c.args.system.now (owed_of c.args.plan.now)))
+    (sym (ap option_copied c.in-None.is)) (record { to = λ w is. (w, is, refl) })
+
+pub returns-in-None-clause-moments : goal.returns-in-None-clause-moments
+returns-in-None-clause-moments g c =
+    subst (λ (o : Option ActivationPlan). Passes (g.H.Tree.host c.args.host.now) (g.H.Tree.host c.args.host.now) (IsSwitchMomentIf (is_some o) c.args.system.now (owed_of c.args.plan.now)))
+    (sym (ap option_copied c.in-None.is)) (started (IsSwitchMomentIf false c.args.system.now (owed_of c.args.plan.now)) (λ w is. refl))

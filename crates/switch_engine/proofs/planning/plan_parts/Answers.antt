@@ -11,7 +11,7 @@ use Rattle.switch_engine.specs.Owing.{IsSteadyFor}
 use Rattle.switch_engine.specs.Plan.{ArePlanned, IsNumbered, IsProfilePlanned}
 use Rattle.switch_names.specs.Names.{Name}
 use Rattle.switch_engine.specs.Rows.{parts_refusal}
-use Rattle.switch_engine.proofs.PlanLemmas.{full_refused, not_refused, same_reason, switch_refused, way_refused}
+use Rattle.switch_engine.proofs.PlanLemmas.{activation_refused, full_refused, not_refused, same_reason, units_refused, way_refused}
 use Rattle.switch_parts.specs.declared.plan_fault.PlanFault.TheVariants.{Host, Refused}
 use Rattle.switch_parts.specs.declared.refusal.Refusal.TheVariants.{GenerationsFull}
 use Rattle.unit_stage.proofs.CauseLemmas.{handed, memory_no_device, no_err}
@@ -42,17 +42,32 @@ returns-in_err-units-clause-refused g c why e =
     let refused = c.in_err-units.ensures.refused why (ap (λ f. Err f) (sym p.2 ∙ same_fault p.0 (Refused why) (sym p.1 ∙ e))) in
     let way = told_read c.gens_for.ensures.reads c.in_ok-check_places.ensures.free in
     told_as (told_read c.gens_for.ensures.reads (told_before c.check_places.ensures.reads.moments refused)) (λ w. parts_refusal command w.leaves ≡ Some why)
-    (λ w is units. switch_refused (row_of command).switches (row_of command).sets (new_system command w.leaves) w.leaves why (way.has w is) units)
+    (λ w is units. units_refused (row_of command).switches (row_of command).sets (new_system command w.leaves) w.leaves (way.has w is) why units)
 
 pub returns-in_err-units-clause-reads : goal.returns-in_err-units-clause-reads
 returns-in_err-units-clause-reads g c =
     let p = err_from_is_err_and c.from_residual-in_err-units.result c.from_residual-in_err-units.ensures.1 in
     reads_of (reads_then (reads_then (read_of c.gens_for.ensures.reads _ (λ e. e)) c.check_places.ensures.reads) c.in_err-units.ensures.reads) _ (λ e. handed _ p.0 _ _ p.1 p.2 e)
 
+pub returns-in_err-activation-clause-refused : goal.returns-in_err-activation-clause-refused
+returns-in_err-activation-clause-refused g c why e =
+    let p = err_from_is_err_and c.from_residual-in_err-activation.result c.from_residual-in_err-activation.ensures.1 in
+    let command = c.args.command.now in
+    let refused = c.in_err-activation.ensures.refused why (ap (λ f. Err f) (sym p.2 ∙ same_fault p.0 (Refused why) (sym p.1 ∙ e))) in
+    let way = told_read c.gens_for.ensures.reads c.in_ok-check_places.ensures.free in
+    let units = told_read c.gens_for.ensures.reads (told_before c.check_places.ensures.reads.moments c.in_ok-units.ensures.not_refused) in
+    told_as (told_read c.gens_for.ensures.reads (told_before c.check_places.ensures.reads.moments (told_before c.plan_switch.ensures.reads.moments refused))) (λ w. parts_refusal command w.leaves ≡ Some why)
+    (λ w is activation. activation_refused (row_of command).switches (row_of command).sets (new_system command w.leaves) w.leaves (way.has w is) (units.has w is) why activation)
+
+pub returns-in_err-activation-clause-reads : goal.returns-in_err-activation-clause-reads
+returns-in_err-activation-clause-reads g c =
+    let p = err_from_is_err_and c.from_residual-in_err-activation.result c.from_residual-in_err-activation.ensures.1 in
+    reads_of (reads_then (reads_then (reads_then (read_of c.gens_for.ensures.reads _ (λ e. e)) c.check_places.ensures.reads) c.plan_switch.ensures.reads) c.in_err-activation.ensures.reads) _ (λ e. handed _ p.0 _ _ p.1 p.2 e)
+
 pub returns-in_err-profile-clause-reads : goal.returns-in_err-profile-clause-reads
 returns-in_err-profile-clause-reads g c =
     let p = err_from_is_err_and c.from_residual-in_err-profile.result c.from_residual-in_err-profile.ensures.1 in
-    reads_of (reads_then (reads_then (read_of c.gens_for.ensures.reads _ (λ e. e)) c.check_places.ensures.reads) c.plan_switch.ensures.reads) _
+    reads_of (reads_then (reads_then (reads_then (read_of c.gens_for.ensures.reads _ (λ e. e)) c.check_places.ensures.reads) c.plan_switch.ensures.reads) c.plan_accounts_and_etc.ensures.reads) _
     (λ e. let none = c.in_err-profile.ensures.refused (Host Device) (ap (λ f. Err f) (sym p.2 ∙ same_fault p.0 (Host Device) (sym p.1 ∙ e))) in absurd (let never : Host Device ≡ Refused GenerationsFull = none.0 in cc))
 
 pub returns-in_err-profile-clause-refused : goal.returns-in_err-profile-clause-refused
@@ -63,8 +78,9 @@ returns-in_err-profile-clause-refused g c why e =
     let same : why ≡ GenerationsFull = same_reason why GenerationsFull none.0 in
     let way = told_read c.gens_for.ensures.reads c.in_ok-check_places.ensures.free in
     let gens = c.in_ok-gens.ensures.gens in
-    told_as (told_read c.gens_for.ensures.reads (told_before c.check_places.ensures.reads.moments c.in_ok-units.ensures.not_refused)) (λ w. parts_refusal command w.leaves ≡ Some why)
-    (λ w is units. full_refused (row_of command).switches (row_of command).sets _ (new_system command w.leaves) w (c.system.ensures w.leaves) (way.has w is) units why
+    let units = told_read c.gens_for.ensures.reads (told_before c.check_places.ensures.reads.moments c.in_ok-units.ensures.not_refused) in
+    told_as (told_read c.gens_for.ensures.reads (told_before c.check_places.ensures.reads.moments (told_before c.plan_switch.ensures.reads.moments c.in_ok-activation.ensures.not_refused))) (λ w. parts_refusal command w.leaves ≡ Some why)
+    (λ w is activation. full_refused (row_of command).switches (row_of command).sets _ (new_system command w.leaves) w (c.system.ensures w.leaves) (way.has w is) (units.has w is) activation why
     (none.1 (row_of command).sets w (gens.has w is)) (sym same))
 
 pub returns-clause-plan : goal.returns-clause-plan
@@ -72,9 +88,11 @@ returns-clause-plan g c =
     let command = c.args.command.now in
     let units = told_read c.gens_for.ensures.reads (told_before c.check_places.ensures.reads.moments c.in_ok-units.ensures.plan) in
     let gens = c.in_ok-gens.ensures.gens in
+    let activation = told_read c.gens_for.ensures.reads (told_before c.check_places.ensures.reads.moments (told_before c.plan_switch.ensures.reads.moments c.in_ok-activation.ensures.plan)) in
     told_as units (λ w. ArePlanned command w c.new.result)
     (λ w is planned. subst (ArePlanned command w) (sym c.new.ensures) (record {
       units = planned;
+      activation = activation.has w is;
       profile = subst (λ (system : Name). IsProfilePlanned (row_of command).sets system w c.in_ok-profile.profile) (c.system.ensures w.leaves) (c.in_ok-profile.ensures.plan (row_of command).sets w (gens.has w is));
     }))
 
@@ -83,8 +101,9 @@ returns-clause-not_refused g c =
     let command = c.args.command.now in
     let way = told_read c.gens_for.ensures.reads c.in_ok-check_places.ensures.free in
     let gens = c.in_ok-gens.ensures.gens in
-    told_as (told_read c.gens_for.ensures.reads (told_before c.check_places.ensures.reads.moments c.in_ok-units.ensures.not_refused)) (λ w. parts_refusal command w.leaves ≡ None)
-    (λ w is units. not_refused (row_of command).switches (row_of command).sets _ (new_system command w.leaves) w (c.system.ensures w.leaves) (way.has w is) units
+    let units = told_read c.gens_for.ensures.reads (told_before c.check_places.ensures.reads.moments c.in_ok-units.ensures.not_refused) in
+    told_as (told_read c.gens_for.ensures.reads (told_before c.check_places.ensures.reads.moments (told_before c.plan_switch.ensures.reads.moments c.in_ok-activation.ensures.not_refused))) (λ w. parts_refusal command w.leaves ≡ None)
+    (λ w is activation. not_refused (row_of command).switches (row_of command).sets _ (new_system command w.leaves) w (c.system.ensures w.leaves) (way.has w is) (units.has w is) activation
     (c.in_ok-profile.ensures.not_refused (row_of command).sets w (gens.has w is)))
 
 pub returns-clause-numbered : goal.returns-clause-numbered
@@ -95,7 +114,8 @@ returns-clause-numbered g c =
 
 pub returns-clause-reads : goal.returns-clause-reads
 returns-clause-reads g c =
-    reads_of (reads_then (reads_then (read_of c.gens_for.ensures.reads _ (λ e. e)) c.check_places.ensures.reads) c.plan_switch.ensures.reads) _ (λ e. absurd (no_err _ (Host Device) e))
+    reads_of (reads_then (reads_then (reads_then (read_of c.gens_for.ensures.reads _ (λ e. e)) c.check_places.ensures.reads) c.plan_switch.ensures.reads) c.plan_accounts_and_etc.ensures.reads) _
+    (λ e. absurd (no_err _ (Host Device) e))
 
 pub returns-clause-steady : goal.returns-clause-steady
 returns-clause-steady g c =

@@ -6,8 +6,9 @@ use Rattle.host_trait.proofs.Readings.{nothing_read_of}
 use Rattle.switch_engine.specs.Commands.{new_system, row_of}
 use Rattle.switch_engine.specs.Owing.{IsSteadyFor}
 use Rattle.switch_engine.specs.Plan.{AreUnitsPlanned}
-use Rattle.switch_engine.specs.Rows.{part_if, switch_part}
+use Rattle.switch_engine.specs.Rows.{part_if}
 use Rattle.switch_parts.specs.declared.plan_fault.PlanFault.TheVariants.{Host, Refused}
+use Rattle.unit_stage.specs.Units.{units_part}
 use Rattle.unit_stage.proofs.CauseLemmas.{no_err}
 use Rattle.unit_stage.proofs.KnownLemmas.{same_fault}
 use Rattle.switch_engine.proofs.PlanLemmas.{planned_on, refused_switch, steady_off, steady_on}
@@ -21,7 +22,7 @@ returns-in_err-plan-clause-refused g c why e =
     let p = err_from_is_err_and c.from_residual.result c.from_residual.ensures.1 in
     let command = c.args.command.now in
     told_as (c.in_err-plan.ensures.refused why (ap (λ f. Err f) (sym p.2 ∙ same_fault p.0 (Refused why) (sym p.1 ∙ e))))
-    (λ w. (part_if (row_of command).switches (switch_part (new_system command w.leaves))).refusal w.leaves ≡ Some why)
+    (λ w. (part_if (row_of command).switches (units_part (new_system command w.leaves))).refusal w.leaves ≡ Some why)
     (λ w is refused. refused_switch (row_of command).switches _ _ w.leaves (Some why) (sym c.switches.ensures ∙ c.if-not-switches.false) (c.system.ensures w.leaves) refused)
 
 pub returns-then-not-switches-clause-steady : goal.returns-then-not-switches-clause-steady
