@@ -1,5 +1,9 @@
 -- A world has one report of a command, and the text of its plan is that.
-use Rattle.std.proofs.Common.{◌≡◌, ℕ, Bool, true, false, List, Option, None, Some, Result, Ok, Err, IfOk, option_map, refl, ap, sym, subst, ◌∙◌}
+use Rattle.std.proofs.Common.{◌≡◌, ℕ, Bool, true, false, List, Option, None, Some, Result, Ok, Err, IfOk, option_map, refl, ap, ap₂, sym, subst, ◌∙◌}
+use Rattle.activation_report.proofs.ReportLemmas.{one_report}
+use Rattle.activation_report.specs.Report.{IsActivationReport}
+use Rattle.activation_stage.specs.ActivationPart.{IsActivationPlanOf}
+use Rattle.activation_stage.specs.declared.activation_plan.ActivationPlan.{ActivationPlan}
 use Rattle.host_trait.specs.States.{state_of}
 use Rattle.host_trait.specs.World.{Leaves, WorldState}
 use Rattle.owed_lists.specs.declared.lists.Lists.{Lists}
@@ -13,7 +17,7 @@ use Rattle.switch_engine.specs.declared.command.Command.{Command}
 use Rattle.switch_engine.specs.declared.plan.Plan.{Plan}
 use Rattle.switch_engine.specs.declared.plan.ProfilePlan.{ProfilePlan}
 use Rattle.switch_engine.specs.Commands.{new_system, row_of}
-use Rattle.switch_engine.specs.Plan.{ArePlanned, AreUnitsPlanned, IsProfilePlanned}
+use Rattle.switch_engine.specs.Plan.{ArePlanned, AreUnitsPlanned, IsActivationPlanned, IsProfilePlanned}
 use Rattle.switch_names.specs.Names.{Name}
 use Rattle.unit_stage.specs.declared.unit_plan.UnitPlan.{UnitPlan}
 use Rattle.unit_stage.specs.Plan.{IsPlannedIn, IsUnitPlanOf, owed_of}
@@ -32,16 +36,17 @@ same_planned w system lists others one other is also =
 one_unit_report : (number : Option ℕ) (system : Name) (w : WorldState) (one other : List ℕ) → IsUnitReport number system w one → IsUnitReport number system w other → one ≡ other
 one_unit_report number system w one other is also =
     is.is_text
-    ∙ ap (λ (owed : Owed). report_of (current_system w.leaves) system number (calls_of owed (state_of w.manager.states)) owed.left)
+    ∙ ap₂ (λ (owed : Owed) told. report_of (current_system w.leaves) system number (calls_of owed (state_of w.manager.states)) owed.left told)
     (same_planned w system is.lists also.lists is.owed also.owed is.planned also.planned)
+    (one_report system w.leaves is.activation also.activation is.is_activation also.is_activation)
     ∙ sym also.is_text
 
 one_by : (switches : Bool) (number : Option ℕ) (system : Name) (w : WorldState) (one other : List ℕ) → IsReportBy switches number system w one → IsReportBy switches number system w other → one ≡ other
 one_by true number system w one other is also = one_unit_report number system w one other is also
 one_by false number system w one other is also = is ∙ sym also
 
-pub one_report : (command : Command) (w : WorldState) (one other : List ℕ) → IsReport command w one → IsReport command w other → one ≡ other
-one_report command w one other is also =
+pub one_told : (command : Command) (w : WorldState) (one other : List ℕ) → IsReport command w one → IsReport command w other → one ≡ other
+one_told command w one other is also =
     one_by (row_of command).switches (number_if (row_of command).sets (new_system command w.leaves) w.leaves) (new_system command w.leaves) w one other is also
 
 -- ---- the text of a plan
@@ -50,14 +55,17 @@ pub if_ok_as : {T E : Type 0} {P : T → Type 0} (r : Result T E) → IfOk r P �
 if_ok_as (Ok x) holds Q weaker = weaker x holds
 if_ok_as (Err e) holds Q weaker = tt
 
-unit_report_is : (system : Name) (w : WorldState) (plan : UnitPlan) (number : Option ℕ) (text : List ℕ) → IsUnitPlanOf system w plan → text ≡ report_of plan.from system number plan.duties plan.left → IsUnitReport number system w text
-unit_report_is system w plan number text is same = record {
+unit_report_is : (system : Name) (w : WorldState) (plan : UnitPlan) (number : Option ℕ) (told text : List ℕ) → IsUnitPlanOf system w plan → IsActivationReport system w.leaves told →
+    text ≡ report_of plan.from system number plan.duties plan.left told → IsUnitReport number system w text
+unit_report_is system w plan number told text is is_told same = record {
   lists = is.lists;
   owed = owed_of plan;
   planned = is.planned;
+  activation = told;
+  is_activation = is_told;
   is_text = same
-      ∙ ap (λ from. report_of from system number plan.duties plan.left) is.from
-      ∙ ap (λ duties. report_of (current_system w.leaves) system number duties plan.left) is.duties;
+      ∙ ap (λ from. report_of from system number plan.duties plan.left told) is.from
+      ∙ ap (λ duties. report_of (current_system w.leaves) system number duties plan.left told) is.duties;
 }
 
 -- the number of a plan is that of its world
@@ -65,18 +73,32 @@ number_is : (sets : Bool) (system : Name) (w : WorldState) (o : Option ProfilePl
 number_is sets system w None planned = sym (ap (λ b. number_if b system w.leaves) planned)
 number_is sets system w (Some plan) planned = ap Some planned.1.number ∙ sym (ap (λ b. number_if b system w.leaves) planned.0)
 
-planned_by : (switches : Bool) (system : Name) (w : WorldState) (plan : UnitPlan) (number : Option ℕ) (text : List ℕ) → AreUnitsPlanned switches system w plan → switches ≡ true →
-    text ≡ report_of plan.from system number plan.duties plan.left → IsReportBy switches number system w text
-planned_by true system w plan number text is on same = unit_report_is system w plan number text is same
-planned_by false system w plan number text is on same = absurd (both_ways _ refl on)
+planned_by : (switches : Bool) (system : Name) (w : WorldState) (plan : UnitPlan) (number : Option ℕ) (told text : List ℕ) → AreUnitsPlanned switches system w plan → switches ≡ true →
+    IsActivationReport system w.leaves told → text ≡ report_of plan.from system number plan.duties plan.left told → IsReportBy switches number system w text
+planned_by true system w plan number told text is on is_told same = unit_report_is system w plan number told text is is_told same
+planned_by false system w plan number told text is on is_told same = absurd (both_ways _ refl on)
+
+-- where the units are switched, an activation is planned
+activation_planned : (switches : Bool) (system : Name) (w : WorldState) (o : Option ActivationPlan) → IsActivationPlanned switches system w o → switches ≡ true →
+    (planned : ActivationPlan) × (o ≡ Some planned) × IsActivationPlanOf system w.leaves planned
+activation_planned switches system w None is on = absurd (both_ways switches is on)
+activation_planned switches system w (Some planned) is on = (planned, refl, is.1)
+
+-- what is told of a plan whose text is this
+abbrev pub IsTold : Plan → List ℕ → Type 0
+IsTold plan text = (leaves : Leaves) (planned : ActivationPlan) → plan.activation ≡ Some planned → IsActivationPlanOf (new_system plan.command leaves) leaves planned →
+    (told : List ℕ) × IsActivationReport (new_system plan.command leaves) leaves told
+    × (text ≡ report_of plan.units.from (new_system plan.command leaves) (number_of plan) plan.units.duties plan.units.left told)
 
 -- where the units are switched
 pub units_reported : (w : WorldState) (plan : Plan) (text : List ℕ) → ArePlanned plan.command w plan → (row_of plan.command).switches ≡ true →
-    ((leaves : Leaves) → text ≡ report_of plan.units.from (new_system plan.command leaves) (number_of plan) plan.units.duties plan.units.left) → IsReport plan.command w text
+    IsTold plan text → IsReport plan.command w text
 units_reported w plan text is on same =
     let system = new_system plan.command w.leaves in
-    planned_by (row_of plan.command).switches system w plan.units (number_if (row_of plan.command).sets system w.leaves) text is.units on
-    (same w.leaves ∙ ap (λ number. report_of plan.units.from system number plan.units.duties plan.units.left) (number_is (row_of plan.command).sets system w plan.profile is.profile))
+    let found = activation_planned (row_of plan.command).switches system w plan.activation is.activation on in
+    let told = same w.leaves found.0 found.1 found.2 in
+    planned_by (row_of plan.command).switches system w plan.units (number_if (row_of plan.command).sets system w.leaves) told.0 text is.units on told.1
+    (told.2 ∙ ap (λ number. report_of plan.units.from system number plan.units.duties plan.units.left told.0) (number_is (row_of plan.command).sets system w plan.profile is.profile))
 
 -- where the profile alone is set
 pub profile_reported : (w : WorldState) (plan : Plan) (text : List ℕ) → ArePlanned plan.command w plan → (row_of plan.command).switches ≡ false →

@@ -17,9 +17,11 @@ use Rattle.host_trait.specs.World.{Leaves, WorldState, seen, stage}
 use Rattle.switch_engine.specs.declared.command.Command.{Command}
 use Rattle.switch_engine.specs.Commands.{brought_to, if_so, new_system, row_of, set_to, switched_to}
 use Rattle.switch_engine.specs.Final.{AreFinalUnits, IsFinalOf}
+use Rattle.activation_stage.specs.Owners.{owners_after}
+use Rattle.etc_manifest.specs.Owners.{OwnerIds}
 use Rattle.switch_engine.specs.Moments.{IsMomentOf, IsStepIf, LeadsBy, set_world}
 use Rattle.switch_engine.specs.Owing.{IsSteadyFor, IsSteadyTo, IsUnderway}
-use Rattle.switch_engine.specs.Rows.{final, part_if, part_of, parts, refusal, switch_part}
+use Rattle.switch_engine.specs.Rows.{final, part_if, part_of, parts, refusal, switch_in}
 use Rattle.switch_engine.proofs.CarryLemmas.{final_then, same_system, set_calls, set_final}
 use Rattle.switch_engine.proofs.UnderwayLemmas.{free_command}
 use Rattle.switch_names.specs.Names.{Name}
@@ -30,9 +32,9 @@ use Rattle.dry_report.specs.Report.{IsReport, IsReportBy, KeepsReport, number_if
 -- ---- the number that a set of the profile alone gives its system
 
 -- the profile names it at the end
-profile_end : (system : Name) (leaves : Leaves) → final_leaf (parts false true system) leaves profile ≡ Some (Link (link_name (number_after leaves system)))
+profile_end : (system : Name) (owners : OwnerIds) (leaves : Leaves) → final_leaf (parts false true system owners) leaves profile ≡ Some (Link (link_name (number_after leaves system)))
 unfolding profile
-profile_end system leaves = refl
+profile_end system owners leaves = refl
 
 same_name : (one other : List ℕ) → Some (Link one) ≡ Some (Link other) → one ≡ other
 same_name one other is = cc
@@ -44,13 +46,14 @@ module _ (command : Command) (on : (row_of command).changes ≡ true) (off : (ro
   module _ (named : sets ≡ true) where
     final_link : (leaves : Leaves) → final command leaves profile ≡ Some (Link (link_name (number_after leaves (new_system command leaves))))
     final_link leaves =
-        (λ i. cond (on i) (final_leaf (parts (off i) (named i) (new_system command leaves)) leaves profile) (get leaves profile))
-        ∙ profile_end (new_system command leaves) leaves
+        let owners = owners_after (new_system command leaves) leaves in
+        (λ i. cond (on i) (final_leaf (parts (off i) (named i) (new_system command leaves) owners) leaves profile) (get leaves profile))
+        ∙ profile_end (new_system command leaves) owners leaves
 
     small_number : (leaves : Leaves) → refusal command leaves ≡ None → number_after leaves (new_system command leaves) < 2 ^ 64
     small_number leaves none =
         let system = new_system command leaves in
-        let free = second_free (part_if (row_of command).switches (switch_part system)) (part_if sets (profile_part system)) leaves (free_command command leaves none).parts in
+        let free = second_free (part_if (row_of command).switches (switch_in system leaves)) (part_if sets (profile_part system)) leaves (free_command command leaves none).parts in
         let further = number_of_free system leaves (subst (λ b. IsFree (part_if b (profile_part system)) leaves) named free) in
         let below = below_bound (number_after leaves system) (number_is leaves system further) in
         omega arith
@@ -72,9 +75,9 @@ module _ (command : Command) (on : (row_of command).changes ≡ true) (off : (ro
       is_end : IsFinalOf command w end
       is_end = record {
         leaves = λ q ne.
-            final_then (part_if (row_of command).switches (switch_part system)) (part_if sets (profile_part system)) w end end
-            (λ at other. sym (ap (λ b. final_leaf (part_if b (switch_part system)) end.leaves at) off)) (set_final system w sets end end_set)
-            (λ at own. absurd (both_ways false refl (subst (λ b. (part_if b (switch_part system)).owns at ≡ true) off own))) q ne
+            final_then (part_if (row_of command).switches (switch_in system w.leaves)) (part_if sets (profile_part system)) w end end
+            (λ at other. sym (ap (λ b. final_leaf (part_if b (switch_in system w.leaves)) end.leaves at) off)) (set_final system w sets end end_set)
+            (λ at own. absurd (both_ways false refl (subst (λ b. (part_if b (switch_in system w.leaves)).owns at ≡ true) off own))) q ne
             ∙ sym (ap (λ b. cond b (final_leaf (part_of command w.leaves) w.leaves q) (get w.leaves q)) on);
         units = subst (λ to. AreFinalUnits to w end) (sym ((λ i. if_so (on i && off i) system)))
             (ap (λ (k : ManagerState). k.states) same_manager, ap (λ (k : ManagerState). k.loaded) same_manager);

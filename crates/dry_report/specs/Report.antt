@@ -2,6 +2,7 @@
 use Rattle.std.specs.Prelude.{◌≡◌, ◌↔◌, ℕ, ◌++◌, Bool, true, false, List, [], ◌∷◌, Option, None, Some, codes, filter, not, option_map, if◌then◌else◌}
 use Rattle.std.specs.Fmt.{decimal}
 use Rattle.std.specs.List.{flat_map}
+use Rattle.activation_report.specs.Report.{IsActivationReport}
 use Rattle.generations.specs.Places.{number_after}
 use Rattle.host_trait.specs.declared.entry.Act.{Act}
 use Rattle.host_trait.specs.declared.entry.Act.TheVariants.{Stop, Reload, Restart, Start}
@@ -52,22 +53,27 @@ abbrev pub generation_line : Option ℕ → List ℕ
 generation_line None = []
 generation_line (Some number) = line (codes "generation") (decimal number)
 
--- the two systems, the generation, the stops, the changed units that get nothing, and the other calls
-abbrev pub report_of : Option Name → Name → Option ℕ → List Duty → List Name → List ℕ
-report_of from to number duties left =
+-- the two systems, the generation, the stops, and the changed units that get nothing
+abbrev pub report_front : Option Name → Name → Option ℕ → List Duty → List Name → List ℕ
+report_front from to number duties left =
     line (codes "from") (system_text from)
     ++ line (codes "to") to
     ++ generation_line number
     ++ stop_lines duties
     ++ flat_map (line (codes "leave")) left
-    ++ other_lines duties
+
+-- then what is told of the accounts and of /etc, and the other calls
+abbrev pub report_of : Option Name → Name → Option ℕ → List Duty → List Name → List ℕ → List ℕ
+report_of from to number duties left activation = report_front from to number duties left ++ (activation ++ other_lines duties)
 
 -- the report of a switch of the units to a system, from a world, and the number of the generation where the profile is set
 pub record IsUnitReport (number : Option ℕ) (system : Name) (w : WorldState) (text : List ℕ) : Type 0 where
   pub lists : Lists
   pub owed : Owed
   pub planned : IsPlannedIn w system lists owed
-  pub is_text : text ≡ report_of (current_system w.leaves) system number (calls_of owed (state_of w.manager.states)) owed.left
+  pub activation : List ℕ
+  pub is_activation : IsActivationReport system w.leaves activation
+  pub is_text : text ≡ report_of (current_system w.leaves) system number (calls_of owed (state_of w.manager.states)) owed.left activation
 
 -- the report of a set of the profile: the system, and the number of its generation
 abbrev pub profile_report : Name → Option ℕ → List ℕ

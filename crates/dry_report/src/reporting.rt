@@ -1,13 +1,19 @@
 //! Writes the report of a command.
-ghost use Rattle.std.specs.Prelude.{◌≡◌, ◌++◌, ◌∷◌, [], codes, IfOk, OnOk};
+ghost use Rattle.std.specs.Prelude.{◌≡◌, ◌++◌, ◌∷◌, ℕ, List, [], Some, codes, IfOk, OnOk};
 ghost use Rattle.std.specs.List.{flat_map};
 ghost use Rattle.std.specs.Option.{option_copied};
+ghost use Rattle.activation_report.specs.Report.{IsActivationReport};
+ghost use Rattle.activation_stage.specs.ActivationPart.{IsActivationPlanOf};
+ghost use Rattle.activation_stage.specs.declared.activation_plan.ActivationPlan.{ActivationPlan};
 ghost use Rattle.host_trait.specs.World.{Leaves, WorldState};
 ghost use Rattle.switch_engine.specs.Commands.{new_system};
 ghost use Rattle.switch_engine.specs.Plan.{IsPlanOf};
+ghost use Rattle.switch_names.specs.Names.{Name};
 ghost use Rattle.unit_stage.specs.Owes.{is_stop};
-ghost use Rattle.dry_report.specs.Report.{IsReport, act_word, generation_line, line, number_of, other_lines, profile_report, report_of, stop_lines, system_text};
+ghost use Rattle.dry_report.specs.Report.{IsReport, act_word, generation_line, line, number_of, other_lines, profile_report, report_front, report_of, stop_lines, system_text};
 
+use activation_report::write_activation;
+use activation_stage::ActivationPlan;
 use host_trait::Act;
 use owed_plan::Duty;
 use std::alloc::{AllocError, Global};
@@ -115,18 +121,44 @@ fn write_generation(alloc: Global, out: &mut Vec<u8>, number: Option<u32>) -> Re
     Ok(())
 }
 
+/// Writes the two systems, the generation where the profile is set, the stops, and the changed units
+/// that get nothing.
+fn write_front(alloc: Global, out: &mut Vec<u8>, plan: &Plan) -> Result<(), AllocError>
+    ensures { OnOk result ((leaves : Leaves)
+        → out.new.items ≡ out.old.items ++ report_front plan.now.units.from (new_system plan.now.command leaves) (number_of plan.now) plan.now.units.duties plan.now.units.left) }
+{
+    write_line(out, "from", system_text(plan.from()))?;
+    write_line(out, "to", plan.to().as_str())?;
+    write_generation(alloc, out, plan.number())?;
+    write_stops(out, plan.duties().as_slice())?;
+    write_left(out, plan.left().as_slice())
+}
+
+/// Writes what is told of the accounts and of /etc, where they are planned.
+fn write_activated(
+    alloc: Global,
+    out: &mut Vec<u8>,
+    plan: Option<&ActivationPlan>,
+) -> Result<(), AllocError>
+    ensures { OnOk result ((system : Name) (leaves : Leaves) (planned : ActivationPlan) → option_copied plan.entry ≡ Some planned → IsActivationPlanOf system leaves planned
+        → (text : List ℕ) × (out.new.items ≡ out.old.items ++ text) × IsActivationReport system leaves text) }
+{
+    match plan {
+        Some(plan) => write_activation(alloc, out, plan),
+        None => Ok(()),
+    }
+}
+
 /// The report of a switch of the units: the two systems, the generation where the profile is set, the
-/// stops, the changed units that get nothing, and the other calls, a line each.
+/// stops, the changed units that get nothing, the accounts and /etc, and the other calls, a line each.
 fn unit_report(alloc: Global, plan: &Plan) -> Result<Bytes, AllocError>
-    ensures { IfOk result (λ text. (leaves : Leaves)
-        → text ≡ report_of plan.now.units.from (new_system plan.now.command leaves) (number_of plan.now) plan.now.units.duties plan.now.units.left) }
+    ensures { IfOk result (λ text. (leaves : Leaves) (planned : ActivationPlan) → plan.now.activation ≡ Some planned → IsActivationPlanOf (new_system plan.now.command leaves) leaves planned
+        → (told : List ℕ) × IsActivationReport (new_system plan.now.command leaves) leaves told
+        × (text ≡ report_of plan.now.units.from (new_system plan.now.command leaves) (number_of plan.now) plan.now.units.duties plan.now.units.left told)) }
 {
     let mut out = Vec::new(alloc);
-    write_line(&mut out, "from", system_text(plan.from()))?;
-    write_line(&mut out, "to", plan.to().as_str())?;
-    write_generation(alloc, &mut out, plan.number())?;
-    write_stops(&mut out, plan.duties().as_slice())?;
-    write_left(&mut out, plan.left().as_slice())?;
+    write_front(alloc, &mut out, plan)?;
+    write_activated(alloc, &mut out, plan.activation())?;
     write_others(&mut out, plan.duties().as_slice())?;
     Ok(Bytes::from_vec(out))
 }
@@ -141,7 +173,8 @@ fn profile_report(alloc: Global, plan: &Plan) -> Result<Bytes, AllocError>
     Ok(Bytes::from_vec(out))
 }
 
-/// The report of a planned command: what it does to the units, and the generation that it makes.
+/// The report of a planned command: what it does to the units, to the accounts and to `/etc`, and the
+/// generation that it makes.
 ///
 /// Source: the lines of switch-to-configuration, NixOS manual, "Unit handling".
 pub fn report(alloc: Global, plan: &Plan) -> Result<Bytes, AllocError>

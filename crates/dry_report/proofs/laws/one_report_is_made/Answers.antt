@@ -1,5 +1,5 @@
-use Rattle.dry_report.proofs.ReportLemmas.{one_report}
+use Rattle.dry_report.proofs.ReportLemmas.{one_told}
 use Rattle.dry_report.proofs.laws.one_report_is_made.Goals as goal
 
 pub returns : goal.returns
-returns c = one_report
+returns c = one_told
