@@ -1,4 +1,5 @@
 pub mod EndingLemmas
 pub mod MomentLemmas
 pub mod RunLemmas
+pub mod TextLemmas
 pub mod WordLemmas

@@ -15,7 +15,7 @@ use Rattle.switch_engine.specs.Rows.{refusal}
 use Rattle.switch_parts.specs.declared.refusal.Refusal.{Refusal}
 use Rattle.dry_report.specs.Report.{IsReport, KeepsReport}
 use Rattle.dry_report.proofs.PutLemmas.{puts_as}
-use Rattle.dry_report.proofs.ReportLemmas.{one_report}
+use Rattle.dry_report.proofs.ReportLemmas.{one_told}
 use Rattle.switch_run.specs.declared.run_fault.RunFault.{RunFault}
 use Rattle.switch_run.specs.declared.run_fault.RunFault.TheVariants as fault
 use Rattle.switch_run.specs.declared.status.Status.{Status}
@@ -173,7 +173,7 @@ module _ {host_state after : HostState} {sink put : SinkState} (given : Option C
       first_of w more dry =
           let all : more ≡ dry.report = dry.is_all ∙ ap (λ close. dry.report ++ close) dry.is_close ∙ append-nil dry.report in (
             subst (IsReport (Test system) w) (sym all) dry.is_report,
-            λ whole test. (test.close, test.is_all ∙ ap (λ report. report ++ test.close) (one_report (Test system) w test.report dry.report test.is_report dry.is_report ∙ sym all)),
+            λ whole test. (test.close, test.is_all ∙ ap (λ report. report ++ test.close) (one_told (Test system) w test.report dry.report test.is_report dry.is_report ∙ sym all)),
           )
 
   pub queries : (command : Command) → given ≡ Some command → IsQuery command → Passes host_state after IsSame

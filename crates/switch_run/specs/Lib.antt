@@ -2,5 +2,6 @@ pub mod Commands
 pub mod Ending
 pub mod Moments
 pub mod Output
+pub mod RefusalTexts
 pub mod Run
 pub mod StatusTexts

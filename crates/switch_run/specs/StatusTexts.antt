@@ -1,8 +1,6 @@
 -- How a run ends: exit(3) takes the number, and standard error the text.
 use Rattle.std.specs.Prelude.{ℕ, List, [], ◌++◌, codes}
-use Rattle.std.specs.Fmt.{decimal}
-use Rattle.switch_parts.specs.declared.refusal.Refusal.{Refusal}
-use Rattle.switch_parts.specs.declared.refusal.Refusal.TheVariants.{NoSystem, InTheWay, UnitText, GenerationsFull}
+use Rattle.switch_run.specs.RefusalTexts.{refusal_text}
 use Rattle.switch_run.specs.declared.status.Status.{Status}
 use Rattle.switch_run.specs.declared.status.Status.TheVariants.{Done, Usage, Refused, HostFault, SinkFault, UnitsFailed, NoMemory}
 
@@ -15,13 +13,6 @@ status_number HostFault = 3
 status_number SinkFault = 6
 status_number UnitsFailed = 4
 status_number NoMemory = 5
-
--- why a command was refused, in words
-abbrev pub refusal_text : Refusal → List ℕ
-refusal_text NoSystem = codes "no such system"
-refusal_text (InTheWay path) = codes "in the way: " ++ path
-refusal_text (UnitText unit line) = codes "unit " ++ (unit ++ (codes " line " ++ decimal line))
-refusal_text GenerationsFull = codes "no further generation"
 
 -- the line on standard error, which is empty after a run that is done
 abbrev pub status_text : Status → List ℕ

@@ -3,6 +3,7 @@
 //! `run` reads the words, carries their command out, and says how that ended.
 #![tactic(auto)]
 
+mod refusal_text;
 mod run_fault;
 mod running;
 mod status;

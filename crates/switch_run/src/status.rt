@@ -1,8 +1,9 @@
 //! How a run ends.
-ghost use Rattle.std.specs.Prelude.{◌≡◌, IfOk, string_bytes};
+ghost use Rattle.std.specs.Prelude.{◌≡◌, IfOk};
 ghost use Rattle.switch_run.specs.Run.{fault_status, status_of};
-ghost use Rattle.switch_run.specs.StatusTexts.{refusal_text, status_number, status_text};
+ghost use Rattle.switch_run.specs.StatusTexts.{status_number, status_text};
 
+use crate::refusal_text::refusal_text;
 use crate::run_fault::RunFault;
 use host_trait::HostFault;
 use std::alloc::{AllocError, Global};
@@ -49,18 +50,6 @@ pub fn status_of(ending: Result<bool, RunFault>) -> Status
         Ok(true) => Status::UnitsFailed,
         Ok(false) => Status::Done,
         Err(fault) => fault_status(fault),
-    }
-}
-
-/// A refusal in words.
-fn refusal_text(alloc: Global, refusal: &Refusal) -> Result<String, AllocError>
-    ensures { IfOk result (λ text. string_bytes text ≡ refusal_text refusal.now) }
-{
-    match refusal {
-        Refusal::NoSystem => String::from_str(alloc, "no such system"),
-        Refusal::InTheWay(path) => format!(in alloc; "in the way: {}", path.as_str()),
-        Refusal::UnitText { unit, line } => format!(in alloc; "unit {} line {line}", unit.as_str()),
-        Refusal::GenerationsFull => String::from_str(alloc, "no further generation"),
     }
 }
 
