@@ -5,13 +5,14 @@
 //! how many cases there are.
 #![tactic(auto)]
 
+mod changes;
 mod folders;
 mod runs;
 mod troubles;
 mod writing;
 
 use crate::folders::show_folder;
-use crate::runs::show_run;
+use crate::runs::{show_changing_run, show_run};
 use crate::troubles::show_troubles;
 use crate::writing::show_faults;
 use std::io;
@@ -30,8 +31,11 @@ fn show_command(
         ("run", [put, words, places @ ..]) => {
             show_run(rt.alloc(), lines, text_of(put)?, text_of(words)?, places)
         }
+        ("change", [put, words, places @ ..]) => {
+            show_changing_run(rt.alloc(), lines, text_of(put)?, text_of(words)?, places)
+        }
         ("fail" | "again" | "cut", [words, places @ ..]) => {
-            show_troubles(rt.alloc(), lines, (command, text_of(words)?, places), 60)
+            show_troubles(rt.alloc(), lines, (command, text_of(words)?, places))
         }
         ("folder", [root, words]) => show_folder(rt, lines, text_of(root)?, text_of(words)?),
         ("faults", []) => show_faults(rt.alloc(), lines),

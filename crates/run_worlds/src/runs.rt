@@ -1,4 +1,5 @@
 //! Runs over a host, and the whole worlds that they leave.
+use crate::changes::show_changes;
 use crate::writing::{show_after, show_status, whole_world};
 use host_memory::{MemoryHost, MemorySink};
 use host_trait::{Manager, World};
@@ -90,4 +91,18 @@ pub fn show_run(
 ) -> Result<(), Fail> {
     let mut host = host_of(alloc, places)?;
     show_outcome(alloc, lines, &mut host, put, words)
+}
+
+/// Shows how a run over the world of these places ends, and what is other in the world then.
+pub fn show_changing_run(
+    alloc: Global,
+    lines: &mut Lines,
+    put: &str,
+    words: &str,
+    places: &[Bytes],
+) -> Result<(), Fail> {
+    let before = host_of(alloc, places)?;
+    let mut host = host_of(alloc, places)?;
+    show_end(alloc, lines, &mut host, put, words)?;
+    show_changes(alloc, lines, before.world(), host.world())
 }

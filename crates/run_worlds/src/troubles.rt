@@ -36,8 +36,10 @@ fn show_both_ends(
     show_all_but_the_journal(alloc, lines, host.world())
 }
 
-/// Has a call of a host fail: that with this number, or the cut with this number, where each call that
-/// changes the tree has three.
+/// Has a call of a host fail: that with this number, or the cut with this number.
+///
+/// Each call that changes something has two cuts, before it and at its next moment. What a call has done
+/// when it is finished is what stands before the next one.
 fn trouble(
     alloc: Global,
     host: &mut MemoryHost,
@@ -45,7 +47,7 @@ fn trouble(
     number: u64,
 ) -> Result<(), AllocError> {
     if kind == "cut" {
-        host.arm(number / 3, number % 3);
+        host.arm(number / 2, number % 2);
     } else {
         host.fail(list_of(alloc, number)?);
     }
@@ -53,42 +55,50 @@ fn trouble(
 }
 
 /// How a run over the world of some places ends of which a call fails: with the whole world, or made again.
-fn troubled(
+/// Answers whether a call has failed.
+fn show_trouble(
     alloc: Global,
+    lines: &mut Lines,
     (kind, words, places): (&str, &str, &[Bytes]),
     number: u64,
-) -> Result<Lines, Fail> {
-    let mut lines = Lines::new(alloc);
+) -> Result<bool, Fail> {
     let mut host = host_of(alloc, places)?;
     trouble(alloc, &mut host, kind, number)?;
     if kind == "fail" {
-        show_outcome(alloc, &mut lines, &mut host, "-", words)?;
+        show_outcome(alloc, lines, &mut host, "-", words)?;
     } else {
-        show_both_ends(alloc, &mut lines, &mut host, words)?;
+        show_both_ends(alloc, lines, &mut host, words)?;
     }
-    Ok(lines)
+    Ok(host.faults() > 0)
 }
 
-/// Shows how a run ends of which each of so many calls fails in turn, where that is another end than
-/// with the call before.
+/// Adds what a run gives, with the number of the call that fails, where that is something else than with
+/// the call before.
+fn add_other(lines: &mut Lines, last: &Lines, next: &Lines, number: u64) {
+    if next.as_str() != last.as_str() {
+        lines.add_word("from");
+        lines.add_value(&number);
+        lines.end_line();
+        lines.add_all(next);
+    }
+}
+
+/// Shows how a run ends of which each call fails in turn, where that is another end than with the call
+/// before. The last end is that of the run in which no call fails.
 pub fn show_troubles(
     alloc: Global,
     lines: &mut Lines,
     (kind, words, places): (&str, &str, &[Bytes]),
-    count: u64,
 ) -> Result<(), Fail> {
     let mut last = Lines::new(alloc);
-    for number in 0..count {
-        let next = troubled(alloc, (kind, words, places), number)?;
-        if next.as_str() != last.as_str() {
-            lines.add_word("from");
-            lines.add_value(&number);
-            lines.add_word("of");
-            lines.add_value(&count);
-            lines.end_line();
-            lines.add_all(&next);
-        }
+    for number in 0..u64::MAX {
+        let mut next = Lines::new(alloc);
+        let has_failed = show_trouble(alloc, &mut next, (kind, words, places), number)?;
+        add_other(lines, &last, &next, number);
         last = next;
+        if !has_failed {
+            break;
+        }
     }
     Ok(())
 }

@@ -32,6 +32,7 @@ pub fn show_all_but_the_journal(
     show_leaves(alloc, lines, world, "etc")?;
     show_leaves(alloc, lines, world, "nix")?;
     show_leaves(alloc, lines, world, "run")?;
+    show_leaves(alloc, lines, world, "var")?;
     lines.add_value(&world.leaf_count());
     lines.add_word("leaves");
     lines.end_line();
