@@ -21,10 +21,11 @@ usage: nixswitch ROOT switch|test|boot|dry-activate SYSTEM
 ROOT is a folder with the file tree below ROOT/tree, one node file for each file or link.
 SYSTEM is a built system: nix/store/NAME, with or without a slash before it.
 
-switch SYSTEM        makes a generation for the system, points the profile to it, and switches the units to it
-test SYSTEM          switches the units to the system, and leaves the profile as it is
+switch SYSTEM        makes a generation for the system, points the profile to it, and brings the system into use:
+                     its accounts, its /etc and its units
+test SYSTEM          brings the system into use, and leaves the profile as it is
 boot SYSTEM          makes a generation for the system and points the profile to it, for the next boot
-dry-activate SYSTEM  says what a switch to the system would do to the units, and changes nothing
+dry-activate SYSTEM  says what bringing the system into use would do, and changes nothing
 
 The line that stands for a wrong usage also names commands that are still to come.
 

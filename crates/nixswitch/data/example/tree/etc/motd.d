@@ -1,0 +1,2 @@
+F 0644 0 0
+Maintenance on Friday.
