@@ -1,7 +1,7 @@
 # The targets: make help.
 PROGRAM := crates/nixswitch/out/nixswitch
 SOURCES := crates.txt $(shell find crates \( -name '*.rt' -o -name '*.antt' \) -not -path '*/out/*')
-BENCHES := $(filter-out bench/common.sh bench/example.sh,$(wildcard bench/*.sh))
+BENCHES := $(filter-out bench/common.sh bench/example.sh bench/steps.sh,$(wildcard bench/*.sh))
 
 .PHONY: help run build test check docs bench
 

@@ -2,7 +2,7 @@
 #
 # It sets `here` to the checkout, `work` to a scratch folder that goes at the end, and `root` to a place
 # for a root folder in it. `find_program` sets `program`, and `quickest` measures. The rest makes roots with two
-# systems of many units, and counts the calls on them.
+# systems of many units, further entries below etc and accounts, and counts the calls on them.
 # shellcheck shell=bash
 set -u
 export LC_ALL=C
@@ -67,15 +67,24 @@ lines() {
     awk -v word="$1" -v end="${2-}" '{ print word " " $0 end }'
 }
 
+# make_farm FOLDER NAME: below /etc of this root what a switch to this system leaves, each of whose entries is a link.
+make_farm() {
+    local etc=$1/tree/etc
+    (cd "$1/tree/nix/store/$2/etc" && find . -type d -printf "$etc/%P\\0" | xargs -0 mkdir -p && find . -type f -printf '%P\n') |
+        awk -v etc="$etc" '{ file = etc "/" $0; print "L /etc/static/" $0 >file; close(file) }'
+    printf 'F 0644 0 0\n' >"$etc/.clean"
+    printf 'L /nix/store/%s/etc\n' "$2" >"$etc/static"
+}
+
 # make_machine FOLDER UNITS: a root with two systems of this many units, of which the first is in use, and
 # what a switch to the second reports, in `work/wanted` without its last line.
 make_machine() {
     rm -rf "$1"
     make_system "$1" old-sys "$2" /bin/old
     make_system "$1" new-sys "$2" /bin/new
-    mkdir -p "$1/tree/run" "$1/tree/etc"
+    mkdir -p "$1/tree/run"
     printf 'L /nix/store/old-sys\n' >"$1/tree/run/current-system"
-    printf 'L /nix/store/old-sys/etc\n' >"$1/tree/etc/static"
+    make_farm "$1" old-sys
     { echo multi-user.target && services "$2" 1; } | sort | lines active >"$work/active"
     { echo multi-user.target && services "$2" 10; } | sort >"$work/started"
     { echo "loaded /nix/store/old-sys/etc" && cat "$work/active"; } >"$1/manager"
@@ -84,6 +93,90 @@ make_machine() {
         services "$2" 10 | lines stop
         lines start <"$work/started"
     } >"$work/wanted"
+}
+
+# make_entries FOLDER NAME ENTRIES LACKED: further entries of this system, with numbers below that. Those that leave 0
+# by thirty are copies with the system's name in them, those that leave LACKED aren't there, and the others are links.
+make_entries() {
+    local folder=$1/tree/nix/store/$2/etc/app
+    seq 0 $((($3 - 1) / 100)) | awk -v folder="$folder" '{ printf "%s/d%s%c", folder, $0, 0 }' | xargs -0 mkdir -p
+    awk -v folder="$folder" -v name="$2" -v last="$3" -v lacked="$4" 'BEGIN {
+        for (number = 0; number < last; number++) {
+            if (number % 30 == lacked) continue
+            file = folder "/d" int(number / 100) "/f" number
+            print "F 0644 0 0\nentry " number (number % 30 ? "" : " of " name) >file
+            close(file)
+            if (number % 30) continue
+            print "F 0644 0 0\n0640" >(file ".mode")
+            close(file ".mode")
+        }
+    }'
+}
+
+# entries SYSTEM ENTRIES LACKED: what a switch to this system leaves of these entries, a line each, in byte order.
+entries() {
+    awk -v name="$1" -v last="$2" -v lacked="$3" 'BEGIN {
+        for (number = 0; number < last; number++) {
+            if (number % 30 == lacked) continue
+            place = "app/d" int(number / 100) "/f" number
+            print place ":" (number % 30 ? "L /etc/static/" place : "F 0640 0 0")
+            if (number % 30 == 0) print place ":entry " number " of " name
+        }
+    }' | sort
+}
+
+# entries_left FOLDER: the lines of all further entries that stand below /etc of this root, in byte order.
+entries_left() {
+    (cd "$1/tree/etc" && if [ -d app ]; then grep -r . app; fi) | sort
+}
+
+# make_accounts FOLDER NAME ACCOUNTS LACKED: what this system declares: users with numbers below that, but for those that
+# leave LACKED by twenty, and a group for each ten of them.
+make_accounts() {
+    awk -v last="$3" -v lacked="$4" '
+        function user(number) { return "\"u" number "\"" }
+        BEGIN {
+            print "F 0644 0 0\n{\"mutableUsers\": false, \"groups\": [{\"name\": \"users\", \"gid\": 100}"
+            for (number = 0; number < last; number += 10)
+                print ", {\"name\": \"g" number "\", \"members\": [" user(number + 1) ", " user(number + 2) "]}"
+            print "], \"users\": [{\"name\": \"root\", \"uid\": 0, \"group\": \"users\"}"
+            for (number = 0; number < last; number++)
+                if (number % 20 != lacked)
+                    print ", {\"name\": " user(number) ", \"group\": \"users\", \"description\": \"User " number "\"}"
+            print "]}"
+        }' >"$1/tree/nix/store/$2/users-groups.json"
+}
+
+# make_whole FOLDER UNITS ENTRIES ACCOUNTS: a root with two systems of so many units, further entries below etc and users.
+# A tenth of each is another in the second system. The first is in use as the program leaves it, with each unit active.
+make_whole() {
+    rm -rf "$1"
+    make_system "$1" old-sys "$2" /bin/old
+    make_system "$1" new-sys "$2" /bin/new
+    make_entries "$1" old-sys "$3" 20
+    make_entries "$1" new-sys "$3" 10
+    make_accounts "$1" old-sys "$4" 10
+    make_accounts "$1" new-sys "$4" 0
+    if ! "$program" "$1" switch nix/store/old-sys >"$work/stdout" 2>"$work/stderr"; then
+        echo "the root with $2 units, $3 entries and $4 users can't be made: $(cat "$work/stderr")" >&2
+        exit 1
+    fi
+    { echo "loaded /nix/store/old-sys/etc" && { echo multi-user.target && services "$2" 1; } | sort | lines active; } >"$1/manager"
+}
+
+# keep_root: keeps a copy of the root without its store, to which `restore_kept` takes it back.
+keep_root() {
+    rm -rf "$work/kept"
+    mkdir -p "$work/kept/tree/nix"
+    cp -r "$root/tree/etc" "$root/tree/run" "$root/tree/var" "$work/kept/tree"
+    cp -r "$root/tree/nix/var" "$work/kept/tree/nix"
+    cp "$root/manager" "$work/kept"
+}
+
+# Takes the root back to what was kept of it.
+restore_kept() {
+    rm -rf "$root/tree/etc" "$root/tree/run" "$root/tree/var" "$root/tree/nix/var" "$root/manager"
+    cp -r "$work/kept/." "$root"
 }
 
 # find_tools: sets `timed` and `traced` to `yes` where the peak memory and the calls can be told.
@@ -96,14 +189,14 @@ find_tools() {
     fi
 }
 
-# grow UNITS MICROS: adds to `grown` how the time grew since the root before.
+# grow COUNT MICROS [WORD]: adds to `grown` how the time grew since the root before, whose units or other things are counted.
 last=''
 grown=''
 grow() {
-    [ -z "$last" ] || grown+=$(awk -v a="$last" -v b="$1 $2" 'BEGIN {
+    [ -z "$last" ] || grown+=$(awk -v a="$last" -v b="$1 $2" -v word="${3-units}" 'BEGIN {
         split(a, from, " ")
         split(b, to, " ")
-        printf "%d to %d units, x%.1f: time x%.1f", from[1], to[1], to[1] / from[1], to[2] / from[2]
+        printf "%d to %d %s, x%.1f: time x%.1f", from[1], to[1], word, to[1] / from[1], to[2] / from[2]
     }')$'\n'
     last="$1 $2"
 }

@@ -1,5 +1,5 @@
 #!/bin/sh
-# Shows a boot, a dry run and a switch on copies of the example roots.
+# Shows a boot, a dry run and a switch on copies of the example roots, and a switch that is killed and run again.
 #
 # bench/example.sh [PROGRAM]
 #
@@ -7,7 +7,11 @@
 # it compiles them, which takes most of the time, and keeps nothing. The copies of crates/nixswitch/data/root and
 # example are made in the folder nixswitch-example of $TMPDIR, or of /tmp, and stay there to be looked at.
 #
-# Needs awk and the coreutils, and without a program rt. It ends with 1 where a run doesn't end with its status.
+# The switch that is killed needs a program, and strace with leave to trace. It is killed as it renames the stage to an
+# entry of /etc, and its root is compared with that of the uncut switch once it has been run again.
+#
+# Needs awk, the coreutils and diffutils, and without a program rt. It ends with 1 where a run doesn't end with its
+# status, or where the two roots differ.
 set -u
 program=${1:+$(realpath "$1")}
 cd "$(dirname "$0")/.." || exit 1
@@ -52,18 +56,50 @@ show() {
     [ "$status" = "$wanted" ] || failed=1
 }
 
-# Shows files of the scratch folder.
-show_files() {
-    for file in "$@"; do
-        echo "$ cat $file"
-        (cd "$scratch" && cat "$file")
-    done
-    echo
+# Shows a command in the scratch folder and what it prints.
+look() {
+    echo "$ $*"
+    (cd "$scratch" && "$@")
+}
+
+# Sets `kind` and `number` to the rename by which a switch of the example puts this place: strace counts each kind of call.
+find_rename() {
+    cp -r crates/nixswitch/data/example "$runs/traced"
+    strace -f -o "$runs/calls" -e trace=rename,renameat,renameat2 \
+        "$program" "$runs/traced" switch nix/store/web-24.11 >"$runs/stdout" 2>"$runs/stderr"
+    kind=$(sed -n "s,^[0-9]* *\(rename[a-z0-9]*\)(.*/$1\".*,\1,p" "$runs/calls" | head -n 1)
+    number=$(grep "^[0-9]* *$kind(" "$runs/calls" | grep -n "/$1\"" | head -n 1 | cut -d : -f 1)
+}
+
+# Runs a switch of the root `cut` that is killed as it makes this rename.
+killed_at() {
+    (cd "$scratch" && exec strace -f -o "$runs/calls" -e inject="$1:signal=KILL:when=$2" \
+        "$program" cut switch nix/store/web-24.11) >"$runs/stdout" 2>"$runs/stderr"
+}
+
+# Shows a switch that is killed at an entry of /etc, and that the next run leaves what the uncut one has left.
+show_cut() {
+    entry=tree/etc/metrics.toml
+    find_rename "$entry"
+    echo "$ nixswitch cut switch nix/store/web-24.11    # killed as it renames the stage to cut/$entry"
+    { killed_at "$kind" "$number"; } 2>"$runs/shell"
+    if [ $? != 137 ] || [ -e "$scratch/cut/$entry" ]; then
+        echo "it wasn't killed there"
+        failed=1
+    fi
+    look cat cut/tree/nix/var/nixswitch.stage
+    show 4-again 4 cut switch nix/store/web-24.11
+    if look diff -r example cut; then
+        echo "no difference"
+    else
+        failed=1
+    fi
 }
 
 rm -rf "$scratch"
 mkdir -p "$runs" || exit 1
 cp -r crates/nixswitch/data/root crates/nixswitch/data/example "$scratch" || exit 1
+cp -r crates/nixswitch/data/example "$scratch/cut" || exit 1
 if [ -z "$program" ]; then
     echo "The program of this run isn't proved: its sources are compiled as they stand, in a minute or so."
     echo "make build proves it, which takes some twenty minutes the first time; from then on make run shows that one."
@@ -80,11 +116,21 @@ fi
 echo "It runs in $scratch."
 echo
 show 1-boot 0 root boot nix/store/a-sys
-show_files root/tree/nix/var/nix/profiles/system-1-link root/tree/nix/var/nix/profiles/system
+look cat root/tree/nix/var/nix/profiles/system-1-link root/tree/nix/var/nix/profiles/system
+echo
 show 2-dry-activate 0 example dry-activate nix/store/web-24.11
 echo
 show 3-switch 4 example switch nix/store/web-24.11
-show_files example/tree/nix/var/nix/profiles/system-1-link example/tree/nix/var/nix/profiles/system \
-    example/tree/run/current-system example/manager
+look cat example/tree/etc/group example/tree/etc/passwd example/tree/etc/shadow
+look cat example/tree/etc/metrics.toml example/tree/etc/localtime example/tree/etc/.clean
+look cat example/tree/etc/static example/tree/etc/systemd/system/metrics.service example/tree/etc/motd.d
+look cat example/tree/nix/var/nix/profiles/system-1-link example/tree/nix/var/nix/profiles/system
+look cat example/tree/run/current-system example/manager
+echo
+if [ -n "$program" ] && strace -o "$runs/calls" true 2>"$runs/stderr"; then
+    show_cut
+else
+    echo "The switch that is killed is left out: it needs the built program, and strace with leave to trace."
+fi
 rm -rf "$runs"
 exit "$failed"

@@ -179,6 +179,28 @@ run "the manager's next state is a pipe" 0
 fresh && mkdir -p "$work/root/manager.new/a"
 run "the manager's next state is a folder" 3
 
+system=$tree/nix/store/a-sys
+fresh && mkdir -p "$tree/etc" && ln -s "$work/outside/file" "$tree/etc/passwd"
+run "an account table is a link of the file system" 3
+fresh && mkdir -p "$tree/etc" && mkfifo "$tree/etc/shadow"
+run "an account table is a pipe" 3
+fresh && mkdir -p "$tree/etc" && printf 'L /nix/store/../../../../outside/file\n' >"$tree/etc/group"
+run "an account table that leads out of the tree" 2
+fresh && ln -s "$work/outside/file" "$system/users-groups.json"
+run "the declared accounts are a link of the file system" 3
+fresh && truncate -s 20G "$system/users-groups.json"
+run "twenty gigabytes of declared accounts" 3
+fresh && mkdir -p "$tree/var/lib" && ln -s "$work/outside" "$tree/var/lib/nixos"
+run "a folder on the way to the ids is a link" 3
+fresh && mkdir -p "$system/etc/app" "$tree/etc" && printf 'F 0644 0 0\n' >"$system/etc/app/a" && ln -s "$work/outside" "$tree/etc/app"
+run "a folder on the way to an entry of /etc is a link" 3
+fresh && mkdir -p "$system/etc" "$tree/etc" && printf 'F 0644 0 0\n' >"$system/etc/a" && ln -s "$work/outside/file" "$tree/etc/a"
+run "an entry of /etc is a link of the file system" 3
+fresh && mkdir -p "$system/etc" "$tree/etc/a/b" && printf 'F 0644 0 0\n' >"$system/etc/a"
+run "empty folders where an entry of /etc is to stand" 0
+fresh && mkdir -p "$system/etc" && printf 'L /nix/store/../../../../outside/file\n' >"$system/etc/a" && printf 'F 0644 0 0\n0644\n' >"$system/etc/a.mode"
+run "a copy of what leads out of the tree" 2
+
 if [ "$(id -u)" != 0 ]; then
     fresh && chmod 000 "$tree/nix/store/a-sys/nixos-version"
     run "a leaf without leave to read" 3

@@ -1,16 +1,15 @@
 #!/bin/bash
-# Kills the program at each call of a run that changes a file, and lets the next run end it.
+# Kills the program at each call of a run that changes a file, and at moments taken at random, and lets the next run end it.
 #
-# bench/kill.sh [PROGRAM]
+# bench/kill.sh [PROGRAM [MOMENTS]]
 #
-# Needs bash, awk, the coreutils, findutils, and strace with leave to trace.
+# Needs bash 5, awk, the coreutils, findutils, and strace with leave to trace.
 #
-# An uncut run is traced first, from four roots: a boot without a profile, a boot with three
-# generations whose profile is the second, a switch of the units of the example root that leaves the
-# profile as it is, and one that makes a generation too. Then each of
-# its calls that change a file or write to standard output is a place for the kill, twice: at its entry,
-# where the call has no effect, and after it. As strace kills at an entry only, the kill after a call is
-# at the entry of the one that follows. strace counts each kind of call by itself, so a place is named by
+# An uncut run is traced first, from four roots: a boot without a profile, a boot with three generations whose profile is
+# the second, a test of the example root, which sets its accounts, makes its /etc and switches its units, and a switch of
+# it, which makes a generation too. Then each of its calls that change a file or write to standard output is a place for
+# the kill, twice: at its entry, where the call has no effect, and after it. As strace kills at an entry only, the kill
+# after a call is at the entry of the one that follows. strace counts each kind of call by itself, so a place is named by
 # kind and number.
 #
 # A row passes where the run was killed at its place, the profile then named what it named before
@@ -19,9 +18,15 @@
 # were reloaded, restarted or started under which definitions. A boot has to put the same output again;
 # a switch tells what is left to do. Each place is tried with one kill, and with a second one at the same
 # place of the run after it, where that run comes to it.
+#
+# Then a switch of a root of 500 units, 2,000 entries below /etc and 60 users is killed after a time taken at random, below
+# that of the uncut run, at least as often as MOMENTS says (60), up to three times in a row on one root. Then a run comes
+# to its end, and what it leaves is judged in the same way.
+#
 # It ends with 1 where a row fails. It is no part of the gate.
 . "$(dirname "$0")/common.sh"
 find_program "$@"
+moments=${2-60}
 if ! strace -o "$work/calls" true 2>"$work/stderr"; then
     echo "strace isn't there or may not trace" >&2
     exit 1
@@ -51,7 +56,7 @@ make_three() {
     printf 'L system-2-link\n' >"$profiles/system"
 }
 
-# The example root, and a switch of its units, which leaves the profile as it is.
+# The example root, and a test, which leaves the profile as it is.
 make_example() {
     words=(test nix/store/web-24.11)
     goal=none
@@ -59,7 +64,7 @@ make_example() {
     cp -r "$here/crates/nixswitch/data/example" "$root"
 }
 
-# The example root, and a switch that makes a generation and then switches its units.
+# The example root, and a switch, which makes a generation first.
 make_switch() {
     make_example
     words=(switch nix/store/web-24.11)
@@ -221,10 +226,72 @@ root_rows() {
     done <"$work/places"
 }
 
+# The root of many units, as it was before its switch.
+make_many() {
+    words=(switch nix/store/new-sys)
+    goal=/nix/store/new-sys
+    restore_kept
+}
+
+# random BELOW: sets `drawn` to a number below this one, the same ones in each run of the script.
+RANDOM=1
+random() {
+    drawn=$(((RANDOM * 32768 + RANDOM) % $1))
+}
+
+# killed_after MICROS: runs the command, kills it after this time, and says whether it was killed.
+killed_after() {
+    { carry timeout -s KILL "$(printf '%d.%06d' $(($1 / 1000000)) $(($1 % 1000000)))"; } 2>"$work/shell"
+    [ $? = 137 ]
+}
+
+# moment_row KILLS: tries to kill so many runs at random moments, ends the next one, and judges.
+moment_row() {
+    local verdict=ok kills=0 try status times=''
+    make_many
+    for ((try = 1; try <= $1; try++)); do
+        random "$micros"
+        times+=" $drawn"
+        if killed_after "$drawn"; then
+            kills=$((kills + 1))
+        fi
+        judge_moment
+    done
+    carry
+    status=$?
+    [ "$(files)" = "$final" ] || verdict='the next run leaves other files'
+    [ $status = "$ends" ] || verdict="the next run ends with $status: $(cat "$work/stderr")"
+    killed=$((killed + kills))
+    note "killed after$times microseconds, kills: $kills of $1" "$verdict"
+}
+
+# The rows of moments taken at random.
+moment_rows() {
+    local tries=0 row
+    killed=0
+    ends=0
+    make_whole "$root" 500 2000 60
+    keep_root
+    make_many
+    was=$(profile_system)
+    quickest 1 carry
+    final=$(files)
+    [ "$(profile_system)" = "$goal" ] || note 'a switch of many units: the uncut run' "went wrong: $(cat "$work/stderr")"
+    echo "a switch of 500 units, 2000 entries and 60 users: the profile names $was, $micros microseconds"
+    while [ $tries -lt "$moments" ]; do
+        random 3
+        row=$((drawn + 1))
+        moment_row $row
+        tries=$((tries + row))
+    done
+    echo "$killed of $tries runs were killed before their end"
+}
+
 echo "strace kills at a call's entry only: a kill after a call is at the entry of the next one"
 root_rows 'a boot without a profile' make_empty 0
 root_rows 'a boot with three generations, the profile at the second' make_three 0
-root_rows 'a switch of the units' make_example 4
-root_rows 'a switch with a generation' make_switch 4
+root_rows 'a test of the example root' make_example 4
+root_rows 'a switch of the example root' make_switch 4
+moment_rows
 echo "$passed passed, $failed failed"
 [ $failed = 0 ]

@@ -12,7 +12,8 @@
 # others, so that 16,000 have 96,000 wants, one in ten with another program in the new system, half of
 # them active, a target that wants the first, and a start list of a hundred. For each it prints the least
 # processor time, in milliseconds and without the system's share, of ten runs that read and of ten dry
-# runs, the difference, and what that is for each unit in microseconds. It ends with 1 where a run fails,
+# runs, the difference, and what that is for each unit in microseconds. A dry run also plans accounts, of which
+# there are none here, and /etc, whose entries are the unit files: that is in the difference. It ends with 1 where a run fails,
 # or where planning takes four times as long for each unit of the largest root as of the smallest. It is
 # no part of the gate.
 . "$(dirname "$0")/common.sh"

@@ -26,9 +26,9 @@ find_program "$@"
 [ $# -gt 0 ] || set -- 500 4000 16000
 failed=0
 
-# store ROOT: the files of a root's store, with their checksums.
+# store ROOT: the files of a root's store and of its links into it below /etc, with their checksums.
 store() {
-    (cd "$1" && find tree/nix/store -type f -print0 | sort -z | xargs -0 cksum)
+    (cd "$1" && find tree/nix/store tree/etc/systemd tree/etc/.clean -type f -print0 | sort -z | xargs -0 cksum)
 }
 
 # expect UNITS: makes a machine with two systems of this many units, and what a switch to the second should put and leave.
@@ -55,9 +55,10 @@ switch() {
     status=$?
 }
 
-# The files of the root but for those of the store, each with its text.
+# The files of the root but for those of the store and the links into it, each with its text.
 others() {
-    (cd "$root" && find . -path ./tree/nix/store -prune -o -type f -print0 | sort -z | xargs -0 tail -v -n +1)
+    (cd "$root" && find . \( -path ./tree/nix/store -o -path ./tree/etc/systemd -o -path ./tree/etc/.clean \) -prune -o -type f -print0 |
+        sort -z | xargs -0 tail -v -n +1)
 }
 
 # The files that a switch leaves beside the store, each with its text.

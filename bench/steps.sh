@@ -1,0 +1,91 @@
+#!/bin/bash
+# Draws the steps of a switch of the example root, as the program takes them: the picture of docs/SWITCH.md.
+#
+# bench/steps.sh [PROGRAM]
+#
+# Needs bash, awk, the coreutils, and strace with leave to trace. It runs the switch on a copy of
+# crates/nixswitch/data/example under strace, and draws a line for each rename and each removal below the root, and for
+# what is put on standard output. A rename of the manager's file is drawn as the act that its journal has gained, or as the
+# load of definitions. It ends with 1 where the switch doesn't end with the status of a failed unit.
+. "$(dirname "$0")/common.sh"
+find_program "$@"
+if ! strace -o "$work/calls" true 2>"$work/stderr"; then
+    echo "strace isn't there or may not trace" >&2
+    exit 1
+fi
+
+cat >"$work/draw.awk" <<'AWK'
+# Draws a step of a group, below a line that parts it from another group.
+function draw(group, what) {
+    if (group != last)
+        print "    |"
+    last = group
+    printf "%3d +-- %-9s %s\n", ++steps, group, what
+}
+# The group of a place, by the part of a switch that owns it.
+function group_of(place) {
+    if (place ~ /^nix\/var\/nix\/profiles\//)
+        return "profile"
+    if (place ~ /^run\/nixos\//)
+        return "lists"
+    if (place ~ /^var\/lib\/nixos\// || place ~ /^etc\/(group|passwd|shadow)$/)
+        return "accounts"
+    return place ~ /^etc\// ? "etc" : "system"
+}
+# The last path that a call names, below the tree.
+function place_of(call) {
+    sub(/"[^"]*$/, "", call)
+    sub(/.*"/, "", call)
+    sub("^" root "(tree/)?", "", call)
+    return call
+}
+# What the manager's new state has that the old one hadn't: an act, or the definitions that it has loaded.
+function draw_act(    count, lines, at, acts) {
+    count = split(state, lines, /\\n/)
+    for (at = 1; at <= count; at++)
+        if (lines[at] ~ /^(stop|reload|restart|start) /)
+            act[++acts] = lines[at]
+    if (acts == known) {
+        sub(/^loaded /, "", lines[1])
+        draw("system", "load " lines[1])
+    } else
+        draw("units", act[acts])
+    known = acts
+}
+
+{ sub(/^[0-9]+ +/, "") }
+/ = -1 / { next }
+/^write\(1</ {
+    if (!put++)
+        print "    the report, on standard output"
+    else if (!closed++)
+        print "    |\n    the closing text, on standard output"
+}
+/^write\([0-9]+<[^>]*\/manager\.new>/ {
+    state = $0
+    sub(/^[^"]*"/, "", state)
+    sub(/"[^"]*$/, "", state)
+}
+/^rename/ {
+    place = place_of($0)
+    if (place == "manager")
+        draw_act()
+    else
+        draw(group_of(place), "put " place)
+}
+/^unlink/ {
+    place = place_of($0)
+    if (place !~ /nixswitch\.stage$/)
+        draw(group_of(place), "remove " place)
+}
+AWK
+
+cp -r "$here/crates/nixswitch/data/example" "$root"
+strace -f -y -s 1000000 -e trace=write,rename,renameat,renameat2,unlink,unlinkat -o "$work/calls" \
+    "$program" "$root" switch nix/store/web-24.11 >"$work/stdout" 2>"$work/stderr"
+status=$?
+awk -v root="$root/" -f "$work/draw.awk" "$work/calls"
+if [ $status != 4 ]; then
+    echo "the switch ended with $status: $(cat "$work/stderr")" >&2
+    exit 1
+fi
