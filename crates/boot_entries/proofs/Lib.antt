@@ -1,0 +1,10 @@
+pub mod ApplyLemmas
+pub mod AtEndLemmas
+pub mod EndLemmas
+pub mod NumberLemmas
+pub mod OwnLemmas
+pub mod PartLemmas
+pub mod PlanLawLemmas
+pub mod PlanLemmas
+pub mod PutLemmas
+pub mod TextLemmas

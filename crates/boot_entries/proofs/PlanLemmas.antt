@@ -1,0 +1,23 @@
+-- Entries are made generation by generation.
+use Rattle.std.proofs.Common.{◌≡◌, ℕ, ◌+◌, ◌<◌, List, [], ◌∷◌, ◌++◌, length, get_or, take, Option, None, Some, refl, sym, ap, ◌∙◌}
+use Rattle.std.proofs.lemmas.List.{take_more}
+use Rattle.std.proofs.lemmas.List.Elements.{filter_map-append}
+use Rattle.std.specs.List.{cons_option}
+use Rattle.std.specs.Prelude.{option_to_list}
+use Rattle.generations.specs.declared.gens.Gen.{Gen}
+use Rattle.host_trait.specs.World.{Leaves}
+use Rattle.boot_entries.specs.declared.boot_texts.BootFile.{BootFile}
+use Rattle.boot_entries.specs.Texts.{entries_of, entry_if}
+
+one_file : (file : Option BootFile) → option_to_list file ≡ cons_option file []
+one_file None = refl
+one_file (Some file) = refl
+
+pub entries_more :
+    (leaves : Leaves) (list : List Gen) (i : ℕ) (gen : Gen) (before after : List BootFile) → i < length list → gen ≡ get_or list i gen →
+    before ≡ entries_of leaves (take i list) → after ≡ before ++ option_to_list (entry_if leaves gen) → after ≡ entries_of leaves (take (i + 1) list)
+entries_more leaves list i gen before after inside is were more =
+    more ∙ ap (λ (files : List BootFile). files ++ option_to_list (entry_if leaves gen)) were
+    ∙ ap (λ (files : List BootFile). entries_of leaves (take i list) ++ files) (one_file (entry_if leaves gen))
+    ∙ sym (filter_map-append (entry_if leaves) (take i list) (gen ∷ []))
+    ∙ ap (entries_of leaves) (sym (take_more list i gen inside ∙ ap (λ (g : Gen). take i list ++ g ∷ []) (sym is)))

@@ -1,0 +1,7 @@
+pub mod BootPart
+pub mod Entries
+pub mod Laws
+pub mod Numbers
+pub mod Places
+pub mod Steps
+pub mod Texts
