@@ -1,4 +1,6 @@
+pub mod AfterLemmas
 pub mod Apart
+pub mod BelowLemmas
 pub mod Entries
 pub mod LinkNumbers
 pub mod Lists

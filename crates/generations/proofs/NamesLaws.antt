@@ -43,7 +43,7 @@ text_same a b is = elim (same_or_other a b) [
   | inr other ↦ absurd (both_ways _ other (sym (texts_ties a b) ∙ is))
 ]
 
-of_system : (o : Option (Option (List ℕ))) (system : List ℕ) → is_of o system ≡ true → o ≡ Some (Some system)
+pub of_system : (o : Option (Option (List ℕ))) (system : List ℕ) → is_of o system ≡ true → o ≡ Some (Some system)
 of_system None system is = absurd (both_ways false refl is)
 of_system (Some None) system is = absurd (both_ways false refl is)
 of_system (Some (Some target)) system is = ap (λ t. Some (Some t)) (text_same target system is)
@@ -61,7 +61,7 @@ named_after system w v is =
       named = there;
     }
 
-link_text : (t u : List ℕ) → Some (Link t) ≡ Some (Link u) → t ≡ u
+pub link_text : (t u : List ℕ) → Some (Link t) ≡ Some (Link u) → t ≡ u
 link_text t u e = cc
 
 none_linked : (o : Option LeafKind) (k : ℕ) → o ≡ None → o ≡ Some (Link (link_name k)) → ⊥

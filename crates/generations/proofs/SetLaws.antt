@@ -74,7 +74,7 @@ none_of None is = refl
 none_of (Some x) is = absurd (both_ways true is refl)
 
 -- no generation stands above the highest
-above_highest : (leaves : Leaves) (m : ℕ) → highest leaves < m → generation_at leaves m ≡ None
+pub above_highest : (leaves : Leaves) (m : ℕ) → highest leaves < m → generation_at leaves m ≡ None
 unfolding highest
 above_highest leaves m above = elim (cases_Bool (is_number m)) [
   | inl is ↦ none_of _ (greatest_above (λ n. is_some (generation_at leaves n)) (2 ^ 32) m above (below_bound m is))
@@ -117,7 +117,7 @@ pub record IsLinked (system : List ℕ) (w v : WorldState) : Type 0 where
   pub number : number_after v.leaves system ≡ number_after w.leaves system
   pub highest_of : is_of (generation_at v.leaves (highest v.leaves)) system ≡ true
 
-next_of : (leaves : Leaves) (system : List ℕ) → is_of (generation_at leaves (highest leaves)) system ≡ false → number_after leaves system ≡ highest leaves + 1
+pub next_of : (leaves : Leaves) (system : List ℕ) → is_of (generation_at leaves (highest leaves)) system ≡ false → number_after leaves system ≡ highest leaves + 1
 next_of leaves system is = ap (λ b. cond b (highest leaves) (highest leaves + 1)) is
 
 pub top_of : (leaves : Leaves) (system : List ℕ) → is_of (generation_at leaves (highest leaves)) system ≡ true → number_after leaves system ≡ highest leaves

@@ -1,3 +1,4 @@
+pub mod After
 pub mod Gens
 pub mod LinkNumber
 pub mod Places

@@ -1,8 +1,11 @@
 //! Generations of the system profile, and the numbers that they give.
-ghost use Rattle.std.specs.Prelude.{◌≡◌, ◌&&◌, Some, nat_lt, is_some};
-ghost use Rattle.generations.specs.Gens.{is_highest_of, number_for_in, previous_in};
+ghost use Rattle.std.specs.Prelude.{◌≡◌, ◌&&◌, Some, IfOk, nat_lt, is_some};
+ghost use Rattle.host_trait.specs.World.{Leaves};
+ghost use Rattle.generations.specs.After.{gens_after, list_with};
+ghost use Rattle.generations.specs.Gens.{IsGensOf, is_highest_of, number_for_in, previous_in};
 ghost use Rattle.generations.specs.Places.{is_of};
 
+use std::alloc::{AllocError, Global};
 use switch_names::{Listed, SystemName};
 
 /// A generation of the profile.
@@ -76,4 +79,66 @@ pub fn previous(gens: &Gens) -> Option<u32>
         }
     }
     latest
+}
+
+/// An equal generation.
+fn copy_of(alloc: Global, generation: &Gen) -> Result<Gen, AllocError>
+    ensures { IfOk result (λ copied. copied ≡ generation.now) }
+{
+    let target = match &generation.target {
+        Some(target) => Some(target.copy(alloc)?),
+        None => None,
+    };
+    Ok(Gen {
+        number: generation.number,
+        target,
+    })
+}
+
+/// Equal generations, in their order.
+fn copy_list(alloc: Global, list: &[Gen]) -> Result<Listed<Gen>, AllocError>
+    ensures { IfOk result (λ copied. copied ≡ list.now) }
+{
+    let mut copied = Listed::new(alloc);
+    for generation in list {
+        copied.push(copy_of(alloc, generation)?)?;
+    }
+    Ok(copied)
+}
+
+/// The generations with one of a number for a system, where the highest one doesn't name it already.
+fn list_with(
+    alloc: Global,
+    gens: &Gens,
+    system: &SystemName,
+    number: u32,
+) -> Result<Listed<Gen>, AllocError>
+    ensures { IfOk result (λ list. list ≡ list_with gens.now.list system.now number) }
+{
+    let mut list = copy_list(alloc, gens.list.as_slice())?;
+    if !is_highest_of(gens, system) {
+        let target = Some(system.copy(alloc)?);
+        list.push(Gen { number, target })?;
+    }
+    Ok(list)
+}
+
+/// The generations that stand after a set of the profile to a system: those that stand, and the one
+/// that the system gets where that is new, which is then the current one. Where there is no further
+/// number, those that stand, and none is the current one.
+pub fn after_set(alloc: Global, gens: &Gens, system: &SystemName) -> Result<Gens, AllocError>
+    ensures { IfOk result (λ after. (leaves : Leaves) → IsGensOf leaves gens.now → after ≡ gens_after system.now leaves) }
+{
+    let Some(number) = number_for(gens, system) else {
+        let list = copy_list(alloc, gens.list.as_slice())?;
+        return Ok(Gens {
+            list,
+            current: None,
+        });
+    };
+    let list = list_with(alloc, gens, system, number)?;
+    Ok(Gens {
+        list,
+        current: Some(number),
+    })
 }

@@ -4,6 +4,8 @@ ghost use Rattle.host_trait.specs.World.{WorldState, seen};
 ghost use Rattle.switch_names.specs.Names.{Name};
 ghost use Rattle.switch_names.specs.SystemName.{IsSystemPath};
 ghost use Rattle.switch_parts.specs.Part.{IsAtEnd, IsFree, IsMomentOf, IsPart};
+ghost use Rattle.generations.specs.After.{gens_after};
+ghost use Rattle.generations.specs.Gens.{IsGensOf};
 ghost use Rattle.generations.specs.Places.{set_end};
 ghost use Rattle.generations.specs.ProfilePart.{has_number, profile_part};
 ghost use Rattle.generations.specs.Set.{CanSet, IsSetMoment};
@@ -27,4 +29,15 @@ pub fn each_moment_of_a_set_is_one_of_its_part()
 /// A set leaves each place of the part at its end.
 pub fn a_set_leaves_its_part_at_its_end()
     ensures { (system : Name) (w v : WorldState) → seen v ≡ set_end system w → IsAtEnd (profile_part system) w v }
+{}
+
+/// What stands after a set is what its definition says: those that stood, and the one that the system
+/// gets, which is the current one.
+pub fn a_set_leaves_these_generations()
+    ensures { (system : Name) (w u : WorldState) → IsSystemPath system → has_number w.leaves system ≡ true → seen u ≡ set_end system w → IsGensOf u.leaves (gens_after system w.leaves) }
+{}
+
+/// Wherever a set is cut, it leaves the same generations.
+pub fn generations_after_a_set_stay()
+    ensures { (system : Name) (w m : WorldState) → (profile_part system).Keeps w m → gens_after system m.leaves ≡ gens_after system w.leaves }
 {}

@@ -8,10 +8,11 @@ mod listing;
 mod places;
 mod setting;
 
-pub use gens::{Gen, Gens, is_highest_of, number_for, previous};
+pub use gens::{Gen, Gens, after_set, is_highest_of, number_for, previous};
 pub use laws::{
     a_set_can_be_made_where_its_part_is_free, a_set_leaves_its_part_at_its_end,
-    each_moment_of_a_set_is_one_of_its_part, the_profile_is_a_part,
+    a_set_leaves_these_generations, each_moment_of_a_set_is_one_of_its_part,
+    generations_after_a_set_stay, the_profile_is_a_part,
 };
 pub use link_number::{number_of_name, number_of_path};
 pub use listing::{all, target_of};

@@ -1,9 +1,6 @@
-use Rattle.std.proofs.Common.{◌≡◌, ◌++◌, ◌∙◌, ap, subst, sym}
+use Rattle.std.proofs.Common.{◌++◌, ◌∙◌, ap, subst, sym}
 use Rattle.std.proofs.lemmas.Result.{on_ok_weaker}
-use Rattle.host_trait.specs.World.{Leaves}
 use Rattle.tree_put.specs.WrittenPlace.{AreApartFromStage}
-use Rattle.generations.specs.Gens.{IsGensOf}
-use Rattle.generations.specs.ProfilePart.{profile_places}
 use Rattle.generations.proofs.PlacesLemmas.{apart_joined, places_apart, places_of_world}
 use Rattle.generations.proofs.places.add_profile_places.Goals as goal
 
