@@ -118,12 +118,12 @@ files_on : (xs ys : List BootFile) (w : WorldState) → with_files (xs ++ ys) w 
 files_on [] ys w = refl
 files_on (x ∷ xs) ys w = files_on xs ys (with_leaf x.at (boot_leaf x.bytes) w)
 
-seen_with_files : (files : List BootFile) (v w : WorldState) → seen v ≡ seen w → seen (with_files files v) ≡ seen (with_files files w)
+pub seen_with_files : (files : List BootFile) (v w : WorldState) → seen v ≡ seen w → seen (with_files files v) ≡ seen (with_files files w)
 seen_with_files [] v w is = is
 seen_with_files (file ∷ files) v w is =
     seen_with_files files (with_leaf file.at (boot_leaf file.bytes) v) (with_leaf file.at (boot_leaf file.bytes) w) (seen_with_leaf file.at (boot_leaf file.bytes) v w is)
 
-seen_without_places : (places : List Name) (v w : WorldState) → seen v ≡ seen w → seen (without_places places v) ≡ seen (without_places places w)
+pub seen_without_places : (places : List Name) (v w : WorldState) → seen v ≡ seen w → seen (without_places places v) ≡ seen (without_places places w)
 seen_without_places [] v w is = is
 seen_without_places (at ∷ places) v w is = seen_without_places places (without_leaf at v) (without_leaf at w) (seen_without_leaf at v w is)
 

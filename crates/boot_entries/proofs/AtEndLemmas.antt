@@ -46,11 +46,11 @@ number_is (suc k) q n is = elim (cases_Bool (is_path q (entry_path k))) [
       let below = number_is k q n (sym (ap (λ b. cond b (Some k) (number_below k q)) away) ∙ is) in (below.0, omega (arith, below.1))
 ]
 
-numbered_is : (q : Name) (n : ℕ) → numbered q ≡ Some n → (q ≡ entry_path n) × (n < 2 ^ 32)
+pub numbered_is : (q : Name) (n : ℕ) → numbered q ≡ Some n → (q ≡ entry_path n) × (n < 2 ^ 32)
 unfolding numbered
 numbered_is q n is = number_is (2 ^ 32) q n is
 
-loader_not_entry : (n : ℕ) → loader_path ≢ entry_path n
+pub loader_not_entry : (n : ℕ) → loader_path ≢ entry_path n
 unfolding loader_path entry_path
 loader_not_entry n same = both_ways (is_path loader_path (entry_path n)) refl (subst (λ x. is_path loader_path x ≡ true) same (nat_list_eq_equiv.refl loader_path))
 
@@ -63,7 +63,7 @@ not_equal q p ne = elim (same_or_other q p) [
   | inr other ↦ other
 ]
 
-entry_not_loader : (n : ℕ) → is_path (entry_path n) loader_path ≡ false
+pub entry_not_loader : (n : ℕ) → is_path (entry_path n) loader_path ≡ false
 unfolding loader_path entry_path
 entry_not_loader n = refl
 
@@ -82,7 +82,7 @@ listed_entry n small =
 
 -- ---- a list of generations whose numbers rise
 
-absent : (list : List Gen) (n : ℕ) → AllByRecursion (λ m. nat_cmp n m ≡ Less) (map (λ (gen : Gen). gen.number) list) → (listed_at list n ≡ None) × (has_target list n ≡ false)
+pub absent : (list : List Gen) (n : ℕ) → AllByRecursion (λ m. nat_cmp n m ≡ Less) (map (λ (gen : Gen). gen.number) list) → (listed_at list n ≡ None) × (has_target list n ≡ false)
 absent [] n higher = (refl, refl)
 absent (gen ∷ list) n higher =
     let other : (gen.number == n) ≡ false = different gen.number n higher.0 in
@@ -157,7 +157,7 @@ module _ (leaves : Leaves) (n : ℕ) (small : n < 2 ^ 32) where
         ∙ sym (ap (λ b. is_some (option_and_then (λ (target : Option Name). target) (option_map (λ (g : Gen). g.target) (cond b (Some (gen_of k (Some system))) (find (λ (g : Gen). g.number == n) list))))) other);
   }
 
-  entries_left : (list : List Gen) → IsStrictlySortedBy nat_cmp (map (λ (gen : Gen). gen.number) list) → AllByRecursion (λ (gen : Gen). is_number gen.number ≡ true) list → IsEntryLeft leaves list n
+  pub entries_left : (list : List Gen) → IsStrictlySortedBy nat_cmp (map (λ (gen : Gen). gen.number) list) → AllByRecursion (λ (gen : Gen). is_number gen.number ≡ true) list → IsEntryLeft leaves list n
   unfolding left_by IsStrictlySortedBy
   entries_left [] sorted numbers = record { left = λ old. refl; target = refl }
   entries_left (gen ∷ list) sorted numbers = elim (cases_Bool (gen.number == n)) [
@@ -170,7 +170,7 @@ module _ (leaves : Leaves) (n : ℕ) (small : n < 2 ^ 32) where
 
 -- ---- the end
 
-left_on : (xs ys : List BootFile) (q : Name) (old : Option LeafKind) → left_by (xs ++ ys) q old ≡ left_by ys q (left_by xs q old)
+pub left_on : (xs ys : List BootFile) (q : Name) (old : Option LeafKind) → left_by (xs ++ ys) q old ≡ left_by ys q (left_by xs q old)
 unfolding left_by
 left_on [] ys q old = refl
 left_on (x ∷ xs) ys q old = left_on xs ys q (cond (eqb q x.at) (Some (boot_leaf x.bytes)) old)
@@ -178,7 +178,7 @@ left_on (x ∷ xs) ys q old = left_on xs ys q (cond (eqb q x.at) (Some (boot_lea
 abbrev pub last_file : Option (List ℕ) → List BootFile
 last_file loader = option_to_list (option_map (boot_file loader_path) loader)
 
-last_elsewhere : (loader : Option (List ℕ)) (n : ℕ) → AreElsewhere (entry_path n) (last_file loader)
+pub last_elsewhere : (loader : Option (List ℕ)) (n : ℕ) → AreElsewhere (entry_path n) (last_file loader)
 last_elsewhere None n = tt
 last_elsewhere (Some text) n = (not_equal (entry_path n) loader_path (λ same. loader_not_entry n (sym same)), tt)
 

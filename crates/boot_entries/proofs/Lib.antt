@@ -1,9 +1,17 @@
 pub mod ApplyLemmas
 pub mod AtEndLemmas
+pub mod DefaultLemmas
 pub mod EndLemmas
+pub mod GensLemmas
+pub mod KeptLemmas
+pub mod ListedLemmas
+pub mod MakeLemmas
+pub mod MenuLemmas
+pub mod MenuPlacesLemmas
 pub mod NumberLemmas
 pub mod OwnLemmas
 pub mod PartLemmas
+pub mod PartedLemmas
 pub mod PlanLawLemmas
 pub mod PlanLemmas
 pub mod PutLemmas

@@ -106,7 +106,7 @@ loader_under : is_in_line stage loader_path ≡ false
 unfolding loader_path stage
 loader_under = refl
 
-entry_under : (n : ℕ) → is_in_line stage (entry_path n) ≡ false
+pub entry_under : (n : ℕ) → is_in_line stage (entry_path n) ≡ false
 unfolding entry_path stage
 entry_under n = not_line stage (entry_path n) (record { first = refl; second = refl })
 

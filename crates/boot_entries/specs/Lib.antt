@@ -1,6 +1,9 @@
+pub mod BootDefault
 pub mod BootPart
+pub mod DefaultLaws
 pub mod Entries
 pub mod Laws
+pub mod Menu
 pub mod Numbers
 pub mod Places
 pub mod Steps

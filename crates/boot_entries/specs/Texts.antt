@@ -44,3 +44,7 @@ pub record IsBootPlanOf (gens : Gens) (leaves : Leaves) (texts : BootTexts) : Ty
   pub entries : texts.entries ≡ entries_of leaves gens.list
   pub loader : texts.loader ≡ option_map loader_text gens.current
   pub gone : texts.gone ≡ gone_of leaves gens.list
+
+-- the boot menu of these generations
+abbrev pub menu_of : Gens → Leaves → BootTexts
+menu_of gens leaves = record { gone = gone_of leaves gens.list; entries = entries_of leaves gens.list; loader = option_map loader_text gens.current }

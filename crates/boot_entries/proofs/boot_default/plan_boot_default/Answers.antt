@@ -1,0 +1,37 @@
+use Rattle.std.proofs.Common.{◌≡◌, None, Some, sym, ap, ◌∙◌}
+use Rattle.std.proofs.lemmas.Result.{err_from_is_err_and}
+use Rattle.host_trait.proofs.Moments.{told_as}
+use Rattle.host_trait.proofs.Readings.{nothing_read_of}
+use Rattle.switch_parts.specs.declared.refusal.Refusal.{Refusal}
+use Rattle.switch_parts.specs.declared.refusal.Refusal.TheVariants.{GenerationsFull}
+use Rattle.boot_entries.specs.BootDefault.{boot_default_in}
+use Rattle.boot_entries.proofs.MakeLemmas.{default_planned, full_refusal, memory_no_device, no_refusal, refused_as, refused_no_device}
+use Rattle.boot_entries.proofs.boot_default.plan_boot_default.Goals as goal
+
+pub returns-in_default-clause-refused : goal.returns-in_default-clause-refused
+returns-in_default-clause-refused g c why e =
+    told_as c.requires.gens (λ w. (boot_default_in c.args.system.now w.leaves).refusal w.leaves ≡ Some why)
+    (λ w is gens.
+    full_refusal c.args.system.now w.leaves c.args.gens gens (sym c.number_for.ensures ∙ c.in_default.is)
+    ∙ ap (λ (r : Refusal). Some r) (refused_as GenerationsFull why e))
+
+pub returns-in_default-clause-reads : goal.returns-in_default-clause-reads
+returns-in_default-clause-reads g c = nothing_read_of _ (λ e. refused_no_device GenerationsFull e)
+
+pub returns-in_err-after-clause-reads : goal.returns-in_err-after-clause-reads
+returns-in_err-after-clause-reads g c =
+    let p = err_from_is_err_and c.from_residual.result c.from_residual.ensures.1 in
+    nothing_read_of _ (λ e. memory_no_device c.from_residual.result p.0 p.1 p.2 e)
+
+pub returns-clause-plan : goal.returns-clause-plan
+returns-clause-plan g c = record {
+  has = λ w is.
+      let gens = c.requires.gens.has w is in
+      default_planned c.args.system.now w.leaves c.args.gens gens c.in-Some.number (sym c.number_for.ensures ∙ c.in-Some.is) c.in_ok-after.after c.in_ok-menu.menu
+      (c.in_ok-after.ensures w.leaves gens) (c.in_ok-menu.ensures.texts.has w is);
+}
+
+pub returns-clause-not_refused : goal.returns-clause-not_refused
+returns-clause-not_refused g c =
+    told_as c.requires.gens (λ w. (boot_default_in c.args.system.now w.leaves).refusal w.leaves ≡ None)
+    (λ w is gens. no_refusal c.args.system.now w.leaves c.args.gens gens c.in-Some.number (sym c.number_for.ensures ∙ c.in-Some.is))
