@@ -1,5 +1,5 @@
 //! A set of units that contracts see as their names in order.
-ghost use Rattle.std.specs.Prelude.{◌≡◌, ◌||◌, ◌+◌, ◌<◌, ◌^◌, [], not, length, IfOk, OnOk, if◌then◌else◌};
+ghost use Rattle.std.specs.Prelude.{◌≡◌, ◌||◌, ◌+◌, ◌<◌, ◌^◌, [], not, length, true, IfOk, OnErr, OnOk, if◌then◌else◌};
 ghost use Rattle.std.specs.Cmp.Lexicographic.{slice_cmp};
 ghost use Rattle.std.specs.List.Sorted.{IsStrictlySortedBy};
 ghost use Rattle.std.specs.Ordering.{nat_cmp};
@@ -51,18 +51,23 @@ impl UnitSet {
 
     /// Adds a unit, and says whether it is new.
     ///
-    /// Where memory is wanting, the name is dropped.
+    /// Where memory is wanting, the set stays as it is and the name is dropped.
     pub fn insert(&mut self, unit: UnitName) -> Result<bool, AllocError>
         ensures added { OnOk result ((name : Name) → has self.new name ≡ (has self.old name || is_name name unit)) }
         ensures is_new { IfOk result (λ is_new. is_new ≡ not (has self.old unit)) }
         ensures len { IfOk result (λ is_new. length self.new ≡ length self.old + (if is_new then 1 else 0)) }
+        ensures kept { OnErr result (self.new ≡ self.old) }
     {
         Ok(self.units.insert(unit)?)
     }
 
     /// Adds the units of a list.
+    ///
+    /// Where memory is wanting, some of them may be added, and no unit is lost.
     pub fn insert_all(&mut self, alloc: Global, units: &[UnitName]) -> Result<(), AllocError>
-        ensures { OnOk result ((name : Name) → has self.new name ≡ (has self.old name || has units.now name)) }
+        ensures added { OnOk result ((name : Name) → has self.new name ≡ (has self.old name || has units.now name)) }
+        ensures kept { OnErr result ((name : Name) → has self.old name ≡ true → has self.new name ≡ true) }
+        ensures no_other { OnErr result ((name : Name) → has self.new name ≡ true → (has self.old name || has units.now name) ≡ true) }
     {
         for unit in units {
             self.insert(unit.copy(alloc)?)?;

@@ -1,6 +1,7 @@
 //! Puts and removals of one leaf.
-ghost use Rattle.std.specs.Prelude.{◌≡◌, ◌≢◌, OnOk, IfOk, MatchBool, Some};
+ghost use Rattle.std.specs.Prelude.{◌≡◌, ◌≢◌, OnOk, IfOk, MatchBool, Some, false};
 ghost use Rattle.std.specs.FinMap.{get};
+ghost use Rattle.host_trait.specs.Change.{IsSame};
 ghost use Rattle.host_trait.specs.Host.{Told, Becomes, Comes, Passes, HasCause};
 ghost use Rattle.host_trait.specs.World.{stage, with_leaf, without_leaf};
 ghost use Rattle.tree_put.specs.Put.{AreApart, CanPut, IsOldOrNew, IsOldOrGone, IsPutIfOther};
@@ -37,7 +38,7 @@ fn is_leaf(stands: &Option<Leaf>, leaf: &Leaf) -> bool
 
 /// Replaces the leaf at a place where another one or none stands there, and answers whether it did.
 ///
-/// A cut leaves what it leaves of `put`.
+/// A cut leaves what it leaves of `put`. Where the answer is no, nothing was changed on the way.
 pub fn put_if_other<T: Tree>(
     alloc: Global,
     host: &mut T,
@@ -48,6 +49,7 @@ pub fn put_if_other<T: Tree>(
     requires can { Told (T.host host.old) (CanPut at.now) }
     ensures ok { OnOk result (Comes (T.host host.old) (T.host host.new) (with_leaf at.now leaf.now)) }
     ensures put { IfOk result (λ put. Told (T.host host.old) (IsPutIfOther at.now leaf.now put)) }
+    ensures still { IfOk result (λ put. put ≡ false → Passes (T.host host.old) (T.host host.new) IsSame) }
     ensures moments { Passes (T.host host.old) (T.host host.new) (IsOldOrNew at.now leaf.now) }
     ensures cause { HasCause (T.host host.old) (T.host host.new) result }
 {

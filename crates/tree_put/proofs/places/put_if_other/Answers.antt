@@ -45,3 +45,6 @@ returns-clause-put g c = record { has = λ w is same. c.if-is_leaf.ensures (c.in
 pub put-requires-clause-can : goal.put-requires-clause-can
 put-requires-clause-can g c =
     told_after c.read.ensures.reads.moments c.read.ensures.reads.moments.tells (CanPut c.args.at.now) (λ w v is same. subst (λ x. CanPut c.args.at.now x) (sym same) (c.requires.can.has w is))
+
+pub returns-then-is_leaf-clause-still : goal.returns-then-is_leaf-clause-still
+returns-then-is_leaf-clause-still g c = λ never. c.read.ensures.reads.moments
