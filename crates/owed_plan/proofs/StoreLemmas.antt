@@ -9,6 +9,7 @@ use Rattle.std.specs.FinMap.{from_entries, get, keys}
 use Rattle.std.specs.List.{AllByRecursion, find, starts_with}
 use Rattle.std.specs.List.Sorted.{IsStrictlySortedBy}
 use Rattle.std.specs.FinMap as finite
+use Rattle.std.specs.Option.{option_or}
 use Rattle.std.proofs.lemmas.Slice.Eq.{bytes_eq-Decides}
 use Rattle.host_trait.specs.declared.leaf.LeafKind.{LeafKind}
 use Rattle.host_trait.specs.declared.leaf.LeafKind.TheVariants.{File, Link}
@@ -21,11 +22,13 @@ use Rattle.owed_plan.specs.Systems.{systems_of, text_at}
 use Rattle.switch_names.specs.Names.{Name, has}
 use Rattle.switch_names.specs.Path.{is_below, path_fault}
 use Rattle.switch_names.proofs.Below.{below_both, below_front}
-use Rattle.unit_defs.specs.Files.{drop_in_at, file_of, paths_of, want_at, wants_of, own_files}
+use Rattle.unit_defs.specs.Files.{drop_in_at, file_of, paths_of, want_at, own_files}
+use Rattle.unit_defs.specs.Fstab.{fstab_of, fstab_path, line_text, wanted_by_lines}
 use Rattle.unit_defs.specs.declared.part.Part.{Part}
-use Rattle.unit_defs.specs.Part.{merged, part_of}
+use Rattle.unit_defs.specs.Part.{line_part, merged, part_of}
 use Rattle.unit_defs.specs.Place.{path_of, place_of, unit_folder}
-use Rattle.unit_defs.specs.Units.{find_text, first_fault_of, in_order, own_fault, own_part, unit_at, units_of, own_text, text_of, wanted, wanted_of}
+use Rattle.unit_defs.proofs.FstabLemmas.{fstab_same}
+use Rattle.unit_defs.specs.Units.{find_text, first_fault_of, in_order, file_part, own_fault, own_part, unit_at, units_of, own_text, text_of, wanted, wanted_of, wants_of}
 
 module _ (leaves other : Leaves) (same : AreSameInStore leaves other) where
   -- ---- contents
@@ -109,18 +112,27 @@ module _ (leaves other : Leaves) (same : AreSameInStore leaves other) (system : 
       (all_passed (is_listed (unit_folder system)) IsInStore listed_inside (keys other))
 
   file_of_same : (unit : Name) → file_of leaves system unit ≡ file_of other system unit
-  file_of_same unit =
-      λ i. option_map (λ leaf. content_same leaves other same (path_of system unit) (path_inside unit) i) (same (path_of system unit) (path_inside unit) i)
+  file_of_same unit = content_same leaves other same (path_of system unit) (path_inside unit)
+
+  fstab_inside : IsInStore (fstab_path system)
+  unfolding fstab_path
+  fstab_inside = below_both (fstab_path system) system (codes "nix/store") (below_front system (codes "etc/fstab")) inside
+
+  lines_same : fstab_of leaves system ≡ fstab_of other system
+  lines_same = fstab_same leaves other system (content_same leaves other same (fstab_path system) fstab_inside)
+
+  files_same : (unit : Name) → file_part leaves system unit ≡ file_part other system unit
+  files_same unit =
+      λ i. option_map (λ files. merged (map part_of files)) (own_files (λ name. file_of_same name i) (λ name. finite.values (from_entries {R = bytes_cmp} (dropped_same name i))) unit)
 
   part_same : (unit : Name) → own_part leaves system unit ≡ own_part other system unit
-  part_same unit =
-      λ i. option_map (λ files. merged (map part_of files)) (own_files (λ name. file_of_same name i) (λ name. finite.values (from_entries {R = bytes_cmp} (dropped_same name i))) unit)
+  part_same unit = λ i. option_or (files_same unit i) (option_map line_part (line_text (lines_same i) unit))
 
   own_same : (unit : Name) → own_text leaves system unit ≡ own_text other system unit
   own_same unit = ap (option_map (λ (part : Part). part.text)) (part_same unit)
 
   fault_same : (unit : Name) → own_fault leaves system unit ≡ own_fault other system unit
-  fault_same unit = ap (option_and_then (λ (part : Part). part.fault)) (part_same unit)
+  fault_same unit = ap (option_and_then (λ (part : Part). part.fault)) (files_same unit)
 
   units_same : units_of leaves system ≡ units_of other system
   units_same = ap (λ paths. in_order (flat_map (λ path. unit_at (place_of system path)) paths)) paths_same
@@ -133,7 +145,7 @@ module _ (leaves other : Leaves) (same : AreSameInStore leaves other) (system : 
   text_same unit = λ i. find_text (λ name. own_same name i) unit
 
   wants_same : (unit : Name) → wants_of leaves system unit ≡ wants_of other system unit
-  wants_same unit = ap (flat_map (λ path. want_at unit (place_of system path))) paths_same
+  wants_same unit = λ i. flat_map (λ path. want_at unit (place_of system path)) (paths_same i) ++ wanted_by_lines (lines_same i) unit
 
   wanted_same : (unit : Name) → wanted_of leaves system unit ≡ wanted_of other system unit
   wanted_same unit = λ i. wanted (λ name. own_same name i) (wants_same unit i) (text_same unit i)

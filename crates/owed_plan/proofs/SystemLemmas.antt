@@ -13,9 +13,8 @@ use Rattle.unit_decide.specs.Sockets.{sockets_of}
 use Rattle.unit_decide.proofs.SocketLemmas.{none_found, paired_kind}
 use Rattle.unit_defs.specs.declared.unit.Unit.{Unit}
 use Rattle.unit_defs.specs.Defs.{AreDefsOf, found_in, names_in, own_in, wanted_in}
-use Rattle.unit_defs.specs.Files.{wants_of}
 use Rattle.unit_defs.specs.Place.{is_unit}
-use Rattle.unit_defs.specs.Units.{find_text, own_text, text_of, wanted_of}
+use Rattle.unit_defs.specs.Units.{find_text, own_text, text_of, wanted_of, wants_of}
 use Rattle.unit_defs.proofs.OrderLemmas.{wanted_each}
 use Rattle.unit_text.specs.declared.assignment.Assignment.{Assignment}
 

@@ -11,10 +11,12 @@ use Rattle.switch_names.specs.UnitName.{IsUnitName, template_of, unit_fault}
 use Rattle.unit_decide.proofs.SocketLemmas.{none_found}
 use Rattle.unit_defs.specs.declared.place.Place.{Place}
 use Rattle.unit_defs.specs.declared.place.Place.TheVariants.{File, DropIn, Want}
-use Rattle.unit_defs.specs.Files.{paths_of, want_at, wants_of}
+use Rattle.unit_defs.specs.Files.{folder_wants, paths_of, want_at}
+use Rattle.unit_defs.specs.Fstab.{fstab_of, names_of, wanted_by_lines}
 use Rattle.unit_defs.specs.Place.{is_unit, place_of}
-use Rattle.unit_defs.specs.Units.{can_be_wanted, own_text, text_of, units_of, wanted_of, words_in}
+use Rattle.unit_defs.specs.Units.{can_be_wanted, own_text, text_of, units_of, wanted_of, wants_of, words_in}
 use Rattle.unit_defs.proofs.FirstFaultLemmas.{has_by_test, own_there}
+use Rattle.unit_defs.proofs.FstabLemmas.{wanted_named}
 use Rattle.unit_defs.proofs.NameLemmas.{has-append, name_exact}
 use Rattle.unit_defs.proofs.OrderLemmas.{has_in_order}
 use Rattle.unit_defs.proofs.UnitLemmas.{template_named}
@@ -48,20 +50,24 @@ module _ (leaves : Leaves) (system : Name) where
   abbrev in_folders : List Name
   in_folders = flat_map (λ path. wanted_at (place_of system path)) (paths_of leaves system)
 
+  -- the units of the fstab
+  abbrev in_fstab : List Name
+  in_fstab = names_of (fstab_of leaves system)
+
   abbrev in_texts : List Name
-  in_texts = flat_map (λ unit. words_in (own unit)) (units_of leaves system)
+  in_texts = flat_map (λ unit. words_in (own unit)) (units_of leaves system ++ in_fstab)
 
-  -- the names in all folders of wanted units, and the words of all texts
+  -- the names in all folders of wanted units and in the fstab, and the words of all texts
   abbrev pub all_wanted : List Name
-  all_wanted = in_folders ++ in_texts
+  all_wanted = (in_folders ++ in_fstab) ++ in_texts
 
-  folder_found : (unit name : Name) → has (wants_of leaves system unit) name ≡ true → has in_folders name ≡ true
+  folder_found : (unit name : Name) → has (folder_wants leaves system unit) name ≡ true → has in_folders name ≡ true
   folder_found unit name found =
       flat_more (λ path. want_at unit (place_of system path)) (λ path. wanted_at (place_of system path)) name (λ path. at_place unit name (place_of system path)) (paths_of leaves system) found
 
   own_words : (unit name : Name) → IsUnitName unit → has (words_in (own unit)) name ≡ true → has in_texts name ≡ true
   own_words unit name named found =
-      has_by_test (is_name unit) (λ other. words_in (own other)) name (λ other same. subst (λ n. has (words_in (own n)) name ≡ true) (name_exact unit other same) found) (units_of leaves system)
+      has_by_test (is_name unit) (λ other. words_in (own other)) name (λ other same. subst (λ n. has (words_in (own n)) name ≡ true) (name_exact unit other same) found) (units_of leaves system ++ in_fstab)
       (own_there leaves system unit named (there (own unit) found))
     where
       there : (text : Option (List Assignment)) → has (words_in text) name ≡ true → is_some text ≡ true
@@ -84,13 +90,22 @@ module _ (leaves : Leaves) (system : Name) where
       by true is words = by_text unit name (own unit) (none_from_test (unit_fault unit) is) refl words
       by false is words = absurd (none_found name words)
 
+  named_found : (unit name : Name) → has (wants_of leaves system unit) name ≡ true → has (in_folders ++ in_fstab) name ≡ true
+  named_found unit name found =
+      let lines = wanted_by_lines (fstab_of leaves system) unit in
+      has-append in_folders in_fstab name
+      ∙ elim (or_cases (has (folder_wants leaves system unit) name) (has lines name) (sym (has-append (folder_wants leaves system unit) lines name) ∙ found)) [
+        | inl folder ↦ or_left (has in_folders name) (has in_fstab name) (folder_found unit name folder)
+        | inr line ↦ or_right (has in_folders name) (has in_fstab name) (wanted_named (fstab_of leaves system) unit name line)
+      ]
+
   -- what any unit wants is among them
   pub wanted_among : (unit name : Name) → has (wanted_of leaves system unit) name ≡ true → has all_wanted name ≡ true
   wanted_among unit name found =
       let names = wants_of leaves system unit ++ words_in (text_of leaves system unit) in
       let listed = (and_parts (can_be_wanted own name) (has names name) (sym (has-filter (can_be_wanted own) names name) ∙ sym (has_in_order (filter (can_be_wanted own) names) name) ∙ found)).1 in
-      has-append in_folders in_texts name
+      has-append (in_folders ++ in_fstab) in_texts name
       ∙ elim (or_cases (has (wants_of leaves system unit) name) (has (words_in (text_of leaves system unit)) name) (sym (has-append (wants_of leaves system unit) (words_in (text_of leaves system unit)) name) ∙ listed)) [
-        | inl folder ↦ or_left (has in_folders name) (has in_texts name) (folder_found unit name folder)
-        | inr words ↦ or_right (has in_folders name) (has in_texts name) (text_found unit name words)
+        | inl named ↦ or_left (has (in_folders ++ in_fstab) name) (has in_texts name) (named_found unit name named)
+        | inr words ↦ or_right (has (in_folders ++ in_fstab) name) (has in_texts name) (text_found unit name words)
       ]

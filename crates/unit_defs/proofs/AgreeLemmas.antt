@@ -9,8 +9,7 @@ use Rattle.unit_text.specs.declared.assignment.Assignment.{Assignment}
 use Rattle.unit_defs.specs.declared.part.Part.{Part}
 use Rattle.unit_defs.specs.declared.unit.Unit.{Unit}
 use Rattle.unit_defs.specs.Defs.{AreDefsOf, AreUnitsOf, found_in, names_in, own_in}
-use Rattle.unit_defs.specs.Files.{wants_of}
-use Rattle.unit_defs.specs.Units.{can_be_wanted, find_text, in_order, own_text, wanted, words_in}
+use Rattle.unit_defs.specs.Units.{can_be_wanted, find_text, in_order, own_text, wanted, wants_of, words_in}
 use Rattle.unit_defs.proofs.UnitLemmas.{template_named}
 
 module _ (own other : List ℕ → Option (List Assignment)) (same : (name : List ℕ) → IsUnitName name → own name ≡ other name) where

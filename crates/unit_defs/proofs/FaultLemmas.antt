@@ -13,7 +13,10 @@ use Rattle.unit_defs.specs.declared.part.Part.{Part}
 use Rattle.unit_defs.specs.declared.unit.Unit.{Unit}
 use Rattle.unit_defs.specs.Defs.{AreSorted, AreUnitsOf, first_faulty, part_in, unit_in}
 use Rattle.switch_names.specs.Names.{is_name}
-use Rattle.unit_defs.specs.Units.{HasNoFault, IsFirstFault}
+use Rattle.unit_text.specs.declared.assignment.Assignment.{Assignment}
+use Rattle.unit_defs.specs.Fstab.{fstab_of, line_text}
+use Rattle.unit_defs.specs.Part.{line_part}
+use Rattle.unit_defs.specs.Units.{HasNoFault, IsFirstFault, file_part, own_fault}
 use Rattle.switch_names.proofs.Names.{name_turned}
 use Rattle.unit_defs.proofs.NameLemmas.{less_is_other, name_exact, name_itself}
 use Rattle.unit_defs.proofs.PathLemmas.{some_same}
@@ -93,8 +96,20 @@ unfolding IsStrictlySortedBy
 first_in [] name line sorted is = absurd (cc)
 first_in (unit ∷ units) name line sorted is = first_line unit units name line (fault_of unit) refl is sorted (first_in units name line sorted.1)
 
+-- a line of an fstab has no fault
+of_files : (files : Option Part) (line : Option (List Assignment)) →
+    option_and_then (λ (part : Part). part.fault) (option_or files (option_map line_part line)) ≡ option_and_then (λ (part : Part). part.fault) files
+of_files (Some part) line = refl
+of_files None None = refl
+of_files None (Some text) = refl
+
+module _ (leaves : Leaves) (system : List ℕ) (units : List Unit) (are : AreUnitsOf leaves system units) where
+  fault_same : (name : List ℕ) → IsUnitName name → own_fault leaves system name ≡ fault_in units name
+  fault_same name named =
+      sym (ap (option_and_then (λ (part : Part). part.fault)) (are.part name named) ∙ of_files (file_part leaves system name) (line_text (fstab_of leaves system) name))
+
 pub no_fault : (leaves : Leaves) (system : List ℕ) (units : List Unit) → AreUnitsOf leaves system units → None ≡ first_faulty units → HasNoFault leaves system
-no_fault leaves system units are none = λ unit named. sym (ap (option_and_then (λ (part : Part). part.fault)) (are.part unit named)) ∙ none_faulty units unit (sym none)
+no_fault leaves system units are none = λ unit named. fault_same leaves system units are unit named ∙ none_faulty units unit (sym none)
 
 pub first_is : (leaves : Leaves) (system : List ℕ) (units : List Unit) (name : List ℕ) (line : ℕ) → AreUnitsOf leaves system units → AreSorted units → Some (name, line) ≡ first_faulty units → IsUnitName name →
     IsFirstFault leaves system name line
@@ -102,8 +117,8 @@ first_is leaves system units name line are sorted is named =
     let first = first_in units name line sorted (sym is) in
     record {
       named = named;
-      faulty = sym (ap (option_and_then (λ (part : Part). part.fault)) (are.part name named)) ∙ first.faulty;
-      earlier = λ other is_unit less. sym (ap (option_and_then (λ (part : Part). part.fault)) (are.part other is_unit)) ∙ first.earlier other less;
+      faulty = fault_same leaves system units are name named ∙ first.faulty;
+      earlier = λ other is_unit less. fault_same leaves system units are other is_unit ∙ first.earlier other less;
     }
 
 pub none_left : {X : Type 0} (o : Option X) → ((x : X) → o ≡ Some x → ⊥) → None ≡ o

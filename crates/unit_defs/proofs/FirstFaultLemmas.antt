@@ -8,16 +8,20 @@ use Rattle.std.specs.declared.cmp.Ordering.TheVariants.{Less}
 use Rattle.std.proofs.lemmas.Bool.{both_ways}
 use Rattle.switch_names.specs.UnitName.{IsUnitName, template_of}
 use Rattle.switch_names.specs.Names.{has, is_name}
-use Rattle.host_trait.specs.World.{Leaves, bytes_cmp, content_of}
+use Rattle.host_trait.specs.declared.leaf.LeafKind.{LeafKind}
+use Rattle.host_trait.specs.World.{Leaves, bytes_cmp, content_of, leaf_content}
 use Rattle.host_trait.proofs.Places.{bytes_total}
 use Rattle.unit_defs.specs.declared.part.Part.{Part}
 use Rattle.unit_defs.specs.declared.place.Place.{Place}
 use Rattle.unit_defs.specs.declared.place.Place.TheVariants.{File, DropIn, Want}
 use Rattle.unit_defs.specs.Files.{base_of, drop_in_at, drop_ins_of, file_of, paths_of}
 use Rattle.unit_defs.specs.Found.{is_file}
-use Rattle.unit_defs.specs.Part.{merged, part_of}
+use Rattle.unit_text.specs.declared.assignment.Assignment.{Assignment}
+use Rattle.fstab_mounts.specs.declared.fs_unit.FsUnit.{FsUnit}
+use Rattle.unit_defs.specs.Fstab.{fstab_of, line_text, names_of}
+use Rattle.unit_defs.specs.Part.{line_part, merged, part_of}
 use Rattle.unit_defs.specs.Place.{path_of, place_of}
-use Rattle.unit_defs.specs.Units.{HasNoFault, IsFirstFault, first_fault_of, own_fault, own_part, own_text, unit_at, units_of}
+use Rattle.unit_defs.specs.Units.{HasNoFault, IsFirstFault, file_part, first_fault_of, own_fault, own_part, own_text, unit_at, units_of}
 use Rattle.unit_defs.proofs.DropInLemmas.{none_exactly, some_more}
 use Rattle.switch_names.proofs.Names.{name_turned}
 use Rattle.unit_defs.proofs.NameLemmas.{has-append, less_is_other, name_exact, name_itself}
@@ -165,12 +169,13 @@ at_drop_in unit (Some (DropIn other name)) (Some content) is = by (is_name other
     by true same is = one_name unit other same
     by false same is = absurd (cc)
 
-file_there : {X Y : Type 0} (x : X) (o : Option Y) → is_some (option_map (λ leaf. x) o) ≡ is_some o
-file_there x None = refl
-file_there x (Some leaf) = refl
+-- a leaf that has content is there
+leaf_there : (leaves : Leaves) (o : Option LeafKind) → is_some (leaf_content leaves o) ≡ true → is_some o ≡ true
+leaf_there leaves None is = absurd (cc)
+leaf_there leaves (Some leaf) is = refl
 
--- what has a part of its own has a file or drop-ins
-caused : (file : Option (Option (List ℕ))) (drop_ins : List (List ℕ)) (template : Option (List ℕ)) (all : List ℕ → List (List ℕ)) →
+-- what has files has its own or drop-ins
+caused : (file : Option (List ℕ)) (drop_ins : List (List ℕ)) (template : Option (List ℕ)) (all : List ℕ → List (List ℕ)) →
     is_some (option_map (λ files. merged (map part_of files)) (option_map all (base_of file drop_ins template))) ≡ true →
     (is_some file ≡ true) ⊎ ((length drop_ins == 0) ≡ false)
 caused (Some file) drop_ins template all is = inl refl
@@ -185,6 +190,20 @@ part_of_text : (part : Option Part) → is_some (option_map (λ (p : Part). p.te
 part_of_text None = refl
 part_of_text (Some part) = refl
 
+files_or_line : (files : Option Part) (line : Option (List Assignment)) → is_some (option_or files (option_map line_part line)) ≡ true → (is_some files ≡ true) ⊎ (is_some line ≡ true)
+files_or_line (Some part) line is = inl refl
+files_or_line None (Some text) is = inr refl
+files_or_line None None is = absurd (cc)
+
+line_there : (lines : List FsUnit) (unit : List ℕ) → is_some (line_text lines unit) ≡ true → has (names_of lines) unit ≡ true
+line_there [] unit is = absurd (cc)
+line_there (line ∷ lines) unit is = ap (λ b. b || has (names_of lines) unit) (name_turned unit line.unit) ∙ by (is_name line.unit unit) is (line_there lines unit)
+  where
+    by : (b : Bool) → is_some (option_map (λ (l : FsUnit). l.text) (cond b (Some line) (find (λ l. is_name l.unit unit) lines))) ≡ true →
+        (is_some (line_text lines unit) ≡ true → has (names_of lines) unit ≡ true) → (b || has (names_of lines) unit) ≡ true
+    by true is rest = refl
+    by false is rest = rest is
+
 only_name : (unit other : List ℕ) → has (other ∷ []) unit ≡ true → unit ≡ other
 only_name unit other there = name_exact unit other (sym (or-false (is_name unit other)) ∙ there)
 
@@ -195,29 +214,35 @@ module _ (leaves : Leaves) (system : List ℕ) where
   with_file : (unit : List ℕ) → IsUnitName unit → is_some (file_of leaves system unit) ≡ true → has (flat_map at_path (paths_of leaves system)) unit ≡ true
   with_file unit named some =
       has_by_test (λ path. is_file unit (place_of system path)) at_path unit (λ path. at_file unit (place_of system path)) (paths_of leaves system)
-      (among leaves system unit named ∙ sym (file_there (content_of leaves (path_of system unit)) (get leaves (path_of system unit))) ∙ some)
+      (among leaves system unit named ∙ leaf_there leaves (get leaves (path_of system unit)) some)
 
   with_drop_ins : (unit : List ℕ) → (length (drop_ins_of leaves system unit) == 0) ≡ false → has (flat_map at_path (paths_of leaves system)) unit ≡ true
   with_drop_ins unit some =
       has_by_some (λ path. drop_in_at unit (place_of system path) (content_of leaves path)) at_path unit (λ path. at_drop_in unit (place_of system path) (content_of leaves path)) (paths_of leaves system)
       (sym (none_exactly (flat_map (λ path. drop_in_at unit (place_of system path) (content_of leaves path)) (paths_of leaves system))) ∙ some)
 
-  -- a unit with a part of its own is among the units
-  part_there : (unit : List ℕ) → IsUnitName unit → is_some (own_part leaves system unit) ≡ true → has (units_of leaves system) unit ≡ true
+  -- a unit whose files say something is among the units
+  part_there : (unit : List ℕ) → IsUnitName unit → is_some (file_part leaves system unit) ≡ true → has (units_of leaves system) unit ≡ true
   part_there unit named some = has_in_order (flat_map at_path (paths_of leaves system)) unit ∙ elim (by some) [
     | inl file ↦ with_file unit named file
     | inr drop_ins ↦ with_drop_ins unit drop_ins
   ]
     where
-      by : is_some (own_part leaves system unit) ≡ true → (is_some (file_of leaves system unit) ≡ true) ⊎ ((length (drop_ins_of leaves system unit) == 0) ≡ false)
-      by is = caused (file_of leaves system unit) (drop_ins_of leaves system unit) (option_and_then (λ name. option_and_then (λ file. file) (file_of leaves system name)) (template_of unit))
+      by : is_some (file_part leaves system unit) ≡ true → (is_some (file_of leaves system unit) ≡ true) ⊎ ((length (drop_ins_of leaves system unit) == 0) ≡ false)
+      by is = caused (file_of leaves system unit) (drop_ins_of leaves system unit) (option_and_then (file_of leaves system) (template_of unit))
           (λ file. file ∷ option_map_or (drop_ins_of leaves system) (template_of unit) [] ++ drop_ins_of leaves system unit) is
 
-  pub own_there : (unit : List ℕ) → IsUnitName unit → is_some (own_text leaves system unit) ≡ true → has (units_of leaves system) unit ≡ true
-  own_there unit named some = part_there unit named (sym (part_of_text (own_part leaves system unit)) ∙ some)
+  -- a unit with a text of its own has files, or a line in the fstab
+  pub own_there : (unit : List ℕ) → IsUnitName unit → is_some (own_text leaves system unit) ≡ true → has (units_of leaves system ++ names_of (fstab_of leaves system)) unit ≡ true
+  own_there unit named some =
+      has-append (units_of leaves system) (names_of (fstab_of leaves system)) unit
+      ∙ elim (files_or_line (file_part leaves system unit) (line_text (fstab_of leaves system) unit) (sym (part_of_text (own_part leaves system unit)) ∙ some)) [
+        | inl files ↦ ap (λ b. b || has (names_of (fstab_of leaves system)) unit) (part_there unit named files)
+        | inr line ↦ or_right (has (units_of leaves system) unit) (has (names_of (fstab_of leaves system)) unit) (line_there (fstab_of leaves system) unit line)
+      ]
 
   faulty_there : (unit : List ℕ) (line : ℕ) → IsUnitName unit → own_fault leaves system unit ≡ Some line → has (units_of leaves system) unit ≡ true
-  faulty_there unit line named faulty = part_there unit named (has_part (own_part leaves system unit) line faulty)
+  faulty_there unit line named faulty = part_there unit named (has_part (file_part leaves system unit) line faulty)
 
   named_at : (unit : List ℕ) (path : List ℕ) (place : Option Place) → place_of system path ≡ place → has (unit_at place) unit ≡ true → IsUnitName unit
   named_at unit path None is there = absurd (cc)

@@ -3,6 +3,7 @@ mod DropInLemmas
 mod FaultLemmas
 pub mod FirstFaultLemmas
 mod FoundLemmas
+pub mod FstabLemmas
 pub mod NameLemmas
 pub mod OrderLemmas
 mod PathLemmas

@@ -8,7 +8,7 @@ use Rattle.switch_names.specs.UnitName.{template_of}
 use Rattle.unit_defs.specs.declared.found.Found.{Found}
 use Rattle.unit_defs.specs.declared.part.Part.{Part}
 use Rattle.unit_defs.specs.Files.{base_of}
-use Rattle.unit_defs.specs.Found.{drop_ins_in, file_in, own_part_in}
+use Rattle.unit_defs.specs.Found.{drop_ins_in, file_in, file_part_in}
 use Rattle.unit_defs.specs.Part.{added, first_fault, merged}
 
 or_assoc : {X : Type 0} (a b c : Option X) → option_or (option_or a b) c ≡ option_or a (option_or b c)
@@ -49,25 +49,25 @@ module _ (found : Found) (unit : List ℕ) where
   abbrev part_by : Option (List ℕ) → Option Part → Option Part
   part_by template base = option_map merged (option_map (λ file. file ∷ option_map_or (drop_ins_in found) template [] ++ drop_ins_in found unit) base)
 
-  pub own_part_made : (template : Option (List ℕ)) (base part : Part) → template ≡ template_of unit →
-      Some base ≡ base_of (file_in found unit) (drop_ins_in found unit) (option_and_then (λ name. option_and_then (λ file. file) (file_in found name)) template) →
-      part ≡ added (added base (option_map_or (drop_ins_in found) template [])) (drop_ins_in found unit) → Some part ≡ own_part_in found unit
-  own_part_made template base part named is made =
+  pub file_part_made : (template : Option (List ℕ)) (base part : Part) → template ≡ template_of unit →
+      Some base ≡ base_of (file_in found unit) (drop_ins_in found unit) (option_and_then (file_in found) template) →
+      part ≡ added (added base (option_map_or (drop_ins_in found) template [])) (drop_ins_in found unit) → Some part ≡ file_part_in found unit
+  file_part_made template base part named is made =
       ap (λ p. Some p) (made ∙ added_twice base (option_map_or (drop_ins_in found) template []) (drop_ins_in found unit))
       ∙ ap (part_by template) is
-      ∙ ap (λ t. part_by t (base_of (file_in found unit) (drop_ins_in found unit) (option_and_then (λ name. option_and_then (λ file. file) (file_in found name)) t))) named
+      ∙ ap (λ t. part_by t (base_of (file_in found unit) (drop_ins_in found unit) (option_and_then (file_in found) t))) named
 
-  pub own_part_none : (template : Option (List ℕ)) → template ≡ template_of unit →
-      None ≡ base_of (file_in found unit) (drop_ins_in found unit) (option_and_then (λ name. option_and_then (λ file. file) (file_in found name)) template) → None ≡ own_part_in found unit
-  own_part_none template named is =
+  pub file_part_none : (template : Option (List ℕ)) → template ≡ template_of unit →
+      None ≡ base_of (file_in found unit) (drop_ins_in found unit) (option_and_then (file_in found) template) → None ≡ file_part_in found unit
+  file_part_none template named is =
       ap (part_by template) is
-      ∙ ap (λ t. part_by t (base_of (file_in found unit) (drop_ins_in found unit) (option_and_then (λ name. option_and_then (λ file. file) (file_in found name)) t))) named
+      ∙ ap (λ t. part_by t (base_of (file_in found unit) (drop_ins_in found unit) (option_and_then (file_in found) t))) named
 
   -- the same by the steps in which it is made
-  pub own_part_steps : (template first second : Option (List ℕ)) (base copied one part : Part) → template ≡ template_of unit → first ≡ template → second ≡ template →
-      Some base ≡ base_of (file_in found unit) (drop_ins_in found unit) (option_and_then (λ name. option_and_then (λ file. file) (file_in found name)) first) →
-      copied ≡ base → one ≡ added copied (option_map_or (drop_ins_in found) second []) → part ≡ added one (drop_ins_in found unit) → Some part ≡ own_part_in found unit
-  own_part_steps template first second base copied one part named is_first is_second is same inherited own =
-      own_part_made template base part named
-      (is ∙ ap (λ t. base_of (file_in found unit) (drop_ins_in found unit) (option_and_then (λ name. option_and_then (λ file. file) (file_in found name)) t)) is_first)
+  pub file_part_steps : (template first second : Option (List ℕ)) (base copied one part : Part) → template ≡ template_of unit → first ≡ template → second ≡ template →
+      Some base ≡ base_of (file_in found unit) (drop_ins_in found unit) (option_and_then (file_in found) first) →
+      copied ≡ base → one ≡ added copied (option_map_or (drop_ins_in found) second []) → part ≡ added one (drop_ins_in found unit) → Some part ≡ file_part_in found unit
+  file_part_steps template first second base copied one part named is_first is_second is same inherited own =
+      file_part_made template base part named
+      (is ∙ ap (λ t. base_of (file_in found unit) (drop_ins_in found unit) (option_and_then (file_in found) t)) is_first)
       (own ∙ ap (λ p. added p (drop_ins_in found unit)) (inherited ∙ ap (λ p. added p (option_map_or (drop_ins_in found) second [])) same ∙ ap (λ t. added base (option_map_or (drop_ins_in found) t [])) is_second))

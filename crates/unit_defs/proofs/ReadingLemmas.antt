@@ -27,20 +27,21 @@ use Rattle.unit_defs.proofs.PartLemmas.{or_none}
 -- nothing is read yet
 pub files_none : (leaves : Leaves) (front : List ℕ) (found : Found) → found.units.entries ≡ [] → AreFilesAt leaves front [] found
 files_none leaves front found none = record {
+  line = λ unit. ap (λ es. option_and_then (λ (files : UnitFiles). files.line) (lookup (is_at (bytes_cmp unit)) es)) none;
   file = λ unit. ap (λ es. option_and_then (λ (files : UnitFiles). files.file) (lookup (is_at (bytes_cmp unit)) es)) none;
   drop_in = λ unit name. ap (λ es. option_and_then (λ (files : UnitFiles). Rattle.std.specs.BTreeMap.get bytes_cmp files.drop_ins name) (lookup (is_at (bytes_cmp unit)) es)) none;
   wants = λ unit. ap (λ es. option_map_or (λ (files : UnitFiles). files.wants) (lookup (is_at (bytes_cmp unit)) es) []) none;
 }
 
-file_chosen : (place : Option Place) (part : Option Part) (unit : List ℕ) (was : Option (Option Part)) → file_with place part unit was ≡ cond (is_file unit place) (Some part) was
+file_chosen : (place : Option Place) (part : Option Part) (unit : List ℕ) (was : Option Part) → file_with place part unit was ≡ cond (is_file unit place) part was
 file_chosen None part unit was = refl
 file_chosen (Some (File other)) part unit was = refl
 file_chosen (Some (DropIn other name)) part unit was = refl
 file_chosen (Some (Want other name)) part unit was = refl
 
-both_chosen : (a b : Bool) (part that : Option Part) → (b ≡ true → part ≡ that) → cond b (Some part) (cond a (Some that) None) ≡ cond (a || (b || false)) (Some that) None
-both_chosen true true part that same = ap (λ p. Some p) (same refl)
-both_chosen false true part that same = ap (λ p. Some p) (same refl)
+both_chosen : (a b : Bool) (part that : Option Part) → (b ≡ true → part ≡ that) → cond b part (cond a that None) ≡ cond (a || (b || false)) that None
+both_chosen true true part that same = same refl
+both_chosen false true part that same = same refl
 both_chosen true false part that same = refl
 both_chosen false false part that same = refl
 
@@ -69,13 +70,13 @@ drop_in_chosen (Some (DropIn other other_name)) (Some content) unit name was = a
 pub none_taken : (leaves : Leaves) (front path : List ℕ) (found : Found) → None ≡ place_after front path → TakesPath leaves front path found found
 none_taken leaves front path found none =
     subst (λ p. Takes p (option_map part_of (content_of leaves path)) found found) none
-    (record { file = λ unit. refl; drop_in = λ unit name. refl; wants = λ unit. sym (append-nil (wants_in found unit)) })
+    (record { file = λ unit. refl; drop_in = λ unit name. refl; line = λ unit. refl; wants = λ unit. sym (append-nil (wants_in found unit)) })
 
 -- of a wanted unit any part may be put
 put_any : (place : Place) (part that : Option Part) (old new : Found) → part ≡ cond (is_want place) None that → Takes (Some place) part old new → Takes (Some place) that old new
 put_any (File unit) part that old new is takes = subst (λ p. Takes (Some (File unit)) p old new) is takes
 put_any (DropIn unit name) part that old new is takes = subst (λ p. Takes (Some (DropIn unit name)) p old new) is takes
-put_any (Want unit name) part that old new is takes = record { file = takes.file; drop_in = takes.drop_in; wants = takes.wants }
+put_any (Want unit name) part that old new is takes = record { file = takes.file; drop_in = takes.drop_in; line = takes.line; wants = takes.wants }
 
 -- what was put at the place of a path is what stands at the path
 pub path_taken : (leaves : Leaves) (front path : List ℕ) (place : Place) (part : Option Part) (old new : Found) →
@@ -89,14 +90,14 @@ module _ (leaves : Leaves) (front : List ℕ) (paths : List (List ℕ)) (path : 
   place = place_after front path
 
   file_more : (unit : List ℕ) → file_in new unit
-      ≡ cond (list_any (λ p. is_file unit (place_after front p)) (paths ++ path ∷ [])) (Some (option_map part_of (content_of leaves (front ++ unit)))) None
+      ≡ cond (list_any (λ p. is_file unit (place_after front p)) (paths ++ path ∷ [])) (option_map part_of (content_of leaves (front ++ unit))) None
   file_more unit =
       takes.file unit
       ∙ file_chosen place (option_map part_of (content_of leaves path)) unit (file_in old unit)
-      ∙ ap (cond (is_file unit place) (Some (option_map part_of (content_of leaves path)))) (read.file unit)
+      ∙ ap (cond (is_file unit place) (option_map part_of (content_of leaves path))) (read.file unit)
       ∙ both_chosen (list_any (λ p. is_file unit (place_after front p)) paths) (is_file unit place) (option_map part_of (content_of leaves path)) (option_map part_of (content_of leaves (front ++ unit)))
       (λ is. ap (λ p. option_map part_of (content_of leaves p)) (file_path front path unit is))
-      ∙ ap (λ b. cond b (Some (option_map part_of (content_of leaves (front ++ unit)))) None) (sym (list_any-append (λ p. is_file unit (place_after front p)) paths (path ∷ [])))
+      ∙ ap (λ b. cond b (option_map part_of (content_of leaves (front ++ unit))) None) (sym (list_any-append (λ p. is_file unit (place_after front p)) paths (path ∷ [])))
 
   drop_in_more : (unit name : List ℕ) → drop_in_in new unit name
       ≡ option_map part_of (find bytes_cmp name (flat_map (λ p. drop_in_at unit (place_after front p) (content_of leaves p)) (paths ++ path ∷ [])))
@@ -119,7 +120,7 @@ module _ (leaves : Leaves) (front : List ℕ) (paths : List (List ℕ)) (path : 
       ∙ sym (flat_map-append of_path paths (path ∷ []))
 
   files_and : AreFilesAt leaves front (paths ++ path ∷ []) new
-  files_and = record { file = file_more; drop_in = drop_in_more; wants = wants_more }
+  files_and = record { file = file_more; drop_in = drop_in_more; line = λ unit. takes.line unit ∙ read.line unit; wants = wants_more }
 
 pub files_more : (leaves : Leaves) (front : List ℕ) (paths : List (List ℕ)) (i : ℕ) (path : List ℕ) (old new : Found) → i < length paths → path ≡ get_or paths i path →
     AreFilesAt leaves front (take i paths) old → TakesPath leaves front path old new → AreFilesAt leaves front (take (i + 1) paths) new

@@ -4,7 +4,7 @@ use Rattle.std.specs.BTreeMap.{is_at}
 use Rattle.std.specs.List.{position_or_len, before_first}
 use Rattle.std.specs.List.Sorted.{IsStrictlySortedBy}
 use Rattle.std.specs.Map.{keys_of, lookup}
-use Rattle.std.specs.Option.{option_map_or}
+use Rattle.std.specs.Option.{option_map_or, option_or}
 use Rattle.std.proofs.lemmas.List.{map-append}
 use Rattle.switch_names.specs.declared.name_fault.NameFault.TheVariants.{Byte, Kind}
 use Rattle.switch_names.specs.declared.unit_kind.UnitKind.{UnitKind}
@@ -19,8 +19,9 @@ use Rattle.unit_defs.specs.declared.part.Part.{Part}
 use Rattle.unit_defs.specs.declared.unit.Unit.{Unit}
 use Rattle.unit_defs.specs.Defs.{AreSorted, AreUnitsOf, names_in, part_in, unit_in}
 use Rattle.unit_defs.specs.Files.{base_of, drop_ins_of, file_of}
+use Rattle.unit_defs.specs.Fstab.{fstab_of}
 use Rattle.unit_defs.specs.Found.{AreFilesOf, drop_ins_in, file_in, files_in, in_name_order, own_part_in, unit_of, wants_in}
-use Rattle.unit_defs.specs.Part.{merged, part_of}
+use Rattle.unit_defs.specs.Part.{line_part, merged, part_of}
 use Rattle.switch_names.specs.Names.{has, is_name}
 use Rattle.unit_defs.specs.Units.{own_part}
 use Rattle.unit_defs.proofs.DropInLemmas.{none_ordered}
@@ -82,13 +83,14 @@ has_key (e ∷ es) name = ap (λ b. is_name name e.0 || b) (has_key es name) ∙
 
 abbrev part_by : Option UnitFiles → List Part → Option Part → Option Part
 part_by files inherited template =
-    option_map merged (option_map (λ file. file ∷ inherited ++ in_name_order (option_map_or (λ (f : UnitFiles). f.drop_ins.entries) files []))
-    (base_of (option_and_then (λ (f : UnitFiles). f.file) files) (in_name_order (option_map_or (λ (f : UnitFiles). f.drop_ins.entries) files [])) template))
+    option_or (option_map merged (option_map (λ file. file ∷ inherited ++ in_name_order (option_map_or (λ (f : UnitFiles). f.drop_ins.entries) files []))
+    (base_of (option_and_then (λ (f : UnitFiles). f.file) files) (in_name_order (option_map_or (λ (f : UnitFiles). f.drop_ins.entries) files [])) template)))
+    (option_map line_part (option_and_then (λ (f : UnitFiles). f.line) files))
 
 part_only : (files : Option UnitFiles) (inherited : List Part) (template : Option Part) → cond (is_some files) (part_by files inherited template) None ≡ part_by files inherited template
 part_only (Some files) inherited template = refl
 part_only None inherited template =
-    ap (λ drops. option_map merged (option_map (λ file. file ∷ inherited ++ in_name_order []) (base_of None drops template))) none_ordered
+    ap (λ drops. option_or (option_map merged (option_map (λ file. file ∷ inherited ++ in_name_order []) (base_of None drops template))) None) none_ordered
 
 wants_only : (files : Option UnitFiles) → cond (is_some files) (option_map_or (λ (f : UnitFiles). f.wants) files []) [] ≡ option_map_or (λ (f : UnitFiles). f.wants) files []
 wants_only None = refl
@@ -104,7 +106,7 @@ wants_chosen false unit = refl
 
 -- ---- from the parts that were found to those of the world
 
-base_parts : {X Y : Type 0} (f : X → Y) (file : Option (Option X)) (drops : List X) (template : Option X) → base_of (option_map (option_map f) file) (map f drops) (option_map f template) ≡ option_map f (base_of file drops template)
+base_parts : {X Y : Type 0} (f : X → Y) (file : Option X) (drops : List X) (template : Option X) → base_of (option_map f file) (map f drops) (option_map f template) ≡ option_map f (base_of file drops template)
 base_parts f (Some file) drops template = refl
 base_parts f None [] template = refl
 base_parts f None (d ∷ drops) template = refl
@@ -114,32 +116,28 @@ merged_parts : (base : Option (List ℕ)) (inherited own : List (List ℕ)) →
 merged_parts None inherited own = refl
 merged_parts (Some base) inherited own = ap (λ parts. Some (merged (part_of base ∷ parts))) (sym (map-append part_of inherited own))
 
-flat_file : (o : Option (Option (List ℕ))) → option_and_then (λ file. file) (option_map (option_map part_of) o) ≡ option_map part_of (option_and_then (λ file. file) o)
-flat_file None = refl
-flat_file (Some file) = refl
-
 -- what the files of a unit say is by what is found of it and of its template
-abbrev made_of : (List ℕ → Option (Option Part)) → (List ℕ → List Part) → List ℕ → Option (List ℕ) → Option Part
+abbrev made_of : (List ℕ → Option Part) → (List ℕ → List Part) → List ℕ → Option (List ℕ) → Option Part
 made_of files drop_ins name template =
     option_map merged (option_map (λ file. file ∷ option_map_or drop_ins template [] ++ drop_ins name)
-    (base_of (files name) (drop_ins name) (option_and_then (λ n. option_and_then (λ file. file) (files n)) template)))
+    (base_of (files name) (drop_ins name) (option_and_then files template)))
 
-abbrev world_of : (List ℕ → Option (Option (List ℕ))) → (List ℕ → List (List ℕ)) → List ℕ → Option (List ℕ) → Option Part
+abbrev world_of : (List ℕ → Option (List ℕ)) → (List ℕ → List (List ℕ)) → List ℕ → Option (List ℕ) → Option Part
 world_of files drop_ins name template =
     option_map (λ all. merged (map part_of all)) (option_map (λ file. file ∷ option_map_or drop_ins template [] ++ drop_ins name)
-    (base_of (files name) (drop_ins name) (option_and_then (λ n. option_and_then (λ file. file) (files n)) template)))
+    (base_of (files name) (drop_ins name) (option_and_then files template)))
 
-module _ (leaves : Leaves) (system : List ℕ) (found : Found) (are : AreFilesOf leaves system found) where
-  parts_same : (name : List ℕ) (drops : List (List ℕ)) (file : Option (Option (List ℕ))) (inherited : List (List ℕ)) (template : Option (List ℕ)) →
-      file_in found name ≡ option_map (option_map part_of) file → drop_ins_in found name ≡ map part_of drops →
+module _ (leaves : Leaves) (system : List ℕ) (found : Found) (are : AreFilesOf leaves system (fstab_of leaves system) found) where
+  parts_same : (name : List ℕ) (drops : List (List ℕ)) (file : Option (List ℕ)) (inherited : List (List ℕ)) (template : Option (List ℕ)) →
+      file_in found name ≡ option_map part_of file → drop_ins_in found name ≡ map part_of drops →
       (inherited_in : List Part) → inherited_in ≡ map part_of inherited → (template_in : Option Part) → template_in ≡ option_map part_of template →
       option_map merged (option_map (λ base. base ∷ inherited_in ++ drop_ins_in found name) (base_of (file_in found name) (drop_ins_in found name) template_in))
       ≡ option_map (λ all. merged (map part_of all)) (option_map (λ base. base ∷ inherited ++ drops) (base_of file drops template))
   parts_same name drops file inherited template is_file are_drops inherited_in are_inherited template_in is_template =
       ap (λ f. option_map merged (option_map (λ base. base ∷ inherited_in ++ drop_ins_in found name) (base_of f (drop_ins_in found name) template_in))) is_file
-      ∙ ap (λ ds. option_map merged (option_map (λ base. base ∷ inherited_in ++ ds) (base_of (option_map (option_map part_of) file) ds template_in))) are_drops
-      ∙ ap (λ is. option_map merged (option_map (λ base. base ∷ is ++ map part_of drops) (base_of (option_map (option_map part_of) file) (map part_of drops) template_in))) are_inherited
-      ∙ ap (λ t. option_map merged (option_map (λ base. base ∷ map part_of inherited ++ map part_of drops) (base_of (option_map (option_map part_of) file) (map part_of drops) t))) is_template
+      ∙ ap (λ ds. option_map merged (option_map (λ base. base ∷ inherited_in ++ ds) (base_of (option_map part_of file) ds template_in))) are_drops
+      ∙ ap (λ is. option_map merged (option_map (λ base. base ∷ is ++ map part_of drops) (base_of (option_map part_of file) (map part_of drops) template_in))) are_inherited
+      ∙ ap (λ t. option_map merged (option_map (λ base. base ∷ map part_of inherited ++ map part_of drops) (base_of (option_map part_of file) (map part_of drops) t))) is_template
       ∙ ap (λ b. option_map merged (option_map (λ base. base ∷ map part_of inherited ++ map part_of drops) b)) (base_parts part_of file drops template)
       ∙ merged_parts (base_of file drops template) inherited drops
 
@@ -149,19 +147,19 @@ module _ (leaves : Leaves) (system : List ℕ) (found : Found) (are : AreFilesOf
       parts_same name (drop_ins_of leaves system name) (file_of leaves system name) [] None (are.file name named) (are.drop_ins name named) [] refl None refl
   by_template name (Some template) named is =
       let is_unit = template_named name template named is in
-      parts_same name (drop_ins_of leaves system name) (file_of leaves system name) (drop_ins_of leaves system template) (option_and_then (λ file. file) (file_of leaves system template))
+      parts_same name (drop_ins_of leaves system name) (file_of leaves system name) (drop_ins_of leaves system template) (file_of leaves system template)
       (are.file name named) (are.drop_ins name named) (drop_ins_in found template) (are.drop_ins template is_unit)
-      (option_and_then (λ file. file) (file_in found template)) (ap (option_and_then (λ file. file)) (are.file template is_unit) ∙ flat_file (file_of leaves system template))
+      (file_in found template) (are.file template is_unit)
 
   own_same : (name : List ℕ) → IsUnitName name → own_part_in found name ≡ own_part leaves system name
-  own_same name named = by_template name (template_of name) named refl
+  own_same name named = λ i. option_or (by_template name (template_of name) named refl i) (option_map line_part (are.line name named i))
 
   part_at : (name : List ℕ) → part_in (map (unit_of found) (keys_of found.units.entries)) name ≡ own_part_in found name
   part_at name =
       ap (option_and_then (λ (u : Unit). u.part)) (unit_at found (keys_of found.units.entries) name)
       ∙ part_chosen (has (keys_of found.units.entries) name) (unit_of found name)
       ∙ ap (λ b. cond b (own_part_in found name) None) (has_key found.units.entries name)
-      ∙ part_only (files_in found name) (option_map_or (drop_ins_in found) (template_of name) []) (option_and_then (λ n. option_and_then (λ file. file) (file_in found n)) (template_of name))
+      ∙ part_only (files_in found name) (option_map_or (drop_ins_in found) (template_of name) []) (option_and_then (file_in found) (template_of name))
 
   names_at : (name : List ℕ) → names_in (map (unit_of found) (keys_of found.units.entries)) name ≡ wants_in found name
   names_at name =

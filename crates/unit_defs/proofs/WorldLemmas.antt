@@ -12,13 +12,16 @@ use Rattle.switch_names.specs.Path.{is_below, slash}
 use Rattle.switch_names.specs.UnitName.{IsUnitName}
 use Rattle.switch_names.proofs.Below.{below_front}
 use Rattle.host_trait.specs.declared.leaf.LeafKind.{LeafKind}
-use Rattle.host_trait.specs.World.{Leaves, bytes_cmp, content_of, is_listed, is_path, stage}
+use Rattle.host_trait.specs.World.{Leaves, bytes_cmp, content_of, is_listed, is_path, leaf_content, stage}
 use Rattle.unit_defs.specs.declared.found.Found.{Found}
 use Rattle.unit_defs.specs.declared.found.UnitFiles.{UnitFiles}
-use Rattle.unit_defs.specs.Files.{drop_in_at, file_of, paths_of}
+use Rattle.unit_defs.specs.Files.{drop_in_at, file_of, folder_wants, paths_of}
 use Rattle.unit_defs.specs.Found.{AreFilesAt, AreFilesOf, files_in, is_file}
+use Rattle.unit_defs.specs.Fstab.{wanted_by_lines}
 use Rattle.unit_defs.specs.Part.{part_of}
 use Rattle.unit_defs.specs.Place.{path_of, place_after, unit_folder}
+use Rattle.switch_names.specs.Names.{is_name}
+use Rattle.std.proofs.lemmas.List.{append-nil}
 use Rattle.unit_defs.proofs.DropInLemmas.{same_in_name_order}
 use Rattle.unit_defs.proofs.NameLemmas.{name_exact, name_from}
 use Rattle.unit_defs.proofs.PlaceLemmas.{file_path, file_there}
@@ -72,25 +75,34 @@ module _ (leaves : Leaves) (system unit : List ℕ) (named : IsUnitName unit) wh
       ∙ (λ i. list_any (λ path. tested path i) (keys leaves))
       ∙ sym (contains_key-keys leaves (path_of system unit))
 
-  file_by : (o : Option LeafKind) (content : Option (List ℕ)) → cond (is_some o) (Some (option_map part_of content)) None ≡ option_map (option_map part_of) (option_map (λ leaf. content) o)
-  file_by None content = refl
-  file_by (Some leaf) content = refl
+  file_by : (o : Option LeafKind) → cond (is_some o) (option_map part_of (leaf_content leaves o)) None ≡ option_map part_of (leaf_content leaves o)
+  file_by None = refl
+  file_by (Some leaf) = refl
 
-  pub file_is : cond (list_any (λ path. is_file unit (place_after (path_of system []) path)) (paths_of leaves system)) (Some (option_map part_of (content_of leaves (path_of system [] ++ unit)))) None
-      ≡ option_map (option_map part_of) (file_of leaves system unit)
+  pub file_is : cond (list_any (λ path. is_file unit (place_after (path_of system []) path)) (paths_of leaves system)) (option_map part_of (content_of leaves (path_of system [] ++ unit))) None
+      ≡ option_map part_of (file_of leaves system unit)
   file_is =
-      ap (λ b. cond b (Some (option_map part_of (content_of leaves (path_of system [] ++ unit)))) None) among
-      ∙ ap (λ p. cond (is_some (get leaves (path_of system unit))) (Some (option_map part_of (content_of leaves p))) None) joined
-      ∙ file_by (get leaves (path_of system unit)) (content_of leaves (path_of system unit))
+      ap (λ b. cond b (option_map part_of (content_of leaves (path_of system [] ++ unit))) None) among
+      ∙ ap (λ p. cond (is_some (get leaves (path_of system unit))) (option_map part_of (content_of leaves p)) None) joined
+      ∙ file_by (get leaves (path_of system unit))
 
-inner_at : (o : Option UnitFiles) (name : List ℕ) →
+pub inner_at : (o : Option UnitFiles) (name : List ℕ) →
     lookup (is_at (bytes_cmp name)) (option_map_or (λ (files : UnitFiles). files.drop_ins.entries) o []) ≡ option_and_then (λ (files : UnitFiles). Rattle.std.specs.BTreeMap.get bytes_cmp files.drop_ins name) o
 inner_at None name = refl
 inner_at (Some files) name = refl
 
+-- no line makes a unit want another
+pub none_wanted : (unit : List ℕ) → wanted_by_lines [] unit ≡ []
+none_wanted unit = by (is_name (codes "local-fs.target") unit) (is_name (codes "swap.target") unit)
+  where
+    by : (a b : Bool) → ◌≡◌ {A = List (List ℕ)} (cond a [] (cond b [] [])) []
+    by true b = refl
+    by false true = refl
+    by false false = refl
+
 -- what is read at all listed paths is all
 pub files_all : (leaves : Leaves) (system front : List ℕ) (paths : List (List ℕ)) (found : Found) → front ≡ path_of system [] → paths ≡ paths_of leaves system →
-    AreFilesAt leaves front paths found → AreFilesOf leaves system found
+    AreFilesAt leaves front paths found → AreFilesOf leaves system [] found
 files_all leaves system front paths found is_front are_paths read =
     let all : AreFilesAt leaves (path_of system []) (paths_of leaves system) found =
     subst (λ ps. AreFilesAt leaves (path_of system []) ps found) are_paths (subst (λ f. AreFilesAt leaves f paths found) is_front read) in
@@ -100,5 +112,6 @@ files_all leaves system front paths found is_front are_paths read =
           same_in_name_order part_of (option_map_or (λ (files : UnitFiles). files.drop_ins.entries) (files_in found unit) [])
           (flat_map (λ path. drop_in_at unit (place_after (path_of system []) path) (content_of leaves path)) (paths_of leaves system))
           (λ name. inner_at (files_in found unit) name ∙ all.drop_in unit name);
-      wants = λ unit named. all.wants unit;
+      line = λ unit named. all.line unit;
+      wants = λ unit named. all.wants unit ∙ sym (append-nil (folder_wants leaves system unit)) ∙ ap (λ names. folder_wants leaves system unit ++ names) (sym (none_wanted unit));
     }

@@ -10,14 +10,13 @@ use Rattle.unit_defs.specs.declared.part.Part.{Part}
 use Rattle.unit_defs.specs.declared.unit.Unit.{Unit}
 use Rattle.unit_defs.specs.declared.unit.Wants.{Wants}
 use Rattle.switch_names.specs.Names.{Name, has, is_name}
-use Rattle.unit_defs.specs.Files.{wants_of}
-use Rattle.unit_defs.specs.Units.{can_be_wanted, find_text, own_part, own_text, text_of, wanted, wanted_of}
+use Rattle.unit_defs.specs.Units.{can_be_wanted, find_text, own_part, own_text, text_of, wanted, wanted_of, wants_of}
 
 -- the unit of this name
 abbrev pub unit_in : List Unit → List ℕ → Option Unit
 unit_in units name = find (λ unit. is_name name unit.name) units
 
--- what the files of a unit say, where it has a text of its own
+-- what a unit has of its own, by its files or the fstab
 abbrev pub part_in : List Unit → List ℕ → Option Part
 part_in units name = option_and_then (λ unit. unit.part) (unit_in units name)
 
@@ -25,7 +24,7 @@ part_in units name = option_and_then (λ unit. unit.part) (unit_in units name)
 abbrev pub own_in : List Unit → List ℕ → Option (List Assignment)
 own_in units name = option_map (λ part. part.text) (part_in units name)
 
--- the units that stand in a unit's folders of units that it wants
+-- the names in a unit's folders of units that it wants, and those that the fstab makes it want
 abbrev pub names_in : List Unit → List ℕ → List (List ℕ)
 names_in units name = option_map_or (λ unit. unit.wants) (unit_in units name) []
 
@@ -53,7 +52,7 @@ pub record AreNamesOf (units : List Unit) (names : List (List ℕ)) : Type 0 whe
 abbrev pub AreSorted : List Unit → Type 0
 AreSorted units = IsStrictlySortedBy bytes_cmp (map (λ unit. unit.name) units)
 
--- these are what the files and folders of a system's units say
+-- these are what the files and folders of a system's units and its fstab say
 pub record AreUnitsOf (leaves : Leaves) (system : List ℕ) (units : List Unit) : Type 0 where
   pub part : (name : List ℕ) → IsUnitName name → part_in units name ≡ own_part leaves system name
   pub wants : (name : List ℕ) → IsUnitName name → names_in units name ≡ wants_of leaves system name

@@ -1,6 +1,6 @@
 -- The files of which the text of a unit is made: systemd.unit(5), "Description".
 use Rattle.std.specs.Prelude.{ℕ, List, [], ◌∷◌, ◌++◌, Option, None, Some, option_map, option_and_then, if◌then◌else◌}
-use Rattle.std.specs.FinMap.{FinMap, from_entries, get}
+use Rattle.std.specs.FinMap.{FinMap, from_entries}
 use Rattle.std.specs.FinMap as map
 use Rattle.std.specs.List.{flat_map}
 use Rattle.std.specs.Option.{option_map_or}
@@ -15,9 +15,9 @@ use Rattle.switch_names.specs.Names.{is_name}
 abbrev pub paths_of : Leaves → List ℕ → List (List ℕ)
 paths_of leaves system = listed (unit_folder system) leaves
 
--- the content of a unit's own file, where a leaf stands there
-abbrev pub file_of : Leaves → List ℕ → List ℕ → Option (Option (List ℕ))
-file_of leaves system unit = option_map (λ leaf. content_of leaves (path_of system unit)) (get leaves (path_of system unit))
+-- the content of a unit's own file: a leaf without content is none
+abbrev pub file_of : Leaves → List ℕ → List ℕ → Option (List ℕ)
+file_of leaves system unit = content_of leaves (path_of system unit)
 
 -- the name and the content of a leaf that is a drop-in of a unit
 abbrev pub drop_in_at : List ℕ → Option Place → Option (List ℕ) → List (List ℕ × List ℕ)
@@ -39,20 +39,19 @@ want_at unit (Some (Want other name)) = if is_name other unit then name ∷ [] e
 want_at unit place = []
 
 -- the units that stand in a unit's folders of units that it wants
-abbrev pub wants_of : Leaves → List ℕ → List ℕ → List (List ℕ)
-wants_of leaves system unit = flat_map (λ path. want_at unit (place_of system path)) (paths_of leaves system)
+abbrev pub folder_wants : Leaves → List ℕ → List ℕ → List (List ℕ)
+folder_wants leaves system unit = flat_map (λ path. want_at unit (place_of system path)) (paths_of leaves system)
 
 module _ {X : Type 0} where
-  -- The file on which the text of a unit is based: its own, or where no leaf stands there, its template's, if it has
-  -- drop-ins. A leaf without content is none.
-  abbrev pub base_of : Option (Option X) → List X → Option X → Option X
-  base_of (Some file) drop_ins template = file
+  -- the file on which the text of a unit is based: its own, or where it has none, its template's, if it has drop-ins
+  abbrev pub base_of : Option X → List X → Option X → Option X
+  base_of (Some file) drop_ins template = Some file
   base_of None [] template = None
   base_of None (drop_in ∷ drop_ins) template = template
 
   -- the files of which the own text of a unit is made, in the order in which they are applied
-  abbrev pub own_files : (List ℕ → Option (Option X)) → (List ℕ → List X) → List ℕ → Option (List X)
+  abbrev pub own_files : (List ℕ → Option X) → (List ℕ → List X) → List ℕ → Option (List X)
   own_files files drop_ins unit =
       let template = template_of unit in
-      let base = base_of (files unit) (drop_ins unit) (option_and_then (λ name. option_and_then (λ file. file) (files name)) template) in
+      let base = base_of (files unit) (drop_ins unit) (option_and_then files template) in
       option_map (λ file. file ∷ option_map_or drop_ins template [] ++ drop_ins unit) base

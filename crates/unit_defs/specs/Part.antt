@@ -25,6 +25,10 @@ readable bytes = if is_none (text_fault bytes) then assignments bytes else []
 abbrev pub part_of : List ℕ → Part
 part_of bytes = record { text = readable bytes; fault = option_map line_of (text_fault bytes) }
 
+-- what the text of a line of an fstab says: it has no fault
+abbrev pub line_part : List Assignment → Part
+line_part text = record { text = text; fault = None }
+
 -- the line of the first fault of several files
 abbrev pub first_fault : List Part → Option ℕ
 first_fault [] = None

@@ -13,8 +13,9 @@ use Rattle.unit_text.specs.UnitText.{values_of}
 use Rattle.unit_defs.specs.declared.part.Part.{Part}
 use Rattle.unit_defs.specs.declared.place.Place.{Place}
 use Rattle.unit_defs.specs.declared.place.Place.TheVariants.{File, DropIn, Want}
-use Rattle.unit_defs.specs.Files.{drop_ins_of, file_of, own_files, paths_of, wants_of}
-use Rattle.unit_defs.specs.Part.{merged, part_of}
+use Rattle.unit_defs.specs.Files.{drop_ins_of, file_of, folder_wants, own_files, paths_of}
+use Rattle.unit_defs.specs.Fstab.{fstab_of, line_text, wanted_by_lines}
+use Rattle.unit_defs.specs.Part.{line_part, merged, part_of}
 use Rattle.unit_defs.specs.Place.{is_unit, place_of}
 use Rattle.switch_names.specs.Names.{Name}
 
@@ -47,9 +48,13 @@ can_be_wanted own unit = is_some (find_text own unit) && not (is_template unit)
 abbrev pub wanted : (List ℕ → Option (List Assignment)) → List (List ℕ) → Option (List Assignment) → List (List ℕ)
 wanted own names text = in_order (filter (can_be_wanted own) (names ++ words_in text))
 
--- what the files of a unit say, where it has a text of its own
+-- what the files of a unit say, where one is its base
+abbrev pub file_part : Leaves → List ℕ → List ℕ → Option Part
+file_part leaves system unit = option_map (λ files. merged (map part_of files)) (own_files (file_of leaves system) (drop_ins_of leaves system) unit)
+
+-- what a unit has of its own: what its files say, or else what its line in the fstab says
 abbrev pub own_part : Leaves → List ℕ → List ℕ → Option Part
-own_part leaves system unit = option_map (λ files. merged (map part_of files)) (own_files (file_of leaves system) (drop_ins_of leaves system) unit)
+own_part leaves system unit = option_or (file_part leaves system unit) (option_map line_part (line_text (fstab_of leaves system) unit))
 
 -- the text that a unit of a system has of its own
 abbrev pub own_text : Leaves → List ℕ → List ℕ → Option (List Assignment)
@@ -57,11 +62,15 @@ own_text leaves system unit = option_map (λ part. part.text) (own_part leaves s
 
 -- the line of the first fault in the files of a unit
 abbrev pub own_fault : Leaves → List ℕ → List ℕ → Option ℕ
-own_fault leaves system unit = option_and_then (λ part. part.fault) (own_part leaves system unit)
+own_fault leaves system unit = option_and_then (λ part. part.fault) (file_part leaves system unit)
 
 -- the text of a unit of a system
 abbrev pub text_of : Leaves → List ℕ → List ℕ → Option (List Assignment)
 text_of leaves system unit = find_text (own_text leaves system) unit
+
+-- the names in a unit's folders of units that it wants, and those that the fstab makes it want
+abbrev pub wants_of : Leaves → List ℕ → List ℕ → List Name
+wants_of leaves system unit = folder_wants leaves system unit ++ wanted_by_lines (fstab_of leaves system) unit
 
 -- the units that a unit of a system wants
 abbrev pub wanted_of : Leaves → List ℕ → List ℕ → List (List ℕ)

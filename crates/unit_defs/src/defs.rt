@@ -26,8 +26,9 @@ use unit_text::UnitText;
 
 /// The units of a system, and what each wants.
 ///
-/// Contracts see what the folder of units says of each unit: what its files say, and the units that
-/// stand in its folders `.wants` and `.requires`.
+/// Contracts see what the folder of units and the fstab say of each unit: what its files say, or else
+/// its line in the fstab, and the names in its folders `.wants` and `.requires` with those that the
+/// fstab makes it want.
 pub struct Defs {
     names: Listed<UnitName>,
     units: Listed<Unit>,
@@ -103,7 +104,7 @@ impl Defs {
 
     /// Reads the units of a system.
     ///
-    /// It lists the folder of units once, and reads each unit file and drop-in once.
+    /// It lists the folder of units once, and reads each unit file and drop-in and the fstab once.
     pub fn read<T: Tree>(
         alloc: Global,
         host: &mut T,
@@ -151,8 +152,9 @@ impl Defs {
     }
 
     /// The units that a unit wants, in byte order: those that are defined and no templates, among
-    /// the names in its folders `.wants` and `.requires` and the words of `Wants` and `Requires` in
-    /// the section `Unit` of its text.
+    /// the names in its folders `.wants` and `.requires`, the words of `Wants` and `Requires` in the
+    /// section `Unit` of its text, and what the fstab makes it want: for `local-fs.target` the mounts
+    /// without `noauto`, and for `swap.target` the swaps.
     pub fn wanted(&self, unit: &UnitName) -> &Listed<UnitName>
         ensures wanted { result.now ≡ wanted_in self.now unit.now }
 

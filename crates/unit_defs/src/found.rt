@@ -1,10 +1,10 @@
-//! What is found of the units of a system while their folder is read.
-ghost use Rattle.std.specs.Prelude.{◌≡◌, ◌==◌, not, length, [], List, ℕ, None, Some, Option, OnOk, is_some, if◌then◌else◌, option_and_then};
+//! What is found of the units of a system while their folder and the fstab are read.
+ghost use Rattle.std.specs.Prelude.{◌≡◌, ◌==◌, not, length, [], List, ℕ, None, Some, Option, OnOk, if◌then◌else◌};
 ghost use Rattle.std.specs.BTreeMap.{get};
 ghost use Rattle.std.specs.Option.{option_copied, option_or};
 ghost use Rattle.host_trait.specs.World.{bytes_cmp};
 ghost use Rattle.unit_defs.specs.declared.place.Place.TheVariants.{File, DropIn, Want};
-ghost use Rattle.unit_defs.specs.Found.{Takes, drop_in_in, drop_ins_in, file_in, files_in, in_name_order, wants_in};
+ghost use Rattle.unit_defs.specs.Found.{Joins, Takes, drop_in_in, drop_ins_in, file_in, files_in, in_name_order, line_in, wants_in};
 ghost use Rattle.unit_defs.specs.Part.{added};
 ghost use Rattle.switch_names.specs.Names.{is_name};
 ghost use Rattle.unit_defs.specs.declared.part.Part.{Part};
@@ -13,14 +13,17 @@ use crate::part::Part;
 use std::alloc::{AllocError, Global};
 use std::collections::BTreeMap;
 use switch_names::{Listed, Text, UnitName};
+use unit_text::UnitText;
 
 /// What is found of one unit.
 pub struct UnitFiles {
-    /// Its file, where a leaf stands there. A leaf without content is none.
-    pub file: Option<Option<Part>>,
+    /// Its file. A leaf without content is none.
+    pub file: Option<Part>,
     /// Its drop-ins by their names before `.conf`.
     pub drop_ins: BTreeMap<Text, Part>,
-    /// The units that stand in its folders of units that it wants.
+    /// The text of its line in the fstab.
+    pub line: Option<UnitText>,
+    /// The names in its folders of units that it wants, and those that the fstab makes it want.
     pub wants: Listed<UnitName>,
 }
 
@@ -30,6 +33,7 @@ impl Drop for UnitFiles {
         let UnitFiles {
             file: _,
             drop_ins: _,
+            line: _,
             wants: _,
         } = self;
     }
@@ -40,11 +44,13 @@ impl UnitFiles {
     fn new(alloc: Global) -> UnitFiles
         ensures file { result.file ≡ None }
         ensures drop_ins { result.drop_ins.entries ≡ [] }
+        ensures line { result.line ≡ None }
         ensures wants { result.wants ≡ [] }
     {
         UnitFiles {
             file: None,
             drop_ins: BTreeMap::new(alloc),
+            line: None,
             wants: Listed::new(alloc),
         }
     }
@@ -76,6 +82,7 @@ impl Found {
     fn take(&mut self, alloc: Global, unit: &UnitName) -> UnitFiles
         ensures file { result.file ≡ file_in self.old unit.now }
         ensures drop_in { (name : List ℕ) → get bytes_cmp result.drop_ins name ≡ drop_in_in self.old unit.now name }
+        ensures line { result.line ≡ line_in self.old unit.now }
         ensures wants { result.wants ≡ wants_in self.old unit.now }
         ensures others { (other : List ℕ) → files_in self.new other ≡ (if is_name unit.now other then None else files_in self.old other) }
     {
@@ -93,7 +100,7 @@ impl Found {
         Ok(())
     }
 
-    /// A unit's file is found.
+    /// A unit's file is found, where the leaf has content.
     pub fn add_file(
         &mut self,
         alloc: Global,
@@ -103,7 +110,7 @@ impl Found {
         ensures { OnOk result (Takes (Some (File unit)) part self.old self.new) }
     {
         let mut files = self.take(alloc, &unit);
-        files.file = Some(part);
+        files.file = part;
         self.put(unit, files)
     }
 
@@ -139,6 +146,21 @@ impl Found {
         self.put(unit, files)
     }
 
+    /// A line of an fstab is found that defines a unit. Of two lines the first stands.
+    pub fn add_line(
+        &mut self,
+        alloc: Global,
+        unit: UnitName,
+        text: UnitText,
+    ) -> Result<(), AllocError>
+        ensures { OnOk result (Joins (λ other. if is_name unit other then Some text else None) (λ other. []) self.old self.new) }
+    {
+        let mut files = self.take(alloc, &unit);
+        let first = files.line.take().unwrap_or(text);
+        files.line = Some(first);
+        self.put(unit, files)
+    }
+
     /// What is found of a unit.
     fn files(&self, unit: &UnitName) -> Option<&UnitFiles>
         ensures { option_copied result ≡ files_in self.now unit.now }
@@ -148,28 +170,25 @@ impl Found {
 
     /// The file of a unit.
     pub fn file(&self, unit: &UnitName) -> Option<&Part>
-        ensures { option_copied result ≡ option_and_then (λ file. file) (file_in self.now unit.now) }
+        ensures { option_copied result ≡ file_in self.now unit.now }
     {
-        self.files(unit)?.file.as_ref()?.as_ref()
+        self.files(unit)?.file.as_ref()
     }
 
-    /// The units that stand in a unit's folders of units that it wants.
+    /// The text of a unit's line in the fstab.
+    pub fn line(&self, unit: &UnitName) -> Option<&UnitText>
+        ensures { option_copied result ≡ line_in self.now unit.now }
+    {
+        self.files(unit)?.line.as_ref()
+    }
+
+    /// The names in a unit's folders of units that it wants, and those that the fstab makes it want.
     pub fn wants(&self, unit: &UnitName) -> &[UnitName]
         ensures { result.now ≡ wants_in self.now unit.now }
     {
         match self.files(unit) {
             Some(files) => files.wants.as_slice(),
             None => &[],
-        }
-    }
-
-    /// Whether a leaf stands at the place of a unit's file.
-    pub fn has_leaf(&self, unit: &UnitName) -> bool
-        ensures { result ≡ is_some (file_in self.now unit.now) }
-    {
-        match self.files(unit) {
-            Some(files) => files.file.is_some(),
-            None => false,
         }
     }
 

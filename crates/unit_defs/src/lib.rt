@@ -1,10 +1,12 @@
-//! The units of a whole system: their files with drop-ins, their templates, and what each wants.
+//! The units of a whole system: their files with drop-ins, their templates,
+//! the lines of their fstab, and what each wants.
 #![tactic(auto)]
 
 mod defs;
 mod defs_fault;
 mod fault;
 mod found;
+mod fstab;
 mod laws;
 mod part;
 mod place;

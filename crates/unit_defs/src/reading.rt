@@ -1,4 +1,4 @@
-//! Reads the folder of a system's units.
+//! Reads the folder of a system's units and its fstab.
 ghost use Rattle.std.specs.Prelude.{◌≡◌, [], ◌∷◌, ◌++◌, IfOk, OnOk};
 ghost use Rattle.host_trait.specs.Host.{Told};
 ghost use Rattle.host_trait.specs.Reading.{IsReading};
@@ -8,6 +8,7 @@ ghost use Rattle.unit_defs.specs.Place.{unit_folder};
 ghost use Rattle.switch_names.specs.Path.{slash};
 
 use crate::found::Found;
+use crate::fstab::read_fstab;
 use crate::part::Part;
 use crate::place::{Place, place_after};
 use crate::unit::{Unit, units_of};
@@ -93,7 +94,7 @@ fn read_folder<T: Tree>(
     host: &mut T,
     system: &SystemName,
 ) -> Result<Found, HostFault>
-    ensures found { IfOk result (λ found. Told (T.host host.old) (λ w. AreFilesOf w.leaves system.now found)) }
+    ensures found { IfOk result (λ found. Told (T.host host.old) (λ w. AreFilesOf w.leaves system.now [] found)) }
     ensures reads { IsReading (T.host host.old) (T.host host.new) result }
 {
     let folder = unit_folder(alloc, system)?;
@@ -112,7 +113,8 @@ pub fn read_units<T: Tree>(
     ensures units { IfOk result (λ units. Told (T.host host.old) (λ w. AreUnitsOf w.leaves system.now units)) }
     ensures reads { IsReading (T.host host.old) (T.host host.new) result }
 {
-    let found = read_folder(alloc, host, system)?;
+    let mut found = read_folder(alloc, host, system)?;
+    read_fstab(alloc, host, system, &mut found)?;
     let units = units_of(alloc, &found)?;
     Ok(units)
 }

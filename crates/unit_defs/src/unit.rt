@@ -6,8 +6,8 @@ ghost use Rattle.std.specs.Option.{option_copied, option_map_or};
 ghost use Rattle.switch_names.specs.UnitName.{template_of};
 ghost use Rattle.host_trait.specs.World.{bytes_cmp};
 ghost use Rattle.unit_defs.specs.Files.{base_of};
-ghost use Rattle.unit_defs.specs.Found.{drop_ins_in, file_in, own_part_in, unit_of};
-ghost use Rattle.unit_defs.specs.Part.{added};
+ghost use Rattle.unit_defs.specs.Found.{drop_ins_in, file_in, file_part_in, line_in, own_part_in, unit_of};
+ghost use Rattle.unit_defs.specs.Part.{added, line_part};
 
 use crate::found::Found;
 use crate::part::Part;
@@ -15,12 +15,12 @@ use std::alloc::{AllocError, Global};
 use switch_names::{Listed, UnitName};
 use unit_text::UnitText;
 
-/// What the folder of units says of a unit.
+/// What the folder of units and the fstab say of a unit.
 pub struct Unit {
     pub name: UnitName,
-    /// What its files say, where it has a text of its own.
+    /// What its files say, or else its line in the fstab, where it has a text of its own.
     pub part: Option<Part>,
-    /// The units that stand in its folders of units that it wants.
+    /// The names in its folders of units that it wants, and those that the fstab makes it want.
     pub wants: Listed<UnitName>,
 }
 
@@ -68,10 +68,10 @@ impl Unit {
 /// The file on which the text of a unit is based.
 fn base<'a>(found: &'a Found, unit: &UnitName, template: Option<&UnitName>) -> Option<&'a Part>
     ensures { option_copied result ≡ base_of (file_in found.now unit.now) (drop_ins_in found.now unit.now)
-        (option_and_then (λ name. option_and_then (λ file. file) (file_in found.now name)) (option_copied template.entry)) }
+        (option_and_then (file_in found.now) (option_copied template.entry)) }
 {
-    if found.has_leaf(unit) {
-        return found.file(unit);
+    if let Some(file) = found.file(unit) {
+        return Some(file);
     }
     if !found.has_drop_ins(unit) {
         return None;
@@ -96,14 +96,14 @@ fn add_both(
 }
 
 /// What the files of a unit say, which has this template.
-fn part_over(
+fn file_part(
     alloc: Global,
     found: &Found,
     unit: &UnitName,
     template: Option<&UnitName>,
 ) -> Result<Option<Part>, AllocError>
     requires { option_copied template ≡ template_of unit.now }
-    ensures { IfOk result (λ part. part ≡ own_part_in found.now unit.now) }
+    ensures { IfOk result (λ part. part ≡ file_part_in found.now unit.now) }
 {
     let Some(base) = base(found, unit, template) else {
         return Ok(None);
@@ -113,12 +113,28 @@ fn part_over(
     Ok(Some(part))
 }
 
-/// What the files of a unit say, where it has a text of its own.
+/// What the line of a unit in the fstab says.
+fn line_part(alloc: Global, found: &Found, unit: &UnitName) -> Result<Option<Part>, AllocError>
+    ensures { IfOk result (λ part. part ≡ option_map line_part (line_in found.now unit.now)) }
+{
+    match found.line(unit) {
+        Some(line) => Ok(Some(Part {
+            text: line.copy(alloc)?,
+            fault: None,
+        })),
+        None => Ok(None),
+    }
+}
+
+/// What the files of a unit say, or else its line in the fstab.
 fn own_part(alloc: Global, found: &Found, unit: &UnitName) -> Result<Option<Part>, AllocError>
     ensures { IfOk result (λ part. part ≡ own_part_in found.now unit.now) }
 {
     let template = unit.template(alloc)?;
-    part_over(alloc, found, unit, template.as_ref())
+    if let Some(part) = file_part(alloc, found, unit, template.as_ref())? {
+        return Ok(Some(part));
+    }
+    line_part(alloc, found, unit)
 }
 
 /// Copies of names.

@@ -10,7 +10,7 @@ use Rattle.unit_defs.proofs.reading.read_folder.Goals as goal
 
 pub returns-clause-found : goal.returns-clause-found
 returns-clause-found g c =
-    IfOk-weaker c.read_paths.result _ (λ found. Told (g.T.Tree.host c.args.host.now) (λ w. AreFilesOf w.leaves c.args.system.now found))
+    IfOk-weaker c.read_paths.result _ (λ found. Told (g.T.Tree.host c.args.host.now) (λ w. AreFilesOf w.leaves c.args.system.now [] found))
     (λ found told.
     let read = told_read c.list.ensures.reads told in
     record {
