@@ -14,7 +14,7 @@ impl Entries for Listed<Text> {
         alloc: Global,
         entry: &DirEntry<R>,
     ) -> io::Result<()> {
-        let Found::Folder = kind_of_entry(entry)? else {
+        let Found::Folder(_) = kind_of_entry(entry)? else {
             return Err(foreign());
         };
         Ok(self.push(Text::from_str(alloc, entry.path().as_str())?)?)

@@ -1,6 +1,7 @@
 //! The entries of a folder, one after the other.
 use std::alloc::Global;
-use std::fs::DirEntry;
+use std::fs::{DirEntry, ReadDir};
+use std::io::ErrorKind;
 use std::rt::Files;
 use std::{fs, io};
 
@@ -26,6 +27,20 @@ fn push_next<R: Files + AllocGlobal + Drop, E: Entries>(
     }
 }
 
+/// Opens a folder, once more where a signal has interrupted it.
+fn open_folder<R: Files + AllocGlobal + Clone + Drop>(
+    rt: &R,
+    folder: &str,
+) -> io::Result<ReadDir<R, Global>> {
+    for _ in 0..u64::MAX {
+        match fs::read_dir(rt, folder) {
+            Err(error) if error.kind() == ErrorKind::Interrupted => {}
+            answer => return answer,
+        }
+    }
+    Err(io::Error::from(ErrorKind::Interrupted))
+}
+
 /// Adds each entry of a folder, until one is a fault.
 pub fn push_entries<R: Files + AllocGlobal + Clone + Drop, E: Entries>(
     rt: &R,
@@ -33,7 +48,7 @@ pub fn push_entries<R: Files + AllocGlobal + Clone + Drop, E: Entries>(
     entries: &mut E,
     folder: &str,
 ) -> io::Result<()> {
-    for entry in fs::read_dir(rt, folder)? {
+    for entry in open_folder(rt, folder)? {
         push_next(alloc, entries, entry)?;
     }
     Ok(())

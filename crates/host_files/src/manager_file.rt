@@ -13,6 +13,9 @@ use std::rt::Files;
 use std::{fs, io};
 use switch_names::UnitName;
 
+/// The first bytes of a manager's state.
+const STATE_MARKS: [&str; 1] = ["loaded "];
+
 /// The call that does this to a unit.
 pub fn call_of(alloc: Global, act: Act, unit: &UnitName) -> Result<Call, AllocError>
     ensures { IfOk result IsPlainCall }
@@ -45,10 +48,10 @@ pub fn read_manager<R: Files>(rt: &R, alloc: Global, root: &str) -> io::Result<M
     match look(rt, place.as_str())? {
         Found::Nothing => Ok(ManagerState::new(alloc)),
         Found::File(len) => {
-            let bytes = read_bytes(rt, alloc, place.as_str(), len)?;
+            let bytes = read_bytes(rt, alloc, place.as_str(), len, &STATE_MARKS)?;
             state_of(alloc, bytes.as_slice())
         }
-        Found::Folder => Err(foreign()),
+        Found::Folder(_) => Err(foreign()),
     }
 }
 
@@ -63,17 +66,15 @@ fn write_anew<R: Files>(rt: &R, place: &str, bytes: &[u8]) -> io::Result<()> {
     }
 }
 
-/// Replaces a file below a root, by way of a draft beside it.
-fn replace_file<R: Files>(
-    rt: &R,
-    root: &str,
-    draft: &str,
-    place: &str,
-    bytes: &[u8],
-) -> io::Result<()> {
-    fs::create_dir_all(rt, root)?;
-    write_anew(rt, draft, bytes)?;
-    fs::rename(rt, draft, place)
+/// Writes a new file in a root, which is made where it is missing.
+fn write_in<R: Files>(rt: &R, root: &str, place: &str, bytes: &[u8]) -> io::Result<()> {
+    match write_anew(rt, place, bytes) {
+        Err(error) if error.kind() == ErrorKind::NotFound => {
+            fs::create_dir_all(rt, root)?;
+            write_anew(rt, place, bytes)
+        }
+        answer => answer,
+    }
 }
 
 /// Replaces the manager's state below a root, in one step.
@@ -88,7 +89,8 @@ fn write_manager<R: Files>(
     let text = write_state(alloc, state)?;
     let draft = place_in(alloc, root, "manager.new")?;
     let place = place_in(alloc, root, "manager")?;
-    replace_file(rt, root, draft.as_str(), place.as_str(), text.as_slice())
+    write_in(rt, root, draft.as_str(), text.as_slice())?;
+    fs::rename(rt, draft.as_str(), place.as_str())
 }
 
 /// Makes a call on the manager whose state this is, and writes its new state.

@@ -1,17 +1,20 @@
 //! Files that hold one node each.
+use crate::new_mode::wider_mode;
 use crate::place::foreign;
 use host_trait::Leaf;
 use node_text::{NodeFault, read_node};
 use std::alloc::{AllocError, Global};
-use std::fs::OpenOptions;
-use std::io::{ErrorKind, Read, Write};
+use std::fs::{OpenFile, OpenOptions};
+use std::io::{ErrorKind, Read, Seek, SeekFrom, Write};
 use std::rt::Files;
 use std::{fs, io};
 use switch_names::Bytes;
 
-/// The longest file that is read: a longer one could take all of the memory, and holds no content
-/// that a run may take.
-const FILE_MAX: u64 = 67_108_864;
+/// The first bytes of a node file.
+const NODE_MARKS: [&str; 2] = ["F ", "L "];
+
+/// A file that is longer than this is read only where its first bytes are those of a file that a host writes.
+const LONG: u64 = 1_048_576;
 
 /// Fills a buffer from a file, as far as the file goes, and answers how far that is.
 fn fill<F: Read>(file: &mut F, buffer: &mut [u8]) -> io::Result<usize> {
@@ -30,23 +33,44 @@ fn fill<F: Read>(file: &mut F, buffer: &mut [u8]) -> io::Result<usize> {
     Ok(filled)
 }
 
-/// The bytes of a regular file, of which there are this many. A symbolic link is followed: `look` tells
-/// beforehand that none stands there.
-pub fn read_bytes<R: Files>(rt: &R, alloc: Global, place: &str, len: u64) -> io::Result<Bytes> {
-    if len > FILE_MAX {
+/// Whether some bytes begin with one of these marks.
+fn has_mark(bytes: &[u8], marks: &[&str]) -> bool {
+    marks.iter().any(|mark| bytes.starts_with(mark.as_bytes()))
+}
+
+/// Whether a file begins with one of these marks. It is then read from its beginning.
+fn begins_with<F: Read + Seek>(file: &mut F, marks: &[&str]) -> io::Result<bool> {
+    let mut head = [0u8; 8];
+    fill(file, &mut head)?;
+    file.seek(SeekFrom::Start(0))?;
+    Ok(has_mark(&head, marks))
+}
+
+/// The bytes of a regular file, as many as memory takes. `look` tells how many there are, and that no symbolic
+/// link and no special file stands there: what takes the file's place since then is followed, or waited for.
+pub fn read_bytes<R: Files>(
+    rt: &R,
+    alloc: Global,
+    place: &str,
+    len: u64,
+    marks: &[&str],
+) -> io::Result<Bytes> {
+    let mut file = fs::open(rt, place)?;
+    if len > LONG && !begins_with(&mut file, marks)? {
         return Err(foreign());
     }
-    let mut bytes = vec![in alloc; 0u8; len as usize]?;
-    let mut file = fs::open(rt, place)?;
+    let Ok(len) = usize::try_from(len) else {
+        return Err(io::Error::from(AllocError));
+    };
+    let mut bytes = vec![in alloc; 0u8; len]?;
     let filled = fill(&mut file, bytes.as_mut_slice())?;
     bytes.truncate(filled);
     Ok(Bytes::from_vec(bytes))
 }
 
-/// The leaf in a regular file of this many bytes, as `look` finds it. A symbolic link that has taken its
-/// place since then is followed.
+/// The leaf in a regular file of this many bytes, as `look` finds it.
 pub fn read_leaf<R: Files>(rt: &R, alloc: Global, place: &str, len: u64) -> io::Result<Leaf> {
-    let bytes = read_bytes(rt, alloc, place, len)?;
+    let bytes = read_bytes(rt, alloc, place, len, &NODE_MARKS)?;
     match read_node(alloc, bytes.as_slice()) {
         Ok(leaf) => Ok(leaf),
         Err(NodeFault::Memory) => Err(io::Error::from(AllocError)),
@@ -54,11 +78,16 @@ pub fn read_leaf<R: Files>(rt: &R, alloc: Global, place: &str, len: u64) -> io::
     }
 }
 
-/// Writes a new file. It fails where anything stands there, a symbolic link too.
+/// Writes a new file, which its owner can read and write. It fails where anything stands there, a symbolic
+/// link too.
 pub fn write_new<R: Files>(rt: &R, place: &str, bytes: &[u8]) -> io::Result<()> {
     let mut file = OpenOptions::new()
         .write(true)
         .create_new(true)
         .open(rt, place)?;
+    let metadata = file.metadata()?;
+    if let Some(wider) = wider_mode(&metadata, 0o600) {
+        file.set_permissions(wider)?;
+    }
     file.write_all(bytes)
 }

@@ -3,7 +3,7 @@
 use host_trait::{Sink, SinkFault};
 use std::alloc::AllocError;
 use std::io;
-use std::io::Write;
+use std::io::{ErrorKind, Write};
 
 /// Standard output. It tells nothing of what was put, and counts the puts that failed.
 pub struct OutSink<R: Print + Clone + Drop> {
@@ -27,8 +27,10 @@ fn write_all<R: Print + Clone + Drop>(rt: &R, bytes: &[u8]) -> bool {
             break;
         }
         match out.write(rest) {
-            Ok(0) | Err(_) => return false,
+            Ok(0) => return false,
             Ok(taken) => rest = &rest[taken..],
+            Err(error) if error.kind() == ErrorKind::Interrupted => {}
+            Err(_) => return false,
         }
     }
     out.flush().is_ok()

@@ -7,6 +7,7 @@ use host_trait::HostFault;
 use std::alloc::{AllocError, Global};
 use std::fs::{DirEntry, Metadata};
 use std::io::ErrorKind;
+use std::os::unix::fs::MetadataExt;
 use std::rt::Files;
 use std::{fs, io};
 use switch_names::Text;
@@ -14,13 +15,20 @@ use switch_names::Text;
 /// The longest name that a file system can hold: `NAME_MAX` of limits.h(0p).
 const NAME_MAX: usize = 255;
 
+/// Which folder it is that stands at a place, whatever its name: stat(2), `st_dev` and `st_ino`.
+#[derive(Clone, Copy, PartialEq, Eq)]
+pub struct FolderId {
+    device: u64,
+    number: u64,
+}
+
 /// What stands at a place, where it is neither a symbolic link nor a special file.
 #[derive(Clone, Copy)]
 pub enum Found {
     /// Nothing.
     Nothing,
-    /// A folder.
-    Folder,
+    /// This folder.
+    Folder(FolderId),
     /// A regular file, of this many bytes.
     File(u64),
 }
@@ -55,7 +63,10 @@ fn has_long_name(place: &str) -> bool {
 /// What is found by these metadata. A symbolic link or a special file is foreign.
 fn kind_of(metadata: &Metadata) -> io::Result<Found> {
     if metadata.is_dir() {
-        Ok(Found::Folder)
+        Ok(Found::Folder(FolderId {
+            device: metadata.dev(),
+            number: metadata.ino(),
+        }))
     } else if metadata.is_file() {
         Ok(Found::File(metadata.len()))
     } else {

@@ -2,9 +2,9 @@
 ghost use Rattle.std.specs.Prelude.{◌≡◌, ◌++◌, ◌∷◌, codes, IfOk};
 ghost use Rattle.switch_names.specs.Path.{slash};
 
-use host_files::{Found, foreign, look, place_in};
+use host_files::{FolderId, Found, clear_folder, foreign, look, make_folder, place_in};
 use std::alloc::{AllocError, Global};
-use std::collections::BTreeSet;
+use std::collections::BTreeMap;
 use std::rt::Files;
 use std::{fs, io};
 use switch_names::{Path, Text};
@@ -18,11 +18,14 @@ pub enum Missing {
     IsMade,
 }
 
-/// The tree's folder, and the folders in it that were looked at and are no links.
+/// The tree's folder, and the folders in it that were looked at and are no links, each with which one it is.
+///
+/// What stands in such a folder is read without another look at the way there. Before something changes in it,
+/// it is looked at again.
 pub struct Folders {
     root: Text,
     tree: Text,
-    known: BTreeSet<String>,
+    known: BTreeMap<String, FolderId>,
 }
 
 /// One call: a derived drop is proved anew in each function that lets one go.
@@ -45,7 +48,7 @@ impl Folders {
         Ok(Folders {
             root: Text::from_str(alloc, root)?,
             tree: place_in(alloc, root, "tree")?,
-            known: BTreeSet::new(alloc),
+            known: BTreeMap::new(alloc),
         })
     }
 
@@ -77,7 +80,7 @@ impl Folders {
         let Some((parent, _)) = place.rsplit_once('/') else {
             return Ok(false);
         };
-        if self.known.contains(parent) {
+        if self.known.contains_key(parent) {
             return Ok(true);
         }
         if !place.starts_with(self.tree.as_str()) {
@@ -135,35 +138,76 @@ impl Folders {
         folder: &str,
         missing: Missing,
     ) -> io::Result<bool> {
-        if self.known.contains(folder) {
+        if self.known.contains_key(folder) {
             return Ok(true);
         }
-        match look(rt, folder)? {
-            Found::Folder => {}
+        let id = match look(rt, folder)? {
+            Found::Folder(id) => id,
             _ if matches!(missing, Missing::Stays) => return Ok(false),
             Found::Nothing => self.make(rt, folder)?,
             Found::File(_) => return Err(foreign()),
-        }
-        self.remember(alloc, folder)?;
+        };
+        self.remember(alloc, folder, id)?;
         Ok(true)
     }
 
-    /// Makes a folder of the tree, and the root before the tree's own.
-    fn make<R: Files>(&self, rt: &R, folder: &str) -> io::Result<()> {
+    /// Makes a folder of the tree, and the root before the tree's own, and says which one it is.
+    fn make<R: Files>(&self, rt: &R, folder: &str) -> io::Result<FolderId> {
         if folder == self.tree.as_str() {
             fs::create_dir_all(rt, self.root.as_str())?;
+        } else if let Some((parent, _)) = folder.rsplit_once('/') {
+            self.check_folder(rt, parent)?;
         }
-        fs::create_dir(rt, folder)
+        make_folder(rt, folder)?;
+        match look(rt, folder)? {
+            Found::Folder(id) => Ok(id),
+            _ => Err(foreign()),
+        }
     }
 
-    /// Notes that a folder was looked at.
-    pub fn remember(&mut self, alloc: Global, folder: &str) -> Result<(), AllocError> {
-        self.known.insert(String::from_str(alloc, folder)?)?;
-        Ok(())
+    /// Looks once more at a folder that was looked at, by one system call. It is a fault where another one
+    /// stands there now, or where a link leads to it.
+    fn check_folder<R: Files>(&self, rt: &R, folder: &str) -> io::Result<()> {
+        match (self.known.get(folder), look(rt, folder)?) {
+            (Some(known), Found::Folder(id)) if *known == id => Ok(()),
+            _ => Err(foreign()),
+        }
     }
 
-    /// Notes that folders were removed: each is looked at again.
-    pub fn forget(&mut self) {
+    /// Looks once more at the folder of a place, right before something changes in it.
+    pub fn look_again<R: Files>(&mut self, rt: &R, alloc: Global, place: &str) -> io::Result<()> {
+        let Some((folder, _)) = place.rsplit_once('/') else {
+            return Err(foreign());
+        };
+        if self.known.contains_key(folder) {
+            return self.check_folder(rt, folder);
+        }
+        if self.lead_to(rt, alloc, place, Missing::Stays)? {
+            return Ok(());
+        }
+        Err(foreign())
+    }
+
+    /// Removes a folder of the tree that holds nothing but empty ones. Each folder is then looked at anew.
+    pub fn clear<R: Files + AllocGlobal + Clone + Drop>(
+        &mut self,
+        rt: &R,
+        alloc: Global,
+        place: &str,
+    ) -> io::Result<()> {
+        self.look_again(rt, alloc, place)?;
         self.known.clear();
+        clear_folder(rt, alloc, place)
+    }
+
+    /// Notes which folder it is that was looked at.
+    pub fn remember(
+        &mut self,
+        alloc: Global,
+        folder: &str,
+        id: FolderId,
+    ) -> Result<(), AllocError> {
+        self.known.insert(String::from_str(alloc, folder)?, id)?;
+        Ok(())
     }
 }

@@ -16,8 +16,9 @@ use switch_names::{Listed, Path, UnitName};
 
 /// A host over a folder of the file system. It tells nothing of its world.
 ///
-/// A node or a manager's state that can't be read, a name that is none of a path, a symbolic link or a special file
-/// below the tree, and whatever the file system refuses, is a fault that is counted.
+/// A node or a manager's state that can't be read, a name that is none of a path or isn't UTF-8, a symbolic link or a
+/// special file below the tree or at the manager's file, and whatever the file system refuses, is a fault that is
+/// counted. The file system refuses to move the stage to a place on another one: rename(2), `EXDEV`.
 pub struct FolderHost<R: Files + AllocGlobal + Clone + Drop> {
     rt: R,
     tree: Folders,
@@ -57,7 +58,10 @@ fn leaf_at<R: Files>(
 fn remove_at<R: Files>(rt: &R, alloc: Global, tree: &mut Folders, at: &Path) -> io::Result<()> {
     let place = tree.place(alloc, at)?;
     match tree.find(rt, alloc, place.as_str())? {
-        Found::File(_) => fs::remove_file(rt, place.as_str()),
+        Found::File(_) => {
+            tree.look_again(rt, alloc, place.as_str())?;
+            fs::remove_file(rt, place.as_str())
+        }
         _ => Ok(()),
     }
 }

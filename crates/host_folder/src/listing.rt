@@ -1,6 +1,6 @@
 //! The leaves below a folder.
 use crate::folders::Folders;
-use host_files::{Entries, Found, foreign, kind_of_entry, push_entries};
+use host_files::{Entries, FolderId, Found, foreign, kind_of_entry, push_entries};
 use host_trait::stage_path;
 use std::alloc::{AllocError, Global};
 use std::fs::DirEntry;
@@ -17,10 +17,17 @@ fn path_in(alloc: Global, folder: &Path, name: &str) -> io::Result<Path> {
     }
 }
 
+/// A folder that is still to be walked through.
+#[derive(Drop)]
+struct Below {
+    path: Path,
+    id: FolderId,
+}
+
 /// A walk through the folders below a path.
 struct Walk {
     folder: Path,
-    folders: Listed<Path>,
+    folders: Listed<Below>,
     leaves: Listed<Path>,
 }
 
@@ -44,7 +51,7 @@ impl Entries for Walk {
     ) -> io::Result<()> {
         let path = path_in(alloc, &self.folder, entry.file_name())?;
         let pushed = match kind_of_entry(entry)? {
-            Found::Folder => self.folders.push(path),
+            Found::Folder(id) => self.folders.push(Below { path, id }),
             _ => self.leaves.push(path),
         };
         Ok(pushed?)
@@ -67,9 +74,10 @@ impl Walk {
         rt: &R,
         alloc: Global,
         tree: &mut Folders,
+        id: FolderId,
     ) -> io::Result<()> {
         let place = tree.place(alloc, &self.folder)?;
-        tree.remember(alloc, place.as_str())?;
+        tree.remember(alloc, place.as_str(), id)?;
         push_entries(rt, alloc, self, place.as_str())
     }
 
@@ -79,14 +87,18 @@ impl Walk {
         rt: &R,
         alloc: Global,
         tree: &mut Folders,
+        first: FolderId,
     ) -> io::Result<()> {
+        let mut id = first;
         for _ in 0..u64::MAX {
-            self.push_folder(rt, alloc, tree)?;
+            self.push_folder(rt, alloc, tree, id)?;
             let count = self.folders.as_slice().len();
             if count == 0 {
                 break;
             }
-            self.folder = self.folders.remove(count - 1);
+            let below = self.folders.remove(count - 1);
+            self.folder = below.path;
+            id = below.id;
         }
         Ok(())
     }
@@ -102,7 +114,7 @@ impl Walk {
         match tree.find(rt, alloc, place)? {
             Found::Nothing => Ok(()),
             Found::File(_) => Ok(self.leaves.push(self.folder.copy(alloc)?)?),
-            Found::Folder => self.push_below(rt, alloc, tree),
+            Found::Folder(id) => self.push_below(rt, alloc, tree, id),
         }
     }
 

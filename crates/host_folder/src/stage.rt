@@ -1,6 +1,6 @@
 //! The stage, at which a leaf is written before it takes its place.
 use crate::folders::{Folders, Missing};
-use host_files::{Found, clear_folder, foreign, look, write_new};
+use host_files::{Found, foreign, look, write_new};
 use host_trait::{Leaf, stage_path};
 use node_text::write_node;
 use std::alloc::Global;
@@ -25,7 +25,24 @@ fn stage_place(alloc: Global, tree: &Folders) -> io::Result<Text> {
     tree.place(alloc, &at)
 }
 
-/// Leads to where a new file is to be written, and takes away what stands there.
+/// Takes away what stands where a new file is to be written.
+fn take_away<R: Files + AllocGlobal + Clone + Drop>(
+    rt: &R,
+    alloc: Global,
+    tree: &mut Folders,
+    place: &str,
+) -> io::Result<()> {
+    match look(rt, place)? {
+        Found::Nothing => Ok(()),
+        Found::File(_) => {
+            tree.look_again(rt, alloc, place)?;
+            fs::remove_file(rt, place)
+        }
+        Found::Folder(_) => tree.clear(rt, alloc, place),
+    }
+}
+
+/// Leads to where a new file is to be written, where nothing stands then.
 fn make_room<R: Files + AllocGlobal + Clone + Drop>(
     rt: &R,
     alloc: Global,
@@ -34,16 +51,9 @@ fn make_room<R: Files + AllocGlobal + Clone + Drop>(
     place: &str,
 ) -> io::Result<()> {
     tree.lead_to(rt, alloc, place, Missing::IsMade)?;
-    if matches!(stage, Stage::Empty) {
-        return Ok(());
-    }
-    match look(rt, place)? {
-        Found::Nothing => Ok(()),
-        Found::File(_) => fs::remove_file(rt, place),
-        Found::Folder => {
-            tree.forget();
-            clear_folder(rt, alloc, place)
-        }
+    match stage {
+        Stage::Empty => Ok(()),
+        Stage::Unseen | Stage::Written => take_away(rt, alloc, tree, place),
     }
 }
 
@@ -58,6 +68,7 @@ fn write_at<R: Files + AllocGlobal + Clone + Drop>(
 ) -> io::Result<()> {
     make_room(rt, alloc, tree, *stage, place)?;
     *stage = Stage::Unseen;
+    tree.look_again(rt, alloc, place)?;
     write_new(rt, place, text)?;
     *stage = Stage::Written;
     Ok(())
@@ -102,10 +113,7 @@ fn make_way<R: Files + AllocGlobal + Clone + Drop>(
 ) -> io::Result<()> {
     tree.lead_to(rt, alloc, place, Missing::IsMade)?;
     match look(rt, place)? {
-        Found::Folder => {
-            tree.forget();
-            clear_folder(rt, alloc, place)
-        }
+        Found::Folder(_) => tree.clear(rt, alloc, place),
         _ => Ok(()),
     }
 }
@@ -124,6 +132,8 @@ fn move_file<R: Files + AllocGlobal + Clone + Drop>(
     }
     make_way(rt, alloc, tree, place)?;
     *stage = Stage::Unseen;
+    tree.look_again(rt, alloc, from)?;
+    tree.look_again(rt, alloc, place)?;
     fs::rename(rt, from, place)?;
     *stage = Stage::Empty;
     Ok(())
