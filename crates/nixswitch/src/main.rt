@@ -1,15 +1,16 @@
 //! Makes a built NixOS system the one of a root folder.
 #![tactic(auto)]
 
-use host_files::OutSink;
+use host_files::{OutSink, place_in};
 use host_folder::FolderHost;
 use std::alloc::Global;
+use std::fs::{File, TryLockError};
 use std::io::ErrorKind;
 use std::process::ExitCode;
 use std::rt::Files;
 use std::{env, io};
 use switch_names::Text;
-use switch_run::{Status, run};
+use switch_run::{Status, read_words, run};
 
 /// What `--help` prints.
 const HELP: &str = "\
@@ -27,6 +28,7 @@ test SYSTEM          brings the system into use, and leaves the profile as it is
 boot SYSTEM          makes a generation for the system and points the profile to it, for the next boot
 dry-activate SYSTEM  says what bringing the system into use would do, and changes nothing
 
+One run goes on at a time in a ROOT: another one ends with 3 at once, and nobody else may change the tree meanwhile.
 The line that stands for a wrong usage also names commands that are still to come.
 
 exit status: 0 done, 1 usage, 2 refused, 3 fault of the host, 4 units failed, 5 no memory, 6 fault of the output
@@ -62,20 +64,70 @@ fn run_on<R: Files + Print + AllocGlobal + Clone + Drop>(
     run(alloc, words, &mut host, &mut out)
 }
 
-/// Runs the words of the command line, whose first names the root folder.
+/// Locks a root folder against other runs, until the file that is answered is closed: flock(2).
+///
+/// A folder that can't be opened or locked is left as it is. So is an empty text, which names none.
+fn lock_root(rt: &HostRuntime, root: &str) -> Result<Option<File>, Status> {
+    if root.is_empty() {
+        return Ok(None);
+    }
+    let Ok(folder) = place_in(rt.alloc(), root, ".") else {
+        return Err(Status::NoMemory);
+    };
+    let Ok(file) = File::open(rt, folder.as_str()) else {
+        return Ok(None);
+    };
+    match file.try_lock() {
+        Err(TryLockError::WouldBlock) => Err(Status::HostFault),
+        _ => Ok(Some(file)),
+    }
+}
+
+/// Runs the words of a command on a root folder, unless another run goes on there.
+fn run_alone(rt: &HostRuntime, root: &str, words: &[Text]) -> Status {
+    match lock_root(rt, root) {
+        Ok(_locked) => run_on(rt, rt.alloc(), root, words),
+        Err(status) => status,
+    }
+}
+
+/// Runs the words of the command line, whose first names the root folder. Words that give no command need none.
 fn run_line(rt: &HostRuntime, line: &[Text]) -> Status {
-    match line {
-        [root, words @ ..] => run_on(rt, rt.alloc(), root.as_str(), words),
-        [] => run_on(rt, rt.alloc(), ".", line),
+    let [root, words @ ..] = line else {
+        return Status::Usage;
+    };
+    match read_words(rt.alloc(), words) {
+        Ok(Some(_)) => run_alone(rt, root.as_str(), words),
+        Ok(None) => Status::Usage,
+        Err(_) => Status::NoMemory,
+    }
+}
+
+/// What of a status's line is the same each time, for when there is no memory to write the line.
+fn fixed_line(status: &Status) -> &'static str {
+    match status {
+        Status::Done => "",
+        Status::Usage => "usage",
+        Status::Refused(_) => "refused",
+        Status::HostFault => "fault: host",
+        Status::SinkFault => "fault: output",
+        Status::UnitsFailed => "units failed",
+        Status::NoMemory => "no memory",
+    }
+}
+
+/// Puts a line on standard error, unless it is empty.
+fn tell(rt: &HostRuntime, line: &str) {
+    if !line.is_empty() {
+        let _ = rt.eprintln(line);
     }
 }
 
 /// Says how a run ended, on standard error and by the exit status.
 fn finish(rt: &HostRuntime, status: &Status) -> ExitCode {
-    if let Ok(text) = status.text(rt.alloc()) {
-        if !text.as_str().is_empty() {
-            let _ = rt.eprintln(text.as_str());
-        }
+    match status.text(rt.alloc()) {
+        Ok(text) => tell(rt, text.as_str()),
+        Err(_) => tell(rt, fixed_line(status)),
     }
     ExitCode::from(status.number())
 }
