@@ -1,10 +1,13 @@
 #!/bin/bash
-# Runs the program on roots that no host wrote: symbolic links, special files, bad nodes and names.
+# Runs the program on roots that no host wrote: symbolic links, special files, bad nodes and names, very long files,
+# and folders that are swapped for links while it runs.
 #
 # bench/hostile.sh [PROGRAM]
 #
-# Needs bash, the coreutils and findutils. The rows on permissions need a user other than root.
-# Where strace is there and may trace, it also looks at what is opened.
+# Needs bash, the coreutils and findutils. The rows on permissions need a user other than root, and those on two runs
+# at once need flock. Where strace is there and may trace, it also looks at what is opened, swaps folders while the
+# program waits in a call, and has calls fail: interrupted ones, a move to another file system, and want of memory
+# from some call on.
 #
 # For each root it prints whether the status is the wanted one, whether the run ended within ten
 # seconds, and whether all that lies outside the root stayed as it was and unopened. It ends with 1
@@ -14,7 +17,7 @@ find_program "$@"
 failed=0
 trace=
 if strace -o "$work/opened" true 2>"$work/stderr"; then
-    trace="strace -f -y -e trace=open,openat,openat2,creat -o $work/opened"
+    trace="strace -f -y -e trace=open,openat,openat2,creat,getdents64,rename,write -o $work/opened"
 else
     echo "strace isn't there or may not trace: what is opened isn't looked at"
 fi
@@ -23,7 +26,7 @@ fi
 fresh() {
     chmod -R u+rwX "$work"
     rm -rf "$work/root" "$work/outside"
-    mkdir -p "$work/outside/var" "$work/root/tree/nix/store/a-sys"
+    mkdir -p "$work/outside/var/nix/profiles" "$work/root/tree/nix/store/a-sys"
     printf 'F 0644 0 0\n24.05\n' >"$work/root/tree/nix/store/a-sys/nixos-version"
     cp -r "$work/root/tree" "$work/outside/tree"
     echo secret >"$work/outside/file"
@@ -35,21 +38,44 @@ outside() {
 }
 
 command=boot
+inject=
+output=$work/stdout
+
+# judge NAME VERDICT: prints a row, and ends well where it is ok.
+judge() {
+    printf '%-60s %s\n' "$1" "$2"
+    [ "$2" = ok ] || failed=1
+    [ "$2" = ok ]
+}
 
 # run NAME STATUS [ROOT]: makes the command with the system in the root and judges the row.
 run() {
     before=$(outside)
     : >"$work/opened"
     # shellcheck disable=SC2086
-    timeout 10 $trace "$program" "${3-$work/root}" "$command" nix/store/a-sys >"$work/stdout" 2>"$work/stderr"
+    timeout 10 $trace $inject "$program" "${3-$work/root}" "$command" nix/store/a-sys >"$output" 2>"$work/stderr"
     status=$?
     verdict=ok
     [ "$status" = "$2" ] || verdict="status $status, not $2"
     [ "$status" != 124 ] || verdict="did not end"
     [ "$before" = "$(outside)" ] || verdict="changed what lies outside"
-    ! grep -qF "<$work/outside" "$work/opened" || verdict="opened what lies outside"
-    [ "$verdict" = ok ] || failed=1
-    printf '%-52s %s\n' "$1" "$verdict"
+    ! grep -F "<$work/outside" "$work/opened" | grep -qE '(open|creat|getdents)' || verdict="opened what lies outside"
+    judge "$1" "$verdict"
+}
+
+# run_with INJECTION NAME STATUS: the same as strace has these calls end.
+run_with() {
+    inject="-e inject=$1"
+    run "$2" "$3"
+    inject=
+}
+
+# await COMMAND: waits until a command ends well, but for no more than five seconds.
+await() {
+    for _ in $(seq 500); do
+        ! "$@" 2>"$work/awaited" || return 0
+        sleep 0.01
+    done
 }
 
 tree=$work/root/tree
@@ -106,8 +132,8 @@ fresh && : >"$tree/nix/store/a-sys/nixos-version"
 run "an empty node" 3
 fresh && printf 'L /nix/store/../../../../outside/file\n' >"$tree/nix/store/a-sys/nixos-version"
 run "a link of the tree that leads out of it" 2
-fresh && truncate -s 20G "$tree/nix/store/a-sys/nixos-version"
-run "a node of twenty gigabytes" 3
+fresh && : >"$tree/nix/store/a-sys/nixos-version" && truncate -s 20G "$tree/nix/store/a-sys/nixos-version"
+run "twenty gigabytes that are no node" 3
 fresh && mkdir -p "$profiles" && touch "$profiles/$(printf 'a\377')"
 run "a name that is no UTF-8" 3
 fresh && mkdir -p "$profiles" && touch "$profiles/$(printf 'a\nb')"
@@ -200,6 +226,122 @@ fresh && mkdir -p "$system/etc" "$tree/etc/a/b" && printf 'F 0644 0 0\n' >"$syst
 run "empty folders where an entry of /etc is to stand" 0
 fresh && mkdir -p "$system/etc" && printf 'L /nix/store/../../../../outside/file\n' >"$system/etc/a" && printf 'F 0644 0 0\n0644\n' >"$system/etc/a.mode"
 run "a copy of what leads out of the tree" 2
+
+# What is written can be read again, however long it is. What no host wrote isn't read to its end.
+long() {
+    head -c 70000000 /dev/zero | tr '\0' "$1"
+    echo
+}
+fresh && { printf 'loaded ' && long x; } >"$work/root/manager"
+run "a manager's state of seventy megabytes" 0
+run "the same state again" 0
+fresh && mkdir -p "$lists" && { printf 'F 0644 0 0\n' && long x; } >"$lists/start-list"
+run "a list of seventy megabytes" 0
+fresh && { printf 'loaded \n' && long x; } >"$work/root/manager"
+run "seventy megabytes that are no manager's state" 3
+# How much address space a program may take, in KiB.
+space=$((2 * 1024 * 1024))
+short_of_memory() {
+    (ulimit -v $space && "$@")
+}
+fresh && printf 'loaded ' >"$work/root/manager" && truncate -s 20G "$work/root/manager"
+short_of_memory run "twenty gigabytes of a manager's state, in less memory" 5 || failed=1
+fresh && truncate -s 20G "$tree/nix/store/a-sys/nixos-version"
+short_of_memory run "a node of twenty gigabytes, in less memory" 5 || failed=1
+
+# A mask that takes all away leaves its owner what the next run needs.
+fresh
+(umask 0777 && run "a switch under a mask that takes all away" 0) || failed=1
+run "the same switch under another mask" 0
+if [ -z "$(find "$work/root/tree/etc" "$work/root/tree/run" "$work/root/manager" \( -type f ! -perm -600 -o -type d ! -perm -700 \) -print)" ]; then
+    judge "its owner can read and write each file of it" ok
+else
+    judge "its owner can read and write each file of it" "can't"
+fi
+
+# One run goes on at a time.
+if [ -n "$(type -P flock)" ]; then
+    fresh
+    exec 9<"$work/root" && flock 9
+    run "a root in which another run goes on" 3
+    [ "$(cat "$work/stderr")" = "fault: host" ] || judge "what it says" "$(cat "$work/stderr")"
+    command=none
+    run "words without a command there" 1
+    command=test
+    exec 9<&-
+    run "the same root when that run has ended" 0
+else
+    echo "flock isn't there: the rows on two runs at once are left out"
+fi
+
+# A full output, and one that is closed.
+if [ -c /dev/full ]; then
+    fresh
+    output=/dev/full
+    run "a full output" 6
+    output=$work/stdout
+    [ ! -e "$tree/run" ] || judge "nothing is changed then" "there are changes"
+fi
+
+# swap PLACE FOLDER: puts a link to a folder in the place of another one, which is kept in the root.
+swap() {
+    mv "$1" "$work/root/away" && ln -s "$2" "$1"
+}
+
+# run_swapped NAME STATUS PLACE FOLDER: makes a boot in whose first move the program waits, while a folder is swapped.
+run_swapped() {
+    (await test -e "$profiles/system-1-link" && swap "$3" "$4") &
+    run_with rename:delay_exit=1500000:when=1 "$1" "$2"
+    wait $!
+}
+
+if [ -n "$trace" ]; then
+    command=boot
+    fresh
+    run_swapped "the profiles' folder becomes a link while it is written in" 3 "$profiles" "$work/outside/var/nix/profiles"
+    fresh
+    run_swapped "the folder above it becomes a link" 3 "$tree/nix/var/nix" "$work/outside/var/nix"
+    fresh
+    run_swapped "the stage's folder becomes a link" 3 "$tree/nix/var" "$work/outside/var"
+    fresh && mkdir -p "$work/outside/tree/nix/var/nix/profiles"
+    run_swapped "a folder above all that is written becomes a link" 3 "$tree/nix" "$work/outside/tree/nix"
+    fresh
+    run_with rename:error=EXDEV:when=1 "a place on another file system" 3
+    run "the same place when it is on the same one" 0
+
+    command=dry-activate
+    fresh && mkdir -p "$units" && printf 'F 0644 0 0\n' >"$units/a.service"
+    (await grep -q 'getdents64.*system>' "$work/opened" && rm "$units/a.service" && mkfifo "$units/a.service") &
+    run_with getdents64:delay_enter=200000 "a unit file becomes a pipe once its folder was opened" 3
+    wait $!
+
+    command=test
+    fresh && mkdir -p "$units" && printf 'F 0644 0 0\n' >"$units/a.service"
+    run_with write:error=EINTR:when=1+2 "each other write is interrupted" 0
+    # The loader's own calls that open something aren't interrupted: `first` is the program's first one.
+    fresh && mkdir -p "$units" && printf 'F 0644 0 0\n' >"$units/a.service"
+    strace -o "$work/calls" -e trace=openat "$program" "$work/root" dry-activate nix/store/a-sys >"$work/stdout" 2>"$work/stderr"
+    first=$(grep -nF "$work/root" "$work/calls" | head -n 1 | cut -d : -f 1)
+    for start in "$first" $((first + 1)); do
+        run_with openat:error=EINTR:when="$start+2" "each other call that opens something is interrupted, from $((start - first))" 0
+    done
+
+    # Want of memory that lasts, from each of the first calls for memory on.
+    fresh
+    told=0
+    verdict=ok
+    for call in $(seq 2 60); do
+        strace -o "$work/calls" -e trace=brk,mmap -e inject=brk,mmap:error=ENOMEM:when="$call+" \
+            "$program" "$work/root" dry-activate nix/store/a-sys >"$work/stdout" 2>"$work/stderr"
+        [ $? = 5 ] || continue
+        told=$((told + 1))
+        [ "$(cat "$work/stderr")" = "no memory" ] || verdict="said: $(cat "$work/stderr")"
+    done
+    [ $told -gt 0 ] || verdict="memory was never wanting"
+    judge "memory is wanting, to the end" "$verdict"
+else
+    echo "without strace the rows on swapped folders and failing calls are left out"
+fi
 
 if [ "$(id -u)" != 0 ]; then
     fresh && chmod 000 "$tree/nix/store/a-sys/nixos-version"
