@@ -117,6 +117,7 @@ echo "It runs in $scratch."
 echo
 show 1-boot 0 root boot nix/store/a-sys
 look cat root/tree/nix/var/nix/profiles/system-1-link root/tree/nix/var/nix/profiles/system
+look cat root/tree/boot/loader/entries/nixos-generation-1.conf root/tree/boot/loader/loader.conf
 echo
 show 2-dry-activate 0 example dry-activate nix/store/web-24.11
 echo
@@ -125,6 +126,7 @@ look cat example/tree/etc/group example/tree/etc/passwd example/tree/etc/shadow
 look cat example/tree/etc/metrics.toml example/tree/etc/localtime example/tree/etc/.clean
 look cat example/tree/etc/static example/tree/etc/systemd/system/metrics.service example/tree/etc/motd.d
 look cat example/tree/nix/var/nix/profiles/system-1-link example/tree/nix/var/nix/profiles/system
+look cat example/tree/boot/loader/entries/nixos-generation-1.conf example/tree/boot/loader/loader.conf
 look cat example/tree/run/current-system example/manager
 echo
 if [ -n "$program" ] && strace -o "$runs/calls" true 2>"$runs/stderr"; then

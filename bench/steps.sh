@@ -26,6 +26,8 @@ function draw(group, what) {
 function group_of(place) {
     if (place ~ /^nix\/var\/nix\/profiles\//)
         return "profile"
+    if (place ~ /^boot\//)
+        return "boot"
     if (place ~ /^run\/nixos\//)
         return "lists"
     if (place ~ /^var\/lib\/nixos\// || place ~ /^etc\/(group|passwd|shadow)$/)

@@ -4,6 +4,7 @@ use Rattle.activation_report.proofs.ReportLemmas.{one_report}
 use Rattle.activation_report.specs.Report.{IsActivationReport}
 use Rattle.activation_stage.specs.ActivationPart.{IsActivationPlanOf}
 use Rattle.activation_stage.specs.declared.activation_plan.ActivationPlan.{ActivationPlan}
+use Rattle.boot_entries.specs.declared.boot_default.BootDefaultPlan.{BootDefaultPlan}
 use Rattle.host_trait.specs.States.{state_of}
 use Rattle.host_trait.specs.World.{Leaves, WorldState}
 use Rattle.owed_lists.specs.declared.lists.Lists.{Lists}
@@ -15,14 +16,13 @@ use Rattle.owed_lists.proofs.ListLemmas.{same_lists}
 use Rattle.owed_plan.proofs.ListLemmas.{one_owed}
 use Rattle.switch_engine.specs.declared.command.Command.{Command}
 use Rattle.switch_engine.specs.declared.plan.Plan.{Plan}
-use Rattle.switch_engine.specs.declared.plan.ProfilePlan.{ProfilePlan}
 use Rattle.switch_engine.specs.Commands.{new_system, row_of}
 use Rattle.switch_engine.specs.Plan.{ArePlanned, AreUnitsPlanned, IsActivationPlanned, IsProfilePlanned}
 use Rattle.switch_names.specs.Names.{Name}
 use Rattle.unit_stage.specs.declared.unit_plan.UnitPlan.{UnitPlan}
 use Rattle.unit_stage.specs.Plan.{IsPlannedIn, IsUnitPlanOf, owed_of}
 use Rattle.unit_stage.specs.System.{current_system}
-use Rattle.std.proofs.lemmas.Bool.{both_ways, cases_Bool}
+use Rattle.std.proofs.lemmas.Bool.{both_ways}
 use Rattle.dry_report.specs.Report.{IsReport, IsReportBy, IsUnitReport, number_if, number_of, profile_report, report_of}
 
 -- ---- one report
@@ -69,7 +69,7 @@ unit_report_is system w plan number told text is is_told same = record {
 }
 
 -- the number of a plan is that of its world
-number_is : (sets : Bool) (system : Name) (w : WorldState) (o : Option ProfilePlan) → IsProfilePlanned sets system w o → option_map (λ profile. profile.number) o ≡ number_if sets system w.leaves
+number_is : (sets : Bool) (system : Name) (w : WorldState) (o : Option BootDefaultPlan) → IsProfilePlanned sets system w o → option_map (λ profile. profile.number) o ≡ number_if sets system w.leaves
 number_is sets system w None planned = sym (ap (λ b. number_if b system w.leaves) planned)
 number_is sets system w (Some plan) planned = ap Some planned.1.number ∙ sym (ap (λ b. number_if b system w.leaves) planned.0)
 

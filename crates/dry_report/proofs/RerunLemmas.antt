@@ -1,10 +1,15 @@
 -- A command that switches no units makes the same report where it was cut and is made again.
-use Rattle.std.proofs.Common.{◌≡◌, ◌^◌, ◌<◌, ◌&&◌, ◌↔◌, ℕ, Bool, true, false, cond, List, [], ◌∷◌, Option, None, Some, refl, sym, ap, subst, ◌∙◌, inl, inr, arith}
+use Rattle.std.proofs.Common.{◌≡◌, ◌^◌, ◌<◌, ◌&&◌, ◌↔◌, ℕ, Bool, true, false, cond, List, [], ◌∷◌, None, Some, refl, sym, ap, subst, ◌∙◌, inl, inr, arith}
 use Rattle.std.proofs.lemmas.Bool.{both_ways, cases_Bool}
 use Rattle.std.proofs.lemmas.Option.{none-some}
 use Rattle.std.specs.FinMap.{get}
 use Rattle.std.specs.List.{AllByRecursion}
-use Rattle.generations.specs.Places.{link_name, number_after, profile, with_generation, with_profile}
+use Rattle.boot_entries.specs.BootDefault.{boot_default_in, menu_after}
+use Rattle.boot_entries.specs.BootPart.{boot_part}
+use Rattle.boot_entries.specs.Steps.{boot_files, with_files, without_places}
+use Rattle.generations.specs.After.{gens_after}
+use Rattle.generations.specs.declared.gens.Gens.{Gens}
+use Rattle.generations.specs.Places.{link_name, number_after, profile, set_end}
 use Rattle.generations.specs.ProfilePart.{profile_part}
 use Rattle.generations.proofs.Apart.{one_link}
 use Rattle.generations.proofs.Numbers.{below_bound}
@@ -15,26 +20,33 @@ use Rattle.host_trait.specs.declared.leaf.LeafKind.TheVariants.{Link}
 use Rattle.host_trait.specs.declared.manager_state.ManagerState.{ManagerState}
 use Rattle.host_trait.specs.World.{Leaves, WorldState, seen, stage}
 use Rattle.switch_engine.specs.declared.command.Command.{Command}
-use Rattle.switch_engine.specs.Commands.{brought_to, if_so, new_system, row_of, set_to, switched_to}
+use Rattle.switch_engine.specs.Commands.{brought_to, if_so, new_system, row_of, set_to}
 use Rattle.switch_engine.specs.Final.{AreFinalUnits, IsFinalOf}
 use Rattle.activation_stage.specs.Owners.{owners_after}
 use Rattle.etc_manifest.specs.Owners.{OwnerIds}
 use Rattle.switch_engine.specs.Moments.{IsMomentOf, IsStepIf, LeadsBy, set_world}
-use Rattle.switch_engine.specs.Owing.{IsSteadyFor, IsSteadyTo, IsUnderway}
+use Rattle.switch_engine.specs.Owing.{IsSteadyTo, IsUnderway}
 use Rattle.switch_engine.specs.Rows.{final, part_if, part_of, parts, refusal, switch_in}
 use Rattle.switch_engine.proofs.CarryLemmas.{final_then, same_system, set_calls, set_final}
 use Rattle.switch_engine.proofs.UnderwayLemmas.{free_command}
 use Rattle.switch_names.specs.Names.{Name}
+use Rattle.switch_names.specs.SystemName.{IsSystemPath}
 use Rattle.switch_parts.specs.Part.{IsFree, final_leaf}
-use Rattle.switch_parts.proofs.Parts.{second_free}
+use Rattle.switch_parts.proofs.Parts.{first_free, second_free}
 use Rattle.dry_report.specs.Report.{IsReport, IsReportBy, KeepsReport, number_if, profile_report}
 
 -- ---- the number that a set of the profile alone gives its system
 
+-- nothing is in the way of a set of the profile where its command isn't refused
+set_free : (command : Command) (leaves : Leaves) → refusal command leaves ≡ None → IsFree (part_if (row_of command).sets (boot_default_in (new_system command leaves) leaves)) leaves
+set_free command leaves none =
+    let system = new_system command leaves in
+    second_free (part_if (row_of command).switches (switch_in system leaves)) (part_if (row_of command).sets (boot_default_in system leaves)) leaves (free_command command leaves none).parts
+
 -- the profile names it at the end
-profile_end : (system : Name) (owners : OwnerIds) (leaves : Leaves) → final_leaf (parts false true system owners) leaves profile ≡ Some (Link (link_name (number_after leaves system)))
+profile_end : (system : Name) (owners : OwnerIds) (gens : Gens) (leaves : Leaves) → final_leaf (parts false true system owners gens) leaves profile ≡ Some (Link (link_name (number_after leaves system)))
 unfolding profile
-profile_end system owners leaves = refl
+profile_end system owners gens leaves = refl
 
 same_name : (one other : List ℕ) → Some (Link one) ≡ Some (Link other) → one ≡ other
 same_name one other is = cc
@@ -47,42 +59,21 @@ module _ (command : Command) (on : (row_of command).changes ≡ true) (off : (ro
     final_link : (leaves : Leaves) → final command leaves profile ≡ Some (Link (link_name (number_after leaves (new_system command leaves))))
     final_link leaves =
         let owners = owners_after (new_system command leaves) leaves in
-        (λ i. cond (on i) (final_leaf (parts (off i) (named i) (new_system command leaves) owners) leaves profile) (get leaves profile))
-        ∙ profile_end (new_system command leaves) owners leaves
+        let gens = gens_after (new_system command leaves) leaves in
+        (λ i. cond (on i) (final_leaf (parts (off i) (named i) (new_system command leaves) owners gens) leaves profile) (get leaves profile))
+        ∙ profile_end (new_system command leaves) owners gens leaves
 
     small_number : (leaves : Leaves) → refusal command leaves ≡ None → number_after leaves (new_system command leaves) < 2 ^ 64
     small_number leaves none =
         let system = new_system command leaves in
-        let free = second_free (part_if (row_of command).switches (switch_in system leaves)) (part_if sets (profile_part system)) leaves (free_command command leaves none).parts in
-        let further = number_of_free system leaves (subst (λ b. IsFree (part_if b (profile_part system)) leaves) named free) in
+        let free = subst (λ b. IsFree (part_if b (boot_default_in system leaves)) leaves) named (set_free command leaves none) in
+        let further = number_of_free system leaves (first_free (profile_part system) (boot_part (gens_after system leaves)) leaves free) in
         let below = below_bound (number_after leaves system) (number_is leaves system further) in
         omega arith
 
-    module _ (w m : WorldState) (not_refused : refusal command w.leaves ≡ None) (underway : IsUnderway w command m) where
+    module _ (w m : WorldState) (not_refused : refusal command w.leaves ≡ None) (underway : IsUnderway w command m) (end : WorldState) (is_end : IsFinalOf command w end) where
       abbrev system : Name
       system = new_system command w.leaves
-
-      -- a world that the command leaves
-      abbrev end : WorldState
-      end = with_profile (number_after w.leaves system) (with_generation system (number_after w.leaves system) w)
-
-      end_set : seen end ≡ set_world (if_so sets system) w
-      end_set = sym (ap (λ b. set_world (if_so b system) w) named)
-
-      same_manager : end.manager ≡ w.manager
-      same_manager = set_calls system w sets end end_set
-
-      is_end : IsFinalOf command w end
-      is_end = record {
-        leaves = λ q ne.
-            final_then (part_if (row_of command).switches (switch_in system w.leaves)) (part_if sets (profile_part system)) w end end
-            (λ at other. sym (ap (λ b. final_leaf (part_if b (switch_in system w.leaves)) end.leaves at) off)) (set_final system w sets end end_set)
-            (λ at own. absurd (both_ways false refl (subst (λ b. (part_if b (switch_in system w.leaves)).owns at ≡ true) off own))) q ne
-            ∙ sym (ap (λ b. cond b (final_leaf (part_of command w.leaves) w.leaves q) (get w.leaves q)) on);
-        units = subst (λ to. AreFinalUnits to w end) (sym ((λ i. if_so (on i && off i) system)))
-            (ap (λ (k : ManagerState). k.states) same_manager, ap (λ (k : ManagerState). k.loaded) same_manager);
-        bad = ap (λ (k : ManagerState). k.bad) same_manager;
-      }
 
       same_final : final command m.leaves profile ≡ final command w.leaves profile
       same_final =
@@ -94,11 +85,11 @@ module _ (command : Command) (on : (row_of command).changes ≡ true) (off : (ro
       same_number = one_link _ _ (small_number m.leaves underway.not_refused) (small_number w.leaves not_refused)
           (same_name _ _ (sym (final_link m.leaves) ∙ same_final ∙ final_link w.leaves))
 
-  number_same : (w m : WorldState) → refusal command w.leaves ≡ None → IsUnderway w command m →
+  number_same : (w m : WorldState) → refusal command w.leaves ≡ None → IsUnderway w command m → (end : WorldState) → IsFinalOf command w end →
       number_if sets (new_system command m.leaves) m.leaves ≡ number_if sets (new_system command w.leaves) w.leaves
-  number_same w m none underway = elim (cases_Bool sets) [
+  number_same w m none underway end is_end = elim (cases_Bool sets) [
     | inl named ↦
-        ap (λ b. number_if b (new_system command m.leaves) m.leaves) named ∙ ap Some (same_number named w m none underway)
+        ap (λ b. number_if b (new_system command m.leaves) m.leaves) named ∙ ap Some (same_number named w m none underway end is_end)
         ∙ sym (ap (λ b. number_if b (new_system command w.leaves) w.leaves) named)
     | inr not ↦ ap (λ b. number_if b (new_system command m.leaves) m.leaves) not ∙ sym (ap (λ b. number_if b (new_system command w.leaves) w.leaves) not)
   ]
@@ -106,13 +97,43 @@ module _ (command : Command) (on : (row_of command).changes ≡ true) (off : (ro
   underway_from : (w m : WorldState) → IsMomentOf command w m → IsUnderway w command m
   underway_from w m moment = moment.underway (subst (λ b. IsSteadyTo (if_so b (new_system command w.leaves)) w) (sym off) tt)
 
-  set_reports : (w m : WorldState) → refusal command w.leaves ≡ None → IsMomentOf command w m → (text : List ℕ) → IsReport command m text ↔ IsReport command w text
-  set_reports w m none moment text =
+  set_reports : (w m : WorldState) → refusal command w.leaves ≡ None → IsMomentOf command w m → (end : WorldState) → IsFinalOf command w end → (text : List ℕ) → IsReport command m text ↔ IsReport command w text
+  set_reports w m none moment end is_end text =
       let same : profile_report (new_system command m.leaves) (number_if sets (new_system command m.leaves) m.leaves) ≡ profile_report (new_system command w.leaves) (number_if sets (new_system command w.leaves) w.leaves) =
-      λ i. profile_report (same_system command m.leaves w.leaves i) (number_same w m none (underway_from w m moment) i) in
+      λ i. profile_report (same_system command m.leaves w.leaves i) (number_same w m none (underway_from w m moment) end is_end i) in
       subst (λ b. IsReportBy b (number_if sets (new_system command m.leaves) m.leaves) (new_system command m.leaves) m text
       ↔ IsReportBy b (number_if sets (new_system command w.leaves) w.leaves) (new_system command w.leaves) w text) (sym off)
       (λ is. is ∙ same, λ is. is ∙ sym same)
+
+  -- a world that the command leaves
+  module _ (w : WorldState) (named : IsSystemPath (new_system command w.leaves)) (none : refusal command w.leaves ≡ None) where
+    abbrev its_system : Name
+    its_system = new_system command w.leaves
+
+    set_end_of : (b : Bool) → (end : WorldState) × (seen end ≡ set_world (if_so b its_system) w)
+    set_end_of true = let menu = menu_after its_system w.leaves in (without_places menu.gone (with_files (boot_files menu) (set_end its_system w)), refl)
+    set_end_of false = (w, refl)
+
+    abbrev left : WorldState
+    left = (set_end_of sets).0
+
+    abbrev left_set : seen left ≡ set_world (if_so sets its_system) w
+    left_set = (set_end_of sets).1
+
+    same_manager : left.manager ≡ w.manager
+    same_manager = set_calls its_system named w sets (set_free command w.leaves none) left left_set
+
+    is_left : IsFinalOf command w left
+    is_left = record {
+      leaves = λ q ne.
+          final_then (part_if (row_of command).switches (switch_in its_system w.leaves)) (part_if sets (boot_default_in its_system w.leaves)) w left left
+          (λ at other. sym (ap (λ b. final_leaf (part_if b (switch_in its_system w.leaves)) left.leaves at) off)) (set_final its_system named w sets (set_free command w.leaves none) left left_set)
+          (λ at own. absurd (both_ways false refl (subst (λ b. (part_if b (switch_in its_system w.leaves)).owns at ≡ true) off own))) q ne
+          ∙ sym (ap (λ b. cond b (final_leaf (part_of command w.leaves) w.leaves q) (get w.leaves q)) on);
+      units = subst (λ to. AreFinalUnits to w left) (sym ((λ i. if_so (on i && off i) its_system)))
+          (ap (λ (k : ManagerState). k.states) same_manager, ap (λ (k : ManagerState). k.loaded) same_manager);
+      bad = ap (λ (k : ManagerState). k.bad) same_manager;
+    }
 
 -- ---- a moment, and a chain of them
 
@@ -128,9 +149,19 @@ keeps_same command w m same units text =
 abbrev Step : Command → WorldState → WorldState → Bool → Type 0
 Step command w m changes = IsStepIf changes (set_to command w.leaves) (brought_to command w.leaves) w m
 
-pub keeps_report : (command : Command) (w m : WorldState) → refusal command w.leaves ≡ None → IsMomentOf command w m → KeepsReport command w m
-keeps_report command w m none moment units text = elim (cases_Bool (row_of command).changes) [
-  | inl on ↦ set_reports command on (no_units (row_of command).changes (row_of command).switches (new_system command w.leaves) on units) w m none moment text
+-- a moment keeps the report where the command leaves some world
+keeps_by : (command : Command) (w m : WorldState) → refusal command w.leaves ≡ None → IsMomentOf command w m → (end : WorldState) → IsFinalOf command w end → KeepsReport command w m
+keeps_by command w m none moment end is_end units text = elim (cases_Bool (row_of command).changes) [
+  | inl on ↦ set_reports command on (no_units (row_of command).changes (row_of command).switches (new_system command w.leaves) on units) w m none moment end is_end text
+  | inr query ↦ keeps_same command w m (subst (Step command w m) query moment.step) units text
+]
+
+-- and so it does where its system is one
+pub keeps_report : (command : Command) (w m : WorldState) → IsSystemPath (new_system command w.leaves) → refusal command w.leaves ≡ None → IsMomentOf command w m → KeepsReport command w m
+keeps_report command w m named none moment units text = elim (cases_Bool (row_of command).changes) [
+  | inl on ↦
+      let off = no_units (row_of command).changes (row_of command).switches (new_system command w.leaves) on units in
+      keeps_by command w m none moment (left command on off w named none) (is_left command on off w named none) units text
   | inr query ↦ keeps_same command w m (subst (Step command w m) query moment.step) units text
 ]
 
@@ -151,13 +182,25 @@ still_free command w m units none moment = elim (cases_Bool (row_of command).cha
   | inr query ↦ subst (λ (x : WorldState). refusal command x.leaves ≡ None) (sym (subst (Step command w m) query moment.step)) none
 ]
 
+-- what the last of a chain leaves is what the first would have left
+final_of_led : (command : Command) (cuts : List WorldState) (w v : WorldState) → brought_to command w.leaves ≡ None → refusal command w.leaves ≡ None → LeadsBy command cuts w v → IsFinalOf command w v
+final_of_led command [] w v units none led = led.final
+final_of_led command (m ∷ cuts) w v units none led =
+    let last = final_of_led command cuts m v (same_brought command m.leaves w.leaves ∙ units) (still_free command w m units none led.0) led.1 in
+    elim (cases_Bool (row_of command).changes) [
+      | inl on ↦
+          let off = no_units (row_of command).changes (row_of command).switches (new_system command w.leaves) on units in
+          ((underway_from command on off w m led.0).same_end v).0 last
+      | inr query ↦ subst (λ (x : WorldState). IsFinalOf command x v) (subst (Step command w m) query led.0.step) last
+    ]
+
 from_first : (command : Command) (first : WorldState) → brought_to command first.leaves ≡ None → (cuts : List WorldState) (w v : WorldState) → KeepsReport command first w → refusal command w.leaves ≡ None →
     LeadsBy command cuts w v → AllByRecursion (KeepsReport command first) cuts
 from_first command first units [] w v before none led = tt
 from_first command first units (m ∷ cuts) w v before none led =
-    let now = keeps_then command first w m before (keeps_report command w m none led.0) in
-    let still = still_free command w m (same_brought command w.leaves first.leaves ∙ units) none led.0 in
-    (now, from_first command first units cuts m v now still led.1)
+    let here = same_brought command w.leaves first.leaves ∙ units in
+    let now = keeps_then command first w m before (keeps_by command w m none led.0 v (final_of_led command (m ∷ cuts) w v here none led)) in
+    (now, from_first command first units cuts m v now (still_free command w m here none led.0) led.1)
 
 pub rerun_reports : (command : Command) (cuts : List WorldState) (first last : WorldState) → brought_to command first.leaves ≡ None → refusal command first.leaves ≡ None →
     LeadsBy command cuts first last → AllByRecursion (KeepsReport command first) cuts

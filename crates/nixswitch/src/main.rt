@@ -22,10 +22,10 @@ usage: nixswitch ROOT switch|test|boot|dry-activate SYSTEM
 ROOT is a folder with the file tree below ROOT/tree, one node file for each file or link.
 SYSTEM is a built system: nix/store/NAME, with or without a slash before it.
 
-switch SYSTEM        makes a generation for the system, points the profile to it, and brings the system into use:
-                     its accounts, its /etc and its units
-test SYSTEM          brings the system into use, and leaves the profile as it is
-boot SYSTEM          makes a generation for the system and points the profile to it, for the next boot
+switch SYSTEM        makes the system the boot default, as boot does, and brings it into use: its accounts, its /etc and
+                     its units
+test SYSTEM          brings the system into use, and leaves the profile and the boot menu as they are
+boot SYSTEM          makes a generation for the system, points the profile to it, and makes the boot menu
 dry-activate SYSTEM  says what bringing the system into use would do, and changes nothing
 
 One run goes on at a time in a ROOT: another one ends with 3 at once, and nobody else may change the tree meanwhile.

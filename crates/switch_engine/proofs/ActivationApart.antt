@@ -30,12 +30,12 @@ use Rattle.unit_stage.specs.Units.{units_part}
 -- ---- what an activation owns
 
 -- a test that fails at the places of the accounts, and at all that lies below /etc
-record FailsAtEach (test : Name → Bool) : Type 0 where
-  accounts : AllByRecursion (λ q. test q ≡ false) account_names
-  etc : (q : Name) → test (place q) ≡ false
+pub record FailsAtEach (test : Name → Bool) : Type 0 where
+  pub accounts : AllByRecursion (λ q. test q ≡ false) account_names
+  pub etc : (q : Name) → test (place q) ≡ false
 
 -- fails at all that an activation owns
-fails : (test : Name → Bool) → FailsAtEach test → (q : Name) → owns_accounts q || owns_farm q ≡ true → test q ≡ false
+pub fails : (test : Name → Bool) → FailsAtEach test → (q : Name) → owns_accounts q || owns_farm q ≡ true → test q ≡ false
 fails test failed q own = elim (cases_Bool (owns_accounts q)) [
   | inl among ↦ each_among (λ x. test x ≡ false) account_names failed.accounts q among
   | inr other ↦

@@ -1,6 +1,6 @@
 -- What carrying a planned command out leaves at each moment and at its end, whichever of its parts it has.
 use Rattle.std.proofs.Common.{◌≡◌, ◌≢◌, ◌↔◌, ◌&&◌, ◌||◌, Bool, IsSome, IsTrue, true, false, cond, is_some, Option, None, Some, List, ℕ, [], ◌++◌, refl, sym, ap, subst, ◌∙◌, inl, inr, rules, unwrap_or, ⊎_elim}
-use Rattle.std.proofs.lemmas.Bool.{both_ways, cases_Bool, or_left}
+use Rattle.std.proofs.lemmas.Bool.{both_ways, cases_Bool, or_left, or_right}
 use Rattle.std.proofs.lemmas.List.{append-nil}
 use Rattle.std.specs.Cmp.Lexicographic.{nat_list_eq_equiv}
 use Rattle.std.specs.FinMap.{empty, get, gets}
@@ -8,13 +8,17 @@ use Rattle.activation_stage.specs.ActivationPart.{activation_in, activation_part
 use Rattle.activation_stage.specs.declared.activation_plan.ActivationPlan.{ActivationPlan}
 use Rattle.activation_stage.specs.Owners.{owners_after}
 use Rattle.etc_manifest.specs.Owners.{OwnerIds}
+use Rattle.boot_entries.specs.BootDefault.{boot_default_in, boot_default_part}
+use Rattle.boot_entries.specs.declared.boot_default.BootDefaultPlan.{BootDefaultPlan}
+use Rattle.boot_entries.specs.Laws.{IsBootGens}
+use Rattle.boot_entries.specs.Menu.{IsMenuBetween}
+use Rattle.boot_entries.specs.Places.{owns_boot}
+use Rattle.generations.specs.After.{gens_after}
+use Rattle.generations.specs.declared.gens.Gens.{Gens}
 use Rattle.generations.specs.Places.{Names, link_path, profile}
-use Rattle.generations.specs.ProfilePart.{owns_profile, profile_part}
-use Rattle.generations.proofs.NamesLaws.{moment_names}
-use Rattle.generations.proofs.ProfileApart.{link_owned, profile_owned}
-use Rattle.generations.proofs.ProfileLemmas.{end_manager, moment_only, profile_at_end, profile_moment}
-use Rattle.generations.proofs.ProfilePlaces.{can_of_free, number_of_free}
-use Rattle.generations.proofs.SetLaws.{generation_of, number_is}
+use Rattle.generations.specs.ProfilePart.{owns_profile}
+use Rattle.generations.proofs.ProfileApart.{link_owned, owned_other, profile_owned, stage_not_owned}
+use Rattle.generations.proofs.SetLaws.{generation_of}
 use Rattle.host_trait.specs.declared.entry.Entry.{Entry}
 use Rattle.host_trait.specs.declared.manager_state.ManagerState.{ManagerState}
 use Rattle.host_trait.specs.declared.unit_state.State.{State}
@@ -28,7 +32,6 @@ use Rattle.owed_plan.specs.FinalStates.{final_state}
 use Rattle.switch_engine.specs.declared.command.Command.{Command}
 use Rattle.switch_engine.specs.declared.outcome.Outcome.{Outcome}
 use Rattle.switch_engine.specs.declared.plan.Plan.{Plan}
-use Rattle.switch_engine.specs.declared.plan.ProfilePlan.{ProfilePlan}
 use Rattle.switch_engine.specs.Carried.{CanSetBy, CanSwitchBy, IsSwitchMomentIf, IsSwitchedIf, sets_by}
 use Rattle.switch_engine.specs.Commands.{brought_to, if_so, new_system, row_of, set_to}
 use Rattle.switch_engine.specs.Final.{AreEntries, AreFinalUnits, HasFailed, IsEndOf, LeavesFailedAt}
@@ -36,13 +39,16 @@ use Rattle.switch_engine.specs.Moments.{IsMomentOf, IsSetStep, IsStepIf, IsStepT
 use Rattle.switch_engine.specs.Plan.{AreUnitsPlanned, IsActivationPlanned, IsPlanOf, IsProfilePlanned}
 use Rattle.switch_engine.specs.Rows.{part_if, part_of, switch_in, switch_part}
 use Rattle.activation_stage.proofs.ActivationLemmas.{activation_part_law, activation_plan_law, owners_law}
+use Rattle.boot_entries.proofs.DefaultLemmas.{default_end_law, default_moment_law, default_names_law}
+use Rattle.boot_entries.proofs.GensLemmas.{gens_after_law}
+use Rattle.boot_entries.proofs.MenuLemmas.{menu_begins_law, menu_law, menu_stays_law}
 use Rattle.switch_engine.proofs.DefinedLemmas.{left_failed}
-use Rattle.switch_engine.proofs.PartsLemmas.{are_parted, parts_are, profile_if_is, profile_parted, switch_if_is}
+use Rattle.switch_engine.proofs.MenuApart.{menu_not_stage}
+use Rattle.switch_engine.proofs.PartsLemmas.{are_parted, default_if_is, default_parted, parts_are, switch_if_is}
 use Rattle.switch_engine.proofs.SwitchLemmas.{switch_part_moment}
 use Rattle.switch_engine.proofs.UnderwayLemmas.{IsFreeCommand, free_command, underway}
 use Rattle.switch_names.specs.Names.{Name}
 use Rattle.switch_names.specs.SystemName.{IsSystemPath}
-use Rattle.switch_names.proofs.StorePaths.{NamesSystem-with_slash}
 use Rattle.switch_parts.specs.Part.{IsFree, IsMomentOf as IsPartMoment, IsPart, IsSameFor, Part, both, final_leaf}
 use Rattle.switch_parts.proofs.Parts.{first_free, first_moment, is_final, moment_then, only_beside, second_free, second_moment}
 use Rattle.unit_defs.specs.declared.unit.Unit.{Unit}
@@ -57,25 +63,31 @@ use Rattle.unit_stage.proofs.StepLemmas.{manager_seen}
 use Rattle.unit_stage.proofs.SystemsLemmas.{is_system}
 use Rattle.unit_stage.proofs.UnitsPartLemmas.{owed_same}
 
--- ---- a set of the profile
+-- ---- a system is made the boot default, or the profile isn't set
 
 module _ (system : Name) (named : IsSystemPath system) (w : WorldState) where
-  set_part_moment : (sets : Bool) → IsFree (part_if sets (profile_part system)) w.leaves → (m : WorldState) → IsSetStep (if_so sets system) w m → IsPartMoment (part_if sets (profile_part system)) w m
-  set_part_moment true free m step = profile_moment system w m (NamesSystem-with_slash system named) free step
+  set_part_moment : (sets : Bool) → IsFree (part_if sets (boot_default_in system w.leaves)) w.leaves → (m : WorldState) → IsSetStep (if_so sets system) w m → IsPartMoment (part_if sets (boot_default_in system w.leaves)) w m
+  set_part_moment true free m step = default_moment_law system w m named free step
   set_part_moment false free m step = record { keeps = tt; only = record { leaves = λ q none ne. seen_at m w step q ne; manager = λ none. manager_seen m w step } }
 
-module _ (system : Name) (w : WorldState) where
-  set_step : (sets : Bool) (u : WorldState) → seen u ≡ set_world (if_so sets system) w → IsSetStep (if_so sets system) w u
-  set_step true u is = inr (inr is)
-  set_step false u is = is
+  set_step : (sets : Bool) → IsFree (part_if sets (boot_default_in system w.leaves)) w.leaves → (u : WorldState) → seen u ≡ set_world (if_so sets system) w → IsSetStep (if_so sets system) w u
+  set_step true free u is = (default_end_law system w u named free is).0
+  set_step false free u is = is
 
-  pub set_final : (sets : Bool) (u : WorldState) → seen u ≡ set_world (if_so sets system) w → (q : Name) → q ≢ stage → get u.leaves q ≡ final_leaf (part_if sets (profile_part system)) w.leaves q
-  set_final true u is q ne = is_final (profile_part system) w u (moment_only system w u (inr (inr is))) (profile_at_end system w u is) q ne
-  set_final false u is q ne = seen_at u w is q ne
+  pub set_final : (sets : Bool) → IsFree (part_if sets (boot_default_in system w.leaves)) w.leaves → (u : WorldState) → seen u ≡ set_world (if_so sets system) w → (q : Name) → q ≢ stage →
+      get u.leaves q ≡ final_leaf (part_if sets (boot_default_in system w.leaves)) w.leaves q
+  set_final true free u is q ne =
+      let end = default_end_law system w u named free is in is_final (boot_default_in system w.leaves) w u (default_moment_law system w u named free end.0).only end.1 q ne
+  set_final false free u is q ne = seen_at u w is q ne
 
-  pub set_calls : (sets : Bool) (u : WorldState) → seen u ≡ set_world (if_so sets system) w → u.manager ≡ w.manager
-  set_calls true u is = end_manager system w u is
-  set_calls false u is = manager_seen u w is
+  pub set_calls : (sets : Bool) → IsFree (part_if sets (boot_default_in system w.leaves)) w.leaves → (u : WorldState) → seen u ≡ set_world (if_so sets system) w → u.manager ≡ w.manager
+  set_calls true free u is = (default_moment_law system w u named free (default_end_law system w u named free is).0).only.manager refl
+  set_calls false free u is = manager_seen u w is
+
+  -- the boot menu at each of its moments
+  set_menu : (sets : Bool) → IsFree (part_if sets (boot_default_in system w.leaves)) w.leaves → (m : WorldState) → IsSetStep (if_so sets system) w m → IsMenuBetween w.leaves m.leaves
+  set_menu true free m step = menu_law system w m named free step
+  set_menu false free m step = menu_begins_law w.leaves m.leaves (λ q own. seen_at m w step q (menu_not_stage q own))
 
 -- ---- a switch of the units
 
@@ -133,20 +145,32 @@ names_by w m same links other = (
 seen_names : (w m : WorldState) → seen m ≡ seen w → SameNames w m
 seen_names w m same = names_by w m (seen_at m w same profile profile_not_stage) (λ n. seen_at m w same (link_path n) (link_not_stage n))
 
--- no place of the profile is one of a switch of the units
-not_own : (switches : Bool) (system : Name) → IsSystemPath system → (owners : OwnerIds) (q : Name) → owns_profile q ≡ true → (part_if switches (switch_part system owners)).owns q ≡ false
-not_own switches system named owners q own = elim (cases_Bool ((part_if switches (switch_part system owners)).owns q)) [
-  | inl is ↦ absurd (both_ways _ ((are_parted switches true system owners).second q own) ((switch_if_is switches system named owners).reads_own q is))
-  | inr other ↦ other
-]
+-- no place of the profile or of the boot menu is one of a switch of the units
+module _ (switches : Bool) (system : Name) (named : IsSystemPath system) (owners : OwnerIds) (gens : Gens) where
+  pub not_own : (q : Name) → owns_profile q || owns_boot q ≡ true → (part_if switches (switch_part system owners)).owns q ≡ false
+  not_own q own = elim (cases_Bool ((part_if switches (switch_part system owners)).owns q)) [
+    | inl is ↦ absurd (both_ways _ ((are_parted switches true system owners gens).second q own) ((switch_if_is switches system named owners).reads_own q is))
+    | inr other ↦ other
+  ]
 
-switch_names : (switches : Bool) (system : Name) → IsSystemPath system → (owners : OwnerIds) (u m : WorldState) → IsPartMoment (part_if switches (switch_part system owners)) u m → SameNames u m
-switch_names switches system named owners u m moment =
-    names_by u m (moment.only.leaves profile (not_own switches system named owners profile profile_owned) profile_not_stage)
-    (λ n. moment.only.leaves (link_path n) (not_own switches system named owners (link_path n) (link_owned n)) (link_not_stage n))
+  profile_not_own : (q : Name) → owns_profile q ≡ true → (part_if switches (switch_part system owners)).owns q ≡ false
+  profile_not_own q own = not_own q (or_left (owns_profile q) (owns_boot q) own)
 
-set_names : (sets : Bool) (system : Name) → IsSystemPath system → (w m : WorldState) → IsFree (part_if sets (profile_part system)) w.leaves → IsSetStep (if_so sets system) w m → NamesOneOf (if_so sets system) w m
-set_names true system named w m free step = moment_names system w m (number_is w.leaves system (number_of_free system w.leaves free)) (NamesSystem-with_slash system named) step
+  menu_not_own : (q : Name) → owns_boot q ≡ true → (part_if switches (switch_part system owners)).owns q ≡ false
+  menu_not_own q own = not_own q (or_right (owns_profile q) (owns_boot q) own)
+
+  switch_names : (u m : WorldState) → IsPartMoment (part_if switches (switch_part system owners)) u m → SameNames u m
+  switch_names u m moment =
+      names_by u m (moment.only.leaves profile (profile_not_own profile profile_owned) profile_not_stage)
+      (λ n. moment.only.leaves (link_path n) (profile_not_own (link_path n) (link_owned n)) (link_not_stage n))
+
+  switch_menu : (first : Leaves) (u m : WorldState) → IsPartMoment (part_if switches (switch_part system owners)) u m → IsMenuBetween first u.leaves → IsMenuBetween first m.leaves
+  switch_menu first u m moment before =
+      menu_stays_law first u.leaves m.leaves before (λ q own. moment.only.leaves q (menu_not_own q own) (menu_not_stage q own))
+      (λ q own. moment.only.leaves q (profile_not_own q own) (owned_other q stage own stage_not_owned))
+
+set_names : (sets : Bool) (system : Name) → IsSystemPath system → (w m : WorldState) → IsFree (part_if sets (boot_default_in system w.leaves)) w.leaves → IsSetStep (if_so sets system) w m → NamesOneOf (if_so sets system) w m
+set_names true system named w m free step = default_names_law system w m named free step
 set_names false system named w m free step = seen_names w m step
 
 -- what is named at a moment is named at each at which the profile is the same
@@ -248,15 +272,16 @@ module _ (plan : Plan) (w : WorldState) (is : IsPlanOf w plan) (changes : (row_o
   }
 
 -- the profile is set to the system where that is planned
-pub sets_same : (sets : Bool) (system : Name) (w : WorldState) (o : Option ProfilePlan) → IsProfilePlanned sets system w o → sets_by system o ≡ if_so sets system
+pub sets_same : (sets : Bool) (system : Name) (w : WorldState) (o : Option BootDefaultPlan) → IsProfilePlanned sets system w o → sets_by system o ≡ if_so sets system
 sets_same sets system w None planned = sym (ap (λ b. if_so b system) planned)
 sets_same sets system w (Some plan) planned = sym (ap (λ b. if_so b system) planned.0)
 
-pub can_set : (sets : Bool) (system : Name) (w : WorldState) (o : Option ProfilePlan) → IsProfilePlanned sets system w o → IsFree (part_if sets (profile_part system)) w.leaves → CanSetBy system o w
-can_set sets system w None planned free = tt
-can_set sets system w (Some plan) planned free = record {
-  gens = planned.1.gens;
-  can = can_of_free system w (subst (λ b. IsFree (part_if b (profile_part system)) w.leaves) planned.0 free);
+pub can_set : (sets : Bool) (system : Name) → IsSystemPath system → (w : WorldState) (o : Option BootDefaultPlan) → IsProfilePlanned sets system w o → IsFree (part_if sets (boot_default_in system w.leaves)) w.leaves → CanSetBy system o w
+can_set sets system named w None planned free = tt
+can_set sets system named w (Some plan) planned free = record {
+  named = named;
+  planned = planned.1;
+  free = subst (λ b. IsFree (part_if b (boot_default_in system w.leaves)) w.leaves) planned.0 free;
 }
 
 -- the units are switched where an activation is planned
@@ -329,14 +354,26 @@ module _ (command : Command) (owed : Owed) (w : WorldState) (carried : IsCarried
   abbrev owners : OwnerIds
   owners = owners_after system w.leaves
 
+  abbrev gens : Gens
+  gens = gens_after system w.leaves
+
   abbrev first : Part
   first = part_if switches (switch_part system owners)
 
   abbrev second : Part
-  second = part_if sets (profile_part system)
+  second = part_if sets (boot_default_part system gens)
 
   first_is : IsPart first
   first_is = switch_if_is switches system carried.named owners
+
+  are_gens : IsBootGens gens
+  are_gens = gens_after_law system w.leaves carried.named
+
+  second_is : IsPart second
+  second_is = default_if_is sets system gens are_gens
+
+  both_are : IsPart (both first second)
+  both_are = parts_are switches sets system carried.named owners gens are_gens
 
   pub set_free : IsFree second w.leaves
   set_free = second_free first second w.leaves carried.free.parts
@@ -345,28 +382,32 @@ module _ (command : Command) (owed : Owed) (w : WorldState) (carried : IsCarried
   set_alone m step = set_part_moment system carried.named w sets set_free m step
 
   set_of_parts : (m : WorldState) → IsSetStep (if_so sets system) w m → IsPartMoment (both first second) w m
-  set_of_parts m step = second_moment first second first_is (profile_if_is sets system) (are_parted switches sets system owners) w m (set_alone m step)
+  set_of_parts m step = second_moment first second first_is second_is (are_parted switches sets system owners gens) w m (set_alone m step)
 
-  -- each moment of a set of the profile is one of the command
+  -- each moment of making the system the boot default is one of the command
   pub set_moment : (m : WorldState) → IsSetStep (if_so sets system) w m → IsMomentOf command w m
   set_moment m step = record {
     step = subst (λ b. IsStepIf b (if_so (b && sets) system) (if_so (b && switches) system) w m) (sym carried.on) (IsStepTo.Setting step);
     underway = underway command w m carried.on (carried.same m.leaves) carried.named carried.free (set_of_parts m step);
     named = subst (λ b. NamesOneOf (if_so (b && sets) system) w m) (sym carried.on) (set_names sets system carried.named w m set_free step);
+    menu = set_menu system carried.named w sets set_free m step;
   }
 
   module _ (u : WorldState) (is : seen u ≡ set_world (if_so sets system) w) where
+    last_set : IsSetStep (if_so sets system) w u
+    last_set = set_step system carried.named w sets set_free u is
+
     at_set : IsPartMoment (both first second) w u
-    at_set = set_of_parts u (set_step system w sets u is)
+    at_set = set_of_parts u last_set
 
     pub same_manager : u.manager ≡ w.manager
-    same_manager = set_calls system w sets u is
+    same_manager = set_calls system carried.named w sets set_free u is
 
     -- an activation sees the same as before
     pub activation_same : IsSameFor (activation_part system owners) w u
     activation_same =
-        only_beside second (activation_part system owners) (activation_part_law system owners carried.named) (profile_parted sets system owners).first (profile_parted sets system owners).manager w u
-        (set_alone u (set_step system w sets u is)).only
+        only_beside second (activation_part system owners) (activation_part_law system owners carried.named) (default_parted sets system owners gens).first (default_parted sets system owners gens).manager w u
+        (set_alone u last_set).only
 
     -- and so the tables that it leaves have the same owners
     same_owners : owners_after system u.leaves ≡ owners
@@ -375,16 +416,16 @@ module _ (command : Command) (owed : Owed) (w : WorldState) (carried : IsCarried
     pub switch_free : IsFree (part_if switches (switch_in system u.leaves)) u.leaves
     switch_free =
         subst (λ (o : OwnerIds). IsFree (part_if switches (switch_part system o)) u.leaves) (sym same_owners)
-        (first_free first second u.leaves ((parts_are switches sets system carried.named owners).stays_free w u at_set.keeps carried.free.parts))
+        (first_free first second u.leaves (both_are.stays_free w u at_set.keeps carried.free.parts))
 
     -- the units' part sees the same as before
     pub owed_still : switches ≡ true → IsOwedBy u system owed
-    owed_still switched = by switches switched (are_parted switches sets system owners).second (carried.is_owed switched)
+    owed_still switched = by switches switched (are_parted switches sets system owners gens).second (carried.is_owed switched)
       where
         unchanged : (at : Name) → (second.owns at ≡ true → ⊥) → at ≢ stage → get u.leaves at ≡ get w.leaves at
         unchanged at none ne = elim (cases_Bool (second.owns at)) [
           | inl own ↦ absurd (none own)
-          | inr other ↦ (set_alone u (set_step system w sets u is)).only.leaves at other ne
+          | inr other ↦ (set_alone u last_set).only.leaves at other ne
         ]
 
         by : (b : Bool) → b ≡ true → ((at : Name) → second.owns at ≡ true → (part_if b (switch_part system owners)).reads at ≡ false) → IsOwedBy w system owed → IsOwedBy u system owed
@@ -403,14 +444,15 @@ module _ (command : Command) (owed : Owed) (w : WorldState) (carried : IsCarried
     pub switch_moment : (m : WorldState) → IsSwitchMomentIf switches system owed u m → IsMomentOf command w m
     switch_moment m moment =
         let part = switch_moment_of m moment in
-        let later = first_moment first second first_is (profile_if_is sets system) (are_parted switches sets system owners) u m part in
+        let later = first_moment first second first_is second_is (are_parted switches sets system owners gens) u m part in
         record {
           step = subst (λ b. IsStepIf b (if_so (b && sets) system) (if_so (b && switches) system) w m) (sym carried.on)
               (IsStepTo.Switching u is (switch_step switches system owed u m owed_still moment));
-          underway = underway command w m carried.on (carried.same m.leaves) carried.named carried.free (moment_then (both first second) (parts_are switches sets system carried.named owners) w u m at_set later);
+          underway = underway command w m carried.on (carried.same m.leaves) carried.named carried.free (moment_then (both first second) both_are w u m at_set later);
           named = names_then (set_to command w.leaves) w u m
-              (subst (λ b. NamesOneOf (if_so (b && sets) system) w u) (sym carried.on) (set_names sets system carried.named w u set_free (set_step system w sets u is)))
-              (switch_names switches system carried.named owners u m part);
+              (subst (λ b. NamesOneOf (if_so (b && sets) system) w u) (sym carried.on) (set_names sets system carried.named w u set_free last_set))
+              (switch_names switches system carried.named owners gens u m part);
+          menu = switch_menu switches system carried.named owners gens w.leaves u m part (set_menu system carried.named w sets set_free u last_set);
         }
 
     -- the world that both leave is the one at the end of the command
@@ -423,7 +465,7 @@ module _ (command : Command) (owed : Owed) (w : WorldState) (carried : IsCarried
             leaves = λ q ne.
                 final_then first second w u v
                 (λ at other. switch_final switches system owed u v end at other ∙ ap (λ (o : OwnerIds). final_leaf (part_if switches (switch_part system o)) u.leaves at) same_owners)
-                (set_final system w sets u is)
+                (set_final system carried.named w sets set_free u is)
                 (λ at own. first_is.same_end w u at_set.keeps.0 at own) q ne
                 ∙ sym (ap (λ b. cond b (final_leaf (part_of command w.leaves) w.leaves q) (get w.leaves q)) carried.on);
             units = subst (λ to. AreFinalUnits to w v) brought units.units;

@@ -4,6 +4,7 @@ use Rattle.std.specs.List.{AllByRecursion}
 use Rattle.std.proofs.lemmas.Bool.{or_left, or_right}
 use Rattle.std.proofs.lemmas.List.{append-nil}
 use Rattle.std.proofs.lemmas.List.Folds.{list_any-append}
+use Rattle.boot_entries.specs.BootDefault.{IsMakingDefault}
 use Rattle.host_trait.specs.declared.entry.Act.{Act}
 use Rattle.host_trait.specs.declared.entry.Entry.{Entry}
 use Rattle.host_trait.specs.States.{UnitStates, state_of}
@@ -17,6 +18,7 @@ use Rattle.switch_engine.specs.Rows.{refusal}
 use Rattle.switch_names.specs.Names.{Name}
 use Rattle.unit_stage.specs.Owes as units
 use Rattle.unit_stage.specs.Owes.{pays}
+use Rattle.boot_entries.proofs.MenuLemmas.{menu_begins_law}
 use Rattle.switch_engine.proofs.CarryLemmas.{changes_on, same_system}
 use Rattle.switch_engine.proofs.PaidLemmas.{all_joined, entered_owed, entered_paid, left_alone}
 
@@ -45,7 +47,7 @@ begins_step command w = by (row_of command).changes
   where
     set_begins : (to : Option Name) → IsSetStep to w w
     set_begins None = refl
-    set_begins (Some system) = inl refl
+    set_begins (Some system) = IsMakingDefault.Setting (inl refl)
 
     by : (changes : Bool) → IsStepIf changes (set_to command w.leaves) (brought_to command w.leaves) w w
     by true = IsStepTo.Setting (set_begins (set_to command w.leaves))
@@ -57,7 +59,12 @@ begins_named (Some system) w = inl (λ other. (λ is. is, λ is. is))
 
 -- the world at the beginning of a command that isn't refused is a moment of it
 pub begins_moment : (command : Command) (w : WorldState) → refusal command w.leaves ≡ None → IsMomentOf command w w
-begins_moment command w none = record { step = begins_step command w; underway = λ steady. begins_underway w command none steady; named = begins_named (set_to command w.leaves) w }
+begins_moment command w none = record {
+  step = begins_step command w;
+  underway = λ steady. begins_underway w command none steady;
+  named = begins_named (set_to command w.leaves) w;
+  menu = menu_begins_law w.leaves w.leaves (λ q own. refl);
+}
 
 -- ---- from one run to the next
 

@@ -3,6 +3,7 @@ pub mod CarryLemmas
 pub mod DefinedLemmas
 pub mod FailedLemmas
 pub mod LawLemmas
+pub mod MenuApart
 pub mod PaidLemmas
 pub mod PartsLemmas
 pub mod PlaceLemmas
@@ -13,3 +14,4 @@ pub mod UnderwayLemmas
 pub mod WayLemmas
 pub mod WayOfCommand
 pub mod WayOfSwitch
+pub mod WholeLemmas

@@ -4,17 +4,23 @@ use Rattle.std.proofs.lemmas.Bool.{both_ways, cases_Bool}
 use Rattle.accounts_stage.specs.AccountsPart.{reads_accounts}
 use Rattle.accounts_stage.specs.Places.{owns_accounts}
 use Rattle.activation_stage.specs.ActivationPart.{activation_part}
+use Rattle.boot_entries.specs.BootDefault.{boot_default_part}
+use Rattle.boot_entries.specs.BootPart.{reads_boot}
+use Rattle.boot_entries.specs.Laws.{IsBootGens}
+use Rattle.boot_entries.specs.Places.{owns_boot}
 use Rattle.etc_farm.specs.FarmPart.{owns_farm, reads_farm}
 use Rattle.etc_manifest.specs.Owners.{OwnerIds}
 use Rattle.generations.specs.Places.{profiles}
-use Rattle.generations.specs.ProfilePart.{owns_profile, profile_part, reads_profile}
+use Rattle.generations.specs.declared.gens.Gens.{Gens}
+use Rattle.generations.specs.ProfilePart.{owns_profile, reads_profile}
 use Rattle.generations.proofs.ProfileApart.{both_false, owned_fails}
-use Rattle.generations.proofs.ProfileLemmas.{profile_is}
 use Rattle.host_trait.specs.World.{stage}
 use Rattle.owed_lists.specs.Lists.{reloads_place, restarts_place, starts_place}
 use Rattle.owed_plan.specs.Store.{IsInStore}
 use Rattle.switch_engine.specs.Rows.{part_if, parts, switch_part}
 use Rattle.switch_engine.proofs.ActivationApart.{activation_apart, not_owns_store, profile_unread}
+use Rattle.boot_entries.proofs.DefaultLemmas.{default_part_law}
+use Rattle.switch_engine.proofs.MenuApart.{activation_unread, menu_not_in_store, menu_unread, menu_unread_activation, switch_unread as menu_apart}
 use Rattle.activation_stage.proofs.ActivationLemmas.{activation_part_law}
 use Rattle.switch_engine.proofs.StoreApart.{store_not_owned}
 use Rattle.switch_names.specs.Names.{Name}
@@ -88,36 +94,56 @@ units_apart rest =
 profile_apart : (q : Name) → owns_profile q ≡ true → reads_units q || (reads_accounts q || reads_farm q) ≡ false
 profile_apart q own = both_false _ _ (owned_fails reads_units units_apart q own) (activation_apart q own)
 
-pub are_parted : (switches sets : Bool) (system : Name) (owners : OwnerIds) → AreParted (part_if switches (switch_part system owners)) (part_if sets (profile_part system))
-are_parted true true system owners = record { first = switch_unread; second = profile_apart; manager = refl }
-are_parted true false system owners = record { first = λ q own. refl; second = λ q own. absurd (both_ways false refl own); manager = refl }
-are_parted false true system owners = record { first = λ q own. absurd (both_ways false refl own); second = λ q own. refl; manager = refl }
-are_parted false false system owners = record { first = λ q own. refl; second = λ q own. refl; manager = refl }
+-- what is owned of a boot default is of the profile or of the boot menu
+of_default : (P : Name → Type 0) → ((q : Name) → owns_profile q ≡ true → P q) → ((q : Name) → owns_boot q ≡ true → P q) → (q : Name) → owns_profile q || owns_boot q ≡ true → P q
+of_default P profile menu q own = elim (cases_Bool (owns_profile q)) [
+  | inl is ↦ profile q is
+  | inr other ↦ menu q (sym (ap (λ b. b || owns_boot q) other) ∙ own)
+]
 
--- an activation alone is parted from the profile too
-pub profile_parted : (sets : Bool) (system : Name) (owners : OwnerIds) → AreParted (part_if sets (profile_part system)) (activation_part system owners)
-profile_parted true system owners = record { first = activation_apart; second = profile_unread; manager = refl }
-profile_parted false system owners = record { first = λ q own. absurd (both_ways false refl own); second = λ q own. refl; manager = refl }
+default_apart : (q : Name) → owns_profile q || owns_boot q ≡ true → reads_units q || (reads_accounts q || reads_farm q) ≡ false
+default_apart = of_default (λ q. reads_units q || (reads_accounts q || reads_farm q) ≡ false) profile_apart menu_apart
+
+default_unread : (q : Name) → owns_units q || (owns_accounts q || owns_farm q) ≡ true → reads_profile q || reads_boot q ≡ false
+default_unread q own = both_false _ _ (switch_unread q own) (menu_unread q own)
+
+pub are_parted : (switches sets : Bool) (system : Name) (owners : OwnerIds) (gens : Gens) → AreParted (part_if switches (switch_part system owners)) (part_if sets (boot_default_part system gens))
+are_parted true true system owners gens = record { first = default_unread; second = default_apart; manager = refl }
+are_parted true false system owners gens = record { first = λ q own. refl; second = λ q own. absurd (both_ways false refl own); manager = refl }
+are_parted false true system owners gens = record { first = λ q own. absurd (both_ways false refl own); second = λ q own. refl; manager = refl }
+are_parted false false system owners gens = record { first = λ q own. refl; second = λ q own. refl; manager = refl }
+
+-- an activation alone is parted from a boot default too
+pub default_parted : (sets : Bool) (system : Name) (owners : OwnerIds) (gens : Gens) → AreParted (part_if sets (boot_default_part system gens)) (activation_part system owners)
+default_parted true system owners gens = record {
+  first = of_default (λ q. reads_accounts q || reads_farm q ≡ false) activation_apart activation_unread;
+  second = λ q own. both_false _ _ (profile_unread q own) (menu_unread_activation q own);
+  manager = refl;
+}
+default_parted false system owners gens = record { first = λ q own. absurd (both_ways false refl own); second = λ q own. refl; manager = refl }
 
 pub switch_if_is : (switches : Bool) (system : Name) → IsSystemPath system → (owners : OwnerIds) → IsPart (part_if switches (switch_part system owners))
 switch_if_is true system named owners = switch_is system named owners
 switch_if_is false system named owners = none_is
 
-pub profile_if_is : (sets : Bool) (system : Name) → IsPart (part_if sets (profile_part system))
-profile_if_is true system = profile_is system
-profile_if_is false system = none_is
+pub default_if_is : (sets : Bool) (system : Name) (gens : Gens) → IsBootGens gens → IsPart (part_if sets (boot_default_part system gens))
+default_if_is true system gens are = default_part_law system gens are
+default_if_is false system gens are = none_is
 
-pub parts_are : (switches sets : Bool) (system : Name) → IsSystemPath system → (owners : OwnerIds) → IsPart (parts switches sets system owners)
-parts_are switches sets system named owners =
-    both_part (part_if switches (switch_part system owners)) (part_if sets (profile_part system)) (switch_if_is switches system named owners) (profile_if_is sets system)
+pub parts_are : (switches sets : Bool) (system : Name) → IsSystemPath system → (owners : OwnerIds) (gens : Gens) → IsBootGens gens → IsPart (parts switches sets system owners gens)
+parts_are switches sets system named owners gens are =
+    both_part (part_if switches (switch_part system owners)) (part_if sets (boot_default_part system gens)) (switch_if_is switches system named owners) (default_if_is sets system gens are)
 
 -- ---- no part writes in the store
 
 switch_not_in_store : (q : Name) → IsInStore q → owns_units q || (owns_accounts q || owns_farm q) ≡ false
 switch_not_in_store q inside = both_false _ _ (units_not_in_store q inside) (not_owns_store q inside)
 
-pub not_in_store : (switches sets : Bool) (system : Name) (owners : OwnerIds) (q : Name) → IsInStore q → (parts switches sets system owners).owns q ≡ false
-not_in_store true true system owners q inside = both_false _ _ (switch_not_in_store q inside) (store_not_owned q inside)
-not_in_store true false system owners q inside = both_false _ _ (switch_not_in_store q inside) refl
-not_in_store false true system owners q inside = store_not_owned q inside
-not_in_store false false system owners q inside = refl
+default_not_in_store : (q : Name) → IsInStore q → owns_profile q || owns_boot q ≡ false
+default_not_in_store q inside = both_false _ _ (store_not_owned q inside) (menu_not_in_store q inside)
+
+pub not_in_store : (switches sets : Bool) (system : Name) (owners : OwnerIds) (gens : Gens) (q : Name) → IsInStore q → (parts switches sets system owners gens).owns q ≡ false
+not_in_store true true system owners gens q inside = both_false _ _ (switch_not_in_store q inside) (default_not_in_store q inside)
+not_in_store true false system owners gens q inside = both_false _ _ (switch_not_in_store q inside) refl
+not_in_store false true system owners gens q inside = default_not_in_store q inside
+not_in_store false false system owners gens q inside = refl

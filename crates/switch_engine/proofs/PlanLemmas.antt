@@ -1,26 +1,23 @@
 -- Why the parts of a command are refused, by what is read of a world.
-use Rattle.std.proofs.Common.{◌≡◌, ◌↔◌, IsTrue, ℕ, ◌^◌, Bool, true, false, cond, nat_lt, Err, IsErrOf, List, Option, None, Some, is_none, is_some, option_map, refl, sym, ap, subst, ◌∙◌, if◌then◌else◌}
-use Rattle.std.proofs.lemmas.Option.{none-some}
+use Rattle.std.proofs.Common.{◌≡◌, ◌↔◌, IsTrue, Bool, true, false, cond, List, Option, None, Some, is_none, is_some, option_map, refl, sym, ap, subst, ◌∙◌, if◌then◌else◌}
 use Rattle.std.specs.Option.{option_or}
 use Rattle.activation_stage.specs.ActivationPart.{IsActivationPlanOf, activation_in}
 use Rattle.activation_stage.specs.declared.activation_plan.ActivationPlan.{ActivationPlan}
-use Rattle.generations.specs.declared.gens.Gens.{Gens}
-use Rattle.generations.specs.Gens.{IsGensOf, number_for_in}
-use Rattle.generations.specs.Places.{number_after}
-use Rattle.generations.specs.ProfilePart.{has_number, profile_part}
-use Rattle.generations.proofs.Numbers.{number_for_world}
+use Rattle.boot_entries.specs.BootDefault.{IsDefaultPlanOf, boot_default_in}
+use Rattle.boot_entries.specs.declared.boot_default.BootDefaultPlan.{BootDefaultPlan}
+use Rattle.host_trait.specs.Change.{IsSame}
+use Rattle.host_trait.specs.Host.{HostState, Passes, Told}
 use Rattle.host_trait.specs.World.{Leaves, WorldState, content_of}
+use Rattle.host_trait.proofs.Moments.{told_after}
 use Rattle.switch_engine.specs.declared.command.Command.{Command}
 use Rattle.switch_engine.specs.Commands.{if_so, new_system, row_of}
 use Rattle.switch_engine.specs.Owing.{IsSteadyTo}
-use Rattle.switch_engine.specs.Plan.{AreGensFor, AreUnitsPlanned, IsActivationPlanned, IsProfilePlanned}
+use Rattle.switch_engine.specs.Plan.{AreUnitsPlanned, IsActivationPlanned, IsProfilePlanned}
 use Rattle.switch_engine.specs.Rows.{part_if, parts_refusal, places, refusal, refusal_by, switch_in}
 use Rattle.switch_engine.specs.System.{version_path}
 use Rattle.switch_names.specs.Names.{Name}
-use Rattle.switch_parts.specs.declared.plan_fault.PlanFault.{PlanFault}
-use Rattle.switch_parts.specs.declared.plan_fault.PlanFault.TheVariants.{Refused}
 use Rattle.switch_parts.specs.declared.refusal.Refusal.{Refusal}
-use Rattle.switch_parts.specs.declared.refusal.Refusal.TheVariants.{GenerationsFull, InTheWay, NoSystem}
+use Rattle.switch_parts.specs.declared.refusal.Refusal.TheVariants.{InTheWay, NoSystem}
 use Rattle.tree_put.specs.WrittenPlace.{in_the_way}
 use Rattle.tree_put.specs.declared.written_place.WrittenPlace.{WrittenPlace}
 use Rattle.unit_stage.specs.declared.unit_plan.UnitPlan.{UnitPlan}
@@ -40,7 +37,7 @@ module _ (switches sets : Bool) (system : Name) (leaves : Leaves) where
   activation_reason = (part_if switches (activation_in system leaves)).refusal leaves
 
   abbrev profile_reason : Option Refusal
-  profile_reason = (part_if sets (profile_part system)).refusal leaves
+  profile_reason = (part_if sets (boot_default_in system leaves)).refusal leaves
 
   -- the reasons in their order
   reasons : refusal_by switches sets system leaves ≡ option_or (option_map InTheWay way) (option_or (option_or units_reason activation_reason) profile_reason)
@@ -73,35 +70,26 @@ module _ (switches sets : Bool) (system : Name) (leaves : Leaves) where
       pub profile_refused : (why : Option Refusal) → activation_reason ≡ None → profile_reason ≡ why → refusal_by switches sets system leaves ≡ why
       profile_refused why other is = free_reasons ∙ ap (λ o. option_or (option_or o activation_reason) profile_reason) none ∙ ap (λ o. option_or o profile_reason) other ∙ is
 
--- what the list of the generations says of the number
-pub further_of : (leaves : Leaves) (gens : Gens) (system : Name) (n : ℕ) → IsGensOf leaves gens → number_for_in gens.list system ≡ Some n → (n ≡ number_after leaves system) × (has_number leaves system ≡ true)
-further_of leaves gens system n is given = either (number_after leaves system) (nat_lt (number_after leaves system) (2 ^ 32)) (sym (number_for_world leaves gens system is) ∙ given)
-  where
-    either : (k : ℕ) (b : Bool) → cond b (Some k) None ≡ Some n → (n ≡ k) × (b ≡ true)
-    either k true e = (let same : k ≡ n = cc in sym same, refl)
-    either k false e = absurd (cc)
+-- what is told before a call that changes nothing is told after it
+pub told_still : {a b : HostState} {P : WorldState → Type 0} → Passes a b IsSame → Told a P → Told b P
+told_still {P = P} same told = told_after same same.tells P (λ w v is there. subst P (sym there) (told.has w is))
 
-pub full_of : (leaves : Leaves) (gens : Gens) (system : Name) → IsGensOf leaves gens → number_for_in gens.list system ≡ None → has_number leaves system ≡ false
-full_of leaves gens system is given = either (nat_lt (number_after leaves system) (2 ^ 32)) (sym (number_for_world leaves gens system is) ∙ given)
-  where
-    either : (b : Bool) → cond b (Some (number_after leaves system)) None ≡ None → b ≡ false
-    either true e = absurd (none-some (number_after leaves system) (sym e))
-    either false e = refl
-
--- what a plan of the profile says, given the generations that stand where it is set
-module _ (system : Name) (gens : Gens) (sets : Bool) (w : WorldState) (stand : AreGensFor sets w.leaves (Some gens)) where
-  pub profile_planned : (n : ℕ) → number_for_in gens.list system ≡ Some n → IsProfilePlanned sets system w (Some (record { gens = gens; number = n }))
-  profile_planned n some = (stand.0, record { gens = stand.1; number = (further_of w.leaves gens system n stand.1 some).0 })
-
-  pub profile_free : (n : ℕ) → number_for_in gens.list system ≡ Some n → (part_if sets (profile_part system)).refusal w.leaves ≡ None
-  profile_free n some = subst (λ b. (part_if b (profile_part system)).refusal w.leaves ≡ None) (sym stand.0) (ap (λ b. cond b None (Some GenerationsFull)) (further_of w.leaves gens system n stand.1 some).1)
-
-  pub profile_full : number_for_in gens.list system ≡ None → (part_if sets (profile_part system)).refusal w.leaves ≡ Some GenerationsFull
-  profile_full none = subst (λ b. (part_if b (profile_part system)).refusal w.leaves ≡ Some GenerationsFull) (sym stand.0) (ap (λ b. cond b None (Some GenerationsFull)) (full_of w.leaves gens system stand.1 none))
+-- where there isn't something there is nothing
+pub none_left : {X : Type 0} (o : Option X) → ((x : X) → o ≡ Some x → ⊥) → None ≡ o
+none_left None none = refl
+none_left (Some x) none = absurd (none x refl)
 
 -- without a set of the profile
-pub unset_free : (system : Name) (sets : Bool) (leaves : Leaves) → sets ≡ false → (part_if sets (profile_part system)).refusal leaves ≡ None
-unset_free system sets leaves none = ap (λ b. (part_if b (profile_part system)).refusal leaves) none
+pub unset_free : (system : Name) (sets : Bool) (leaves : Leaves) → sets ≡ false → (part_if sets (boot_default_in system leaves)).refusal leaves ≡ None
+unset_free system sets leaves none = ap (λ b. (part_if b (boot_default_in system leaves)).refusal leaves) none
+
+-- with one, what is said of the boot default of the system that is named
+pub default_refused : (sets : Bool) (named system : Name) (leaves : Leaves) (why : Option Refusal) → sets ≡ true → named ≡ system → (boot_default_in named leaves).refusal leaves ≡ why → (part_if sets (boot_default_in system leaves)).refusal leaves ≡ why
+default_refused sets named system leaves why on is refused =
+    ap (λ b. (part_if b (boot_default_in system leaves)).refusal leaves) on ∙ ap (λ s. (boot_default_in s leaves).refusal leaves) (sym is) ∙ refused
+
+pub default_on : (sets : Bool) (named system : Name) (w : WorldState) (plan : BootDefaultPlan) → sets ≡ true → named ≡ system → IsDefaultPlanOf named w.leaves plan → IsProfilePlanned sets system w (Some plan)
+default_on sets named system w plan on is planned = (on, subst (λ s. IsDefaultPlanOf s w.leaves plan) is planned)
 
 some_is : {X : Type 0} (o : Option X) (b : Bool) → is_some o ≡ b → is_none o ≡ (if b then false else true)
 some_is None true is = absurd cc
@@ -121,12 +109,6 @@ has_system command leaves named is stands =
     ap (λ system. cond (is_none (content_of leaves (version_path system))) (Some NoSystem) (parts_refusal command leaves)) (sym is)
     ∙ ap (λ b. cond b (Some NoSystem) (parts_refusal command leaves)) (some_is (content_of leaves (version_path named)) true stands)
 
-pub same_reason : (a b : Refusal) → Refused a ≡ Refused b → a ≡ b
-same_reason a b is = cc
-
-pub same_plan_fault : {T : Type 0} (a b : PlanFault) → IsErrOf {T = T} (Err a) b → a ≡ b
-same_plan_fault a b is = cc
-
 -- the places of a command, by whether it switches the units, and its system
 pub placed : (command : Command) (leaves : Leaves) (switches : Bool) (system : Name) {list : List WrittenPlace} → switches ≡ (row_of command).switches → system ≡ new_system command leaves →
     list ≡ places switches (row_of command).sets system leaves → list ≡ places (row_of command).switches (row_of command).sets (new_system command leaves) leaves
@@ -140,16 +122,6 @@ refused_switch switches named system leaves why on is refused = ap (λ b. (part_
 pub refused_activation : (switches : Bool) (named system : Name) (leaves : Leaves) (why : Option Refusal) → switches ≡ true → named ≡ system → (activation_in named leaves).refusal leaves ≡ why → (part_if switches (activation_in system leaves)).refusal leaves ≡ why
 refused_activation switches named system leaves why on is refused =
     ap (λ b. (part_if b (activation_in system leaves)).refusal leaves) on ∙ ap (λ s. (activation_in s leaves).refusal leaves) (sym is) ∙ refused
-
--- with nothing in the way, units that can be read, and an activation that can be made
-module _ (switches sets : Bool) (named system : Name) (w : WorldState) (is : named ≡ system) (free : in_the_way (places switches sets system w.leaves) w.leaves ≡ None)
-    (none : (part_if switches (units_part system)).refusal w.leaves ≡ None) (other : (part_if switches (activation_in system w.leaves)).refusal w.leaves ≡ None) where
-  -- a set of the profile that finds no number is refused
-  pub full_refused : (why : Refusal) → (part_if sets (profile_part named)).refusal w.leaves ≡ Some GenerationsFull → GenerationsFull ≡ why → refusal_by switches sets system w.leaves ≡ Some why
-  full_refused why full same = profile_refused switches sets system w.leaves free none (Some why) other (ap (λ s. (part_if sets (profile_part s)).refusal w.leaves) (sym is) ∙ full ∙ ap Some same)
-
-  pub not_refused : (part_if sets (profile_part named)).refusal w.leaves ≡ None → refusal_by switches sets system w.leaves ≡ None
-  not_refused profile = profile_refused switches sets system w.leaves free none None other (ap (λ s. (part_if sets (profile_part s)).refusal w.leaves) (sym is) ∙ profile)
 
 -- what a plan says of its world's steadiness is said for its command
 pub steady_off : (switches : Bool) (system : Name) (w : WorldState) (units : UnitPlan) → switches ≡ false → units ≡ no_units → IsTrue units.steady ↔ IsSteadyTo (if_so switches system) w

@@ -6,7 +6,10 @@ use Rattle.std.specs.FinMap.{get}
 use Rattle.std.specs.List.{AllByRecursion}
 use Rattle.activation_stage.specs.ActivationPart.{activation_part}
 use Rattle.activation_stage.specs.Owners.{owners_after}
+use Rattle.boot_entries.specs.BootDefault.{boot_default_part}
 use Rattle.etc_manifest.specs.Owners.{OwnerIds}
+use Rattle.generations.specs.After.{gens_after}
+use Rattle.generations.specs.declared.gens.Gens.{Gens}
 use Rattle.host_trait.specs.declared.entry.Act.{Act}
 use Rattle.host_trait.specs.declared.entry.Entry.{Entry}
 use Rattle.host_trait.specs.declared.manager_state.ManagerState.{ManagerState}
@@ -21,6 +24,8 @@ use Rattle.switch_engine.specs.Owing.{IsPaidBy, IsSteadyFor, IsSteadyTo, IsUnder
 use Rattle.switch_engine.specs.Rows.{final, part_if, part_of, parts, parts_in, places, refusal, refusal_by, switch_part}
 use Rattle.switch_engine.specs.System.{version_path}
 use Rattle.activation_stage.proofs.ActivationLemmas.{owners_law}
+use Rattle.boot_entries.proofs.DefaultLemmas.{default_stays_law}
+use Rattle.boot_entries.proofs.GensLemmas.{gens_after_law}
 use Rattle.switch_engine.proofs.PartsLemmas.{not_in_store, parts_are}
 use Rattle.switch_engine.proofs.StoreApart.{store_not_stage}
 use Rattle.switch_engine.proofs.WayLemmas.{parts_way, places_way}
@@ -31,9 +36,8 @@ use Rattle.switch_names.proofs.Below.{below_front}
 use Rattle.switch_names.proofs.StorePaths.{IsStorePath-from_named, store_path_is}
 use Rattle.switch_parts.specs.declared.refusal.Refusal.{Refusal}
 use Rattle.switch_parts.specs.declared.refusal.Refusal.TheVariants.{InTheWay, NoSystem}
-use Rattle.switch_parts.specs.Part.{IsFree, IsMomentOf, final_leaf}
+use Rattle.switch_parts.specs.Part.{IsFree, IsMomentOf, IsPart, final_leaf}
 use Rattle.switch_parts.proofs.Parts.{ends_alike, first_free, none_mapped, none_or, or_none}
-use Rattle.generations.specs.ProfilePart.{profile_part}
 use Rattle.tree_put.specs.WrittenPlace.{in_the_way}
 use Rattle.unit_stage.specs.Units.{AreUnitsUnderway, units_part}
 
@@ -128,29 +132,43 @@ since_none w m same = record {
   steady = tt;
 }
 
-since_by : (switches sets : Bool) (system : Name) (owners : OwnerIds) (w m : WorldState) → IsFree (parts switches sets system owners) w.leaves → IsMomentOf (parts switches sets system owners) w m → IsSteadyTo (if_so switches system) w →
+since_by : (switches sets : Bool) (system : Name) (owners : OwnerIds) (gens : Gens) (w m : WorldState) → IsFree (parts switches sets system owners gens) w.leaves → IsMomentOf (parts switches sets system owners gens) w m → IsSteadyTo (if_so switches system) w →
     IsSince (if_so switches system) w m
-since_by true sets system owners w m free moment steady =
-    let both = first_free (switch_part system owners) (part_if sets (profile_part system)) w.leaves free in
+since_by true sets system owners gens w m free moment steady =
+    let both = first_free (switch_part system owners) (part_if sets (boot_default_part system gens)) w.leaves free in
     let units = first_free (units_part system) (activation_part system owners) w.leaves both in
     since_units system w m (moment.keeps.0.0.underway (record { way = units.way; refusal = units.refusal }) steady)
-since_by false true system owners w m free moment steady = since_none w m (moment.only.manager refl)
-since_by false false system owners w m free moment steady = since_none w m (moment.only.manager refl)
+since_by false true system owners gens w m free moment steady = since_none w m (moment.only.manager refl)
+since_by false false system owners gens w m free moment steady = since_none w m (moment.only.manager refl)
 
--- ---- the owners of what is put below /etc
+-- ---- the owners of what is put below /etc, and the generations that stand after a set
 
--- a moment of the parts keeps them where the units are switched, and without that nothing asks for them
-module _ (sets : Bool) (system : Name) (w m : WorldState) where
-  final_owners : (switches : Bool) → IsMomentOf (parts_in switches sets system w.leaves) w m → (q : Name) →
-      final_leaf (parts_in switches sets system m.leaves) m.leaves q ≡ final_leaf (parts_in switches sets system w.leaves) m.leaves q
-  final_owners true moment q =
-      ap (λ (o : OwnerIds). final_leaf (parts true sets system o) m.leaves q) (owners_law system (owners_after system w.leaves) w m moment.keeps.0.1)
-  final_owners false moment q = refl
+-- A moment of the parts keeps the owners where the units are switched, and without that nothing asks for them. It keeps the
+-- generations where the profile is set, and without that nothing asks for these.
+module _ (system : Name) (w m : WorldState) where
+  final_owners : (switches sets : Bool) → IsMomentOf (parts_in switches sets system w.leaves) w m → (q : Name) →
+      final_leaf (parts_in switches sets system m.leaves) m.leaves q ≡ final_leaf (parts switches sets system (owners_after system w.leaves) (gens_after system m.leaves)) m.leaves q
+  final_owners true sets moment q =
+      ap (λ (o : OwnerIds). final_leaf (parts true sets system o (gens_after system m.leaves)) m.leaves q) (owners_law system (owners_after system w.leaves) w m moment.keeps.0.1)
+  final_owners false sets moment q = refl
 
-  free_owners : (switches : Bool) → IsMomentOf (parts_in switches sets system w.leaves) w m → IsFree (parts_in switches sets system w.leaves) m.leaves → IsFree (parts_in switches sets system m.leaves) m.leaves
-  free_owners true moment free =
-      subst (λ (o : OwnerIds). IsFree (parts true sets system o) m.leaves) (sym (owners_law system (owners_after system w.leaves) w m moment.keeps.0.1)) free
-  free_owners false moment free = free
+  final_gens : (switches sets : Bool) → IsMomentOf (parts_in switches sets system w.leaves) w m → (q : Name) →
+      final_leaf (parts switches sets system (owners_after system w.leaves) (gens_after system m.leaves)) m.leaves q ≡ final_leaf (parts_in switches sets system w.leaves) m.leaves q
+  final_gens switches true moment q =
+      ap (λ (gens : Gens). final_leaf (parts switches true system (owners_after system w.leaves) gens) m.leaves q) (default_stays_law system (gens_after system w.leaves) w m moment.keeps.1)
+  final_gens switches false moment q = refl
+
+  free_owners : (switches sets : Bool) → IsMomentOf (parts_in switches sets system w.leaves) w m → IsFree (parts switches sets system (owners_after system w.leaves) (gens_after system m.leaves)) m.leaves →
+      IsFree (parts_in switches sets system m.leaves) m.leaves
+  free_owners true sets moment free =
+      subst (λ (o : OwnerIds). IsFree (parts true sets system o (gens_after system m.leaves)) m.leaves) (sym (owners_law system (owners_after system w.leaves) w m moment.keeps.0.1)) free
+  free_owners false sets moment free = free
+
+  free_gens : (switches sets : Bool) → IsMomentOf (parts_in switches sets system w.leaves) w m → IsFree (parts_in switches sets system w.leaves) m.leaves →
+      IsFree (parts switches sets system (owners_after system w.leaves) (gens_after system m.leaves)) m.leaves
+  free_gens switches true moment free =
+      subst (λ (gens : Gens). IsFree (parts switches true system (owners_after system w.leaves) gens) m.leaves) (sym (default_stays_law system (gens_after system w.leaves) w m moment.keeps.1)) free
+  free_gens switches false moment free = free
 
 -- ---- a command is underway
 
@@ -166,7 +184,10 @@ module _ (command : Command) (w m : WorldState) (on : (row_of command).changes �
   system = new_system command w.leaves
 
   same_store : AreSameInStore m.leaves w.leaves
-  same_store q inside = moment.only.leaves q (not_in_store switches sets system (owners_after system w.leaves) q inside) (store_not_stage q inside)
+  same_store q inside = moment.only.leaves q (not_in_store switches sets system (owners_after system w.leaves) (gens_after system w.leaves) q inside) (store_not_stage q inside)
+
+  parts_is : IsPart (parts_in switches sets system w.leaves)
+  parts_is = parts_are switches sets system named (owners_after system w.leaves) (gens_after system w.leaves) (gens_after_law system w.leaves named)
 
   same_to : switched_to command m.leaves ≡ switched_to command w.leaves
   same_to = ap (if_so switches) same
@@ -178,14 +199,15 @@ module _ (command : Command) (w m : WorldState) (on : (row_of command).changes �
   final_same q ne =
       ap (λ b. cond b (final_leaf (part_of command m.leaves) m.leaves q) (get m.leaves q)) on
       ∙ ap (λ s. final_leaf (parts_in switches sets s m.leaves) m.leaves q) same
-      ∙ final_owners sets system w m switches moment q
-      ∙ ends_alike (parts_in switches sets system w.leaves) (parts_are switches sets system named (owners_after system w.leaves)) w m moment q ne
+      ∙ final_owners system w m switches sets moment q
+      ∙ final_gens system w m switches sets moment q
+      ∙ ends_alike (parts_in switches sets system w.leaves) parts_is w m moment q ne
       ∙ sym (ap (λ b. cond b (final_leaf (part_of command w.leaves) w.leaves q) (get w.leaves q)) on)
 
   still_free : IsFreeBy switches sets system m.leaves
   still_free = record {
     version = ap is_none (content_same m.leaves w.leaves same_store (version_path system) (version_inside system named)) ∙ free.version;
-    parts = free_owners sets system w m switches moment ((parts_are switches sets system named (owners_after system w.leaves)).stays_free w m moment.keeps free.parts);
+    parts = free_owners system w m switches sets moment (free_gens system w m switches sets moment (parts_is.stays_free w m moment.keeps free.parts));
   }
 
   still_not_refused : refusal command m.leaves ≡ None
@@ -193,7 +215,7 @@ module _ (command : Command) (w m : WorldState) (on : (row_of command).changes �
 
   pub underway : IsSteadyFor command w → IsUnderway w command m
   underway steady =
-      let since = since_by switches sets system (owners_after system w.leaves) w m free.parts moment steady in
+      let since = since_by switches sets system (owners_after system w.leaves) (gens_after system w.leaves) w m free.parts moment steady in
       let to_m = sym same_to in
       record {
         same_end = λ v. (

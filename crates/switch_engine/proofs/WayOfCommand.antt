@@ -1,4 +1,4 @@
--- The steps of a planned command over a host: a set of the profile, and then a switch of the units.
+-- The steps of a planned command over a host: its system is made the boot default, and then the units are switched.
 use Rattle.std.proofs.Common.{◌≡◌, ◌↔◌, ◌&&◌, Bool, List, IfOk, IsTrue, OnOk, is_some, true, false, Option, Some, Result, Ok, Err, refl, sym, ap, subst, ◌∙◌, inl, inr}
 use Rattle.std.proofs.lemmas.Bool.{cases_Bool}
 use Rattle.std.specs.FinMap.{empty}
@@ -55,7 +55,7 @@ module _ (plan : Plan) (changes : (row_of plan.command).changes ≡ false → �
     profile_can =
         told_as planned (CanSetBy system plan.profile)
         (λ w is planned. subst (λ s. CanSetBy s plan.profile w) (sym (to w.leaves))
-        (can_set sets (named w) w plan.profile planned.planned.profile (set_free plan.command owed w (from w is))))
+        (can_set sets (named w) planned.named w plan.profile planned.planned.profile (set_free plan.command owed w (from w is))))
 
     same_set : (w : WorldState) → a.world ≡ Some w → sets_by system plan.profile ≡ if_so sets (named w)
     same_set w is = ap (λ s. sets_by s plan.profile) (to w.leaves) ∙ sets_same sets (named w) w plan.profile (planned.has w is).planned.profile

@@ -2,13 +2,12 @@
 use Rattle.std.specs.Prelude.{◌≡◌, Bool, true, false, Option, None, Some}
 use Rattle.activation_stage.specs.ActivationPart.{IsActivationPlanOf}
 use Rattle.activation_stage.specs.declared.activation_plan.ActivationPlan.{ActivationPlan}
-use Rattle.generations.specs.Gens.{IsGensOf}
-use Rattle.generations.specs.Set.{CanSet}
+use Rattle.boot_entries.specs.BootDefault.{CanMakeDefault}
+use Rattle.boot_entries.specs.declared.boot_default.BootDefaultPlan.{BootDefaultPlan}
 use Rattle.host_trait.specs.States.{state_of}
 use Rattle.host_trait.specs.World.{WorldState}
 use Rattle.owed_plan.specs.declared.owed.Owed.{Owed}
 use Rattle.owed_plan.specs.Calls.{calls_of}
-use Rattle.switch_engine.specs.declared.plan.ProfilePlan.{ProfilePlan}
 use Rattle.switch_engine.specs.Moments.{IsSwitchMoment, IsSwitched}
 use Rattle.switch_engine.specs.Rows.{switch_in}
 use Rattle.switch_names.specs.Names.{Name}
@@ -18,19 +17,14 @@ use Rattle.unit_stage.specs.declared.unit_plan.UnitPlan.{UnitPlan}
 use Rattle.unit_stage.specs.Plan.{IsOwedBy, owed_of}
 
 -- the system to which the profile is set, where that is planned
-abbrev pub sets_by : Name → Option ProfilePlan → Option Name
+abbrev pub sets_by : Name → Option BootDefaultPlan → Option Name
 sets_by system None = None
 sets_by system (Some plan) = Some system
 
--- the generations are those that stand, and nothing is in the way
-pub record CanSetTo (system : Name) (plan : ProfilePlan) (w : WorldState) : Type 0 where
-  pub gens : IsGensOf w.leaves plan.gens
-  pub can : CanSet system w
-
--- the same, where a set of the profile is planned
-abbrev pub CanSetBy : Name → Option ProfilePlan → WorldState → Type 0
+-- a system can be made the boot default, where that is planned
+abbrev pub CanSetBy : Name → Option BootDefaultPlan → WorldState → Type 0
 CanSetBy system None w = Unit {0}
-CanSetBy system (Some plan) w = CanSetTo system plan w
+CanSetBy system (Some plan) w = CanMakeDefault system plan w
 
 -- what is owed and the calls of a plan are those of this world, and so is the activation, and nothing is in the way
 pub record CanSwitch (system : Name) (plan : UnitPlan) (activation : ActivationPlan) (w : WorldState) : Type 0 where

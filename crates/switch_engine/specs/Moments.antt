@@ -2,8 +2,10 @@
 use Rattle.std.specs.Prelude.{◌≡◌, ◌≢◌, ◌↔◌, Bool, true, false, List, [], ◌∷◌, Option, None, Some, ℕ}
 use Rattle.std.specs.FinMap.{get}
 use Rattle.activation_stage.specs.ActivationPart.{IsActivated, IsActivating}
-use Rattle.generations.specs.Places.{Names, set_end}
-use Rattle.generations.specs.Set.{IsSetMoment, NamesOldOrNew}
+use Rattle.boot_entries.specs.BootDefault.{IsMakingDefault, default_end}
+use Rattle.boot_entries.specs.Menu.{IsMenuBetween}
+use Rattle.generations.specs.Places.{Names}
+use Rattle.generations.specs.Set.{NamesOldOrNew}
 use Rattle.host_trait.specs.States.{state_of}
 use Rattle.host_trait.specs.World.{WorldState, seen, stage}
 use Rattle.owed_plan.specs.Calls.{reload_calls, restart_calls, start_calls, stop_calls}
@@ -42,22 +44,23 @@ pub record IsSwitched (system : Name) (owed : Owed) (w v : WorldState) : Type 0 
   pub leaves : (q : Name) → q ≢ stage → get v.leaves q ≡ final_leaf (switch_in system w.leaves) w.leaves q
   pub units : IsBrought system owed w v
 
--- a step of a set of the profile, where it is set to a system
+-- a step of making a system the boot default, where the profile is set to it: the profile is being set, or it is set, and
+-- the boot menu is being made
 abbrev pub IsSetStep : Option Name → WorldState → WorldState → Type 0
 IsSetStep None w m = seen m ≡ seen w
-IsSetStep (Some system) w m = IsSetMoment system w m
+IsSetStep (Some system) w m = IsMakingDefault system w m
 
--- but for the stage, the world in which the profile is set, where it is set to a system
+-- but for the stage, the world in which a system is the boot default, where the profile is set to it
 abbrev pub set_world : Option Name → WorldState → WorldState
 set_world None w = seen w
-set_world (Some system) w = set_end system w
+set_world (Some system) w = default_end system w
 
 -- a step of a switch of the units, where they are switched to a system
 abbrev pub IsSwitchStep : Option Name → WorldState → WorldState → Type 0
 IsSwitchStep None w m = seen m ≡ seen w
 IsSwitchStep (Some system) w m = (owed : Owed) × IsOwedBy w system owed × IsSwitchMoment system owed w m
 
--- the profile is being set to a system, or it is set, and the units are being switched
+-- a system is being made the boot default, or it is that, and the units are being switched
 pub data IsStepTo (sets switches : Option Name) (w m : WorldState) : Type 0 where
   Setting : IsSetStep sets w m → IsStepTo sets switches w m
   Switching : (u : WorldState) → seen u ≡ set_world sets w → IsSwitchStep switches u m → IsStepTo sets switches w m
@@ -77,10 +80,14 @@ NamesOneOf None w m = (other : List ℕ) → Names m.leaves other ↔ Names w.le
 NamesOneOf (Some system) w m = NamesOldOrNew system w m
 
 -- What each moment has of a planned command that is carried out, given the world at its beginning, which isn't refused.
+-- A firmware finds in the boot menu that an entry stands as it did or is that of a generation that stands, that no
+-- generation that stands has lost its entry, and that what the boot loader reads first is as it was or names the current
+-- generation, whose entry stands.
 pub record IsMomentOf (command : Command) (w m : WorldState) : Type 0 where
   pub step : IsStepOf command w m
   pub underway : IsSteadyFor command w → IsUnderway w command m
   pub named : NamesOneOf (set_to command w.leaves) w m
+  pub menu : IsMenuBetween w.leaves m.leaves
 
 -- Runs of one command lead from one world to another: each but the last is cut, in one of these worlds, which is a
 -- moment of it, and the last comes to its end.

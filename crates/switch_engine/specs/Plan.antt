@@ -2,24 +2,19 @@
 use Rattle.std.specs.Prelude.{◌≡◌, Bool, true, false, Option, None, Some}
 use Rattle.activation_stage.specs.ActivationPart.{IsActivationPlanOf}
 use Rattle.activation_stage.specs.declared.activation_plan.ActivationPlan.{ActivationPlan}
+use Rattle.boot_entries.specs.BootDefault.{IsDefaultFor, IsDefaultPlanOf}
+use Rattle.boot_entries.specs.declared.boot_default.BootDefaultPlan.{BootDefaultPlan}
 use Rattle.generations.specs.declared.gens.Gens.{Gens}
-use Rattle.generations.specs.Gens.{IsGensOf, number_for_in}
-use Rattle.generations.specs.Places.{number_after}
+use Rattle.generations.specs.Gens.{IsGensOf}
 use Rattle.host_trait.specs.World.{Leaves, WorldState}
 use Rattle.switch_engine.specs.declared.command.Command.{Command}
 use Rattle.switch_engine.specs.declared.plan.Plan.{Plan}
-use Rattle.switch_engine.specs.declared.plan.ProfilePlan.{ProfilePlan}
 use Rattle.switch_engine.specs.Commands.{new_system, row_of}
 use Rattle.switch_engine.specs.Rows.{refusal}
 use Rattle.switch_names.specs.SystemName.{IsSystemPath}
 use Rattle.switch_names.specs.Names.{Name}
 use Rattle.unit_stage.specs.declared.unit_plan.UnitPlan.{UnitPlan}
 use Rattle.unit_stage.specs.Plan.{IsUnitPlanOf, no_units}
-
--- the generations that stand, and the number that a set gives the system
-pub record IsProfilePlanOf (system : Name) (w : WorldState) (plan : ProfilePlan) : Type 0 where
-  pub gens : IsGensOf w.leaves plan.gens
-  pub number : plan.number ≡ number_after w.leaves system
 
 -- what is planned for the units, where they are switched to a system
 abbrev pub AreUnitsPlanned : Bool → Name → WorldState → UnitPlan → Type 0
@@ -36,10 +31,10 @@ abbrev pub AreGensFor : Bool → Leaves → Option Gens → Type 0
 AreGensFor sets leaves None = sets ≡ false
 AreGensFor sets leaves (Some gens) = (sets ≡ true) × IsGensOf leaves gens
 
--- what is planned for the profile, where it is set to a system
-abbrev pub IsProfilePlanned : Bool → Name → WorldState → Option ProfilePlan → Type 0
+-- what is planned for the profile and the boot menu, where the profile is set to a system
+abbrev pub IsProfilePlanned : Bool → Name → WorldState → Option BootDefaultPlan → Type 0
 IsProfilePlanned sets system w None = sets ≡ false
-IsProfilePlanned sets system w (Some plan) = (sets ≡ true) × IsProfilePlanOf system w plan
+IsProfilePlanned sets system w (Some plan) = (sets ≡ true) × IsDefaultPlanOf system w.leaves plan
 
 -- the parts that are planned for a command
 pub record ArePlanned (command : Command) (w : WorldState) (plan : Plan) : Type 0 where
@@ -47,9 +42,10 @@ pub record ArePlanned (command : Command) (w : WorldState) (plan : Plan) : Type 
   pub activation : IsActivationPlanned (row_of command).switches (new_system command w.leaves) w plan.activation
   pub profile : IsProfilePlanned (row_of command).sets (new_system command w.leaves) w plan.profile
 
--- the number for the profile, where that is set, is the one that its generations give the system
-abbrev pub IsNumbered : Plan → Type 0
-IsNumbered plan = (leaves : Leaves) (profile : ProfilePlan) → plan.profile ≡ Some profile → number_for_in profile.gens.list (new_system plan.command leaves) ≡ Some profile.number
+-- where the profile is set, the number is the one that its generations give the system, and the entries of the boot menu
+-- are put at places of entries
+abbrev pub IsSound : Plan → Type 0
+IsSound plan = (leaves : Leaves) (profile : BootDefaultPlan) → plan.profile ≡ Some profile → IsDefaultFor (new_system plan.command leaves) profile
 
 -- the plan of a command that isn't refused
 pub record IsPlanOf (w : WorldState) (plan : Plan) : Type 0 where

@@ -7,7 +7,10 @@ use Rattle.activation_stage.specs.ActivationPart.{activation_part}
 use Rattle.activation_stage.specs.Owners.{owners_after}
 use Rattle.activation_stage.specs.Places.{etc_places}
 use Rattle.etc_manifest.specs.Owners.{OwnerIds}
-use Rattle.generations.specs.ProfilePart.{profile_part, profile_places}
+use Rattle.boot_entries.specs.BootDefault.{boot_default_part, menu_places}
+use Rattle.generations.specs.After.{gens_after}
+use Rattle.generations.specs.declared.gens.Gens.{Gens}
+use Rattle.generations.specs.ProfilePart.{profile_places}
 use Rattle.host_trait.specs.declared.leaf.LeafKind.{LeafKind}
 use Rattle.host_trait.specs.World.{Leaves, content_of, stage}
 use Rattle.switch_engine.specs.declared.command.Command.{Command}
@@ -36,22 +39,31 @@ abbrev pub part_if : Bool → Part → Part
 part_if true part = part
 part_if false part = no_part
 
--- the parts of a command that is about a system: what it switches, and the profile
-abbrev pub parts : Bool → Bool → Name → OwnerIds → Part
-parts switches sets system owners = both (part_if switches (switch_part system owners)) (part_if sets (profile_part system))
+-- the parts of a command that is about a system: what it switches, and the boot default, where the boot menu is that of these
+-- generations
+abbrev pub parts : Bool → Bool → Name → OwnerIds → Gens → Part
+parts switches sets system owners gens = both (part_if switches (switch_part system owners)) (part_if sets (boot_default_part system gens))
 
--- the same with the owners of the tables that are left
+-- the same with the owners of the tables that are left, and the generations that stand after a set of the profile
 abbrev pub parts_in : Bool → Bool → Name → Leaves → Part
-parts_in switches sets system leaves = parts switches sets system (owners_after system leaves)
+parts_in switches sets system leaves = parts switches sets system (owners_after system leaves) (gens_after system leaves)
+
+-- the places of the boot menu, where the profile is set
+abbrev pub menu_places_if : Bool → Name → Leaves → List WrittenPlace
+menu_places_if sets system leaves = if sets then menu_places (gens_after system leaves).list else []
 
 -- the places of the profile where that is set, with the stage
 abbrev pub middle_places : Bool → Name → Leaves → List WrittenPlace
 middle_places sets system leaves = if sets then profile_places leaves system else written false stage ∷ []
 
+-- the places of the boot menu and of the profile, where that is set
+abbrev pub set_places : Bool → Name → Leaves → List WrittenPlace
+set_places sets system leaves = if sets then menu_places (gens_after system leaves).list ++ profile_places leaves system else []
+
 -- the places that a command writes, in byte order
 abbrev pub places : Bool → Bool → Name → Leaves → List WrittenPlace
-places true sets system leaves = etc_places ++ (middle_places sets system leaves ++ (run_places ++ memory_places))
-places false sets system leaves = if sets then profile_places leaves system else []
+places true sets system leaves = menu_places_if sets system leaves ++ (etc_places ++ (middle_places sets system leaves ++ (run_places ++ memory_places)))
+places false sets system leaves = set_places sets system leaves
 
 -- the parts of a command
 abbrev pub part_of : Command → Leaves → Part

@@ -2,42 +2,42 @@
 ghost use Rattle.std.specs.Prelude.{◌≡◌, ◌↔◌, IfOk, IsTrue, Some, OnOk, false, is_some};
 ghost use Rattle.std.specs.FinMap.{empty};
 ghost use Rattle.std.specs.Option.{option_copied};
-ghost use Rattle.generations.specs.Gens.{number_for_in};
+ghost use Rattle.boot_entries.specs.BootDefault.{IsDefaultFor};
+ghost use Rattle.boot_entries.specs.declared.boot_default.BootDefaultPlan.{BootDefaultPlan};
 ghost use Rattle.host_trait.specs.World.{seen};
 ghost use Rattle.host_trait.specs.Host.{Told, Leads, Passes, HasCause};
 ghost use Rattle.switch_engine.specs.Carried.{CanSetBy, CanSwitch, CanSwitchBy, IsSwitchMomentIf, IsSwitchedIf, sets_by};
 ghost use Rattle.switch_engine.specs.Commands.{IsBoot, IsQuery};
-ghost use Rattle.switch_engine.specs.declared.plan.ProfilePlan.{ProfilePlan};
 ghost use Rattle.switch_engine.specs.Final.{HasFailed, IsEndOf, LeavesFailed};
 ghost use Rattle.switch_engine.specs.Moments.{IsMomentOf, IsSetStep, IsSwitchMoment, IsSwitched, set_world};
-ghost use Rattle.switch_engine.specs.Plan.{IsNumbered, IsPlanOf};
+ghost use Rattle.switch_engine.specs.Plan.{IsPlanOf, IsSound};
 ghost use Rattle.unit_stage.specs.Plan.{owed_of};
 ghost use Rattle.unit_stage.specs.System.{system_leaf};
 
 use crate::outcome::{Outcome, has_failed};
-use crate::plan::{Plan, ProfilePlan};
+use crate::plan::Plan;
 use activation_stage::{ActivationPlan, activate};
-use generations::set_number;
+use boot_entries::{BootDefaultPlan, make_boot_default};
 use host_trait::{HostFault, Leaf, Manager, Tree};
 use std::alloc::Global;
 use switch_names::SystemName;
 use unit_stage::{UnitPlan, bring_units, calls_of, stop_units, system_leaf};
 
-/// Sets the profile to a system, where that is planned.
+/// Makes a system the boot default, where that is planned: sets the profile, and makes the boot menu.
 fn set_profile<T: Tree>(
     alloc: Global,
     host: &mut T,
     system: &SystemName,
-    plan: Option<&ProfilePlan>,
+    plan: Option<&BootDefaultPlan>,
 ) -> Result<(), HostFault>
     requires can { Told (T.host host.old) (CanSetBy system.now (option_copied plan)) }
-    requires number { (profile : ProfilePlan) → option_copied plan ≡ Some profile → number_for_in profile.gens.list system.now ≡ Some profile.number }
+    requires sound { (profile : BootDefaultPlan) → option_copied plan ≡ Some profile → IsDefaultFor system.now profile }
     ensures ok { OnOk result (Leads (T.host host.old) (T.host host.new) (λ w u. seen u ≡ set_world (sets_by system.now (option_copied plan.entry)) w)) }
     ensures moments { Passes (T.host host.old) (T.host host.new) (IsSetStep (sets_by system.now (option_copied plan.entry))) }
     ensures cause { HasCause (T.host host.old) (T.host host.new) result }
 {
     match plan {
-        Some(plan) => set_number(alloc, host, &plan.gens, system, plan.number),
+        Some(plan) => make_boot_default(alloc, host, system, plan),
         None => Ok(()),
     }
 }
@@ -114,14 +114,17 @@ fn carry_units<H: Manager>(
 
 /// Carries a planned command out.
 ///
-/// A set of the profile makes the generation where it is new, and points the profile to it. A switch of
-/// the units records the lists, stops units, sets the accounts, makes `/etc`, puts the link to the new
-/// system, loads its definitions, and reloads, restarts and starts units. Each list goes after the last
-/// of its calls. A command that does both sets the profile first.
-/// Source: NixOS manual, "What happens during a system switch?".
+/// A set of the profile makes the generation where it is new, points the profile to it, and then makes the
+/// boot menu: it puts the entries of the generations that name systems, then what the boot loader reads
+/// first, and removes the entries of generations that don't stand. A switch of the units records the
+/// lists, stops units, sets the accounts, makes `/etc`, puts the link to the new system, loads its
+/// definitions, and reloads, restarts and starts units. Each list goes after the last of its calls. A
+/// command that does both sets the profile and makes the boot menu first.
+/// Source: NixOS manual, "What happens during a system switch?"; Boot Loader Specification, "Type #1 Boot
+/// Loader Specification Entries".
 pub fn carry_out<H: Manager>(alloc: Global, host: &mut H, plan: &Plan) -> Result<Outcome, HostFault>
     requires planned { Told (H.host host.old) (λ w. IsPlanOf w plan.now) }
-    requires numbered { IsNumbered plan.now }
+    requires sound { IsSound plan.now }
     requires changes { IsQuery plan.now.command → ⊥ }
     ensures ok { OnOk result (Leads (H.host host.old) (H.host host.new) (IsEndOf plan.now.command)) }
     ensures states { IfOk result (λ outcome. (IsBoot plan.now.command → ⊥) → Told (H.host host.new) (λ v. outcome.states ≡ v.manager.states)) }

@@ -9,12 +9,14 @@ use switch_names::SystemName;
 /// What a run is asked to do with a system.
 #[derive(Debug, Drop)]
 pub enum Command {
-    /// Makes a generation for a system, points the profile to it, and switches the accounts, `/etc` and
-    /// the units to it.
+    /// Makes a generation for a system, points the profile to it, makes the boot menu, and switches the
+    /// accounts, `/etc` and the units to it.
     Switch(SystemName),
-    /// Switches the accounts, `/etc` and the units to a system, and leaves the profile as it is.
+    /// Switches the accounts, `/etc` and the units to a system, and leaves the profile and the boot menu
+    /// as they are.
     Test(SystemName),
-    /// Makes a generation for a system and points the profile to it, for the next boot.
+    /// Makes a generation for a system, points the profile to it, and makes the boot menu, for the next
+    /// boot.
     Boot(SystemName),
     /// Says what a switch to a system would do to the units, and changes nothing.
     DryActivate(SystemName),

@@ -1,12 +1,14 @@
 //! The laws by which the promise for one cut becomes that for any number of cuts.
-ghost use Rattle.std.specs.Prelude.{◌≡◌, List, None};
+ghost use Rattle.std.specs.Prelude.{◌≡◌, IsSome, List, None};
+ghost use Rattle.boot_entries.specs.Menu.{IsMenuWhole};
 ghost use Rattle.host_trait.specs.World.{WorldState};
 ghost use Rattle.switch_engine.specs.declared.command.Command.{Command};
-ghost use Rattle.switch_engine.specs.Commands.{IsQuery};
-ghost use Rattle.switch_engine.specs.Final.{IsEndOf};
+ghost use Rattle.switch_engine.specs.Commands.{IsQuery, new_system, set_to};
+ghost use Rattle.switch_engine.specs.Final.{IsEndOf, IsFinalOf};
 ghost use Rattle.switch_engine.specs.Moments.{LeadsBy};
 ghost use Rattle.switch_engine.specs.Owing.{IsOver, IsSteadyFor, IsUnderway};
 ghost use Rattle.switch_engine.specs.Rows.{refusal};
+ghost use Rattle.switch_names.specs.SystemName.{IsSystemPath};
 
 /// A run that isn't refused is underway in the world where it begins, where that is steady.
 pub fn a_run_begins_underway()
@@ -31,4 +33,13 @@ pub fn an_ended_run_is_over()
 pub fn cut_runs_end_alike()
     ensures { (command : Command) (cuts : List WorldState) (first last : WorldState) → (IsQuery command → ⊥) → refusal command first.leaves ≡ None
         → IsSteadyFor command first → LeadsBy command cuts first last → IsOver first command last }
+{}
+
+/// Once a command that sets the profile has come to its end, however often it was cut, each entry of the
+/// boot menu is that of a generation that stands. (`IsOver` of `cut_runs_end_alike` says that it has.)
+///
+/// Source: Boot Loader Specification, "Type #1 Boot Loader Specification Entries".
+pub fn an_ended_run_leaves_a_whole_boot_menu()
+    ensures { (command : Command) (first last : WorldState) → IsSystemPath (new_system command first.leaves) → refusal command first.leaves ≡ None
+        → IsSome (set_to command first.leaves) → IsFinalOf command first last → IsMenuWhole first.leaves last.leaves }
 {}

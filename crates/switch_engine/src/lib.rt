@@ -13,7 +13,7 @@ mod system;
 pub use carrying::carry_out;
 pub use command::Command;
 pub use outcome::{Outcome, is_failed_of};
-pub use plan::{Plan, ProfilePlan};
+pub use plan::Plan;
 pub use planning::plan_all;
 pub use switch_parts::{MapFile, PlanFault, Refusal, TableFile};
 pub use system::version_path;

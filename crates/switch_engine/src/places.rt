@@ -10,11 +10,12 @@ ghost use Rattle.switch_parts.specs.declared.refusal.Refusal.{Refusal};
 ghost use Rattle.switch_parts.specs.declared.refusal.Refusal.TheVariants.{InTheWay};
 ghost use Rattle.switch_engine.specs.Places.{list_places};
 ghost use Rattle.switch_engine.specs.Plan.{AreGensFor};
-ghost use Rattle.switch_engine.specs.Rows.{middle_places, places};
+ghost use Rattle.switch_engine.specs.Rows.{menu_places_if, middle_places, places, set_places};
 ghost use Rattle.unit_stage.specs.System.{current_place};
 ghost use Rattle.tree_put.specs.WrittenPlace.{AreApartFromStage, in_the_way, written};
 
 use activation_stage::{add_etc_places, add_memory_places};
+use boot_entries::add_menu_places;
 use generations::{Gens, add_profile_places};
 use host_trait::{Tree, stage_path};
 use owed_lists::{Which, list_path};
@@ -29,6 +30,22 @@ fn written(at: Path, is_read: bool) -> WrittenPlace
     ensures { result ≡ written is_read at }
 {
     WrittenPlace { at, is_read }
+}
+
+/// Adds the places of the boot menu, given the generations that stand where the profile is set.
+fn add_menu(
+    alloc: Global,
+    places: &mut Listed<WrittenPlace>,
+    gens: Option<&Gens>,
+    system: &SystemName,
+) -> Result<(), AllocError>
+    ensures places { OnOk result ((sets : Bool) (leaves : Leaves) → AreGensFor sets leaves (option_copied gens.entry) → places.new ≡ places.old ++ menu_places_if sets system.now leaves) }
+    ensures apart { AreApartFromStage places.old → OnOk result (AreApartFromStage places.new) }
+{
+    match gens {
+        Some(gens) => add_menu_places(alloc, places, gens, system),
+        None => Ok(()),
+    }
 }
 
 /// Adds the places of the profile, given the generations that stand where it is set, with the stage.
@@ -63,7 +80,8 @@ fn add_lists(alloc: Global, places: &mut Listed<WrittenPlace>) -> Result<(), All
     places.push(written(list_path(alloc, Which::Starts)?, true))
 }
 
-/// The places that a switch of the units writes, with those of the profile, in byte order.
+/// The places that a switch of the units writes, with those of the boot menu and of the profile, in byte
+/// order.
 fn switched_places(
     alloc: Global,
     gens: Option<&Gens>,
@@ -73,11 +91,29 @@ fn switched_places(
     ensures apart { IfOk result (λ list. AreApartFromStage list) }
 {
     let mut list = Listed::new(alloc);
+    add_menu(alloc, &mut list, gens, system)?;
     add_etc_places(alloc, &mut list)?;
     add_middle(alloc, &mut list, gens, system)?;
     add_current(alloc, &mut list)?;
     add_lists(alloc, &mut list)?;
     add_memory_places(alloc, &mut list)?;
+    Ok(list)
+}
+
+/// The places of the boot menu and of the profile, where that is set, in byte order.
+fn set_places(
+    alloc: Global,
+    gens: Option<&Gens>,
+    system: &SystemName,
+) -> Result<Listed<WrittenPlace>, AllocError>
+    ensures places { IfOk result (λ list. (sets : Bool) (leaves : Leaves) → AreGensFor sets leaves (option_copied gens.entry) → list ≡ set_places sets system.now leaves) }
+    ensures apart { IfOk result (λ list. AreApartFromStage list) }
+{
+    let mut list = Listed::new(alloc);
+    if let Some(gens) = gens {
+        add_menu_places(alloc, &mut list, gens, system)?;
+        add_profile_places(alloc, &mut list, gens, system)?;
+    }
     Ok(list)
 }
 
@@ -95,11 +131,7 @@ pub fn places_of(
     if switches {
         return switched_places(alloc, gens, system);
     }
-    let mut list = Listed::new(alloc);
-    if let Some(gens) = gens {
-        add_profile_places(alloc, &mut list, gens, system)?;
-    }
-    Ok(list)
+    set_places(alloc, gens, system)
 }
 
 /// Refuses where a leaf stands in the way of one of these places.

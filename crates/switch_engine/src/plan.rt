@@ -6,33 +6,18 @@ ghost use Rattle.switch_engine.specs.Commands.{IsBoot, new_system};
 
 use crate::command::Command;
 use activation_stage::ActivationPlan;
-use generations::Gens;
+use boot_entries::BootDefaultPlan;
 use owed_plan::Duty;
 use switch_names::{Listed, SystemName, UnitName};
 use unit_defs::Defs;
 use unit_stage::UnitPlan;
-
-/// What a set of the profile does.
-pub struct ProfilePlan {
-    /// The generations that stand.
-    pub gens: Gens,
-    /// The number of the generation that the system gets.
-    pub number: u32,
-}
-
-/// One call: a derived drop is proved anew in each function that lets one go.
-impl Drop for ProfilePlan {
-    fn drop(self) {
-        let ProfilePlan { gens: _, number: _ } = self;
-    }
-}
 
 /// What a command does, by the parts that it has.
 pub struct Plan {
     command: Command,
     units: UnitPlan,
     activation: Option<ActivationPlan>,
-    profile: Option<ProfilePlan>,
+    profile: Option<BootDefaultPlan>,
 }
 
 /// One call: a derived drop is proved anew in each function that lets one go.
@@ -53,7 +38,7 @@ impl Plan {
         command: Command,
         units: UnitPlan,
         activation: Option<ActivationPlan>,
-        profile: Option<ProfilePlan>,
+        profile: Option<BootDefaultPlan>,
     ) -> Plan
         ensures { result ≡ record { command = command; units = units; activation = activation; profile = profile } }
     {
@@ -86,8 +71,8 @@ impl Plan {
         self.activation.as_ref()
     }
 
-    /// What is done to the profile, where that is set.
-    pub(crate) fn profile(&self) -> Option<&ProfilePlan>
+    /// What makes the system the boot default, where the profile is set: the profile and the boot menu.
+    pub(crate) fn profile(&self) -> Option<&BootDefaultPlan>
         ensures { option_copied result ≡ self.now.profile }
     {
         self.profile.as_ref()

@@ -1,34 +1,32 @@
 //! Plans what a command does, before anything is put or changed.
-ghost use Rattle.std.specs.Prelude.{◌≡◌, ◌↔◌, Bool, None, Some, IfOk, IsErrOf, IsTrue, OnOk, option_map};
+ghost use Rattle.std.specs.Prelude.{◌≡◌, ◌↔◌, None, Some, IfOk, IsErrOf, IsTrue, OnOk, option_map};
 ghost use Rattle.std.specs.Option.{option_copied};
 ghost use Rattle.activation_stage.specs.ActivationPart.{activation_in};
-ghost use Rattle.generations.specs.Gens.{number_for_in};
-ghost use Rattle.generations.specs.ProfilePart.{profile_part};
+ghost use Rattle.boot_entries.specs.BootDefault.{IsDefaultFor, boot_default_in};
+ghost use Rattle.boot_entries.specs.declared.boot_default.BootDefaultPlan.{BootDefaultPlan};
 ghost use Rattle.host_trait.specs.declared.tree.HostFault.TheVariants.{Device};
 ghost use Rattle.host_trait.specs.Host.{Told};
 ghost use Rattle.host_trait.specs.Reading.{IsReading, IsReadingOf};
-ghost use Rattle.host_trait.specs.World.{WorldState};
+ghost use Rattle.host_trait.specs.World.{Leaves};
 ghost use Rattle.switch_engine.specs.Commands.{new_system, row_of};
-ghost use Rattle.switch_engine.specs.declared.plan.ProfilePlan.{ProfilePlan};
 ghost use Rattle.switch_engine.specs.Owing.{IsSteadyFor};
-ghost use Rattle.switch_engine.specs.Plan.{AreGensFor, ArePlanned, AreUnitsPlanned, IsActivationPlanned, IsNumbered, IsPlanOf, IsProfilePlanned};
+ghost use Rattle.switch_engine.specs.Plan.{AreGensFor, ArePlanned, AreUnitsPlanned, IsActivationPlanned, IsPlanOf, IsProfilePlanned, IsSound};
 ghost use Rattle.switch_engine.specs.Rows.{part_if, parts_refusal, places, refusal};
 ghost use Rattle.switch_parts.specs.declared.plan_fault.PlanFault.TheVariants.{Host, Refused};
-ghost use Rattle.switch_parts.specs.declared.plan_fault.PlanFault.{PlanFault};
 ghost use Rattle.switch_parts.specs.declared.refusal.Refusal.{Refusal};
-ghost use Rattle.switch_parts.specs.declared.refusal.Refusal.TheVariants.{GenerationsFull, InTheWay};
+ghost use Rattle.switch_parts.specs.declared.refusal.Refusal.TheVariants.{InTheWay};
 ghost use Rattle.tree_put.specs.WrittenPlace.{in_the_way};
 ghost use Rattle.unit_stage.specs.Units.{units_part};
 
 use crate::command::Command;
 use crate::places::{check_way, places_of};
-use crate::plan::{Plan, ProfilePlan};
+use crate::plan::Plan;
 use crate::system::has_version;
 use activation_stage::{ActivationPlan, plan_activation};
-use generations::{Gens, all, number_for};
+use boot_entries::{BootDefaultPlan, plan_boot_default};
+use generations::{Gens, all};
 use host_trait::{HostFault, Manager, Tree};
 use std::alloc::Global;
-use switch_names::SystemName;
 use switch_parts::{PlanFault, Refusal};
 use unit_stage::{UnitPlan, plan_units};
 
@@ -105,21 +103,26 @@ fn plan_accounts_and_etc<T: Tree>(
     Ok(Some(plan))
 }
 
-/// Plans a set of the profile to a system, or nothing where it isn't set.
-fn plan_profile(gens: Option<Gens>, system: &SystemName) -> Result<Option<ProfilePlan>, PlanFault>
-    ensures plan { IfOk result (λ plan. (sets : Bool) (w : WorldState) → AreGensFor sets w.leaves gens → IsProfilePlanned sets system.now w plan) }
-    ensures numbered { IfOk result (λ plan. (profile : ProfilePlan) → plan ≡ Some profile → number_for_in profile.gens.list system.now ≡ Some profile.number) }
-    ensures not_refused { OnOk result ((sets : Bool) (w : WorldState) → AreGensFor sets w.leaves gens → (part_if sets (profile_part system.now)).refusal w.leaves ≡ None) }
-    ensures refused { (why : PlanFault) → IsErrOf result why
-        → (why ≡ Refused GenerationsFull) × ((sets : Bool) (w : WorldState) → AreGensFor sets w.leaves gens → (part_if sets (profile_part system.now)).refusal w.leaves ≡ Some GenerationsFull) }
+/// Plans to make the system of a command the boot default, or nothing where the profile isn't set.
+fn plan_profile<T: Tree>(
+    alloc: Global,
+    host: &mut T,
+    command: &Command,
+    gens: Option<Gens>,
+) -> Result<Option<BootDefaultPlan>, PlanFault>
+    requires { Told (T.host host.old) (λ w. AreGensFor (row_of command.now).sets w.leaves gens) }
+    ensures plan { IfOk result (λ plan. Told (T.host host.old) (λ w. IsProfilePlanned (row_of command.now).sets (new_system command.now w.leaves) w plan)) }
+    ensures sound { IfOk result (λ plan. (leaves : Leaves) (profile : BootDefaultPlan) → plan ≡ Some profile → IsDefaultFor (new_system command.now leaves) profile) }
+    ensures not_refused { OnOk result (Told (T.host host.old) (λ w. (part_if (row_of command.now).sets (boot_default_in (new_system command.now w.leaves) w.leaves)).refusal w.leaves ≡ None)) }
+    ensures refused { (why : Refusal) → IsErrOf result (Refused why)
+        → Told (T.host host.old) (λ w. (part_if (row_of command.now).sets (boot_default_in (new_system command.now w.leaves) w.leaves)).refusal w.leaves ≡ Some why) }
+    ensures reads { IsReadingOf (T.host host.old) (T.host host.new) (IsErrOf result (Host Device)) }
 {
     let Some(gens) = gens else {
         return Ok(None);
     };
-    match number_for(&gens, system) {
-        Some(number) => Ok(Some(ProfilePlan { gens, number })),
-        None => Err(PlanFault::Refused(Refusal::GenerationsFull)),
-    }
+    let plan = plan_boot_default(alloc, host, command.system(), gens)?;
+    Ok(Some(plan))
 }
 
 /// Plans the parts of a command.
@@ -127,7 +130,7 @@ fn plan_parts<H: Manager>(alloc: Global, host: &mut H, command: &Command) -> Res
     ensures command { IfOk result (λ plan. plan.command ≡ command.now) }
     ensures plan { IfOk result (λ plan. Told (H.host host.old) (λ w. ArePlanned command.now w plan)) }
     ensures steady { IfOk result (λ plan. Told (H.host host.old) (λ w. IsTrue plan.units.steady ↔ IsSteadyFor command.now w)) }
-    ensures numbered { IfOk result IsNumbered }
+    ensures sound { IfOk result IsSound }
     ensures not_refused { OnOk result (Told (H.host host.old) (λ w. parts_refusal command.now w.leaves ≡ None)) }
     ensures refused { (why : Refusal) → IsErrOf result (Refused why) → Told (H.host host.old) (λ w. parts_refusal command.now w.leaves ≡ Some why) }
     ensures reads { IsReadingOf (H.host host.old) (H.host host.new) (IsErrOf result (Host Device)) }
@@ -137,7 +140,7 @@ fn plan_parts<H: Manager>(alloc: Global, host: &mut H, command: &Command) -> Res
     check_places(alloc, host, command, gens.as_ref())?;
     let units = plan_switch(alloc, host, command)?;
     let activation = plan_accounts_and_etc(alloc, host, command)?;
-    let profile = plan_profile(gens, command.system())?;
+    let profile = plan_profile(alloc, host, command, gens)?;
     Ok(Plan::new(planned, units, activation, profile))
 }
 
@@ -145,7 +148,8 @@ fn plan_parts<H: Manager>(alloc: Global, host: &mut H, command: &Command) -> Res
 ///
 /// The refusals are sought in this order: `NoSystem`, `InTheWay`; of a switch of the units `UnitText`,
 /// `UsersSpec`, `Table`, `IdMap`, then the first of `NoFreeId` and `UnknownGroup`, and then the first of
-/// `Reserved`, `EtcEntry` and `Owner`; and of a set of the profile `GenerationsFull`.
+/// `Reserved`, `EtcEntry` and `Owner`; and of a set of the profile `GenerationsFull`. The boot menu
+/// after a set is planned last, and is refused for nothing but what is in the way of its places.
 /// Source: NixOS manual, "What happens during a system switch?".
 pub fn plan_all<H: Manager>(
     alloc: Global,
@@ -155,7 +159,7 @@ pub fn plan_all<H: Manager>(
     ensures command { IfOk result (λ plan. plan.command ≡ command.now) }
     ensures plan { IfOk result (λ plan. Told (H.host host.old) (λ w. IsPlanOf w plan)) }
     ensures steady { IfOk result (λ plan. Told (H.host host.old) (λ w. IsTrue plan.units.steady ↔ IsSteadyFor command.now w)) }
-    ensures numbered { IfOk result IsNumbered }
+    ensures sound { IfOk result IsSound }
     ensures refused { (why : Refusal) → IsErrOf result (Refused why) → Told (H.host host.old) (λ w. refusal command.now w.leaves ≡ Some why) }
     ensures reads { IsReadingOf (H.host host.old) (H.host host.new) (IsErrOf result (Host Device)) }
 {

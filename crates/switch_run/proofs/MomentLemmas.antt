@@ -2,11 +2,12 @@
 use Rattle.std.proofs.Common.{◌≡◌, Option, None, Some, refl, sym, subst}
 use Rattle.host_trait.specs.World.{WorldState}
 use Rattle.switch_engine.specs.declared.command.Command.{Command}
-use Rattle.switch_engine.specs.Commands.{IsQuery, brought_to, set_to}
+use Rattle.switch_engine.specs.Commands.{IsQuery, brought_to, new_system, set_to}
 use Rattle.switch_engine.specs.Moments as engine
 use Rattle.switch_engine.specs.Moments.{IsStepIf}
 use Rattle.switch_engine.specs.Rows.{refusal}
 use Rattle.switch_engine.proofs.LawLemmas.{begins_moment}
+use Rattle.switch_names.specs.SystemName.{IsSystemPath}
 use Rattle.switch_parts.specs.declared.refusal.Refusal.{Refusal}
 use Rattle.dry_report.proofs.RerunLemmas.{keeps_report, keeps_same}
 use Rattle.dry_report.specs.Report.{KeepsReport}
@@ -34,9 +35,9 @@ of_query command w m query moment = by (refusal command w.leaves) moment
     by (Some why) moment = moment
 
 -- the report is kept at each moment
-pub of_report : (command : Command) (w m : WorldState) → IsMomentOf (Some command) w m → KeepsReport command w m
-of_report command w m moment = by (refusal command w.leaves) refl moment
+pub of_report : (command : Command) (w m : WorldState) → IsSystemPath (new_system command w.leaves) → IsMomentOf (Some command) w m → KeepsReport command w m
+of_report command w m named moment = by (refusal command w.leaves) refl moment
   where
     by : (o : Option Refusal) → refusal command w.leaves ≡ o → IsMomentBy o command w m → KeepsReport command w m
-    by None none moment = keeps_report command w m none moment
+    by None none moment = keeps_report command w m named none moment
     by (Some why) is same = keeps_same command w m same

@@ -5,13 +5,14 @@ use Rattle.host_trait.specs.declared.tree.HostFault.TheVariants as host
 use Rattle.host_trait.specs.Change.{IsSame}
 use Rattle.host_trait.specs.Host.{EachMoment, HostState, IsHost, Leads, Passes, Rose, Told}
 use Rattle.host_trait.specs.Sink.{Puts, SinkState}
-use Rattle.host_trait.specs.World.{WorldState}
+use Rattle.host_trait.specs.World.{Leaves, WorldState}
 use Rattle.host_trait.proofs.Moments.{each_moment, passes_as, told_as}
 use Rattle.switch_engine.specs.declared.command.Command.{Command}
 use Rattle.switch_engine.specs.declared.command.Command.TheVariants.{Test, DryActivate}
-use Rattle.switch_engine.specs.Commands.{IsQuery}
+use Rattle.switch_engine.specs.Commands.{IsQuery, new_system}
 use Rattle.switch_engine.specs.Final.{IsEndOf}
 use Rattle.switch_engine.specs.Rows.{refusal}
+use Rattle.switch_names.specs.SystemName.{IsSystemPath}
 use Rattle.switch_parts.specs.declared.refusal.Refusal.{Refusal}
 use Rattle.dry_report.specs.Report.{IsReport, KeepsReport}
 use Rattle.dry_report.proofs.PutLemmas.{puts_as}
@@ -180,9 +181,9 @@ module _ {host_state after : HostState} {sink put : SinkState} (given : Option C
   queries command some query =
       passes_as is.moments IsSame (λ w m told moment. of_query command w m query (subst (λ (g : Option Command). IsMomentOf g w m) some moment))
 
-  pub same_report : (command : Command) → given ≡ Some command → Passes host_state after (KeepsReport command)
-  same_report command some =
-      passes_as is.moments (KeepsReport command) (λ w m told moment. of_report command w m (subst (λ (g : Option Command). IsMomentOf g w m) some moment))
+  pub same_report : (command : Command) → ((leaves : Leaves) → IsSystemPath (new_system command leaves)) → given ≡ Some command → Passes host_state after (KeepsReport command)
+  same_report command named some =
+      passes_as is.moments (KeepsReport command) (λ w m told moment. of_report command w m (named w.leaves) (subst (λ (g : Option Command). IsMomentOf g w m) some moment))
 
   pub broken_off : IsBroken status → (command : Command) → given ≡ Some command → IsBrokenOff command host_state after sink put
   broken_off s command some = let it = broken_of ending (subst IsBroken tells s) in come_as (Some command) (Err (fault.Host it.0)) some it.1

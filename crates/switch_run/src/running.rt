@@ -1,7 +1,7 @@
 //! Runs a command, from its plan to its closing text.
 ghost use Rattle.std.specs.Prelude.{◌≡◌, Some, IsErrOf};
 ghost use Rattle.host_trait.specs.Host.{Told};
-ghost use Rattle.switch_engine.specs.Plan.{IsNumbered, IsPlanOf};
+ghost use Rattle.switch_engine.specs.Plan.{IsPlanOf, IsSound};
 ghost use Rattle.switch_run.specs.declared.run_fault.RunFault.TheVariants.{Sink};
 ghost use Rattle.switch_run.specs.Commands.{command_of};
 ghost use Rattle.switch_run.specs.Ending.{HasReported, IsEnding, IsSinkCaused};
@@ -33,7 +33,7 @@ fn run_planned<H: Manager, S: Sink>(
     plan: &Plan,
 ) -> Result<bool, RunFault>
     requires planned { Told (H.host host.old) (λ w. IsPlanOf w plan.now) }
-    requires numbered { IsNumbered plan.now }
+    requires sound { IsSound plan.now }
     ensures { IsEnding (Some plan.now.command) (H.host host.old) (H.host host.new) (S.sink out.old) (S.sink out.new) result }
 {
     put_report(alloc, out, plan)?;

@@ -24,7 +24,7 @@ use switch_names::Text;
 /// Does all that the program does with its words, on a host and an output.
 ///
 /// A `switch`, a `test` or a `boot` that is cut at any moment, however often, and then made again to its
-/// end leaves what one that wasn't cut leaves: the same tree, accounts, profile and states of units.
+/// end leaves what one that wasn't cut leaves: the same tree, accounts, profile, boot menu and states of units.
 /// See `each_moment`, by which each world that a cut may leave is a moment of the command, and
 /// `cut_runs_end_alike` of `switch_engine`.
 pub fn run<H: Manager, S: Sink>(alloc: Global, words: &[Text], host: &mut H, out: &mut S) -> Status

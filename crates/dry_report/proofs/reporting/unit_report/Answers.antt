@@ -1,4 +1,4 @@
-use Rattle.std.proofs.Common.{◌≡◌, ◌++◌, append_assoc, ap, ◌∙◌}
+use Rattle.std.proofs.Common.{◌++◌, append_assoc, ap, ◌∙◌}
 use Rattle.switch_engine.specs.Commands.{new_system}
 use Rattle.dry_report.specs.Report.{number_of, other_lines, report_front}
 use Rattle.dry_report.proofs.reporting.unit_report.Goals as goal

@@ -1,12 +1,12 @@
-use Rattle.std.proofs.Common.{◌≡◌, ◌↔◌, IfOk, IsTrue, Option, OnOk, Some, is_some, false, sym, ap, subst, ◌∙◌}
+use Rattle.std.proofs.Common.{◌≡◌, ◌↔◌, IfOk, IsTrue, Option, OnOk, is_some, false, sym, ap, subst, ◌∙◌}
 use Rattle.std.specs.FinMap.{empty}
 use Rattle.std.specs.Option.{option_copied}
 use Rattle.std.proofs.lemmas.Result.{on_ok_weaker}
 use Rattle.activation_stage.specs.declared.activation_plan.ActivationPlan.{ActivationPlan}
-use Rattle.generations.specs.Gens.{number_for_in}
+use Rattle.boot_entries.specs.BootDefault.{IsDefaultFor}
+use Rattle.boot_entries.specs.declared.boot_default.BootDefaultPlan.{BootDefaultPlan}
 use Rattle.host_trait.specs.Host.{Leads, Passes, Told}
 use Rattle.host_trait.specs.World.{seen}
-use Rattle.switch_engine.specs.declared.plan.ProfilePlan.{ProfilePlan}
 use Rattle.switch_engine.specs.Carried.{CanSetBy, CanSwitchBy, IsSwitchMomentIf, IsSwitchedIf, sets_by}
 use Rattle.switch_engine.specs.Final.{HasFailed}
 use Rattle.switch_engine.specs.Moments.{IsSetStep, set_world}
@@ -22,17 +22,17 @@ returns-in_err-current-clause-moments g c = begins c.args.plan.now c.requires.ch
 
 pub set_profile-requires-clause-can : goal.set_profile-requires-clause-can
 set_profile-requires-clause-can g c =
-    subst (λ (o : Option ProfilePlan). Told (g.H.Tree.host c.args.host.now) (CanSetBy c.to-2.result.now o)) (sym c.profile.ensures)
+    subst (λ (o : Option BootDefaultPlan). Told (g.H.Tree.host c.args.host.now) (CanSetBy c.to-2.result.now o)) (sym c.profile.ensures)
     (profile_can c.args.plan.now c.requires.changes c.requires.planned c.to-2.result.now c.to-2.ensures)
 
-pub set_profile-requires-clause-number : goal.set_profile-requires-clause-number
-set_profile-requires-clause-number g c profile is =
-    subst (λ (system : Name). number_for_in profile.gens.list system ≡ Some profile.number) (sym (c.to-2.ensures empty)) (c.requires.numbered empty profile (sym c.profile.ensures ∙ is))
+pub set_profile-requires-clause-sound : goal.set_profile-requires-clause-sound
+set_profile-requires-clause-sound g c profile is =
+    subst (λ (system : Name). IsDefaultFor system profile) (sym (c.to-2.ensures empty)) (c.requires.sound empty profile (sym c.profile.ensures ∙ is))
 
 pub returns-in_err-set_profile-clause-moments : goal.returns-in_err-set_profile-clause-moments
 returns-in_err-set_profile-clause-moments g c =
     set_moments c.args.plan.now c.requires.changes c.requires.planned c.to-2.result.now c.to-2.ensures
-    (subst (λ (o : Option ProfilePlan). Passes (g.H.Tree.host c.args.host.now) (g.H.Tree.host c.set_profile.new.host) (IsSetStep (sets_by c.to-2.result.now o))) c.profile.ensures c.set_profile.ensures.moments)
+    (subst (λ (o : Option BootDefaultPlan). Passes (g.H.Tree.host c.args.host.now) (g.H.Tree.host c.set_profile.new.host) (IsSetStep (sets_by c.to-2.result.now o))) c.profile.ensures c.set_profile.ensures.moments)
 
 pub carry_units-requires-clause-can : goal.carry_units-requires-clause-can
 carry_units-requires-clause-can g c =
@@ -40,8 +40,8 @@ carry_units-requires-clause-can g c =
     subst (λ (units : UnitPlan). Told then (CanSwitchBy c.to-3.result.now units (option_copied c.activation-activation.result))) (sym c.units.ensures)
     (subst (λ (o : Option ActivationPlan). Told then (CanSwitchBy c.to-3.result.now c.args.plan.now.units o)) (sym c.activation-activation.ensures)
     (units_can c.args.plan.now c.requires.changes c.requires.planned c.to-2.result.now c.to-2.ensures
-    (subst (λ (o : Option ProfilePlan). Passes host then (IsSetStep (sets_by c.to-2.result.now o))) c.profile.ensures c.set_profile.ensures.moments)
-    (subst (λ (o : Option ProfilePlan). Leads host then (λ w u. seen u ≡ set_world (sets_by c.to-2.result.now o) w)) c.profile.ensures c.in_ok-set_profile.ensures.ok)
+    (subst (λ (o : Option BootDefaultPlan). Passes host then (IsSetStep (sets_by c.to-2.result.now o))) c.profile.ensures c.set_profile.ensures.moments)
+    (subst (λ (o : Option BootDefaultPlan). Leads host then (λ w u. seen u ≡ set_world (sets_by c.to-2.result.now o) w)) c.profile.ensures c.in_ok-set_profile.ensures.ok)
     c.to-3.result.now c.to-3.ensures))
 
 pub carry_units-requires-clause-current : goal.carry_units-requires-clause-current
@@ -52,8 +52,8 @@ returns-clause-ok g c =
     let host = g.H.Tree.host c.args.host.now in let then = g.H.Tree.host c.set_profile.new.host in
     on_ok_weaker c.carry_units.result (λ led.
     comes_to_end c.args.plan.now c.requires.changes c.requires.planned c.to-2.result.now c.to-2.ensures
-    (subst (λ (o : Option ProfilePlan). Passes host then (IsSetStep (sets_by c.to-2.result.now o))) c.profile.ensures c.set_profile.ensures.moments)
-    (subst (λ (o : Option ProfilePlan). Leads host then (λ w u. seen u ≡ set_world (sets_by c.to-2.result.now o) w)) c.profile.ensures c.in_ok-set_profile.ensures.ok)
+    (subst (λ (o : Option BootDefaultPlan). Passes host then (IsSetStep (sets_by c.to-2.result.now o))) c.profile.ensures c.set_profile.ensures.moments)
+    (subst (λ (o : Option BootDefaultPlan). Leads host then (λ w u. seen u ≡ set_world (sets_by c.to-2.result.now o) w)) c.profile.ensures c.in_ok-set_profile.ensures.ok)
     c.to-3.result.now c.to-3.ensures
     (subst (λ (o : Option ActivationPlan). Leads then (g.H.Tree.host c.carry_units.new.host) (IsSwitchedIf (is_some o) c.to-3.result.now (owed_of c.args.plan.now.units))) c.activation-activation.ensures
     (subst (λ (units : UnitPlan). Leads then (g.H.Tree.host c.carry_units.new.host) (IsSwitchedIf (is_some (option_copied c.activation-activation.result)) c.to-3.result.now (owed_of units))) c.units.ensures led)))
@@ -69,8 +69,8 @@ pub returns-clause-states : goal.returns-clause-states
 returns-clause-states g c =
     let host = g.H.Tree.host c.args.host.now in let then = g.H.Tree.host c.set_profile.new.host in
     states_of c.args.plan.now c.requires.changes c.requires.planned c.to-2.result.now c.to-2.ensures
-    (subst (λ (o : Option ProfilePlan). Passes host then (IsSetStep (sets_by c.to-2.result.now o))) c.profile.ensures c.set_profile.ensures.moments)
-    (subst (λ (o : Option ProfilePlan). Leads host then (λ w u. seen u ≡ set_world (sets_by c.to-2.result.now o) w)) c.profile.ensures c.in_ok-set_profile.ensures.ok)
+    (subst (λ (o : Option BootDefaultPlan). Passes host then (IsSetStep (sets_by c.to-2.result.now o))) c.profile.ensures c.set_profile.ensures.moments)
+    (subst (λ (o : Option BootDefaultPlan). Leads host then (λ w u. seen u ≡ set_world (sets_by c.to-2.result.now o) w)) c.profile.ensures c.in_ok-set_profile.ensures.ok)
     c.to-3.result.now c.to-3.ensures
     (subst (λ (o : Option ActivationPlan). Passes then (g.H.Tree.host c.carry_units.new.host) (IsSwitchMomentIf (is_some o) c.to-3.result.now (owed_of c.args.plan.now.units))) c.activation-activation.ensures
     (subst (λ (units : UnitPlan). Passes then (g.H.Tree.host c.carry_units.new.host) (IsSwitchMomentIf (is_some (option_copied c.activation-activation.result)) c.to-3.result.now (owed_of units))) c.units.ensures c.carry_units.ensures.moments))
@@ -81,8 +81,8 @@ pub returns-clause-verdict : goal.returns-clause-verdict
 returns-clause-verdict g c =
     let host = g.H.Tree.host c.args.host.now in let then = g.H.Tree.host c.set_profile.new.host in
     verdict_of c.args.plan.now c.requires.changes c.requires.planned c.to-2.result.now c.to-2.ensures
-    (subst (λ (o : Option ProfilePlan). Passes host then (IsSetStep (sets_by c.to-2.result.now o))) c.profile.ensures c.set_profile.ensures.moments)
-    (subst (λ (o : Option ProfilePlan). Leads host then (λ w u. seen u ≡ set_world (sets_by c.to-2.result.now o) w)) c.profile.ensures c.in_ok-set_profile.ensures.ok)
+    (subst (λ (o : Option BootDefaultPlan). Passes host then (IsSetStep (sets_by c.to-2.result.now o))) c.profile.ensures c.set_profile.ensures.moments)
+    (subst (λ (o : Option BootDefaultPlan). Leads host then (λ w u. seen u ≡ set_world (sets_by c.to-2.result.now o) w)) c.profile.ensures c.in_ok-set_profile.ensures.ok)
     c.to-3.result.now c.to-3.ensures (g.H.Tree.host c.carry_units.new.host) c.carry_units.result
     (subst (λ (o : Option ActivationPlan). OnOk c.carry_units.result (Leads then (g.H.Tree.host c.carry_units.new.host) (IsSwitchedIf (is_some o) c.to-3.result.now (owed_of c.args.plan.now.units)))) c.activation-activation.ensures
     (subst (λ (units : UnitPlan). OnOk c.carry_units.result (Leads then (g.H.Tree.host c.carry_units.new.host) (IsSwitchedIf (is_some (option_copied c.activation-activation.result)) c.to-3.result.now (owed_of units)))) c.units.ensures c.carry_units.ensures.ok))
@@ -95,8 +95,8 @@ pub returns-clause-moments : goal.returns-clause-moments
 returns-clause-moments g c =
     let host = g.H.Tree.host c.args.host.now in let then = g.H.Tree.host c.set_profile.new.host in
     all_moments c.args.plan.now c.requires.changes c.requires.planned c.to-2.result.now c.to-2.ensures
-    (subst (λ (o : Option ProfilePlan). Passes host then (IsSetStep (sets_by c.to-2.result.now o))) c.profile.ensures c.set_profile.ensures.moments)
-    (subst (λ (o : Option ProfilePlan). Leads host then (λ w u. seen u ≡ set_world (sets_by c.to-2.result.now o) w)) c.profile.ensures c.in_ok-set_profile.ensures.ok)
+    (subst (λ (o : Option BootDefaultPlan). Passes host then (IsSetStep (sets_by c.to-2.result.now o))) c.profile.ensures c.set_profile.ensures.moments)
+    (subst (λ (o : Option BootDefaultPlan). Leads host then (λ w u. seen u ≡ set_world (sets_by c.to-2.result.now o) w)) c.profile.ensures c.in_ok-set_profile.ensures.ok)
     c.to-3.result.now c.to-3.ensures
     (subst (λ (o : Option ActivationPlan). Passes then (g.H.Tree.host c.carry_units.new.host) (IsSwitchMomentIf (is_some o) c.to-3.result.now (owed_of c.args.plan.now.units))) c.activation-activation.ensures
     (subst (λ (units : UnitPlan). Passes then (g.H.Tree.host c.carry_units.new.host) (IsSwitchMomentIf (is_some (option_copied c.activation-activation.result)) c.to-3.result.now (owed_of units))) c.units.ensures c.carry_units.ensures.moments))

@@ -4,16 +4,14 @@ use Rattle.host_trait.specs.declared.tree.HostFault.TheVariants.{Device}
 use Rattle.host_trait.proofs.Moments.{told_as, told_before}
 use Rattle.host_trait.proofs.Readings.{nothing_read_of, read_of, reads_of, reads_then, told_read}
 use Rattle.switch_engine.specs.Commands.{new_system, row_of}
-use Rattle.generations.specs.Gens.{number_for_in}
+use Rattle.boot_entries.specs.BootDefault.{IsDefaultFor}
 use Rattle.switch_engine.specs.declared.command.Command.{Command}
 use Rattle.switch_engine.specs.declared.plan.Plan.{Plan}
 use Rattle.switch_engine.specs.Owing.{IsSteadyFor}
-use Rattle.switch_engine.specs.Plan.{ArePlanned, IsNumbered, IsProfilePlanned}
-use Rattle.switch_names.specs.Names.{Name}
+use Rattle.switch_engine.specs.Plan.{ArePlanned, IsSound}
 use Rattle.switch_engine.specs.Rows.{parts_refusal}
-use Rattle.switch_engine.proofs.PlanLemmas.{activation_refused, full_refused, not_refused, same_reason, units_refused, way_refused}
+use Rattle.switch_engine.proofs.PlanLemmas.{activation_refused, profile_refused, told_still, units_refused, way_refused}
 use Rattle.switch_parts.specs.declared.plan_fault.PlanFault.TheVariants.{Host, Refused}
-use Rattle.switch_parts.specs.declared.refusal.Refusal.TheVariants.{GenerationsFull}
 use Rattle.unit_stage.proofs.CauseLemmas.{handed, memory_no_device, no_err}
 use Rattle.unit_stage.proofs.KnownLemmas.{same_fault}
 use Rattle.switch_engine.proofs.planning.plan_parts.Goals as goal
@@ -64,57 +62,55 @@ returns-in_err-activation-clause-reads g c =
     let p = err_from_is_err_and c.from_residual-in_err-activation.result c.from_residual-in_err-activation.ensures.1 in
     reads_of (reads_then (reads_then (reads_then (read_of c.gens_for.ensures.reads _ (λ e. e)) c.check_places.ensures.reads) c.plan_switch.ensures.reads) c.in_err-activation.ensures.reads) _ (λ e. handed _ p.0 _ _ p.1 p.2 e)
 
+pub plan_profile-requires : goal.plan_profile-requires
+plan_profile-requires g c =
+    let gens = told_still c.gens_for.ensures.reads.moments c.in_ok-gens.ensures.gens in
+    let units = told_still c.plan_switch.ensures.reads.moments (told_still c.check_places.ensures.reads.moments gens) in
+    told_still c.plan_accounts_and_etc.ensures.reads.moments units
+
 pub returns-in_err-profile-clause-reads : goal.returns-in_err-profile-clause-reads
 returns-in_err-profile-clause-reads g c =
     let p = err_from_is_err_and c.from_residual-in_err-profile.result c.from_residual-in_err-profile.ensures.1 in
-    reads_of (reads_then (reads_then (reads_then (read_of c.gens_for.ensures.reads _ (λ e. e)) c.check_places.ensures.reads) c.plan_switch.ensures.reads) c.plan_accounts_and_etc.ensures.reads) _
-    (λ e. let none = c.in_err-profile.ensures.refused (Host Device) (ap (λ f. Err f) (sym p.2 ∙ same_fault p.0 (Host Device) (sym p.1 ∙ e))) in absurd (let never : Host Device ≡ Refused GenerationsFull = none.0 in cc))
+    reads_of (reads_then (reads_then (reads_then (reads_then (read_of c.gens_for.ensures.reads _ (λ e. e)) c.check_places.ensures.reads) c.plan_switch.ensures.reads) c.plan_accounts_and_etc.ensures.reads) c.in_err-profile.ensures.reads) _
+    (λ e. handed _ p.0 _ _ p.1 p.2 e)
 
 pub returns-in_err-profile-clause-refused : goal.returns-in_err-profile-clause-refused
 returns-in_err-profile-clause-refused g c why e =
     let p = err_from_is_err_and c.from_residual-in_err-profile.result c.from_residual-in_err-profile.ensures.1 in
     let command = c.args.command.now in
-    let none = c.in_err-profile.ensures.refused (Refused why) (ap (λ f. Err f) (sym p.2 ∙ same_fault p.0 (Refused why) (sym p.1 ∙ e))) in
-    let same : why ≡ GenerationsFull = same_reason why GenerationsFull none.0 in
+    let refused = c.in_err-profile.ensures.refused why (ap (λ f. Err f) (sym p.2 ∙ same_fault p.0 (Refused why) (sym p.1 ∙ e))) in
     let way = told_read c.gens_for.ensures.reads c.in_ok-check_places.ensures.free in
-    let gens = c.in_ok-gens.ensures.gens in
     let units = told_read c.gens_for.ensures.reads (told_before c.check_places.ensures.reads.moments c.in_ok-units.ensures.not_refused) in
-    told_as (told_read c.gens_for.ensures.reads (told_before c.check_places.ensures.reads.moments (told_before c.plan_switch.ensures.reads.moments c.in_ok-activation.ensures.not_refused))) (λ w. parts_refusal command w.leaves ≡ Some why)
-    (λ w is activation. full_refused (row_of command).switches (row_of command).sets _ (new_system command w.leaves) w (c.system.ensures w.leaves) (way.has w is) (units.has w is) activation why
-    (none.1 (row_of command).sets w (gens.has w is)) (sym same))
+    let activation = told_read c.gens_for.ensures.reads (told_before c.check_places.ensures.reads.moments (told_before c.plan_switch.ensures.reads.moments c.in_ok-activation.ensures.not_refused)) in
+    told_as (told_read c.gens_for.ensures.reads (told_before c.check_places.ensures.reads.moments (told_before c.plan_switch.ensures.reads.moments (told_before c.plan_accounts_and_etc.ensures.reads.moments refused)))) (λ w. parts_refusal command w.leaves ≡ Some why)
+    (λ w is profile. profile_refused (row_of command).switches (row_of command).sets (new_system command w.leaves) w.leaves (way.has w is) (units.has w is) (Some why) (activation.has w is) profile)
 
 pub returns-clause-plan : goal.returns-clause-plan
 returns-clause-plan g c =
     let command = c.args.command.now in
     let units = told_read c.gens_for.ensures.reads (told_before c.check_places.ensures.reads.moments c.in_ok-units.ensures.plan) in
-    let gens = c.in_ok-gens.ensures.gens in
     let activation = told_read c.gens_for.ensures.reads (told_before c.check_places.ensures.reads.moments (told_before c.plan_switch.ensures.reads.moments c.in_ok-activation.ensures.plan)) in
+    let profile = told_read c.gens_for.ensures.reads (told_before c.check_places.ensures.reads.moments (told_before c.plan_switch.ensures.reads.moments (told_before c.plan_accounts_and_etc.ensures.reads.moments c.in_ok-profile.ensures.plan))) in
     told_as units (λ w. ArePlanned command w c.new.result)
-    (λ w is planned. subst (ArePlanned command w) (sym c.new.ensures) (record {
-      units = planned;
-      activation = activation.has w is;
-      profile = subst (λ (system : Name). IsProfilePlanned (row_of command).sets system w c.in_ok-profile.profile) (c.system.ensures w.leaves) (c.in_ok-profile.ensures.plan (row_of command).sets w (gens.has w is));
-    }))
+    (λ w is planned. subst (ArePlanned command w) (sym c.new.ensures) (record { units = planned; activation = activation.has w is; profile = profile.has w is }))
 
 pub returns-clause-not_refused : goal.returns-clause-not_refused
 returns-clause-not_refused g c =
     let command = c.args.command.now in
     let way = told_read c.gens_for.ensures.reads c.in_ok-check_places.ensures.free in
-    let gens = c.in_ok-gens.ensures.gens in
     let units = told_read c.gens_for.ensures.reads (told_before c.check_places.ensures.reads.moments c.in_ok-units.ensures.not_refused) in
-    told_as (told_read c.gens_for.ensures.reads (told_before c.check_places.ensures.reads.moments (told_before c.plan_switch.ensures.reads.moments c.in_ok-activation.ensures.not_refused))) (λ w. parts_refusal command w.leaves ≡ None)
-    (λ w is activation. not_refused (row_of command).switches (row_of command).sets _ (new_system command w.leaves) w (c.system.ensures w.leaves) (way.has w is) (units.has w is) activation
-    (c.in_ok-profile.ensures.not_refused (row_of command).sets w (gens.has w is)))
+    let activation = told_read c.gens_for.ensures.reads (told_before c.check_places.ensures.reads.moments (told_before c.plan_switch.ensures.reads.moments c.in_ok-activation.ensures.not_refused)) in
+    told_as (told_read c.gens_for.ensures.reads (told_before c.check_places.ensures.reads.moments (told_before c.plan_switch.ensures.reads.moments (told_before c.plan_accounts_and_etc.ensures.reads.moments c.in_ok-profile.ensures.not_refused)))) (λ w. parts_refusal command w.leaves ≡ None)
+    (λ w is profile. profile_refused (row_of command).switches (row_of command).sets (new_system command w.leaves) w.leaves (way.has w is) (units.has w is) None (activation.has w is) profile)
 
-pub returns-clause-numbered : goal.returns-clause-numbered
-returns-clause-numbered g c =
-    subst IsNumbered (sym c.new.ensures)
-    (λ leaves profile some. subst (λ (system : Name). number_for_in profile.gens.list system ≡ Some profile.number)
-    (c.system.ensures leaves ∙ ap (λ (command : Command). new_system command leaves) (sym c.in_ok-planned.ensures)) (c.in_ok-profile.ensures.numbered profile some))
+pub returns-clause-sound : goal.returns-clause-sound
+returns-clause-sound g c =
+    subst IsSound (sym c.new.ensures)
+    (λ leaves profile some. subst (λ (command : Command). IsDefaultFor (new_system command leaves) profile) (sym c.in_ok-planned.ensures) (c.in_ok-profile.ensures.sound leaves profile some))
 
 pub returns-clause-reads : goal.returns-clause-reads
 returns-clause-reads g c =
-    reads_of (reads_then (reads_then (reads_then (read_of c.gens_for.ensures.reads _ (λ e. e)) c.check_places.ensures.reads) c.plan_switch.ensures.reads) c.plan_accounts_and_etc.ensures.reads) _
+    reads_of (reads_then (reads_then (reads_then (reads_then (read_of c.gens_for.ensures.reads _ (λ e. e)) c.check_places.ensures.reads) c.plan_switch.ensures.reads) c.plan_accounts_and_etc.ensures.reads) c.plan_profile.ensures.reads) _
     (λ e. absurd (no_err _ (Host Device) e))
 
 pub returns-clause-steady : goal.returns-clause-steady

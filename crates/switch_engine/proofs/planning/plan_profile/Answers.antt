@@ -1,20 +1,58 @@
-use Rattle.std.proofs.Common.{sym, subst, ◌∙◌}
-use Rattle.switch_engine.specs.Plan.{AreGensFor}
-use Rattle.switch_engine.proofs.PlanLemmas.{profile_free, profile_full, profile_planned, same_plan_fault}
-use Rattle.switch_parts.specs.declared.plan_fault.PlanFault.TheVariants.{Refused}
-use Rattle.switch_parts.specs.declared.refusal.Refusal.TheVariants.{GenerationsFull}
+use Rattle.std.proofs.Common.{◌≡◌, Err, None, Option, Some, sym, ap, subst, ◌∙◌}
+use Rattle.std.proofs.lemmas.Result.{err_from_is_err_and}
+use Rattle.boot_entries.specs.BootDefault.{boot_default_in}
+use Rattle.generations.specs.declared.gens.Gens.{Gens}
+use Rattle.generations.specs.Gens.{IsGensOf}
+use Rattle.host_trait.specs.declared.tree.HostFault.TheVariants.{Device}
+use Rattle.host_trait.specs.Host.{Told}
+use Rattle.host_trait.proofs.Moments.{told_as}
+use Rattle.host_trait.proofs.Readings.{nothing_read_of}
+use Rattle.switch_engine.specs.Commands.{new_system, row_of}
+use Rattle.switch_engine.specs.Plan.{AreGensFor, IsProfilePlanned}
+use Rattle.switch_engine.specs.Rows.{part_if}
+use Rattle.switch_parts.specs.declared.plan_fault.PlanFault.TheVariants.{Host, Refused}
+use Rattle.unit_stage.proofs.CauseLemmas.{no_err}
+use Rattle.unit_stage.proofs.KnownLemmas.{same_fault}
+use Rattle.switch_engine.proofs.PlanLemmas.{default_on, default_refused, none_left, unset_free}
 use Rattle.switch_engine.proofs.planning.plan_profile.Goals as goal
 
-pub returns-in-Some-number_for-clause-plan : goal.returns-in-Some-number_for-clause-plan
-returns-in-Some-number_for-clause-plan c sets w stand =
-    profile_planned c.args.system.now c.in-Some.gens sets w (subst (AreGensFor sets w.leaves) c.in-Some.is stand) c.in-Some-number_for.number (sym c.number_for.ensures ∙ c.in-Some-number_for.is)
+pub returns-in_default-clause-plan : goal.returns-in_default-clause-plan
+returns-in_default-clause-plan g c =
+    let command = c.args.command.now in
+    told_as c.requires (λ w. IsProfilePlanned (row_of command).sets (new_system command w.leaves) w None)
+    (λ w is gens. subst (AreGensFor (row_of command).sets w.leaves) (sym (none_left c.args.gens c.in_default.not-Some)) gens)
 
-pub returns-in-Some-number_for-clause-not_refused : goal.returns-in-Some-number_for-clause-not_refused
-returns-in-Some-number_for-clause-not_refused c sets w stand =
-    profile_free c.args.system.now c.in-Some.gens sets w (subst (AreGensFor sets w.leaves) c.in-Some.is stand) c.in-Some-number_for.number (sym c.number_for.ensures ∙ c.in-Some-number_for.is)
+pub returns-in_default-clause-not_refused : goal.returns-in_default-clause-not_refused
+returns-in_default-clause-not_refused g c =
+    let command = c.args.command.now in
+    told_as c.requires (λ w. (part_if (row_of command).sets (boot_default_in (new_system command w.leaves) w.leaves)).refusal w.leaves ≡ None)
+    (λ w is gens. unset_free (new_system command w.leaves) (row_of command).sets w.leaves (subst (AreGensFor (row_of command).sets w.leaves) (sym (none_left c.args.gens c.in_default.not-Some)) gens))
 
-pub returns-in-None-clause-refused : goal.returns-in-None-clause-refused
-returns-in-None-clause-refused c why e = (
-  sym (same_plan_fault (Refused GenerationsFull) why e),
-  λ sets w stand. profile_full c.args.system.now c.in-Some.gens sets w (subst (AreGensFor sets w.leaves) c.in-Some.is stand) (sym c.number_for.ensures ∙ c.in-None.is),
-)
+pub returns-in_default-clause-reads : goal.returns-in_default-clause-reads
+returns-in_default-clause-reads g c = nothing_read_of _ (λ e. absurd (no_err _ (Host Device) e))
+
+pub plan_boot_default-requires : goal.plan_boot_default-requires
+plan_boot_default-requires g c = record {
+  gens = told_as (subst (λ (gens : Option Gens). Told (g.T.Tree.host c.args.host.now) (λ w. AreGensFor (row_of c.args.command.now).sets w.leaves gens)) c.in-Some.is c.requires)
+      (λ w. IsGensOf w.leaves c.in-Some.gens) (λ w is gens. gens.1);
+}
+
+pub returns-in_err-plan-clause-refused : goal.returns-in_err-plan-clause-refused
+returns-in_err-plan-clause-refused g c why e =
+    let p = err_from_is_err_and c.from_residual.result c.from_residual.ensures.1 in
+    let command = c.args.command.now in
+    told_as (c.in_err-plan.ensures.refused why (ap (λ f. Err f) (sym p.2 ∙ same_fault p.0 (Refused why) (sym p.1 ∙ e))))
+    (λ w. (part_if (row_of command).sets (boot_default_in (new_system command w.leaves) w.leaves)).refusal w.leaves ≡ Some why)
+    (λ w is refused. default_refused (row_of command).sets _ _ w.leaves (Some why) (subst (AreGensFor (row_of command).sets w.leaves) c.in-Some.is (c.requires.has w is)).0 (c.system.ensures w.leaves) refused)
+
+pub returns-clause-plan : goal.returns-clause-plan
+returns-clause-plan g c =
+    let command = c.args.command.now in
+    told_as c.in_ok-plan.ensures.plan (λ w. IsProfilePlanned (row_of command).sets (new_system command w.leaves) w (Some c.in_ok-plan.plan))
+    (λ w is planned. default_on (row_of command).sets _ (new_system command w.leaves) w c.in_ok-plan.plan (subst (AreGensFor (row_of command).sets w.leaves) c.in-Some.is (c.requires.has w is)).0 (c.system.ensures w.leaves) planned)
+
+pub returns-clause-not_refused : goal.returns-clause-not_refused
+returns-clause-not_refused g c =
+    let command = c.args.command.now in
+    told_as c.in_ok-plan.ensures.not_refused (λ w. (part_if (row_of command).sets (boot_default_in (new_system command w.leaves) w.leaves)).refusal w.leaves ≡ None)
+    (λ w is refused. default_refused (row_of command).sets _ _ w.leaves None (subst (AreGensFor (row_of command).sets w.leaves) c.in-Some.is (c.requires.has w is)).0 (c.system.ensures w.leaves) refused)

@@ -1,4 +1,5 @@
 use Rattle.switch_run.proofs.RunLemmas as run
+use Rattle.switch_run.proofs.WordLemmas.{named_of}
 use Rattle.switch_run.proofs.top_call.run.Goals as goal
 
 pub returns-clause-usage : goal.returns-clause-usage
@@ -38,7 +39,8 @@ pub returns-clause-queries : goal.returns-clause-queries
 returns-clause-queries g c = run.queries _ c.run_words-ending.result c.run_words-ending.ensures c.status_of.result c.status_of.ensures
 
 pub returns-clause-same_report : goal.returns-clause-same_report
-returns-clause-same_report g c = run.same_report _ c.run_words-ending.result c.run_words-ending.ensures c.status_of.result c.status_of.ensures
+returns-clause-same_report g c command some =
+    run.same_report _ c.run_words-ending.result c.run_words-ending.ensures c.status_of.result c.status_of.ensures command (named_of c.args.words.now command some) some
 
 pub returns-clause-broken_off : goal.returns-clause-broken_off
 returns-clause-broken_off g c = run.broken_off _ c.run_words-ending.result c.run_words-ending.ensures c.status_of.result c.status_of.ensures
