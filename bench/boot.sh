@@ -7,14 +7,15 @@
 # trace. The peak memory is that of /usr/bin/time, and without it the highest that /proc showed, 0
 # where it showed none.
 #
-# For each number of generations it prints
+# Each root has the boot menu of its generations. For each number of generations it prints
+#   first         milliseconds of a boot of the root without its menu, which makes all entries
 #   milliseconds  the least of three boots, each of the root as it was made, without strace
 #   peak KiB      the most memory that a boot had at once
 #   changes       calls that make, move or remove something below the root, open a file there for
 #                 writing or write to it
 #   calls         all system calls, and `its own` without the loader's: from the first on the root
 #   leaf read     the most calls that read one leaf, without the one by which a listing looks at it
-#   leaf put      the most calls that put one leaf, without those on the folders to it
+#   leaf put      the most calls that look at the place of one leaf and put it, without those on the folders to it
 # and then the growth and three bounds. It ends with 1 where a boot fails or a bound is passed.
 # It is no part of the gate.
 . "$(dirname "$0")/common.sh"
@@ -22,24 +23,31 @@ find_program "$@"
 [ $# -eq 0 ] || shift
 [ $# -gt 0 ] || set -- 10 1000 10000
 profiles=$root/tree/nix/var/nix/profiles
+menu=$root/tree/boot/loader
 failed=0
 
 # Takes back what a boot does to a root with this many generations.
 restore_root() {
-    rm -f "$profiles/system-$(($1 + 1))-link"
+    rm -f "$profiles/system-$(($1 + 1))-link" "$menu/entries/nixos-generation-$(($1 + 1)).conf"
     printf 'L system-%d-link\n' "$1" >"$profiles/system"
+    printf 'F 0644 0 0\ndefault nixos-generation-%d.conf\n' "$1" >"$menu/loader.conf"
 }
 
-# Makes a root with a system to boot and this many generations of others.
+# Makes a root with a system to boot and this many generations of others, with their boot menu.
 make_root() {
     rm -rf "$root"
-    mkdir -p "$profiles" "$root/tree/nix/store/a-sys"
+    mkdir -p "$profiles" "$menu/entries" "$root/tree/nix/store/a-sys"
     printf 'F 0644 0 0\n24.05\n' >"$root/tree/nix/store/a-sys/nixos-version"
-    awk -v folder="$profiles" -v last="$1" 'BEGIN {
+    awk -v folder="$profiles" -v entries="$menu/entries" -v last="$1" 'BEGIN {
         for (number = 1; number <= last; number++) {
+            system_path = "/nix/store/s-" number
             link = folder "/system-" number "-link"
-            printf "L /nix/store/s-%d\n", number >link
+            printf "L %s\n", system_path >link
             close(link)
+            entry = entries "/nixos-generation-" number ".conf"
+            printf "F 0644 0 0\ntitle NixOS\nversion Generation %d \nlinux %s/kernel\ninitrd %s/initrd\noptions init=%s/init\n", \
+                number, system_path, system_path, system_path >entry
+            close(entry)
         }
     }'
     restore_root "$1"
@@ -52,13 +60,32 @@ boot() {
 
 # after STATUS COUNT: judges a boot of a root with COUNT generations, and takes it back.
 after() {
-    local link=system-$(($2 + 1))-link
+    local link=system-$(($2 + 1))-link entry=nixos-generation-$(($2 + 1)).conf
     if [ "$1" != 0 ] || [ "$(cat "$profiles/system")" != "L $link" ] ||
-        [ "$(cat "$profiles/$link")" != "L /nix/store/a-sys" ]; then
+        [ "$(cat "$profiles/$link")" != "L /nix/store/a-sys" ] ||
+        [ "$(sed -n 2p "$menu/loader.conf")" != "default $entry" ] ||
+        ! grep -q "^version Generation $(($2 + 1)) 24.05$" "$menu/entries/$entry"; then
         failed=1
         echo "a boot of $2 generations went wrong: status $1, $(cat "$work/stderr")"
     fi
     restore_root "$2"
+}
+
+# Sets `first` to the milliseconds of a boot without a menu, and judges that it makes the whole one.
+measure_first() {
+    local from spent status
+    mv "$root/tree/boot" "$work/menu"
+    from=${EPOCHREALTIME/./}
+    boot
+    status=$?
+    spent=$((${EPOCHREALTIME/./} - from))
+    first=$(printf '%d.%03d' $((spent / 1000)) $((spent % 1000)))
+    after $status "$1"
+    if ! diff -r "$root/tree/boot" "$work/menu" >"$work/difference"; then
+        failed=1
+        echo "the first boot of $1 generations makes another menu: $(head -n 1 "$work/difference")"
+    fi
+    rm -rf "$work/menu"
 }
 
 # Sets `micros` to the microseconds of the quickest of three boots.
@@ -151,7 +178,8 @@ function is_change(kind, call) {
         last = ""
     }
 
-    # A leaf is put by the calls on the stage and on its place since the report or the last put.
+    # A leaf is put by the calls on the stage and on its place since the report or the last put. What stands at
+    # the place of an entry is read first.
     if (/^write\(1</)
         split("", seen)
     if (below)
@@ -205,14 +233,15 @@ else
 fi
 [ -n "$traced" ] || echo "no calls are counted: strace isn't there or may not trace"
 
-form='%11s %12s %8s %8s %8s %8s %9s %8s\n'
+form='%11s %11s %12s %8s %8s %8s %8s %9s %8s\n'
 # shellcheck disable=SC2059
-printf "$form" generations milliseconds 'peak KiB' changes calls 'its own' 'leaf read' 'leaf put'
+printf "$form" generations first milliseconds 'peak KiB' changes calls 'its own' 'leaf read' 'leaf put'
 most_changes=0 most_read=0 most_put=0
 last=''
 grown=''
 for count in "$@"; do
     make_root "$count"
+    measure_first "$count"
     measure_time "$count"
     measure_memory "$count"
     changes=- calls=- own=- read=- put=-
@@ -224,7 +253,7 @@ for count in "$@"; do
     fi
     millis=$(printf '%d.%03d' $((micros / 1000)) $((micros % 1000)))
     # shellcheck disable=SC2059
-    printf "$form" "$count" "$millis" "$peak" "$changes" "$calls" "$own" "$read" "$put"
+    printf "$form" "$count" "$first" "$millis" "$peak" "$changes" "$calls" "$own" "$read" "$put"
     row="$count $micros $peak $own"
     [ -z "$last" ] || grown+=$(growth "$last" "$row")$'\n'
     last=$row
@@ -233,6 +262,6 @@ printf '%s' "$grown"
 if [ -n "$traced" ]; then
     bound "calls that change a file" "$most_changes" 25
     bound "calls for a leaf that is read" "$most_read" 4
-    bound "calls for a leaf that is put" "$most_put" 6
+    bound "calls for a leaf that is put" "$most_put" 10
 fi
 exit $failed

@@ -3,10 +3,16 @@
 # It sets `here` to the checkout, `work` to a scratch folder that goes at the end, and `root` to a place
 # for a root folder in it. `find_program` sets `program`, and `quickest` measures. The rest makes roots with two
 # systems of many units, further entries below etc and accounts, and counts the calls on them.
+#
+# The scratch folder is in TMPDIR, and without one in /dev/shm where that is there, so that the times are the program's and
+# not those of a slow disk.
 # shellcheck shell=bash
 set -u
 export LC_ALL=C
 here=$(cd "$(dirname "$0")/.." && pwd)
+if [ -z "${TMPDIR-}" ] && [ -d /dev/shm ] && [ -w /dev/shm ]; then
+    export TMPDIR=/dev/shm
+fi
 work=$(cd "$(mktemp -d)" && pwd -P)
 trap 'chmod -R u+rwX "$work"; rm -rf "$work"' EXIT
 # shellcheck disable=SC2034
@@ -168,14 +174,14 @@ make_whole() {
 keep_root() {
     rm -rf "$work/kept"
     mkdir -p "$work/kept/tree/nix"
-    cp -r "$root/tree/etc" "$root/tree/run" "$root/tree/var" "$work/kept/tree"
+    cp -r "$root/tree/boot" "$root/tree/etc" "$root/tree/run" "$root/tree/var" "$work/kept/tree"
     cp -r "$root/tree/nix/var" "$work/kept/tree/nix"
     cp "$root/manager" "$work/kept"
 }
 
 # Takes the root back to what was kept of it.
 restore_kept() {
-    rm -rf "$root/tree/etc" "$root/tree/run" "$root/tree/var" "$root/tree/nix/var" "$root/manager"
+    rm -rf "$root/tree/boot" "$root/tree/etc" "$root/tree/run" "$root/tree/var" "$root/tree/nix/var" "$root/manager"
     cp -r "$work/kept/." "$root"
 }
 

@@ -150,6 +150,36 @@ run "a folder with a leaf where the profile is to stand" 2
 fresh && printf 'L x\n' >"$tree/nix/var"
 run "a leaf where a folder is to stand" 2
 
+menu=$tree/boot/loader
+fresh && ln -s "$work/outside/var" "$tree/boot"
+run "a folder on the way to the boot menu is a link" 3
+fresh && mkdir -p "$menu" && ln -s "$work/outside/var" "$menu/entries"
+run "the folder of the entries is a link" 3
+fresh && mkdir -p "$menu/entries" && ln -s "$work/outside/file" "$menu/entries/nixos-generation-1.conf"
+run "an entry is a link of the file system" 3
+fresh && mkdir -p "$menu/entries" && ln "$work/outside/file" "$menu/entries/nixos-generation-1.conf"
+run "an entry is a second name of a file outside" 3
+fresh && mkdir -p "$menu/entries" && ln -s "$work/outside/file" "$menu/entries/nixos-generation-7.conf"
+run "an entry that goes is a link of the file system" 3
+fresh && mkdir -p "$menu/entries" && mkfifo "$menu/entries/pipe"
+run "a pipe among the entries" 3
+fresh && mkdir -p "$menu/entries" && touch "$menu/entries/$(printf 'a\377')"
+run "an entry whose name is no UTF-8" 3
+fresh && mkdir -p "$menu/entries" && echo junk >"$menu/entries/nixos-generation-7.conf"
+run "an entry that goes is no node" 0
+fresh && mkdir -p "$menu" && ln -s "$work/outside/file" "$menu/loader.conf"
+run "what the boot loader reads first is a link" 3
+fresh && mkdir -p "$menu/loader.conf/a/b"
+run "empty folders where the boot loader reads first" 0
+fresh && mkdir -p "$menu/entries/nixos-generation-1.conf" && printf 'L x\n' >"$menu/entries/nixos-generation-1.conf/leaf"
+run "a folder with a leaf where an entry is to stand" 2
+fresh && ln -s "$work/outside/file" "$tree/nix/store/a-sys/kernel-params"
+run "the kernel's parameters are a link of the file system" 3
+fresh && printf 'L /nix/store/../../../../outside/file\n' >"$tree/nix/store/a-sys/kernel-params"
+run "the kernel's parameters lead out of the tree" 0
+fresh && truncate -s 20G "$tree/nix/store/a-sys/kernel-params"
+run "twenty gigabytes of the kernel's parameters" 3
+
 command=dry-activate
 units=$tree/nix/store/a-sys/etc/systemd/system
 fresh

@@ -6,14 +6,17 @@
 # Needs bash 5, awk, the coreutils, findutils, and strace with leave to trace.
 #
 # An uncut run is traced first, from four roots: a boot without a profile, a boot with three generations whose profile is
-# the second, a test of the example root, which sets its accounts, makes its /etc and switches its units, and a switch of
-# it, which makes a generation too. Then each of its calls that change a file or write to standard output is a place for
+# the second and whose boot menu is of the second and of one that is gone, a test of the example root, which sets its
+# accounts, makes its /etc and switches its units, and a switch of it, which makes a generation and its boot menu too.
+# Then each of its calls that change a file or write to standard output is a place for
 # the kill, twice: at its entry, where the call has no effect, and after it. As strace kills at an entry only, the kill
 # after a call is at the entry of the one that follows. strace counts each kind of call by itself, so a place is named by
 # kind and number.
 #
 # A row passes where the run was killed at its place, the profile then named what it named before
-# or, where the command sets it, the new system, the next run ended with the uncut run's status, and each file and
+# or, where the command sets it, the new system, a firmware then found a menu that boots (each file of it was as at first or
+# as the uncut run leaves it, no generation that stands had lost its entry, and what the boot loader reads first named an
+# entry that stands), the next run ended with the uncut run's status, and each file and
 # folder but the stage is as the uncut run leaves it: of the journal, which units were stopped, and which
 # were reloaded, restarted or started under which definitions. A boot has to put the same output again;
 # a switch tells what is left to do. Each place is tried with one kill, and with a second one at the same
@@ -33,6 +36,7 @@ if ! strace -o "$work/calls" true 2>"$work/stderr"; then
 fi
 tree=$root/tree
 profiles=$tree/nix/var/nix/profiles
+menu=$tree/boot/loader
 passed=0
 failed=0
 
@@ -45,10 +49,16 @@ make_empty() {
     printf 'F 0644 0 0\n24.05\n' >"$tree/nix/store/a-sys/nixos-version"
 }
 
-# A root with three generations, of which the profile names the second.
+# A root with three generations, of which the profile names the second. In its boot menu are an entry of the second with
+# another text, one of a generation that is gone and one of another system.
 make_three() {
     local number
     make_empty
+    mkdir -p "$menu/entries"
+    printf 'F 0644 0 0\ntitle NixOS\nlinux /nix/store/s-2/kernel\n' >"$menu/entries/nixos-generation-2.conf"
+    printf 'F 0644 0 0\ntitle NixOS\nlinux /nix/store/s-7/kernel\n' >"$menu/entries/nixos-generation-7.conf"
+    printf 'F 0644 0 0\ntitle Other\n' >"$menu/entries/other.conf"
+    printf 'F 0644 0 0\ndefault nixos-generation-2.conf\n' >"$menu/loader.conf"
     mkdir -p "$profiles"
     for number in 1 2 3; do
         printf 'L /nix/store/s-%d\n' $number >"$profiles/system-$number-link"
@@ -175,11 +185,38 @@ note() {
     printf '%-101s %s\n' "$1" "$2"
 }
 
-# Sets `verdict` where the profile names neither what it named before nor what the command leads it to.
+# keep_menu NAME: keeps a copy of the boot menu as it is, or of an empty one.
+keep_menu() {
+    rm -rf "${work:?}/$1"
+    mkdir -p "$work/$1"
+    [ ! -d "$menu" ] || cp -r "$menu/." "$work/$1"
+}
+
+# Sets `verdict` where a file of the boot menu is neither the one at first nor the last one, where a generation that stands
+# has lost its entry, or where what the boot loader reads first names no entry or, as the last one, another system.
+judge_menu() {
+    local file name
+    if [ -d "$menu" ]; then
+        while read -r file; do
+            cmp -s "$menu/$file" "$work/first/$file" || cmp -s "$menu/$file" "$work/last/$file" || verdict="the menu has another $file"
+        done < <(cd "$menu" && find . -type f)
+    fi
+    while read -r file; do
+        name=${file##*/nixos-generation-}
+        [ ! -f "$profiles/system-${name%.conf}-link" ] || [ -f "$menu/$file" ] || verdict="the menu has lost $file"
+    done < <(cd "$work/first" && find . -name 'nixos-generation-*.conf')
+    [ -f "$menu/loader.conf" ] || return
+    [ -f "$menu/entries/$(sed -n 's/^default //p' "$menu/loader.conf")" ] || verdict='the boot loader boots no entry'
+    cmp -s "$menu/loader.conf" "$work/first/loader.conf" || [ "$(profile_system)" = "$goal" ] || verdict='the boot loader goes before the profile'
+}
+
+# Sets `verdict` where the profile names neither what it named before nor what the command leads it to, or where the boot
+# menu doesn't boot.
 judge_moment() {
     local now
     now=$(profile_system)
     [ "$now" = "$was" ] || [ "$now" = "$goal" ] || verdict="the profile names $now"
+    judge_menu
 }
 
 # row NAME KIND NUMBER CALLS TRIES: tries to kill that many runs at a place, ends the next one, and
@@ -210,8 +247,10 @@ root_rows() {
     make=$2
     "$make"
     was=$(profile_system)
+    keep_menu first
     carry strace -f -y -o "$work/calls"
     ends=$?
+    keep_menu last
     if [ $ends != "$3" ] || [ "$(profile_system)" != "$goal" ]; then
         note "$1: the uncut run" "went wrong: $(cat "$work/stderr")"
         return
@@ -274,7 +313,9 @@ moment_rows() {
     keep_root
     make_many
     was=$(profile_system)
+    keep_menu first
     quickest 1 carry
+    keep_menu last
     final=$(files)
     [ "$(profile_system)" = "$goal" ] || note 'a switch of many units: the uncut run' "went wrong: $(cat "$work/stderr")"
     echo "a switch of 500 units, 2000 entries and 60 users: the profile names $was, $micros microseconds"

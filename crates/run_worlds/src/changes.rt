@@ -91,6 +91,7 @@ pub fn show_changes(
     after: &World,
 ) -> Result<(), Fail> {
     show_states(lines, after);
+    show_other_leaves(alloc, lines, before, after, "boot")?;
     show_other_leaves(alloc, lines, before, after, "etc")?;
     show_other_leaves(alloc, lines, before, after, "nix")?;
     show_other_leaves(alloc, lines, before, after, "run")?;

@@ -29,6 +29,7 @@ pub fn show_all_but_the_journal(
     world: &World,
 ) -> Result<(), Fail> {
     show_states(lines, world);
+    show_leaves(alloc, lines, world, "boot")?;
     show_leaves(alloc, lines, world, "etc")?;
     show_leaves(alloc, lines, world, "nix")?;
     show_leaves(alloc, lines, world, "run")?;
