@@ -220,15 +220,21 @@ judge_moment() {
 }
 
 # row NAME KIND NUMBER CALLS TRIES: tries to kill that many runs at a place, ends the next one, and
-# judges. The first must be killed, at the call with this number among all.
+# judges. The first must be killed, at the call with this number among all: where it isn't, as may be on a machine that is
+# busy, the row begins anew, twice at most.
 row() {
-    local verdict=ok kills=0 try status
+    local verdict=ok kills=0 try status anew=2
     "$make"
     for ((try = 1; try <= $5; try++)); do
         if killed_run "$2" "$3"; then
             kills=$((kills + 1))
         fi
         if [ $try = 1 ] && { [ $kills = 0 ] || [ "$(call_count)" != "$4" ]; }; then
+            if [ $anew != 0 ]; then
+                anew=$((anew - 1)) try=0 kills=0
+                "$make"
+                continue
+            fi
             verdict='was not killed there'
         fi
         judge_moment
