@@ -356,12 +356,16 @@ if [ -n "$trace" ]; then
         run_with openat:error=EINTR:when="$start+2" "each other call that opens something is interrupted, from $((start - first))" 0
     done
 
-    # Want of memory that lasts, from each of the first calls for memory on.
+    # Want of memory that lasts: the program gets none from its first call for it on, or from the second on. (A later
+    # brk that fails gives its old end in Linux, which can't be had so.)
     fresh
     told=0
     verdict=ok
-    for call in $(seq 2 60); do
-        strace -o "$work/calls" -e trace=brk,mmap -e inject=brk,mmap:error=ENOMEM:when="$call+" \
+    strace -o "$work/calls" -e trace=mmap "$program" "$work/root" dry-activate nix/store/a-sys >"$work/stdout" 2>"$work/stderr"
+    maps=$(grep -c '^mmap' "$work/calls")
+    for call in 1 2; do
+        strace -o "$work/calls" -e trace=brk,mmap -e inject=brk:error=ENOMEM:when="$call+" \
+            -e inject=mmap:error=ENOMEM:when="$((maps + 1))+" \
             "$program" "$work/root" dry-activate nix/store/a-sys >"$work/stdout" 2>"$work/stderr"
         [ $? = 5 ] || continue
         told=$((told + 1))
