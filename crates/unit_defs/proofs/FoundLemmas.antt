@@ -6,8 +6,8 @@ use Rattle.std.specs.Option.{option_map_or, option_or, unwrap_or}
 use Rattle.std.proofs.lemmas.List.{append-nil}
 use Rattle.host_trait.specs.World.{bytes_cmp}
 use Rattle.unit_text.specs.declared.assignment.Assignment.{Assignment}
-use Rattle.unit_defs.specs.declared.found.Found.{Found}
-use Rattle.unit_defs.specs.declared.found.UnitFiles.{UnitFiles}
+use Rattle.unit_defs.specs.declared.reading.found.Found.{Found}
+use Rattle.unit_defs.specs.declared.reading.found.UnitFiles.{UnitFiles}
 use Rattle.unit_defs.specs.declared.part.Part.{Part}
 use Rattle.unit_defs.specs.declared.place.Place.TheVariants.{File, DropIn, Want}
 use Rattle.unit_defs.specs.Found.{Joins, Takes, drop_in_in, file_in, files_in, line_in, wants_in}

@@ -15,8 +15,8 @@ use Rattle.host_trait.proofs.Places.{alike, found}
 use Rattle.unit_text.specs.declared.assignment.Assignment.{Assignment}
 use Rattle.fstab_mounts.specs.Fstab.{fstab_units}
 use Rattle.fstab_mounts.specs.declared.fs_unit.FsUnit.{FsUnit}
-use Rattle.unit_defs.specs.declared.found.Found.{Found}
-use Rattle.unit_defs.specs.declared.found.UnitFiles.{UnitFiles}
+use Rattle.unit_defs.specs.declared.reading.found.Found.{Found}
+use Rattle.unit_defs.specs.declared.reading.found.UnitFiles.{UnitFiles}
 use Rattle.unit_defs.specs.declared.part.Part.{Part}
 use Rattle.unit_defs.specs.declared.place.Place.TheVariants.{Want}
 use Rattle.unit_defs.specs.Files.{folder_wants}

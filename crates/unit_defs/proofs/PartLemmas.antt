@@ -5,7 +5,7 @@ use Rattle.std.specs.Option.{option_map_or, option_or}
 use Rattle.std.proofs.lemmas.List.{append-nil}
 use Rattle.std.proofs.lemmas.List.Concat.{flat_map-append}
 use Rattle.switch_names.specs.UnitName.{template_of}
-use Rattle.unit_defs.specs.declared.found.Found.{Found}
+use Rattle.unit_defs.specs.declared.reading.found.Found.{Found}
 use Rattle.unit_defs.specs.declared.part.Part.{Part}
 use Rattle.unit_defs.specs.Files.{base_of}
 use Rattle.unit_defs.specs.Found.{drop_ins_in, file_in, file_part_in}

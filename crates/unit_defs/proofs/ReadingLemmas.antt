@@ -9,8 +9,8 @@ use Rattle.std.proofs.lemmas.List.{append-nil, take_more}
 use Rattle.std.proofs.lemmas.List.Concat.{flat_map-append}
 use Rattle.std.proofs.lemmas.List.Folds.{list_any-append}
 use Rattle.host_trait.specs.World.{Leaves, bytes_cmp, content_of}
-use Rattle.unit_defs.specs.declared.found.Found.{Found}
-use Rattle.unit_defs.specs.declared.found.UnitFiles.{UnitFiles}
+use Rattle.unit_defs.specs.declared.reading.found.Found.{Found}
+use Rattle.unit_defs.specs.declared.reading.found.UnitFiles.{UnitFiles}
 use Rattle.unit_defs.specs.declared.part.Part.{Part}
 use Rattle.unit_defs.specs.declared.place.Place.{Place}
 use Rattle.unit_defs.specs.declared.place.Place.TheVariants.{File, DropIn, Want}

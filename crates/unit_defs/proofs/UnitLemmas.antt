@@ -13,8 +13,8 @@ use Rattle.switch_names.specs.UnitName.{IsUnitName, instance_of, is_at_sign, is_
 use Rattle.switch_names.proofs.Faultless.{HasNone-from_sought}
 use Rattle.switch_names.proofs.UnitNames.{name_ending-of_kind, template_is_name}
 use Rattle.host_trait.specs.World.{Leaves, bytes_cmp}
-use Rattle.unit_defs.specs.declared.found.Found.{Found}
-use Rattle.unit_defs.specs.declared.found.UnitFiles.{UnitFiles}
+use Rattle.unit_defs.specs.declared.reading.found.Found.{Found}
+use Rattle.unit_defs.specs.declared.reading.found.UnitFiles.{UnitFiles}
 use Rattle.unit_defs.specs.declared.part.Part.{Part}
 use Rattle.unit_defs.specs.declared.unit.Unit.{Unit}
 use Rattle.unit_defs.specs.Defs.{AreSorted, AreUnitsOf, names_in, part_in, unit_in}

@@ -13,8 +13,8 @@ use Rattle.switch_names.specs.UnitName.{IsUnitName}
 use Rattle.switch_names.proofs.Below.{below_front}
 use Rattle.host_trait.specs.declared.leaf.LeafKind.{LeafKind}
 use Rattle.host_trait.specs.World.{Leaves, bytes_cmp, content_of, is_listed, is_path, leaf_content, stage}
-use Rattle.unit_defs.specs.declared.found.Found.{Found}
-use Rattle.unit_defs.specs.declared.found.UnitFiles.{UnitFiles}
+use Rattle.unit_defs.specs.declared.reading.found.Found.{Found}
+use Rattle.unit_defs.specs.declared.reading.found.UnitFiles.{UnitFiles}
 use Rattle.unit_defs.specs.Files.{drop_in_at, file_of, folder_wants, paths_of}
 use Rattle.unit_defs.specs.Found.{AreFilesAt, AreFilesOf, files_in, is_file}
 use Rattle.unit_defs.specs.Fstab.{wanted_by_lines}

@@ -9,8 +9,8 @@ use Rattle.switch_names.specs.UnitName.{IsUnitName}
 use Rattle.host_trait.specs.World.{Leaves, bytes_cmp, content_of}
 use Rattle.unit_text.specs.declared.assignment.Assignment.{Assignment}
 use Rattle.fstab_mounts.specs.declared.fs_unit.FsUnit.{FsUnit}
-use Rattle.unit_defs.specs.declared.found.Found.{Found}
-use Rattle.unit_defs.specs.declared.found.UnitFiles.{UnitFiles}
+use Rattle.unit_defs.specs.declared.reading.found.Found.{Found}
+use Rattle.unit_defs.specs.declared.reading.found.UnitFiles.{UnitFiles}
 use Rattle.unit_defs.specs.declared.part.Part.{Part}
 use Rattle.unit_defs.specs.declared.place.Place.{Place}
 use Rattle.unit_defs.specs.declared.place.Place.TheVariants.{File, DropIn}

@@ -12,12 +12,12 @@ ghost use Rattle.unit_defs.specs.Units.{HasNoFault, IsFirstFault, can_be_wanted,
 ghost use Rattle.switch_names.specs.Names.{has};
 ghost use Rattle.switch_names.specs.UnitName.{IsUnitName};
 
+use crate::answering::fault::first_fault;
+use crate::answering::search::{find_template, find_unit};
+use crate::answering::wanting::{find_text, names_of, wants_of};
 use crate::defs_fault::DefsFault;
-use crate::fault::first_fault;
 use crate::reading::read_units;
-use crate::search::{find_template, find_unit};
 use crate::unit::{Unit, Wants};
-use crate::wanting::{find_text, names_of, wants_of};
 use host_trait::{HostFault, Tree};
 use std::alloc::{AllocError, Global};
 use std::marker::Model;

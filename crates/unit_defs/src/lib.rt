@@ -2,18 +2,14 @@
 //! the lines of their fstab, and what each wants.
 #![tactic(auto)]
 
+mod answering;
 mod defs;
 mod defs_fault;
-mod fault;
-mod found;
-mod fstab;
 mod laws;
 mod part;
 mod place;
 mod reading;
-mod search;
 mod unit;
-mod wanting;
 
 pub use defs::Defs;
 pub use defs_fault::DefsFault;

@@ -5,8 +5,8 @@ ghost use Rattle.std.specs.Option.{option_copied};
 ghost use Rattle.unit_defs.specs.Found.{Takes};
 ghost use Rattle.unit_defs.specs.Place.{after_front, before_end, drop_in, is_drop_in_name, is_slash, is_want, named, place_below, place_after, place_in, want};
 
-use crate::found::Found;
 use crate::part::Part;
+use crate::reading::found::Found;
 use std::alloc::{AllocError, Global};
 use switch_names::{NameFault, Path, Text, UnitName};
 

@@ -7,11 +7,16 @@ ghost use Rattle.unit_defs.specs.Found.{AreFilesAt, AreFilesOf, TakesPath, part_
 ghost use Rattle.unit_defs.specs.Place.{unit_folder};
 ghost use Rattle.switch_names.specs.Path.{slash};
 
-use crate::found::Found;
-use crate::fstab::read_fstab;
+pub mod found;
+mod fstab;
+mod units;
+
+use self::found::Found;
+use self::fstab::read_fstab;
+use self::units::units_of;
 use crate::part::Part;
 use crate::place::{Place, place_after};
-use crate::unit::{Unit, units_of};
+use crate::unit::Unit;
 use host_trait::{HostFault, Tree, content};
 use std::alloc::{AllocError, Global};
 use switch_names::{Listed, NameFault, Path, SystemName, Text};

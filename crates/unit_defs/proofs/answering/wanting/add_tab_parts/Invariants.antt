@@ -1,0 +1,7 @@
+use Rattle.std.proofs.Common.{map, take}
+use Rattle.unit_defs.specs.Defs.{AddsWanted}
+use Rattle.unit_defs.proofs.answering.wanting.add_tab_parts.Given as goal
+
+-- the set has what it had, and what can be wanted of the parts so far
+abbrev pub invariant-loop-part : goal.invariant-loop-part
+invariant-loop-part l = AddsWanted l.units (map (λ part. part.now) (take l.part-index l.part-items)) l.fn.set l.set
