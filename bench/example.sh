@@ -101,8 +101,8 @@ mkdir -p "$runs" || exit 1
 cp -r crates/nixswitch/data/root crates/nixswitch/data/example "$scratch" || exit 1
 cp -r crates/nixswitch/data/example "$scratch/cut" || exit 1
 if [ -z "$program" ]; then
-    echo "The program of this run isn't proved: its sources are compiled as they stand, in a minute or so."
-    echo "make build proves it, which takes some twenty minutes the first time; from then on make run shows that one."
+    echo "The program of this run isn't proved: its sources are compiled as they stand, in some two minutes."
+    echo "make build proves it, which takes up to half an hour the first time; from then on make run shows that one."
     plan 1-boot root boot nix/store/a-sys
     plan 2-dry-activate example dry-activate nix/store/web-24.11
     plan 3-switch example switch nix/store/web-24.11
