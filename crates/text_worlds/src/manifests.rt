@@ -1,6 +1,6 @@
 //! What a system wants below `/etc`, by the rules of the NixOS manual, `environment.etc`.
+use crate::account_tables::tables_of;
 use crate::worlds::fill;
-use account_text::{Tables, read_group, read_passwd, read_shadow};
 use etc_manifest::{Item, ItemKind, Manifest, ManifestFault, Owners};
 use host_memory::MemoryHost;
 use host_trait::{Leaf, LeafKind, World};
@@ -65,11 +65,7 @@ fn show_fault(lines: &mut Lines, fault: &ManifestFault) {
 
 /// The owners of a table of users and one of groups.
 fn owners_of(alloc: Global, passwd: &Bytes, group: &Bytes) -> Result<Owners, Fail> {
-    let tables = Tables {
-        passwd: read_passwd(alloc, passwd.as_slice())?,
-        group: read_group(alloc, group.as_slice())?,
-        shadow: read_shadow(alloc, b"")?,
-    };
+    let tables = tables_of(alloc, passwd.as_slice(), group.as_slice(), b"")?;
     Ok(Owners::of(alloc, &tables)?)
 }
 

@@ -11,7 +11,8 @@ fn put_wanted(alloc: Global, world: &mut World, name: &str, text: &[u8]) -> Resu
         [b'-', b'>', target @ ..] => Leaf::link(alloc, std::str::from_utf8(target)?)?,
         _ => Leaf::file(Bytes::from_slice(alloc, text)?, 420, 0, 0),
     };
-    let at = format!(in alloc; "nix/store/a-sys/etc/{name}")?;
+    let mut at = String::from_str(alloc, "nix/store/a-sys/etc/")?;
+    at.push_str(name)?;
     world.set_leaf(Path::parse(alloc, at.as_str())?, leaf)?;
     Ok(())
 }

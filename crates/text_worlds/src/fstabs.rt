@@ -1,0 +1,52 @@
+//! The units of fstabs, by fstab(5), systemd.mount(5) and systemd.swap(5).
+use crate::writing::show_value;
+use fstab_mounts::{FsUnit, parse};
+use std::alloc::{AllocError, Global};
+use switch_names::{NameFault, UnitName};
+use unit_text::UnitText;
+use world_text::Lines;
+
+/// Shows the name of a unit, or why there is none.
+pub fn show_unit_name(lines: &mut Lines, unit: &Result<UnitName, NameFault>) {
+    match unit {
+        Ok(unit) => lines.add_word(unit.as_str()),
+        Err(fault) => lines.add_value(fault),
+    }
+}
+
+/// Shows the names of the units of an fstab.
+pub fn show_fstab(alloc: Global, lines: &mut Lines, text: &[u8]) -> Result<(), AllocError> {
+    let units = parse(alloc, text)?;
+    for unit in units.as_slice() {
+        lines.add_word(unit.unit.as_str());
+        lines.end_line();
+    }
+    Ok(())
+}
+
+/// Shows each key of a unit's text after its section, with its values.
+fn show_keys(lines: &mut Lines, text: &UnitText) {
+    for at in text.keys().as_slice() {
+        let (section, key) = (at.section.as_str(), at.key.as_str());
+        lines.add_word(section);
+        lines.add_word(key);
+        show_value(lines, &text.values(section, key));
+    }
+}
+
+/// Shows the name of a unit, whether it is started with the system, and what it says.
+fn show_unit(lines: &mut Lines, unit: &FsUnit) {
+    lines.add_word(unit.unit.as_str());
+    lines.add_word("auto");
+    show_value(lines, &unit.auto);
+    show_keys(lines, &unit.text);
+}
+
+/// Shows the units of an fstab with what they say.
+pub fn show_units(alloc: Global, lines: &mut Lines, text: &[u8]) -> Result<(), AllocError> {
+    let units = parse(alloc, text)?;
+    for unit in units.as_slice() {
+        show_unit(lines, unit);
+    }
+    Ok(())
+}
