@@ -18,6 +18,3 @@ pub use passwd::{PasswdRow, read_passwd, write_passwd};
 pub use row_fault::RowFault;
 pub use shadow::{ShadowRow, read_shadow, write_shadow};
 pub use tables::Tables;
-
-#[cfg(test)]
-mod tests;

@@ -5,8 +5,6 @@ mod escape;
 mod fields;
 mod fs_unit;
 mod fstab;
-#[cfg(test)]
-mod tests;
 
 pub use escape::{mount_unit, swap_unit};
 pub use fs_unit::FsUnit;

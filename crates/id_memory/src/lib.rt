@@ -7,8 +7,6 @@ mod id_map;
 mod id_row;
 mod members;
 mod rows;
-#[cfg(test)]
-mod tests;
 
 pub use free::free_id;
 pub use id_fault::IdFault;

@@ -22,8 +22,6 @@ mod shadow;
 mod sides;
 mod staying;
 mod taken;
-#[cfg(test)]
-mod tests;
 mod users;
 
 pub use by_name::ByName;

@@ -9,8 +9,6 @@ mod object;
 mod place;
 mod spec;
 mod spec_fault;
-#[cfg(test)]
-mod tests;
 mod user_spec;
 
 pub use account_name::is_account_name;
