@@ -16,7 +16,7 @@ mod place;
 
 pub use clearing::clear_folder;
 pub use entries::{Entries, push_entries};
-pub use manager_file::{call_of, read_manager, step_manager};
+pub use manager_file::ManagerFile;
 pub use new_mode::make_folder;
 pub use node_file::{read_leaf, write_new};
 pub use out_sink::OutSink;

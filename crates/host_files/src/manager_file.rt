@@ -1,57 +1,37 @@
 //! The file that holds the service manager's state.
-ghost use Rattle.std.specs.Prelude.{IfOk};
-ghost use Rattle.host_trait.specs.Manager.{HasPlainTexts};
-ghost use Rattle.manager_core.specs.Call.{IsPlainCall};
+ghost use Rattle.std.specs.Prelude.{◌≡◌, ◌++◌, codes, IfOk};
 
 use crate::node_file::{read_bytes, write_new};
 use crate::place::{Found, foreign, look, place_in};
-use host_trait::{Act, ManagerState};
-use manager_core::{Call, StateFault, read_state, step, write_state};
+use manager_core::{StateFault, WrittenState};
 use std::alloc::{AllocError, Global};
 use std::io::ErrorKind;
 use std::rt::Files;
 use std::{fs, io};
-use switch_names::UnitName;
+use switch_names::{Bytes, Text};
 
 /// The first bytes of a manager's state.
 const STATE_MARKS: [&str; 1] = ["loaded "];
 
-/// The call that does this to a unit.
-pub fn call_of(alloc: Global, act: Act, unit: &UnitName) -> Result<Call, AllocError>
-    ensures { IfOk result IsPlainCall }
-{
-    let unit = unit.copy(alloc)?;
-    Ok(match act {
-        Act::Stop => Call::Stop(unit),
-        Act::Reload => Call::Reload(unit),
-        Act::Restart => Call::Restart(unit),
-        Act::Start => Call::Start(unit),
-    })
+/// The places of a manager's file and of the draft that takes its place.
+pub struct ManagerFile {
+    place: Text,
+    draft: Text,
 }
 
-/// The state that some bytes are the text of. Any other bytes are foreign.
-fn state_of(alloc: Global, bytes: &[u8]) -> io::Result<ManagerState>
-    ensures { IfOk result HasPlainTexts }
-{
-    match read_state(alloc, bytes) {
-        Ok(state) => Ok(state),
-        Err(StateFault::Memory) => Err(io::Error::from(AllocError)),
-        Err(StateFault::Line(_)) => Err(foreign()),
+/// One call: a derived drop is proved anew in each function that lets one go.
+impl Drop for ManagerFile {
+    fn drop(self) {
+        let ManagerFile { place: _, draft: _ } = self;
     }
 }
 
-/// The manager's state below a root. Where no file stands, the manager has done nothing.
-pub fn read_manager<R: Files>(rt: &R, alloc: Global, root: &str) -> io::Result<ManagerState>
-    ensures { IfOk result HasPlainTexts }
-{
-    let place = place_in(alloc, root, "manager")?;
-    match look(rt, place.as_str())? {
-        Found::Nothing => Ok(ManagerState::new(alloc)),
-        Found::File(len) => {
-            let bytes = read_bytes(rt, alloc, place.as_str(), len, &STATE_MARKS)?;
-            state_of(alloc, bytes.as_slice())
-        }
-        Found::Folder(_) => Err(foreign()),
+/// The state that some bytes are the text of. Any other bytes are foreign.
+fn state_of(alloc: Global, bytes: Bytes) -> io::Result<WrittenState> {
+    match WrittenState::read(alloc, bytes) {
+        Ok(state) => Ok(state),
+        Err(StateFault::Memory) => Err(io::Error::from(AllocError)),
+        Err(StateFault::Line(_)) => Err(foreign()),
     }
 }
 
@@ -77,34 +57,32 @@ fn write_in<R: Files>(rt: &R, root: &str, place: &str, bytes: &[u8]) -> io::Resu
     }
 }
 
-/// Replaces the manager's state below a root, in one step.
-fn write_manager<R: Files>(
-    rt: &R,
-    alloc: Global,
-    root: &str,
-    state: &ManagerState,
-) -> io::Result<()>
-    requires { HasPlainTexts state.now }
-{
-    let text = write_state(alloc, state)?;
-    let draft = place_in(alloc, root, "manager.new")?;
-    let place = place_in(alloc, root, "manager")?;
-    write_in(rt, root, draft.as_str(), text.as_slice())?;
-    fs::rename(rt, draft.as_str(), place.as_str())
-}
+impl ManagerFile {
+    /// The places of these files below a root.
+    pub fn new(alloc: Global, root: &str) -> Result<ManagerFile, AllocError>
+        ensures place { IfOk result (λ file. file.place ≡ root.now ++ codes "/manager") }
+        ensures draft { IfOk result (λ file. file.draft ≡ root.now ++ codes "/manager.new") }
+    {
+        Ok(ManagerFile {
+            place: place_in(alloc, root, "manager")?,
+            draft: place_in(alloc, root, "manager.new")?,
+        })
+    }
 
-/// Makes a call on the manager whose state this is, and writes its new state.
-pub fn step_manager<R: Files>(
-    rt: &R,
-    alloc: Global,
-    root: &str,
-    state: &mut ManagerState,
-    call: &Call,
-) -> io::Result<()>
-    requires plain { HasPlainTexts state.old }
-    requires text { IsPlainCall call.now }
-    ensures { HasPlainTexts state.new }
-{
-    step(alloc, state, call)?;
-    write_manager(rt, alloc, root, state)
+    /// The manager's state. Where no file stands, the manager has done nothing.
+    pub fn read<R: Files>(&self, rt: &R, alloc: Global) -> io::Result<WrittenState> {
+        let place = self.place.as_str();
+        match look(rt, place)? {
+            Found::Nothing => Ok(WrittenState::new(alloc)?),
+            Found::File(len) => state_of(alloc, read_bytes(rt, alloc, place, len, &STATE_MARKS)?),
+            Found::Folder(_) => Err(foreign()),
+        }
+    }
+
+    /// Replaces the manager's state in a root, in one step.
+    pub fn write<R: Files>(&self, rt: &R, root: &str, state: &WrittenState) -> io::Result<()> {
+        let draft = self.draft.as_str();
+        write_in(rt, root, draft, state.text())?;
+        fs::rename(rt, draft, self.place.as_str())
+    }
 }

@@ -89,7 +89,7 @@ impl<R: Files + AllocGlobal + Clone + Drop> FolderHost<R> {
             rt: rt.clone()?,
             tree: Folders::new(rt.alloc(), root)?,
             stage: Stage::Unseen,
-            service: Service::new(),
+            service: Service::new(rt.alloc(), root)?,
             faults: 0,
         })
     }

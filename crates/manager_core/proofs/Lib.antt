@@ -1,3 +1,4 @@
+pub mod Around
 pub mod Beginnings
 pub mod Counting
 pub mod Growth
@@ -9,4 +10,5 @@ pub mod Parts
 pub mod Readable
 pub mod Results
 pub mod Splitting
+pub mod UnitLines
 pub mod Written

@@ -36,7 +36,8 @@ all_found (e ∷ es) all sorted more =
       ])),
     )
 
-got : (states : UnitStates) (unit : List ℕ) → get states unit ≡ find bytes_cmp unit (entries states)
+-- what a unit's state is among the entries
+pub got : (states : UnitStates) (unit : List ℕ) → get states unit ≡ find bytes_cmp unit (entries states)
 got states unit =
     let same : from_sorted (entries states) ≡ states = same_entries_map (from_sorted (entries states)) states (entries-from_sorted bytes_cmp (entries states) (entries_sorted states)) in
     ap (λ (s : UnitStates). get s unit) (sym same) ∙ get-from_sorted bytes_cmp (entries states) unit (entries_sorted states)

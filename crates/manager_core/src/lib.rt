@@ -7,10 +7,13 @@ mod placing;
 mod reading;
 mod state_fault;
 mod stepping;
+mod unit_line;
 mod writing;
+mod written_state;
 
 pub use call::Call;
 pub use reading::read_state;
 pub use state_fault::StateFault;
 pub use stepping::step;
 pub use writing::write_state;
+pub use written_state::WrittenState;

@@ -40,7 +40,7 @@ fn started(state: &ManagerState, unit: &UnitName) -> State
 }
 
 /// The state of a unit after an act on it.
-fn state_after(state: &ManagerState, act: Act, unit: &UnitName) -> State
+pub fn state_after(state: &ManagerState, act: Act, unit: &UnitName) -> State
     ensures { result ≡ state_after act unit.now state.now }
 {
     match act {
@@ -100,7 +100,7 @@ fn take_effect(
 /// Does an act on a unit.
 ///
 /// Where memory is wanting for its effect, its entry is taken out again.
-fn act_on(
+pub fn act_on(
     alloc: Global,
     state: &mut ManagerState,
     act: Act,
@@ -119,7 +119,7 @@ fn act_on(
 }
 
 /// Has the definitions loaded that lie elsewhere.
-fn load(alloc: Global, state: &mut ManagerState, text: &Text) -> Result<(), AllocError>
+pub fn load(alloc: Global, state: &mut ManagerState, text: &Text) -> Result<(), AllocError>
     ensures ok { OnOk result (state.new ≡ loading text.now state.old) }
     ensures err { OnErr result (state.new ≡ state.old) }
 {

@@ -12,7 +12,7 @@ use std::alloc::{AllocError, Global};
 use switch_names::{Bytes, Text, UnitName};
 
 /// The word for a state.
-fn state_word(state: State) -> &'static str
+pub fn state_word(state: State) -> &'static str
     ensures { result.now ≡ state_word state }
 {
     match state {
@@ -56,7 +56,7 @@ fn write_text(out: &mut Vec<u8>, text: &Text) -> Result<(), AllocError>
 }
 
 /// Writes what is loaded.
-fn write_loaded(out: &mut Vec<u8>, text: &Text) -> Result<(), AllocError>
+pub fn write_loaded(out: &mut Vec<u8>, text: &Text) -> Result<(), AllocError>
     requires { IsPlain text.now }
     ensures text { OnOk result (out.new.items ≡ out.old.items ++ lines_text (line.Loaded text.now ∷ [])) }
     ensures line { OnOk result (IsLine (line.Loaded text.now)) }
@@ -66,10 +66,11 @@ fn write_loaded(out: &mut Vec<u8>, text: &Text) -> Result<(), AllocError>
 }
 
 /// Writes a unit's state.
-fn write_unit_state(out: &mut Vec<u8>, one: &UnitState) -> Result<(), AllocError>
-    ensures { OnOk result (out.new.items ≡ out.old.items ++ lines_text (line.State one.now ∷ [])) }
+pub fn write_state_of(out: &mut Vec<u8>, unit: &UnitName, state: State) -> Result<(), AllocError>
+    ensures text { OnOk result (out.new.items ≡ out.old.items ++ lines_text (line.State (record { unit = unit.now; state = state }) ∷ [])) }
+    ensures name { OnOk result (IsUnitName unit.now) }
 {
-    write_unit(out, state_word(one.state), &one.unit)?;
+    write_unit(out, state_word(state), unit)?;
     out.push(b'\n')?;
     Ok(())
 }
@@ -84,14 +85,19 @@ fn write_bad(out: &mut Vec<u8>, one: &Bad) -> Result<(), AllocError>
     write_text(out, &one.loaded)
 }
 
-/// Writes an act.
-fn write_entry(out: &mut Vec<u8>, one: &Entry) -> Result<(), AllocError>
-    requires { IsPlain one.now.loaded }
-    ensures text { OnOk result (out.new.items ≡ out.old.items ++ lines_text (line.Entry one.now ∷ [])) }
-    ensures line { OnOk result (IsLine (line.Entry one.now)) }
+/// Writes an act on a unit under these definitions.
+pub fn write_act(
+    out: &mut Vec<u8>,
+    act: Act,
+    unit: &UnitName,
+    loaded: &Text,
+) -> Result<(), AllocError>
+    requires { IsPlain loaded.now }
+    ensures text { OnOk result (out.new.items ≡ out.old.items ++ lines_text (line.Entry (record { unit = unit.now; act = act; loaded = loaded.now }) ∷ [])) }
+    ensures line { OnOk result (IsLine (line.Entry (record { unit = unit.now; act = act; loaded = loaded.now }))) }
 {
-    write_unit(out, act_word(one.act), &one.unit)?;
-    write_text(out, &one.loaded)
+    write_unit(out, act_word(act), unit)?;
+    write_text(out, loaded)
 }
 
 /// Writes the states of units.
@@ -99,7 +105,7 @@ fn write_states(out: &mut Vec<u8>, units: &[UnitState]) -> Result<(), AllocError
     ensures { OnOk result (out.new.items ≡ out.old.items ++ lines_text (map line.State units.now)) }
 {
     for one in units {
-        write_unit_state(out, one)?;
+        write_state_of(out, &one.unit, one.state)?;
     }
     Ok(())
 }
@@ -123,7 +129,7 @@ fn write_journal(out: &mut Vec<u8>, journal: &[Entry]) -> Result<(), AllocError>
     ensures lines { OnOk result (AllByRecursion IsLine (map line.Entry journal.now)) }
 {
     for one in journal {
-        write_entry(out, one)?;
+        write_act(out, one.act, &one.unit, &one.loaded)?;
     }
     Ok(())
 }

@@ -6,12 +6,12 @@ use Rattle.manager_core.proofs.writing.write_journal.Goals as goal
 
 pub loop-one-preserved : goal.loop-one-preserved
 loop-one-preserved c = record {
-  text = one_written line.Entry c.args.journal.now c.loop-one.one-index c.one-item.result _ _ _ c.loop-one-test.true c.one-item.is c.in_ok-write_entry.ensures.text c.loop-one.invariant.text;
-  lines = one_line_more line.Entry c.args.journal.now c.loop-one.one-index c.one-item.result c.loop-one-test.true c.one-item.is c.in_ok-write_entry.ensures.line c.loop-one.invariant.lines;
+  text = one_written line.Entry c.args.journal.now c.loop-one.one-index c.one-item.result _ _ _ c.loop-one-test.true c.one-item.is c.in_ok-write_act.ensures.text c.loop-one.invariant.text;
+  lines = one_line_more line.Entry c.args.journal.now c.loop-one.one-index c.one-item.result c.loop-one-test.true c.one-item.is c.in_ok-write_act.ensures.line c.loop-one.invariant.lines;
 }
 
-pub write_entry-requires : goal.write_entry-requires
-write_entry-requires c = item_is (λ (one : Entry). IsPlain one.loaded) c.args.journal.now c.loop-one.one-index c.one-item.result c.loop-one-test.true c.one-item.is c.requires
+pub write_act-requires : goal.write_act-requires
+write_act-requires c = item_is (λ (one : Entry). IsPlain one.loaded) c.args.journal.now c.loop-one.one-index c.one-item.result c.loop-one-test.true c.one-item.is c.requires
 
 pub returns-clause-text : goal.returns-clause-text
 returns-clause-text c = all_written line.Entry c.args.journal.now c.loop-one.one-index _ _ c.loop-one-test.false c.loop-one.invariant.text

@@ -1,6 +1,6 @@
 use Rattle.std.proofs.Common.{arith}
 use Rattle.std.proofs.lemmas.Grind.{common_steps}
-use Rattle.manager_core.proofs.writing.write_unit_state.Goals as goal
+use Rattle.manager_core.proofs.writing.write_state_of.Goals as goal
 
 pub returns : goal.returns
 returns c = grind (arith, common_steps)
