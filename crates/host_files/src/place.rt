@@ -37,7 +37,13 @@ pub enum Found {
 pub fn place_in(alloc: Global, folder: &str, name: &str) -> Result<Text, AllocError>
     ensures { IfOk result (λ place. place ≡ folder.now ++ slash ∷ name.now) }
 {
-    Ok(Text::from_string(format!(in alloc; "{folder}/{name}")?))
+    // Room for the whole at once: each call on the tree makes a place.
+    let len = folder.len().saturating_add(name.len()).saturating_add(1);
+    let mut place = String::with_capacity(alloc, len)?;
+    place.push_str(folder)?;
+    place.push('/')?;
+    place.push_str(name)?;
+    Ok(Text::from_string(place))
 }
 
 /// The error at what no host wrote: a link, a special file, a text that is no node.
