@@ -4,12 +4,14 @@
 //! What is put out is compared with `stdout`, which was written by hand.
 #![tactic(auto)]
 
+mod acts;
 mod failing;
 mod full_output;
 mod second_names;
 mod troubles;
 mod works;
 
+use crate::acts::show_acts;
 use crate::full_output::show_outputs;
 use crate::second_names::show_second_names;
 use crate::troubles::show_troubles;
@@ -43,6 +45,7 @@ fn main(rt: HostRuntime) -> Result<(), Fail> {
     let work = Work::new(rt.alloc())?;
     show_whole(&rt, &work)?;
     show_second_names(&rt, &work)?;
+    show_acts(&rt)?;
     show_troubles(&rt, &work)?;
     show_outputs(&rt)
 }
