@@ -4,7 +4,8 @@
 # bench/dry.sh [PROGRAM [UNITS..]]
 #
 # Needs bash 5, awk and the coreutils. The calls are left out where strace isn't there or may not
-# trace, and the peak memory where /usr/bin/time isn't there.
+# trace, and the peak memory where /usr/bin/time isn't there. Where rustc is there, bench/plain_dry.rs is compiled, a
+# plain Rust program that makes the same report of the same files.
 #
 # Each root has two systems of that many units (500, 4,000 and 16,000): services of ten lines, one in
 # ten with another program in the new system, a target that wants them all, and all of them active. For
@@ -14,7 +15,8 @@
 #   calls         all system calls
 #   opens, reads  the most calls that open one unit file, and that read it up to its end
 #   changes       calls that make, move or remove something below the root or write to it
-# and then the growth. It ends with 1 where a dry run fails or changes something, where its report isn't
+# then the growth, and with rustc the processor time of 8,000 units in the program and in plain Rust, the least of nine
+# runs in turn each, and their ratio. It ends with 1 where a dry run fails or changes something, where its report isn't
 # the one expected, where a unit file is opened more than once, or where 4,000 units take a second or
 # more. It is no part of the gate.
 . "$(dirname "$0")/common.sh"
@@ -41,6 +43,29 @@ cat >>"$work/count.awk" <<'AWK'
 index($0, root) > 0 && (kind ~ /^(p?write|creat|f?truncate|mk|rename|link|symlink|unlink|rmdir|[fl]?ch(mod|own))/ || $0 ~ /O_(WRONLY|RDWR|CREAT|TRUNC)/) { changes++ }
 END { print calls + 0, opens + 0, reads + 0, changes + 0 }
 AWK
+
+# processor WORDS..: prints the processor time of a run in milliseconds.
+processor() {
+    local TIMEFORMAT='%U %S'
+    { time "$@" >"$work/stdout" 2>"$work/stderr"; } 2>&1 | awk '{ print ($1 + $2) * 1000 }'
+}
+
+# Compares the program with plain Rust on a root of 8,000 units.
+compare() {
+    local plain=$work/plain_dry
+    rustc --edition 2021 -O -o "$plain" "$here/bench/plain_dry.rs" || return 1
+    make_machine "$root" 8000
+    if ! "$plain" "$root" nix/store/new-sys | cmp -s - "$work/wanted"; then
+        echo "plain Rust plans another switch"
+        return 1
+    fi
+    for _ in $(seq 9); do
+        echo "$(processor "$program" "$root" dry-activate nix/store/new-sys) $(processor "$plain" "$root" nix/store/new-sys)"
+    done | awk '
+        NR == 1 || $1 < ours { ours = $1 }
+        NR == 1 || $2 < plain { plain = $2 }
+        END { printf "8000 units, milliseconds of processor time: %d, plain Rust %d, ratio %.2f\n", ours, plain, ours / plain }'
+}
 
 find_tools
 form='%8s %12s %9s %9s %6s %6s %8s\n'
@@ -76,4 +101,7 @@ for count in "$@"; do
     grow "$count" "$micros"
 done
 printf '%s' "$grown"
+if command -v rustc >"$work/stdout"; then
+    compare || failed=1
+fi
 exit $failed
