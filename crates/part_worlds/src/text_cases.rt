@@ -26,9 +26,11 @@ fn add_later(alloc: Global, text: &mut UnitText, file: &[u8]) -> Result<(), Text
 
 /// Shows the keys that have a value, each after its section.
 fn show_keys(lines: &mut Lines, text: &UnitText) {
-    for at in text.keys().as_slice() {
-        lines.add_word(at.section.as_str());
-        lines.add_word(at.key.as_str());
+    for at in text.parts().changed_keys {
+        if !text.values(at.section.as_str(), at.key.as_str()).is_empty() {
+            lines.add_word(at.section.as_str());
+            lines.add_word(at.key.as_str());
+        }
     }
     lines.end_line();
 }

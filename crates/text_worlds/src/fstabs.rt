@@ -24,9 +24,9 @@ pub fn show_fstab(alloc: Global, lines: &mut Lines, text: &[u8]) -> Result<(), A
     Ok(())
 }
 
-/// Shows each key of a unit's text after its section, with its values.
+/// Shows each key that a line assigns in its unit's text after its section, with its values.
 fn show_keys(lines: &mut Lines, text: &UnitText) {
-    for at in text.keys().as_slice() {
+    for at in text.parts().changed_keys {
         let (section, key) = (at.section.as_str(), at.key.as_str());
         lines.add_word(section);
         lines.add_word(key);

@@ -9,30 +9,33 @@ use Rattle.std.specs.declared.cmp.Ordering.{Ordering}
 use Rattle.std.specs.List.Sorted.{IsStrictlySortedBy}
 use Rattle.std.specs.declared.cmp.Ordering.TheVariants.{Less, Equal, Greater}
 use Rattle.std.specs.Ordering.{is_ge, is_le, ordering_reverse}
-use Rattle.std.proofs.lemmas.Bool.{not-false, eqb-true, and_parts, true≢false}
+use Rattle.std.proofs.lemmas.Bool.{and_parts, true≢false}
 use Rattle.std.proofs.Math.ListN.{drop_of_length-le}
-use Rattle.std.proofs.lemmas.List.{nil_from_length, drop_more, get_or-map, length-map}
+use Rattle.std.proofs.lemmas.List.{drop_more, get_or-map, length-map}
 use Rattle.std.proofs.lemmas.List.Folds.{list_any-append}
 use Rattle.std.proofs.lemmas.Option.{slice_get_cases, slice_get_past, slice_get_within, slice_get_read, get_or_from_slice_get}
 use Rattle.switch_names.specs.declared.unit_kind.UnitKind.{UnitKind}
 use Rattle.unit_text.specs.declared.assignment.Assignment.{Assignment}
 use Rattle.unit_text.specs.declared.unit_key.UnitKey.{UnitKey}
 use Rattle.unit_text.specs.UnitKey.{key_cmp, is_same_key, has_key}
-use Rattle.unit_text.specs.UnitText.{AreKeysOf, has_value, values_of}
+use Rattle.unit_text.specs.Parts.{AreParts}
+use Rattle.unit_text.specs.declared.parts.Parts.{Parts}
+use Rattle.unit_text.specs.UnitText.{AreAssignedIn, is_assigned, values_of}
+use Rattle.unit_text.proofs.ValueLemmas.{no_values}
 use Rattle.unit_text.proofs.KeyLemmas.{AreAbove, above_other, other_lacks, greater_other, exact_keys, above_first, key_total}
 use Rattle.unit_compare.specs.declared.comparison.Comparison.{Comparison}
 use Rattle.unit_compare.specs.declared.comparison.Comparison.TheVariants.{Same, ReloadOnly, Changed}
 use Rattle.unit_compare.specs.Compare.{is_ignored, are_same_values, differs, is_reload_key, comparison}
 use Rattle.unit_compare.specs.Walk.{key_comparison, worse, next_order}
-use Rattle.unit_compare.proofs.Outcomes.{by_tests, one, made_first, made_append, worse_assoc, worse_comm, worse_itself}
+use Rattle.unit_compare.proofs.Outcomes.{by_tests, one, made_first, worse_assoc, worse_comm, worse_itself}
 use Rattle.unit_compare.proofs.Differing.{made_of, is_changed, assigned, any_same, comparison_made, differing_assigned, or_false_parts, unset_same}
 
 -- the keys that are left of two texts: one of them stands in the other text exactly where it is left there
 pub record AreLeft (old new : List Assignment) (of_old of_new : List UnitKey) : Type 0 where
   pub old_sorted : IsStrictlySortedBy key_cmp of_old
   pub new_sorted : IsStrictlySortedBy key_cmp of_new
-  pub in_new : AllByRecursion (λ key. has_key of_new key ≡ has_value new key) of_old
-  pub in_old : AllByRecursion (λ key. has_key of_old key ≡ has_value old key) of_new
+  pub in_new : AllByRecursion (λ key. has_key of_new key ≡ is_assigned new key) of_old
+  pub in_old : AllByRecursion (λ key. has_key of_old key ≡ is_assigned old key) of_new
 
 -- a lower key doesn't matter to those above it
 stand_on : (has : UnitKey → Bool) (key : UnitKey) (below above : List UnitKey) → AreAbove above key
@@ -42,8 +45,8 @@ stand_on has key below (x ∷ above) over h =
     (sym (ap (λ b. b || has_key below x) (greater_other x key over.0)) ∙ h.0, stand_on has key below above over.1 h.1)
 
 -- a key below all that are left has no value
-pub absent : (text : List Assignment) (key : UnitKey) (left : List UnitKey) → AreAbove left key → has_key left key ≡ has_value text key → values_of text key ≡ []
-absent text key left over e = nil_from_length _ (eqb-true _ 0 (not-false _ (sym e ∙ other_lacks left key (above_other left key over))))
+pub absent : (text : List Assignment) (key : UnitKey) (left : List UnitKey) → AreAbove left key → has_key left key ≡ is_assigned text key → values_of text key ≡ []
+absent text key left over e = no_values text key (sym e ∙ other_lacks left key (above_other left key over))
 
 module _ (old new : List Assignment) where
   -- the walk goes past a key of one text, or of both
@@ -53,7 +56,7 @@ module _ (old new : List Assignment) where
     old_sorted = left.old_sorted.1;
     new_sorted = left.new_sorted;
     in_new = left.in_new.1;
-    in_old = stand_on (has_value old) key of_old of_new over left.in_old;
+    in_old = stand_on (is_assigned old) key of_old of_new over left.in_old;
   }
 
   pub pass_new : (key : UnitKey) (of_old of_new : List UnitKey) → AreAbove of_old key → AreLeft old new of_old (key ∷ of_new) → AreLeft old new of_old of_new
@@ -61,7 +64,7 @@ module _ (old new : List Assignment) where
   pass_new key of_old of_new over left = record {
     old_sorted = left.old_sorted;
     new_sorted = left.new_sorted.1;
-    in_new = stand_on (has_value new) key of_new of_old over left.in_new;
+    in_new = stand_on (is_assigned new) key of_new of_old over left.in_new;
     in_old = left.in_old.1;
   }
 
@@ -70,8 +73,8 @@ module _ (old new : List Assignment) where
   pass_both key of_old of_new left = record {
     old_sorted = left.old_sorted.1;
     new_sorted = left.new_sorted.1;
-    in_new = stand_on (has_value new) key of_new of_old left.old_sorted.0 left.in_new.1;
-    in_old = stand_on (has_value old) key of_old of_new left.new_sorted.0 left.in_old.1;
+    in_new = stand_on (is_assigned new) key of_new of_old left.old_sorted.0 left.in_new.1;
+    in_old = stand_on (is_assigned old) key of_old of_new left.new_sorted.0 left.in_old.1;
   }
 
 -- ---- keys by their places
@@ -92,11 +95,9 @@ is_at keys at =
     (λ past. Past past.1 (drop_of_length-le keys past.0))
     (slice_get_cases keys at).1
 
--- one key of the walk, by the values that were read
-one_read : (kind : UnitKind) (old new : List Assignment) (key : UnitKey) (of_old of_new : List (List ℕ))
-    → of_old ≡ values_of old key → of_new ≡ values_of new key → key_comparison kind key of_old of_new ≡ one kind (differs old new) key
-one_read kind old new key of_old of_new a b =
-    (λ i. key_comparison kind key (a i) (b i)) ∙ by (is_ignored key) (are_same_values (values_of old key) (values_of new key)) (is_reload_key kind key)
+-- what one key comes to
+pub one_key : (kind : UnitKind) (old new : List Assignment) (key : UnitKey) → key_comparison kind key (values_of old key) (values_of new key) ≡ one kind (differs old new) key
+one_key kind old new key = by (is_ignored key) (are_same_values (values_of old key) (values_of new key)) (is_reload_key kind key)
   where
     by : (i s r : Bool) → cond (i || s) Same (cond r ReloadOnly Changed) ≡ by_tests ((not i && not s) && not r) (not i && not s)
     by true s r = refl
@@ -122,56 +123,65 @@ both_of o p x y =
 
 -- ---- one turn
 
--- what is left of the walk, and what it is to come to
-pub record IsWalk (kind : UnitKind) (old new : List Assignment) (outcome end : Comparison) (of_old of_new : List UnitKey) : Type 0 where
-  pub left : AreLeft old new of_old of_new
-  pub rest : worse outcome (worse (made_of kind old new of_old) (made_of kind old new of_new)) ≡ end
+-- two texts, and the files with which they begin
+pub record Texts : Type 0 where
+  pub old_front : List Assignment
+  pub new_front : List Assignment
+  pub old : List Assignment
+  pub new : List Assignment
 
-module _ (kind : UnitKind) (old new : List Assignment) (outcome end : Comparison) (key : UnitKey) (of_old of_new : List UnitKey) where
-  abbrev Turned : List (List ℕ) → List (List ℕ) → Type 0
-  Turned of_this of_that = IsWalk kind old new (worse outcome (key_comparison kind key of_this of_that)) end of_old of_new
+abbrev pub texts_of : (old new : Parts) → AreParts old → AreParts new → Texts
+texts_of old new o n = record { old_front = o.front; new_front = n.front; old = old.text.now; new = new.text.now }
+
+abbrev pub made_in : UnitKind → Texts → List UnitKey → Comparison
+made_in kind texts = made_of kind texts.old texts.new
+
+abbrev pub one_in : UnitKind → Texts → UnitKey → Comparison
+one_in kind texts = one kind (differs texts.old texts.new)
+
+-- the outcome of all keys of the files
+abbrev pub fronts_made : UnitKind → (old new : Parts) → AreParts old → AreParts new → Comparison
+fronts_made kind old new o n = worse (made_in kind (texts_of old new o n) old.front_keys.now) (made_in kind (texts_of old new o n) new.front_keys.now)
+
+-- what is left of the walk, and what it is to come to
+pub record IsWalk (kind : UnitKind) (texts : Texts) (outcome end : Comparison) (of_old of_new : List UnitKey) : Type 0 where
+  pub left : AreLeft texts.old_front texts.new_front of_old of_new
+  pub rest : worse outcome (worse (made_in kind texts of_old) (made_in kind texts of_new)) ≡ end
+
+module _ (kind : UnitKind) (texts : Texts) (outcome end : Comparison) (key : UnitKey) (of_old of_new : List UnitKey) where
+  abbrev Turned : Type 0
+  Turned = IsWalk kind texts (worse outcome (one_in kind texts key)) end of_old of_new
 
   abbrev one_of : Comparison
-  one_of = one kind (differs old new) key
+  one_of = one_in kind texts key
 
-  abbrev joined : Comparison
-  joined = worse (made_of kind old new of_old) (made_of kind old new of_new)
+  first_is : (keys : List UnitKey) → made_in kind texts (key ∷ keys) ≡ worse one_of (made_in kind texts keys)
+  first_is keys = made_first kind (differs texts.old texts.new) key keys
 
-  first_is : (keys : List UnitKey) → made_of kind old new (key ∷ keys) ≡ worse one_of (made_of kind old new keys)
-  first_is keys = made_first kind (differs old new) key keys
-
-  turned_by : (of_this of_that : List (List ℕ)) → of_this ≡ values_of old key → of_that ≡ values_of new key
-      → worse (worse outcome (key_comparison kind key of_this of_that)) joined ≡ worse (worse outcome one_of) joined
-  turned_by of_this of_that a b = ap (λ o. worse (worse outcome o) joined) (one_read kind old new key of_this of_that a b)
-
-  -- the lower key has no value in the other text
-  old_turn : (values : List (List ℕ)) → IsWalk kind old new outcome end (key ∷ of_old) of_new → AreAbove of_new key → values ≡ values_of old key → Turned values []
-  old_turn values walk over v = record {
-    left = pass_old old new key of_old of_new over walk.left;
+  -- the lower key stands in one of the files alone
+  old_turn : IsWalk kind texts outcome end (key ∷ of_old) of_new → AreAbove of_new key → Turned
+  old_turn walk over = record {
+    left = pass_old texts.old_front texts.new_front key of_old of_new over walk.left;
     rest =
-        turned_by values [] v (sym (absent new key of_new over walk.left.in_new.0))
-        ∙ first_of outcome one_of (made_of kind old new of_old) (made_of kind old new of_new)
-        ∙ ap (λ o. worse outcome (worse o (made_of kind old new of_new))) (sym (first_is of_old))
+        first_of outcome one_of (made_in kind texts of_old) (made_in kind texts of_new)
+        ∙ ap (λ o. worse outcome (worse o (made_in kind texts of_new))) (sym (first_is of_old))
         ∙ walk.rest;
   }
 
-  new_turn : (values : List (List ℕ)) → IsWalk kind old new outcome end of_old (key ∷ of_new) → AreAbove of_old key → values ≡ values_of new key → Turned [] values
-  new_turn values walk over v = record {
-    left = pass_new old new key of_old of_new over walk.left;
+  new_turn : IsWalk kind texts outcome end of_old (key ∷ of_new) → AreAbove of_old key → Turned
+  new_turn walk over = record {
+    left = pass_new texts.old_front texts.new_front key of_old of_new over walk.left;
     rest =
-        turned_by [] values (sym (absent old key of_old over walk.left.in_old.0)) v
-        ∙ second_of outcome one_of (made_of kind old new of_old) (made_of kind old new of_new)
-        ∙ ap (λ o. worse outcome (worse (made_of kind old new of_old) o)) (sym (first_is of_new))
+        second_of outcome one_of (made_in kind texts of_old) (made_in kind texts of_new)
+        ∙ ap (λ o. worse outcome (worse (made_in kind texts of_old) o)) (sym (first_is of_new))
         ∙ walk.rest;
   }
 
-  both_turn : (of_this of_that : List (List ℕ)) → IsWalk kind old new outcome end (key ∷ of_old) (key ∷ of_new)
-      → of_this ≡ values_of old key → of_that ≡ values_of new key → Turned of_this of_that
-  both_turn of_this of_that walk v w = record {
-    left = pass_both old new key of_old of_new walk.left;
+  both_turn : IsWalk kind texts outcome end (key ∷ of_old) (key ∷ of_new) → Turned
+  both_turn walk = record {
+    left = pass_both texts.old_front texts.new_front key of_old of_new walk.left;
     rest =
-        turned_by of_this of_that v w
-        ∙ both_of outcome one_of (made_of kind old new of_old) (made_of kind old new of_new)
+        both_of outcome one_of (made_in kind texts of_old) (made_in kind texts of_new)
         ∙ (λ i. worse outcome (worse (sym (first_is of_old) i) (sym (first_is of_new) i)))
         ∙ walk.rest;
   }
@@ -238,56 +248,59 @@ read_values : (text : List Assignment) (keys : List UnitKey) (all : List (List (
 read_values text keys all at key values e lt k v =
     v ∙ ap (λ (vs : List (List (List ℕ))). get_or vs at values) e ∙ get_or-map (values_of text) keys at key values lt ∙ ap (values_of text) (sym k)
 
-module _ (kind : UnitKind) (old new : List Assignment) (outcome end : Comparison) (of_old of_new : List UnitKey) (old_values new_values : List (List (List ℕ))) (i j : ℕ)
-    (walk : IsWalk kind old new outcome end (drop i of_old) (drop j of_new)) (v : old_values ≡ map (values_of old) of_old) (w : new_values ≡ map (values_of new) of_new) where
+module _ (kind : UnitKind) (texts : Texts) (outcome end : Comparison) (of_old of_new : List UnitKey) (old_values new_values : List (List (List ℕ))) (i j : ℕ)
+    (walk : IsWalk kind texts outcome end (drop i of_old) (drop j of_new)) (v : old_values ≡ map (values_of texts.old_front) of_old) (w : new_values ≡ map (values_of texts.new_front) of_new) where
+  -- what a key has in the two files, and the walk past it
+  pub record Turn (key : UnitKey) (of_this of_that : List (List ℕ)) (k l : ℕ) : Type 0 where
+    pub this : of_this ≡ values_of texts.old_front key
+    pub that : of_that ≡ values_of texts.new_front key
+    pub on : IsWalk kind texts (worse outcome (one_in kind texts key)) end (drop k of_old) (drop l of_new)
+
   pub less_turn : next_order (slice_get of_old i) (slice_get of_new j) ≡ Some Less → (key : UnitKey) → key ≡ get_or of_old i key
-      → (values : List (List ℕ)) → values ≡ get_or old_values i values
-      → (i < length of_old) × IsWalk kind old new (worse outcome (key_comparison kind key values [])) end (drop (i + 1) of_old) (drop j of_new)
+      → (values : List (List ℕ)) → values ≡ get_or old_values i values → Turn key values [] (i + 1) j
   less_turn e key k values h =
       let lt = less_here of_old i (slice_get of_new j) e in
-      let at = slice_get_read of_old (length of_old) i key refl lt k in (
-        lt,
-        old_turn kind old new outcome end key (drop (i + 1) of_old) (drop j of_new) values
-            (subst (λ ks. IsWalk kind old new outcome end ks (drop j of_new)) (drop_here of_old i key at) walk)
-            (less_above of_new j key (sym (ap (λ o. next_order o (slice_get of_new j)) at) ∙ e) walk.left.new_sorted)
-            (read_values old of_old old_values i key values v lt k h),
-      )
+      let at = slice_get_read of_old (length of_old) i key refl lt k in
+      let over = less_above of_new j key (sym (ap (λ o. next_order o (slice_get of_new j)) at) ∙ e) walk.left.new_sorted in
+      let here = subst (λ ks. IsWalk kind texts outcome end ks (drop j of_new)) (drop_here of_old i key at) walk in
+      record {
+        this = read_values texts.old_front of_old old_values i key values v lt k h;
+        that = sym (absent texts.new_front key (drop j of_new) over here.left.in_new.0);
+        on = old_turn kind texts outcome end key (drop (i + 1) of_old) (drop j of_new) here over;
+      }
 
   pub greater_turn : next_order (slice_get of_old i) (slice_get of_new j) ≡ Some Greater → (key : UnitKey) → key ≡ get_or of_new j key
-      → (values : List (List ℕ)) → values ≡ get_or new_values j values
-      → (j < length of_new) × IsWalk kind old new (worse outcome (key_comparison kind key [] values)) end (drop i of_old) (drop (j + 1) of_new)
+      → (values : List (List ℕ)) → values ≡ get_or new_values j values → Turn key [] values i (j + 1)
   greater_turn e key k values h =
       let lt = greater_here of_new j (slice_get of_old i) e in
-      let at = slice_get_read of_new (length of_new) j key refl lt k in (
-        lt,
-        new_turn kind old new outcome end key (drop i of_old) (drop (j + 1) of_new) values
-            (subst (λ ks. IsWalk kind old new outcome end (drop i of_old) ks) (drop_here of_new j key at) walk)
-            (greater_above of_old i key (sym (ap (λ o. next_order (slice_get of_old i) o) at) ∙ e) walk.left.old_sorted)
-            (read_values new of_new new_values j key values w lt k h),
-      )
+      let at = slice_get_read of_new (length of_new) j key refl lt k in
+      let over = greater_above of_old i key (sym (ap (λ o. next_order (slice_get of_old i) o) at) ∙ e) walk.left.old_sorted in
+      let here = subst (λ ks. IsWalk kind texts outcome end (drop i of_old) ks) (drop_here of_new j key at) walk in
+      record {
+        this = sym (absent texts.old_front key (drop i of_old) over here.left.in_old.0);
+        that = read_values texts.new_front of_new new_values j key values w lt k h;
+        on = new_turn kind texts outcome end key (drop i of_old) (drop (j + 1) of_new) here over;
+      }
 
   pub equal_turn : next_order (slice_get of_old i) (slice_get of_new j) ≡ Some Equal → (key : UnitKey) → key ≡ get_or of_old i key
-      → (of_this of_that : List (List ℕ)) → of_this ≡ get_or old_values i of_this → of_that ≡ get_or new_values j of_that
-      → (i < length of_old) × (j < length of_new) × IsWalk kind old new (worse outcome (key_comparison kind key of_this of_that)) end (drop (i + 1) of_old) (drop (j + 1) of_new)
+      → (of_this of_that : List (List ℕ)) → of_this ≡ get_or old_values i of_this → of_that ≡ get_or new_values j of_that → Turn key of_this of_that (i + 1) (j + 1)
   equal_turn e key k of_this of_that h g = by (is_at of_old i) (is_at of_new j)
     where
-      by : IsAt of_old i → IsAt of_new j
-          → (i < length of_old) × (j < length of_new) × IsWalk kind old new (worse outcome (key_comparison kind key of_this of_that)) end (drop (i + 1) of_old) (drop (j + 1) of_new)
+      by : IsAt of_old i → IsAt of_new j → Turn key of_this of_that (i + 1) (j + 1)
       by (Here a at d) (Here b bt f) =
           let lt = slice_get_within of_old i a at in
           let mt = slice_get_within of_new j b bt in
           let some = sym (λ i. next_order (at i) (bt i)) ∙ e in
           let equal : key_cmp a b ≡ Equal = cc in
           let first : key ≡ a = k ∙ get_or_from_slice_get of_old i a key at in
-          let second : b ≡ key = sym (exact_keys a b equal) ∙ sym first in (
-            lt,
-            mt,
-            both_turn kind old new outcome end key (drop (i + 1) of_old) (drop (j + 1) of_new) of_this of_that
-                (subst (λ ks. IsWalk kind old new outcome end ks (key ∷ drop (j + 1) of_new)) (d ∙ ap (λ x. x ∷ drop (i + 1) of_old) (sym first))
-                (subst (λ ks. IsWalk kind old new outcome end (drop i of_old) ks) (f ∙ ap (λ x. x ∷ drop (j + 1) of_new) second) walk))
-                (read_values old of_old old_values i key of_this v lt k h)
-                (read_values new of_new new_values j b of_that w mt (sym (get_or_from_slice_get of_new j b b bt)) g ∙ ap (values_of new) second),
-          )
+          let second : b ≡ key = sym (exact_keys a b equal) ∙ sym first in
+          record {
+            this = read_values texts.old_front of_old old_values i key of_this v lt k h;
+            that = read_values texts.new_front of_new new_values j b of_that w mt (sym (get_or_from_slice_get of_new j b b bt)) g ∙ ap (values_of texts.new_front) second;
+            on = both_turn kind texts outcome end key (drop (i + 1) of_old) (drop (j + 1) of_new)
+                (subst (λ ks. IsWalk kind texts outcome end ks (key ∷ drop (j + 1) of_new)) (d ∙ ap (λ x. x ∷ drop (i + 1) of_old) (sym first))
+                (subst (λ ks. IsWalk kind texts outcome end (drop i of_old) ks) (f ∙ ap (λ x. x ∷ drop (j + 1) of_new) second) walk));
+          }
       by (Here a at d) (Past bt f) = let n = sym (λ i. next_order (at i) (bt i)) ∙ e in cc
       by (Past at d) (Here b bt f) = let n = sym (λ i. next_order (at i) (bt i)) ∙ e in cc
       by (Past at d) (Past bt f) = let n = sym (λ i. next_order (at i) (bt i)) ∙ e in cc
@@ -298,64 +311,63 @@ module _ (kind : UnitKind) (old new : List Assignment) (outcome end : Comparison
     where
       by : IsAt of_old i → IsAt of_new j → outcome ≡ end
       by (Past at d) (Past bt f) =
-          sym (worse_comm outcome Same) ∙ (λ k. worse outcome (worse (made_of kind old new (sym d k)) (made_of kind old new (sym f k)))) ∙ walk.rest
+          sym (worse_comm outcome Same) ∙ (λ k. worse outcome (worse (made_in kind texts (sym d k)) (made_in kind texts (sym f k)))) ∙ walk.rest
       by (Here a at d) (Here b bt f) = let n = sym (λ i. next_order (at i) (bt i)) ∙ e in cc
       by (Here a at d) (Past bt f) = let n = sym (λ i. next_order (at i) (bt i)) ∙ e in cc
       by (Past at d) (Here b bt f) = let n = sym (λ i. next_order (at i) (bt i)) ∙ e in cc
 
--- a key that differs has a value in one of the texts
-valued : (old new : List Assignment) (of_old of_new : List UnitKey) → AreKeysOf old of_old → AreKeysOf new of_new
-    → (key : UnitKey) → differs old new key ≡ true → has_key (of_old ++ of_new) key ≡ true
-valued old new of_old of_new a b key d = by (has_key (of_old ++ of_new) key) refl
-  where
-    unset : (text : List Assignment) (keys : List UnitKey) → AreKeysOf text keys → has_key keys key ≡ false → values_of text key ≡ []
-    unset text keys are h = nil_from_length _ (eqb-true _ 0 (not-false _ (sym (are.exact key) ∙ h)))
+-- a key that differs stands in one of the parts of the texts
+module _ (old new : Parts) (are_old : AreParts old) (are_new : AreParts new) where
+  abbrev pub parted : List UnitKey
+  parted = (old.front_keys.now ++ new.front_keys.now) ++ (old.changed_keys.now ++ new.changed_keys.now)
 
-    by : (t : Bool) → has_key (of_old ++ of_new) key ≡ t → has_key (of_old ++ of_new) key ≡ true
-    by true h = h
-    by false h =
-        let parts = or_false_parts _ _ (sym (list_any-append (is_same_key key) of_old of_new) ∙ h) in
-        absurd (true≢false (sym d ∙ unset_same old new key (unset old of_old a parts.0) (unset new of_new b parts.1)))
+  unset : (parts : Parts) (are : AreParts parts) (key : UnitKey) → has_key parts.front_keys.now key ≡ false → has_key parts.changed_keys.now key ≡ false → values_of parts.text.now key ≡ []
+  unset parts are key h g = are.others key g ∙ no_values are.front key (sym (are.front_keys.exact key) ∙ h)
 
--- the keys that have a value in either text decide as those that are assigned do
-pub walked : (kind : UnitKind) (old new : List Assignment) (of_old of_new : List UnitKey) → AreKeysOf old of_old → AreKeysOf new of_new
-    → worse (made_of kind old new of_old) (made_of kind old new of_new) ≡ comparison kind old new
-walked kind old new of_old of_new a b =
-    let alike : (key : UnitKey) → differs old new key ≡ true → has_key (of_old ++ of_new) key ≡ has_key (assigned old new) key =
-    λ key d. valued old new of_old of_new a b key d ∙ sym (differing_assigned old new key d) in
-    sym (made_append kind (differs old new) of_old of_new)
-    ∙ (λ i. by_tests
-    (any_same (is_changed kind old new) (of_old ++ of_new) (assigned old new) (λ key e. alike key (and_parts _ _ e).0) i)
-    (any_same (differs old new) (of_old ++ of_new) (assigned old new) alike i))
-    ∙ sym (comparison_made kind old new)
+  valued : (key : UnitKey) → differs old.text.now new.text.now key ≡ true → has_key parted key ≡ true
+  valued key d = by (has_key parted key) refl
+    where
+      by : (t : Bool) → has_key parted key ≡ t → has_key parted key ≡ true
+      by true h = h
+      by false h =
+          let halves = or_false_parts _ _ (sym (list_any-append (is_same_key key) (old.front_keys.now ++ new.front_keys.now) (old.changed_keys.now ++ new.changed_keys.now)) ∙ h) in
+          let fronts = or_false_parts _ _ (sym (list_any-append (is_same_key key) old.front_keys.now new.front_keys.now) ∙ halves.0) in
+          let changed = or_false_parts _ _ (sym (list_any-append (is_same_key key) old.changed_keys.now new.changed_keys.now) ∙ halves.1) in
+          absurd (true≢false (sym d ∙ unset_same old.text.now new.text.now key (unset old are_old key fronts.0 changed.0) (unset new are_new key fronts.1 changed.1)))
+
+  -- the keys of the parts decide as those that are assigned do
+  pub walked : (kind : UnitKind) → made_of kind old.text.now new.text.now parted ≡ comparison kind old.text.now new.text.now
+  walked kind =
+      let alike : (key : UnitKey) → differs old.text.now new.text.now key ≡ true → has_key parted key ≡ has_key (assigned old.text.now new.text.now) key =
+      λ key d. valued key d ∙ sym (differing_assigned old.text.now new.text.now key d) in
+      (λ i. by_tests
+      (any_same (is_changed kind old.text.now new.text.now) parted (assigned old.text.now new.text.now) (λ key e. alike key (and_parts _ _ e).0) i)
+      (any_same (differs old.text.now new.text.now) parted (assigned old.text.now new.text.now) alike i))
+      ∙ sym (comparison_made kind old.text.now new.text.now)
 
 -- the same by equal outcomes and places
-pub moved : (kind : UnitKind) (old new : List Assignment) (end : Comparison) (of_old of_new : List UnitKey) (o p : Comparison) (i k j l : ℕ) → p ≡ o → k ≡ i → l ≡ j
-    → IsWalk kind old new o end (drop i of_old) (drop j of_new) → IsWalk kind old new p end (drop k of_old) (drop l of_new)
-moved kind old new end of_old of_new o p i k j l a b c walk =
-    subst (λ (n : ℕ). IsWalk kind old new p end (drop k of_old) (drop n of_new)) (sym c)
-    (subst (λ (n : ℕ). IsWalk kind old new p end (drop n of_old) (drop j of_new)) (sym b)
-    (subst (λ (q : Comparison). IsWalk kind old new q end (drop i of_old) (drop j of_new)) (sym a) walk))
-
--- the keys of a text and their values, as slices
-pub lent : (text : List Assignment) (keys slice : List UnitKey) → slice ≡ keys → AreKeysOf text keys → AreKeysOf text slice
-lent text keys slice e are = subst (AreKeysOf text) (sym e) are
+pub moved : (kind : UnitKind) (texts : Texts) (end : Comparison) (of_old of_new : List UnitKey) (o p : Comparison) (i k j l : ℕ) → p ≡ o → k ≡ i → l ≡ j
+    → IsWalk kind texts o end (drop i of_old) (drop j of_new) → IsWalk kind texts p end (drop k of_old) (drop l of_new)
+moved kind texts end of_old of_new o p i k j l a b c walk =
+    subst (λ (n : ℕ). IsWalk kind texts p end (drop k of_old) (drop n of_new)) (sym c)
+    (subst (λ (n : ℕ). IsWalk kind texts p end (drop n of_old) (drop j of_new)) (sym b)
+    (subst (λ (q : Comparison). IsWalk kind texts q end (drop i of_old) (drop j of_new)) (sym a) walk))
 
 -- where no key has been passed, all keys are left
-pub at_start : (kind : UnitKind) (old new : List Assignment) (of_old of_new : List UnitKey) → AreKeysOf old of_old → AreKeysOf new of_new
-    → IsWalk kind old new Same (worse (made_of kind old new of_old) (made_of kind old new of_new)) of_old of_new
-at_start kind old new of_old of_new old_are new_are = record {
+pub at_start : (kind : UnitKind) (texts : Texts) (of_old of_new : List UnitKey) → AreAssignedIn texts.old_front of_old → AreAssignedIn texts.new_front of_new
+    → IsWalk kind texts Same (worse (made_in kind texts of_old) (made_in kind texts of_new)) of_old of_new
+at_start kind texts of_old of_new old_are new_are = record {
   left = record {
     old_sorted = old_are.sorted;
     new_sorted = new_are.sorted;
-    in_new = each of_new new new_are.exact of_old;
-    in_old = each of_old old old_are.exact of_new;
+    in_new = each of_new texts.new_front new_are.exact of_old;
+    in_old = each of_old texts.old_front old_are.exact of_new;
   };
   rest = refl;
 }
   where
-    each : (keys : List UnitKey) (text : List Assignment) → ((key : UnitKey) → has_key keys key ≡ has_value text key)
-        → (others : List UnitKey) → AllByRecursion (λ key. has_key keys key ≡ has_value text key) others
+    each : (keys : List UnitKey) (text : List Assignment) → ((key : UnitKey) → has_key keys key ≡ is_assigned text key)
+        → (others : List UnitKey) → AllByRecursion (λ key. has_key keys key ≡ is_assigned text key) others
     each keys text exact [] = tt
     each keys text exact (key ∷ others) = (exact key, each keys text exact others)
 

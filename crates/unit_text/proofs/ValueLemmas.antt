@@ -1,18 +1,19 @@
 -- What one more assignment changes.
-use Rattle.std.proofs.Common.{◌≡◌, Bor, ℕ, ◌+◌, ◌<◌, Bool, true, false, not, cond, ◌&&◌, ◌||◌, List, [], ◌∷◌, ◌++◌, length, get_or, take, map, refl, sym, ap, ◌∙◌}
+use Rattle.std.proofs.Common.{◌≡◌, Bor, ℕ, ◌+◌, ◌<◌, Bool, true, false, not, cond, ◌&&◌, ◌||◌, List, [], ◌∷◌, ◌++◌, length, get_or, drop, take, map, refl, sym, ap, ◌∙◌}
 use Rattle.std.specs.List.{filter, list_any}
 use Rattle.std.specs.List.Sorted.{ties, IsStableBy}
 use Rattle.std.specs.Ordering.{is_lt, ordering_reverse}
 use Rattle.std.specs.declared.cmp.Ordering.{Ordering}
 use Rattle.std.specs.declared.cmp.Ordering.TheVariants.{Less, Equal, Greater}
-use Rattle.std.proofs.lemmas.List.{append-nil, append_assoc, map-append, take_more}
+use Rattle.std.proofs.lemmas.Bool.{not-false, eqb-true}
+use Rattle.std.proofs.lemmas.List.{append-nil, append_assoc, map-append, nil_from_length, take-append-drop, take_at, take_more}
 use Rattle.std.proofs.lemmas.List.Elements.{filter-append}
 use Rattle.std.proofs.lemmas.List.Folds.{list_any-append}
 use Rattle.unit_text.specs.declared.assignment.Assignment.{Assignment}
 use Rattle.unit_text.specs.declared.unit_key.UnitKey.{UnitKey}
 use Rattle.unit_text.specs.Statement.{is_empty}
 use Rattle.unit_text.specs.UnitKey.{key_cmp, is_same_key}
-use Rattle.unit_text.specs.UnitText.{given, after_last_empty, values_of}
+use Rattle.unit_text.specs.UnitText.{HasFrontOf, given, after_last_empty, is_assigned, values_of}
 use Rattle.unit_text.proofs.KeyLemmas.{key_total, exact_keys, same_self, less_other, greater_other}
 
 or_false : (b : Bool) → (b || false) ≡ b
@@ -44,7 +45,7 @@ after_push (v ∷ values) value =
     by false false false = refl
 
 module _ (text : List Assignment) (one : Assignment) (key : UnitKey) where
-  given_push : given (text ++ one ∷ []) key ≡ given text key ++ cond (is_same_key key one.at) (one.value ∷ []) []
+  pub given_push : given (text ++ one ∷ []) key ≡ given text key ++ cond (is_same_key key one.at) (one.value ∷ []) []
   given_push =
       ap (map (λ (a : Assignment). a.value)) (filter-append (λ (a : Assignment). is_same_key key a.at) text (one ∷ []))
       ∙ map-append (λ (a : Assignment). a.value) (filter (λ (a : Assignment). is_same_key key a.at) text) (filter (λ (a : Assignment). is_same_key key a.at) (one ∷ []))
@@ -89,12 +90,29 @@ ties_same a b = by (key_cmp a.at b.at) refl
         let back : key_cmp b.at a.at ≡ Less = key_total.antisymm b.at a.at ∙ ap ordering_reverse e in
         (λ i. tied (e i) (back i)) ∙ sym (greater_other a.at b.at back)
 
--- which values a key has doesn't depend on the order of the keys
-pub values_stable : (text ordered : List Assignment) (key : UnitKey) → IsStableBy is_lower text ordered → values_of ordered key ≡ values_of text key
-values_stable text ordered key h =
+-- what a key is given doesn't depend on the order of the keys
+pub given_stable : (text ordered : List Assignment) (key : UnitKey) → IsStableBy is_lower text ordered → given ordered key ≡ given text key
+given_stable text ordered key h =
     let one : Assignment = record { at = key; value = [] } in
     let of_key : (xs : List Assignment) → filter (ties is_lower one) xs ≡ filter (λ a. is_same_key key a.at) xs = λ xs. λ i. filter (λ a. ties_same one a i) xs in
-    ap (λ (xs : List Assignment). after_last_empty (map (λ (a : Assignment). a.value) xs)) (sym (of_key ordered) ∙ h one ∙ of_key text)
+    ap (map (λ (a : Assignment). a.value)) (sym (of_key ordered) ∙ h one ∙ of_key text)
+
+-- ---- a key that later assignments don't assign
+
+pub given_append : (front later : List Assignment) (key : UnitKey) → given (front ++ later) key ≡ given front key ++ given later key
+given_append front later key =
+    ap (map (λ (a : Assignment). a.value)) (filter-append (λ (a : Assignment). is_same_key key a.at) front later)
+    ∙ map-append (λ (a : Assignment). a.value) (filter (λ (a : Assignment). is_same_key key a.at) front) (filter (λ (a : Assignment). is_same_key key a.at) later)
+
+not_given : (text : List Assignment) (key : UnitKey) → is_assigned text key ≡ false → given text key ≡ []
+not_given text key h = nil_from_length _ (eqb-true _ 0 (not-false _ h))
+
+pub no_values : (text : List Assignment) (key : UnitKey) → is_assigned text key ≡ false → values_of text key ≡ []
+no_values text key h = ap after_last_empty (not_given text key h)
+
+pub values_kept : (front later : List Assignment) (key : UnitKey) → is_assigned later key ≡ false → values_of (front ++ later) key ≡ values_of front key
+values_kept front later key h =
+    ap after_last_empty (given_append front later key ∙ ap (λ vs. given front key ++ vs) (not_given later key h) ∙ append-nil (given front key))
 
 -- ---- assignments behind references
 
@@ -115,3 +133,23 @@ stable_referred refs ordered stable one =
     filter_referred (ties is_lower one) ordered
     ∙ ap referred (stable (record { ref_ptr = (0, 0); now = one }))
     ∙ sym (filter_referred (ties is_lower one) refs)
+
+-- ---- the first assignments of a later text
+
+pub begins : (old first rest all new : List Assignment) → new ≡ old ++ first → first ++ rest ≡ all → HasFrontOf old all new
+begins old first rest all new e whole = record {
+  applied = length first;
+  front = e ∙ ap (λ xs. old ++ xs) (sym (take_at first rest (length first) refl) ∙ ap (take (length first)) whole);
+}
+
+-- a text that begins with those of its first part, or of its second after all of the first
+pub of_first : (old first second new : List Assignment) → HasFrontOf old first new → HasFrontOf old (first ++ second) new
+of_first old first second new has =
+    begins old (take has.applied first) (drop has.applied first ++ second) (first ++ second) new has.front
+    (sym (append_assoc (take has.applied first) (drop has.applied first) second) ∙ ap (λ xs. xs ++ second) (take-append-drop has.applied first))
+
+pub of_second : (old first second new : List Assignment) → HasFrontOf (old ++ first) second new → HasFrontOf old (first ++ second) new
+of_second old first second new has =
+    begins old (first ++ take has.applied second) (drop has.applied second) (first ++ second) new
+    (has.front ∙ append_assoc old first (take has.applied second))
+    (append_assoc first (take has.applied second) (drop has.applied second) ∙ ap (λ xs. first ++ xs) (take-append-drop has.applied second))

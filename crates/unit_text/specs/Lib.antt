@@ -1,5 +1,6 @@
 pub mod Index
 pub mod Lines
+pub mod Parts
 pub mod Reader
 pub mod Statement
 pub mod TextFault

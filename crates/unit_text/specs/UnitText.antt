@@ -38,10 +38,14 @@ values_of text key = after_last_empty (given text key)
 abbrev pub has_value : List Assignment → UnitKey → Bool
 has_value text key = not (length (values_of text key) == 0)
 
--- the keys that have a value, in order
-pub record AreKeysOf (text : List Assignment) (keys : List UnitKey) : Type 0 where
+-- the key is assigned, if only to be cleared
+abbrev pub is_assigned : List Assignment → UnitKey → Bool
+is_assigned text key = not (length (given text key) == 0)
+
+-- the keys that are assigned, in order
+pub record AreAssignedIn (text : List Assignment) (keys : List UnitKey) : Type 0 where
   pub sorted : IsStrictlySortedBy key_cmp keys
-  pub exact : (key : UnitKey) → has_key keys key ≡ has_value text key
+  pub exact : (key : UnitKey) → has_key keys key ≡ is_assigned text key
 
 -- the first assignments of a later text, or none, were applied
 pub record HasFrontOf (old later new : List Assignment) : Type 0 where

@@ -1,16 +1,18 @@
-//! The keys of a unit text with their values.
-ghost use Rattle.std.specs.Prelude.{◌≡◌, ◌<◌, ◌≤◌, ◌++◌, ◌∷◌, [], Some, List, length, OnOk, OnErr, IfOk, IfErr, slice_get, slice_index_or, slice_set, insert, remove, vec_len};
+//! The keys that assignments assign, with their values.
+ghost use Rattle.std.specs.Prelude.{◌≡◌, ◌<◌, ◌≤◌, ◌++◌, ◌∷◌, [], Some, List, length, OnOk, OnErr, IfOk, IfErr, slice_get, slice_index_or, slice_set, insert, vec_len};
 ghost use Rattle.std.specs.List.Sorted.{IsStrictlySortedBy};
 ghost use Rattle.unit_text.specs.declared.assignment.Assignment.{Assignment};
 ghost use Rattle.unit_text.specs.UnitKey.{key_cmp, key_of};
 ghost use Rattle.unit_text.specs.Index.{IsIndexOf, IsPlaceFor};
+ghost use Rattle.unit_text.specs.UnitText.{values_of};
 
 use crate::assignment::{Assignment, lent};
 use crate::unit_key::UnitKey;
 use std::alloc::{AllocError, Global};
 use switch_names::{Listed, Text};
 
-/// The keys that have a value, in order, and beside each its values.
+/// The keys that some assignments assign, in order, and beside each the values that it has after others
+/// that stand before them.
 pub struct Index {
     pub keys: Listed<UnitKey>,
     pub values: Vec<Listed<Text>>,
@@ -24,9 +26,9 @@ impl Drop for Index {
 }
 
 impl Index {
-    /// The index of a text without assignments.
+    /// The index of no assignments.
     pub fn new(alloc: Global) -> Index
-        ensures { IsIndexOf [] result }
+        ensures { (front : List Assignment) → IsIndexOf front [] result }
     {
         Index {
             keys: Listed::new(alloc),
@@ -38,13 +40,13 @@ impl Index {
     ///
     /// The assignments are applied in the order of their keys, so that each new key goes to the end.
     pub fn of(alloc: Global, assignments: &[Assignment]) -> Result<Index, AllocError>
-        ensures { IfOk result (λ index. IsIndexOf assignments.now index) }
+        ensures { IfOk result (λ index. IsIndexOf [] assignments.now index) }
     {
         let mut ordered = lent(alloc, assignments)?;
         ordered.sort_by(|one, other| one.at.cmp(&other.at))?;
         let mut index = Index::new(alloc);
         for assignment in ordered.as_slice() {
-            index.apply(alloc, assignment)?;
+            index.apply(alloc, &[], assignment)?;
         }
         Ok(index)
     }
@@ -55,39 +57,35 @@ impl Index {
         ensures found { IfOk result (λ at. slice_get self.now.keys at ≡ Some (key_of section.now key.now)) }
         ensures missing { IfErr result (λ at. IsPlaceFor self.now.keys (key_of section.now key.now) at) }
     {
-        self.keys
-            .as_slice()
-            .binary_search_by(|other| other.compare(section, key))
+        find_key(self.keys.as_slice(), section, key)
     }
 
-    /// Forgets a key.
-    fn remove(&mut self, at: usize)
-        requires key { at < length self.old.keys }
-        requires values { at < vec_len self.old.values }
-        ensures keys { self.new.keys ≡ remove self.old.keys at }
-        ensures values { self.new.values.items ≡ remove self.old.values.items at }
+    /// The values of a key that stands at a place.
+    pub fn values_at(&self, at: usize) -> &[Text]
+        requires { at < vec_len self.now.values }
+        ensures { result.now ≡ slice_index_or self.now.values.items at [] }
     {
-        self.keys.remove(at);
-        self.values.remove(at);
+        self.values[at].as_slice()
     }
 
-    /// Adds a key with its first value.
-    fn insert(
-        &mut self,
-        alloc: Global,
-        at: usize,
-        key: UnitKey,
-        value: Text,
-    ) -> Result<(), AllocError>
+    /// Forgets the values of a key.
+    fn clear(&mut self, alloc: Global, at: usize)
+        requires { at < vec_len self.old.values }
+        ensures keys { self.new.keys ≡ self.old.keys }
+        ensures values { self.new.values.items ≡ slice_set self.old.values.items at [] }
+    {
+        self.values[at] = Listed::new(alloc);
+    }
+
+    /// Adds a key with its values.
+    fn insert(&mut self, at: usize, key: UnitKey, values: Listed<Text>) -> Result<(), AllocError>
         requires key { at ≤ length self.old.keys }
         requires values { at ≤ vec_len self.old.values }
         ensures keys { OnOk result (self.new.keys ≡ insert self.old.keys at key) }
-        ensures values { OnOk result (self.new.values.items ≡ insert self.old.values.items at (value ∷ [])) }
+        ensures values { OnOk result (self.new.values.items ≡ insert self.old.values.items at values) }
         ensures same_keys { OnErr result (self.new.keys ≡ self.old.keys) }
         ensures same_values { OnErr result (self.new.values.items ≡ self.old.values.items) }
     {
-        let mut values = Listed::new(alloc);
-        values.push(value)?;
         self.values.insert(at, values)?;
         if let Err(fault) = self.keys.insert(at, key) {
             let _ = self.values.remove(at);
@@ -106,23 +104,50 @@ impl Index {
         self.values[at].push(value)
     }
 
-    /// Applies one more assignment.
-    pub fn apply(&mut self, alloc: Global, assignment: &Assignment) -> Result<(), AllocError>
+    /// Applies one more assignment, of a key that has these values before those that are indexed.
+    pub fn apply(
+        &mut self,
+        alloc: Global,
+        before: &[Text],
+        assignment: &Assignment,
+    ) -> Result<(), AllocError>
         requires sorted { IsStrictlySortedBy key_cmp self.old.keys }
         requires as_many { vec_len self.old.values ≡ length self.old.keys }
-        ensures ok { (text : List Assignment) → IsIndexOf text self.old → OnOk result (IsIndexOf (text ++ assignment.now ∷ []) self.new) }
-        ensures err { (text : List Assignment) → IsIndexOf text self.old → OnErr result (IsIndexOf text self.new) }
+        ensures ok { (front later : List Assignment) → IsIndexOf front later self.old → before.now ≡ values_of front assignment.now.at
+            → OnOk result (IsIndexOf front (later ++ assignment.now ∷ []) self.new) }
+        ensures err { (front later : List Assignment) → IsIndexOf front later self.old → OnErr result (IsIndexOf front later self.new) }
     {
         let Assignment { at: key, value } = assignment;
         let is_empty = value.as_str().is_empty();
         match self.find(key.section.as_str(), key.key.as_str()) {
             Ok(at) if is_empty => {
-                self.remove(at);
+                self.clear(alloc, at);
                 Ok(())
             }
             Ok(at) => self.add_value(at, value.copy(alloc)?),
-            Err(_) if is_empty => Ok(()),
-            Err(at) => self.insert(alloc, at, key.copy(alloc)?, value.copy(alloc)?),
+            Err(at) if is_empty => self.insert(at, key.copy(alloc)?, Listed::new(alloc)),
+            Err(at) => self.insert(at, key.copy(alloc)?, with_value(alloc, before, value)?),
         }
     }
+}
+
+/// Where a key stands among keys in order, or where it would.
+pub fn find_key(keys: &[UnitKey], section: &str, key: &str) -> Result<usize, usize>
+    requires { IsStrictlySortedBy key_cmp keys.now }
+    ensures found { IfOk result (λ at. slice_get keys.now at ≡ Some (key_of section.now key.now)) }
+    ensures missing { IfErr result (λ at. IsPlaceFor keys.now (key_of section.now key.now) at) }
+{
+    keys.binary_search_by(|other| other.compare(section, key))
+}
+
+/// Copies of these values, with one more.
+fn with_value(alloc: Global, before: &[Text], value: &Text) -> Result<Listed<Text>, AllocError>
+    ensures { IfOk result (λ values. values ≡ before.now ++ value.now ∷ []) }
+{
+    let mut values = Vec::with_capacity(alloc, before.len() + 1)?;
+    for one in before {
+        values.push(one.copy(alloc)?)?;
+    }
+    values.push(value.copy(alloc)?)?;
+    Ok(Listed::from_vec(values))
 }

@@ -1,50 +1,58 @@
 //! Unit texts.
-ghost use Rattle.std.specs.Prelude.{◌≡◌, ◌≢◌, ◌⊎◌, ◌++◌, ◌∷◌, [], ℕ, List, map, None, OnOk, OnErr, IfOk, IfErr};
+ghost use Rattle.std.specs.Prelude.{◌≡◌, ◌≢◌, ◌⊎◌, ◌++◌, ◌∷◌, [], ℕ, List, None, OnOk, OnErr, IfOk, IfErr};
 ghost use Rattle.unit_text.specs.declared.text_fault.TextFault.{TextFault};
-ghost use Rattle.unit_text.specs.declared.unit_key.UnitKey.{UnitKey};
+ghost use Rattle.unit_text.specs.Parts.{AreParts};
 ghost use Rattle.unit_text.specs.TextFault.{IsFault, IsFirstFault, IsRefusedBy, text_fault};
 ghost use Rattle.unit_text.specs.UnitKey.{key_of};
-ghost use Rattle.unit_text.specs.UnitText.{AreKeysOf, HasFrontOf, assignments, flag_of, values_of};
+ghost use Rattle.unit_text.specs.UnitText.{HasFrontOf, assignments, flag_of, values_of};
 
 use crate::assignment::{Assignment, copies};
 use crate::flag::truth;
+use crate::front::Front;
 use crate::index::Index;
+use crate::parts::Parts;
 use crate::reader::read;
 use crate::text_fault::TextFault;
 use crate::unit_key::UnitKey;
 use std::alloc::{AllocError, Global};
 use std::marker::Model;
-use switch_names::{Listed, Text};
+use switch_names::Text;
 
 /// The assignments of a unit file, and of the files that are applied after it.
 ///
-/// Contracts see the list of the assignments in order.
+/// Those of the first file are kept once for all copies of a text. Contracts see the list of the
+/// assignments in order.
 pub struct UnitText {
-    assignments: Vec<Assignment>,
-    index: Index,
+    /// What was read of a file.
+    front: Front,
+    /// What was applied after it.
+    later: Vec<Assignment>,
+    /// The keys that were assigned after it.
+    changes: Index,
 }
 
 /// One call: a derived drop is proved anew in each function that lets one go.
 impl Drop for UnitText {
     fn drop(self) {
         let UnitText {
-            assignments: _,
-            index: _,
+            front: _,
+            later: _,
+            changes: _,
         } = self;
     }
 }
 
 impl Model for UnitText {
-    ghost use Rattle.std.specs.Prelude.{List};
+    ghost use Rattle.std.specs.Prelude.{List, ◌++◌};
     ghost use Rattle.unit_text.specs.declared.assignment.Assignment.{Assignment};
 
     ghost Value = { List Assignment };
 
     ghost use Rattle.unit_text.specs.Index.{IsIndexOf};
 
-    ghost view = { λ text. text.assignments.items };
+    ghost view = { λ text. text.front ++ text.later.items };
 
-    ghost invariant = { λ text. IsIndexOf text.assignments.items text.index };
+    ghost invariant = { λ text. IsIndexOf text.front text.later.items text.changes };
 }
 
 /// Reads a unit file.
@@ -67,9 +75,17 @@ impl UnitText {
     pub fn empty(alloc: Global) -> UnitText
         ensures { result ≡ [] }
     {
+        UnitText::after(alloc, Front::none())
+    }
+
+    /// The text of these assignments, to which others can be applied.
+    fn after(alloc: Global, front: Front) -> UnitText
+        ensures { result ≡ front }
+    {
         UnitText {
-            assignments: Vec::new(alloc),
-            index: Index::new(alloc),
+            front,
+            later: Vec::new(alloc),
+            changes: Index::new(alloc),
         }
     }
 
@@ -79,23 +95,30 @@ impl UnitText {
         ensures fault { IsRefusedBy result (text_fault bytes.now) }
     {
         let assignments = read(alloc, bytes)?;
-        Ok(UnitText::from_assignments(alloc, assignments)?)
-    }
-
-    fn from_assignments(alloc: Global, assignments: Vec<Assignment>) -> Result<UnitText, AllocError>
-        ensures { IfOk result (λ text. text ≡ assignments.items) }
-    {
-        let index = Index::of(alloc, assignments.as_slice())?;
-        Ok(UnitText { assignments, index })
+        Ok(UnitText::after(alloc, Front::of(alloc, assignments)?))
     }
 
     fn push(&mut self, alloc: Global, assignment: Assignment) -> Result<(), AllocError>
         ensures ok { OnOk result (self.new ≡ self.old ++ assignment ∷ []) }
         ensures err { OnErr result (self.new ≡ self.old) }
     {
-        self.assignments.reserve(1)?;
-        self.index.apply(alloc, &assignment)?;
-        self.assignments.push_reserved(assignment);
+        self.later.reserve(1)?;
+        let before = self
+            .front
+            .values(assignment.at.section.as_str(), assignment.at.key.as_str());
+        self.changes.apply(alloc, before, &assignment)?;
+        self.later.push_reserved(assignment);
+        Ok(())
+    }
+
+    /// Applies these assignments after the present ones.
+    fn push_all(&mut self, alloc: Global, assignments: &[Assignment]) -> Result<(), AllocError>
+        ensures ok { OnOk result (self.new ≡ self.old ++ assignments.now) }
+        ensures err { OnErr result (HasFrontOf self.old assignments.now self.new) }
+    {
+        for assignment in assignments {
+            self.push(alloc, assignment.copy(alloc)?)?;
+        }
         Ok(())
     }
 
@@ -106,10 +129,8 @@ impl UnitText {
         ensures ok { OnOk result (self.new ≡ self.old ++ later.now) }
         ensures err { OnErr result (HasFrontOf self.old later.now self.new) }
     {
-        for assignment in later.assignments.as_slice() {
-            self.push(alloc, assignment.copy(alloc)?)?;
-        }
-        Ok(())
+        self.push_all(alloc, later.front.assignments())?;
+        self.push_all(alloc, later.later.as_slice())
     }
 
     /// Adds one assignment, with the value as it stands.
@@ -133,9 +154,9 @@ impl UnitText {
     pub fn values(&self, section: &str, key: &str) -> &[Text]
         ensures { result.now ≡ values_of self.now (key_of section.now key.now) }
     {
-        match self.index.find(section, key) {
-            Ok(at) => self.index.values[at].as_slice(),
-            Err(_) => &[],
+        match self.changes.find(section, key) {
+            Ok(at) => self.changes.values_at(at),
+            Err(_) => self.front.values(section, key),
         }
     }
 
@@ -149,24 +170,26 @@ impl UnitText {
         }
     }
 
-    /// The keys that have a value, by section and then by key.
-    pub fn keys(&self) -> &Listed<UnitKey>
-        ensures { AreKeysOf self.now result.now }
+    /// The keys of the text, apart for what its copies share and for what was applied after that.
+    pub fn parts(&self) -> Parts<'_>
+        ensures text { result.text.now ≡ self.now }
+        ensures parts { AreParts result }
     {
-        &self.index.keys
+        Parts {
+            text: self,
+            front_keys: self.front.keys(),
+            front_values: self.front.values_by_key(),
+            changed_keys: self.changes.keys.as_slice(),
+            changed_values: self.changes.values.as_slice(),
+        }
     }
 
-    /// The values of each key, in the order of `keys`.
-    pub fn values_by_key(&self) -> &[Listed<Text>]
-        ensures { (keys : List UnitKey) → AreKeysOf self.now keys → result.now ≡ map (values_of self.now) keys }
-    {
-        self.index.values.as_slice()
-    }
-
-    /// An equal text.
+    /// An equal text, which shares what was read of the first file.
     pub fn copy(&self, alloc: Global) -> Result<UnitText, AllocError>
         ensures { IfOk result (λ copied. copied ≡ self.now) }
     {
-        UnitText::from_assignments(alloc, copies(alloc, self.assignments.as_slice())?)
+        let mut copied = UnitText::after(alloc, self.front.copy()?);
+        copied.push_all(alloc, self.later.as_slice())?;
+        Ok(copied)
     }
 }

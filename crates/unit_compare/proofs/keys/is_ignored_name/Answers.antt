@@ -1,5 +1,5 @@
-use Rattle.std.proofs.Common.{◌≡◌, List, ℕ, nat_eq, ◌∙◌}
-use Rattle.std.specs.Cmp.Lexicographic.{pointwise, nat_list_eq_equiv}
+use Rattle.std.proofs.Common.{List, ℕ, ◌∙◌}
+use Rattle.std.specs.Cmp.Lexicographic.{nat_list_eq_equiv}
 use Rattle.std.specs.List.{list_any}
 use Rattle.unit_compare.specs.Compare.{ignored_names, is_ignored_name}
 use Rattle.unit_compare.proofs.keys.is_ignored_name.Goals as goal

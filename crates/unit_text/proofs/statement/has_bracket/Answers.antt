@@ -1,4 +1,4 @@
-use Rattle.std.proofs.Common.{◌≡◌, ◌==◌, ◌||◌, ℕ, true, false, sym, ◌∙◌}
+use Rattle.std.proofs.Common.{◌≡◌, ◌==◌, ◌||◌, true, false, sym, ◌∙◌}
 use Rattle.std.specs.List.{list_any}
 use Rattle.unit_text.proofs.EndLemmas.{any_either}
 use Rattle.unit_text.proofs.statement.has_bracket.Goals as goal

@@ -1,8 +1,7 @@
-use Rattle.std.proofs.Common.{[], ◌≡◌, Err, Option, Some, Result, inl, inr, ⊎_elim, sym, ap, ◌∙◌, subst}
+use Rattle.std.proofs.Common.{[], Err, Option, Some, Result, inl, inr, ⊎_elim, sym, ap, ◌∙◌, subst}
 use Rattle.std.specs.Option.{option_map}
 use Rattle.std.proofs.lemmas.Result.{err_from_is_err_and}
 use Rattle.unit_text.specs.declared.reader.Part.{Part}
-use Rattle.unit_text.specs.declared.reader.Reader.{Reader}
 use Rattle.unit_text.specs.declared.text_fault.TextFault.{TextFault}
 use Rattle.unit_text.specs.declared.text_fault.TextFault.TheVariants.{Utf8}
 use Rattle.unit_text.specs.Reader.{fault_left}

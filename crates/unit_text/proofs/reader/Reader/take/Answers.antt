@@ -1,4 +1,4 @@
-use Rattle.std.proofs.Common.{rules, ℕ, List, inl, inr, ⊎_elim, OnOk, Result, Ok, Err, Some, sym, ap, ◌∙◌, subst}
+use Rattle.std.proofs.Common.{ℕ, List, inl, inr, ⊎_elim, OnOk, Result, Ok, Err, Some, sym, ap, ◌∙◌, subst}
 use Rattle.std.proofs.lemmas.Option.{none-some}
 use Rattle.std.proofs.lemmas.Result.{on_ok_weaker, IfErr-weaker}
 use Rattle.std.proofs.lemmas.Str.{is_utf8-from_IsUtf8}

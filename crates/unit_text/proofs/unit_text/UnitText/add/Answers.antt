@@ -1,9 +1,33 @@
-use Rattle.std.proofs.Common.{arith}
-use Rattle.std.proofs.lemmas.Grind.{common_steps}
+use Rattle.std.proofs.Common.{◌≡◌, ◌++◌, List, OnErr, Ok, Err, Result, ap, subst, ◌∙◌}
+use Rattle.unit_text.specs.declared.assignment.Assignment.{Assignment}
+use Rattle.unit_text.specs.UnitText.{HasFrontOf}
+use Rattle.unit_text.proofs.ValueLemmas.{of_first, of_second}
 use Rattle.unit_text.proofs.unit_text.UnitText.add.Goals as goal
 
-pub loop-assignment-preserved : goal.loop-assignment-preserved
-loop-assignment-preserved c = grind (arith, common_steps)
+on_err : {T E P : Type 0} (r : Result T E) → P → OnErr r P
+on_err (Ok x) p = tt
+on_err (Err e) p = p
 
-pub returns-clause-ok : goal.returns-clause-ok
-returns-clause-ok c = grind (arith, common_steps)
+err_weaker : {T E P Q : Type 0} (r : Result T E) → (P → Q) → OnErr r P → OnErr r Q
+err_weaker (Ok x) f p = tt
+err_weaker (Err e) f p = f p
+
+pub returns-in_err-push_all-clause-err : goal.returns-in_err-push_all-clause-err
+returns-in_err-push_all-clause-err c =
+    let old = c.args.self.now in
+    let new = c.push_all.new.self in
+    let has = subst (λ (first : List Assignment). HasFrontOf old first new) c.assignments.ensures c.in_err-push_all.ensures.err in
+    on_err c.from_residual.result
+    (subst (λ (text : List Assignment). HasFrontOf old text new) c.later.view_is (of_first old c.later.inside.front c.later.inside.later.items new has))
+
+pub returns-clause-err : goal.returns-clause-err
+returns-clause-err c =
+    let old = c.args.self.now in
+    let new = c.push_all-2.new.self in
+    let first = c.later.inside.front in
+    let second = c.later.inside.later.items in
+    let before : c.push_all.new.self ≡ old ++ first = c.in_ok-push_all.ensures.ok ∙ ap (λ (xs : List Assignment). old ++ xs) c.assignments.ensures in
+    err_weaker c.push_all-2.result
+    (λ h. subst (λ (text : List Assignment). HasFrontOf old text new) c.later.view_is
+    (of_second old first second new (subst (λ (text : List Assignment). HasFrontOf text second new) before h)))
+    (subst (λ (xs : List Assignment). OnErr c.push_all-2.result (HasFrontOf c.push_all.new.self xs new)) c.as_slice.ensures.value c.push_all-2.ensures.err)

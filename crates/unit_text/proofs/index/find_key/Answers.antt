@@ -1,4 +1,4 @@
-use Rattle.std.proofs.Common.{◌≡◌, ℕ, List, length, get_or, ap, ◌∙◌, subst, Ok, Err, Some, Result, IfOk, IfErr, rules, arith}
+use Rattle.std.proofs.Common.{◌≡◌, ℕ, List, length, get_or, ap, ◌∙◌, Ok, Err, Some, Result, IfOk, IfErr, rules, arith}
 use Rattle.std.specs.List.{slice_get}
 use Rattle.std.specs.List.Sorted.{IsBinarySearchResult, IsSearchInRange, IsStrictlySortedBy}
 use Rattle.std.specs.Ordering.{ordering_reverse}
@@ -8,7 +8,7 @@ use Rattle.unit_text.specs.declared.unit_key.UnitKey.{UnitKey}
 use Rattle.unit_text.specs.UnitKey.{key_cmp, key_of}
 use Rattle.unit_text.specs.Index.{IsPlaceFor}
 use Rattle.unit_text.proofs.KeyLemmas.{key_total, exact_keys, all_before, all_from, searchable}
-use Rattle.unit_text.proofs.index.Index.find.Goals as goal
+use Rattle.unit_text.proofs.index.find_key.Goals as goal
 
 found : (keys : List UnitKey) (key : UnitKey) (r : Result ℕ ℕ) → IsSearchInRange r (length keys) → IsBinarySearchResult (λ other. key_cmp other key) keys r → IfOk r (λ at. slice_get keys at ≡ Some key)
 found keys key (Err at) within h = tt
@@ -26,17 +26,11 @@ missing keys key (Err at) s within h =
     }
 
 -- the search compares each key with the one that is sought
-answers : (c : goal.After-binary_search_by) → IsBinarySearchResult (λ other. key_cmp other (key_of c.args.section.now c.args.key.now)) c.args.self.now.keys c.binary_search_by.result
-answers c =
-    let key = key_of c.args.section.now c.args.key.now in
-    subst (λ (keys : List UnitKey). IsBinarySearchResult (λ other. key_cmp other key) keys c.binary_search_by.result) c.as_slice.ensures
-    (c.binary_search_by.ensures.position (λ other. key_cmp other key) (always_returns_same _ _ _ (λ a r q k. search rules)))
-
-in_range : (c : goal.After-binary_search_by) → IsSearchInRange c.binary_search_by.result (length c.args.self.now.keys)
-in_range c = subst (λ (keys : List UnitKey). IsSearchInRange c.binary_search_by.result (length keys)) c.as_slice.ensures c.binary_search_by.ensures.bound
+answers : (c : goal.After-binary_search_by) → IsBinarySearchResult (λ other. key_cmp other (key_of c.args.section.now c.args.key.now)) c.args.keys.now c.binary_search_by.result
+answers c = c.binary_search_by.ensures.position (λ other. key_cmp other (key_of c.args.section.now c.args.key.now)) (always_returns_same _ _ _ (λ a r q k. search rules))
 
 pub returns-clause-found : goal.returns-clause-found
-returns-clause-found c = found c.args.self.now.keys (key_of c.args.section.now c.args.key.now) c.binary_search_by.result (in_range c) (answers c)
+returns-clause-found c = found c.args.keys.now (key_of c.args.section.now c.args.key.now) c.binary_search_by.result c.binary_search_by.ensures.bound (answers c)
 
 pub returns-clause-missing : goal.returns-clause-missing
-returns-clause-missing c = missing c.args.self.now.keys (key_of c.args.section.now c.args.key.now) c.binary_search_by.result c.requires (in_range c) (answers c)
+returns-clause-missing c = missing c.args.keys.now (key_of c.args.section.now c.args.key.now) c.binary_search_by.result c.requires c.binary_search_by.ensures.bound (answers c)

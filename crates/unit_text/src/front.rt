@@ -1,0 +1,109 @@
+//! What the copies of a text share.
+ghost use Rattle.std.specs.Prelude.{◌≡◌, [], List, map, IfOk};
+ghost use Rattle.unit_text.specs.declared.unit_key.UnitKey.{UnitKey};
+ghost use Rattle.unit_text.specs.UnitKey.{key_of};
+ghost use Rattle.unit_text.specs.UnitText.{AreAssignedIn, values_of};
+
+use crate::assignment::Assignment;
+use crate::layer::Layer;
+use crate::unit_key::UnitKey;
+use std::alloc::{AllocError, Global};
+use std::marker::Model;
+use std::rc::Rc;
+use switch_names::{Listed, Text};
+
+/// The assignments with which a text begins, which its copies share.
+///
+/// Contracts see the list of the assignments.
+pub struct Front {
+    layer: Option<Rc<Layer>>,
+}
+
+/// One call: a derived drop is proved anew in each function that lets one go.
+impl Drop for Front {
+    fn drop(self) {
+        let Front { layer: _ } = self;
+    }
+}
+
+impl Model for Front {
+    ghost use Rattle.std.specs.Prelude.{List, []};
+    ghost use Rattle.std.specs.Option.{option_map_or};
+    ghost use Rattle.std.specs.Rc.{rc_value};
+    ghost use Rattle.unit_text.specs.declared.assignment.Assignment.{Assignment};
+
+    ghost Value = { List Assignment };
+
+    ghost view = { λ front. option_map_or rc_value front.layer [] };
+}
+
+impl Front {
+    /// No assignments.
+    pub fn none() -> Front
+        ensures { result ≡ [] }
+    {
+        Front { layer: None }
+    }
+
+    /// These assignments, without a copy.
+    pub fn of(alloc: Global, assignments: Vec<Assignment>) -> Result<Front, AllocError>
+        ensures { IfOk result (λ front. front ≡ assignments.items) }
+    {
+        let layer = Layer::of(alloc, assignments)?;
+        Ok(Front {
+            layer: Some(Rc::new(alloc, layer)?),
+        })
+    }
+
+    /// The same assignments, which both share.
+    pub fn copy(&self) -> Result<Front, AllocError>
+        ensures { IfOk result (λ copied. copied ≡ self.now) }
+    {
+        match &self.layer {
+            Some(layer) => Ok(Front {
+                layer: Some(layer.clone()?),
+            }),
+            None => Ok(Front::none()),
+        }
+    }
+
+    /// The assignments.
+    pub fn assignments(&self) -> &[Assignment]
+        ensures { result.now ≡ self.now }
+    {
+        match &self.layer {
+            Some(layer) => layer.as_ref().assignments(),
+            None => &[],
+        }
+    }
+
+    /// The values that a key is given after the last empty assignment.
+    pub fn values(&self, section: &str, key: &str) -> &[Text]
+        ensures { result.now ≡ values_of self.now (key_of section.now key.now) }
+    {
+        match &self.layer {
+            Some(layer) => layer.as_ref().values(section, key),
+            None => &[],
+        }
+    }
+
+    /// The keys that are assigned, by section and then by key.
+    pub fn keys(&self) -> &[UnitKey]
+        ensures { AreAssignedIn self.now result.now }
+    {
+        match &self.layer {
+            Some(layer) => layer.as_ref().keys(),
+            None => &[],
+        }
+    }
+
+    /// The values of each key, in the order of `keys`.
+    pub fn values_by_key(&self) -> &[Listed<Text>]
+        ensures { (keys : List UnitKey) → AreAssignedIn self.now keys → result.now ≡ map (values_of self.now) keys }
+    {
+        match &self.layer {
+            Some(layer) => layer.as_ref().values_by_key(),
+            None => &[],
+        }
+    }
+}
