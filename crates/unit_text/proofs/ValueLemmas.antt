@@ -1,12 +1,12 @@
 -- What one more assignment changes.
-use Rattle.std.proofs.Common.{◌≡◌, Bor, ℕ, ◌+◌, ◌<◌, Bool, true, false, not, cond, ◌&&◌, ◌||◌, List, [], ◌∷◌, ◌++◌, length, get_or, drop, take, map, refl, sym, ap, ◌∙◌}
+use Rattle.std.proofs.Common.{◌≡◌, ℕ, Bool, true, false, not, cond, ◌&&◌, ◌||◌, List, [], ◌∷◌, ◌++◌, length, drop, take, map, refl, sym, ap, ◌∙◌}
 use Rattle.std.specs.List.{filter, list_any}
 use Rattle.std.specs.List.Sorted.{ties, IsStableBy}
 use Rattle.std.specs.Ordering.{is_lt, ordering_reverse}
 use Rattle.std.specs.declared.cmp.Ordering.{Ordering}
 use Rattle.std.specs.declared.cmp.Ordering.TheVariants.{Less, Equal, Greater}
 use Rattle.std.proofs.lemmas.Bool.{not-false, eqb-true}
-use Rattle.std.proofs.lemmas.List.{append-nil, append_assoc, map-append, nil_from_length, take-append-drop, take_at, take_more}
+use Rattle.std.proofs.lemmas.List.{append-nil, append_assoc, map-append, nil_from_length, take-append-drop, take_at}
 use Rattle.std.proofs.lemmas.List.Elements.{filter-append}
 use Rattle.std.proofs.lemmas.List.Folds.{list_any-append}
 use Rattle.unit_text.specs.declared.assignment.Assignment.{Assignment}
@@ -19,13 +19,6 @@ use Rattle.unit_text.proofs.KeyLemmas.{key_total, exact_keys, same_self, less_ot
 or_false : (b : Bool) → (b || false) ≡ b
 or_false true = refl
 or_false false = refl
-
--- a copy of one item more stands at the end
-pub taken_more : {X : Type 0} (first items : List X) (i : ℕ) (item copied : X) (so_far now : List X) → i < length items → item ≡ get_or items i item → copied ≡ item →
-    so_far ≡ first ++ take i items → now ≡ so_far ++ copied ∷ [] → now ≡ first ++ take (i + 1) items
-taken_more first items i item copied so_far now within is same before pushed =
-    pushed ∙ ap (λ x. so_far ++ x ∷ []) (same ∙ is) ∙ ap (λ xs. xs ++ get_or items i item ∷ []) before
-    ∙ append_assoc first (take i items) (get_or items i item ∷ []) ∙ ap (λ xs. first ++ xs) (sym (take_more items i item within))
 
 -- one more value clears the earlier ones, or goes to the end
 after_push : (values : List (List ℕ)) (value : List ℕ) → after_last_empty (values ++ value ∷ []) ≡ cond (is_empty value) [] (after_last_empty values ++ value ∷ [])
@@ -114,26 +107,6 @@ pub values_kept : (front later : List Assignment) (key : UnitKey) → is_assigne
 values_kept front later key h =
     ap after_last_empty (given_append front later key ∙ ap (λ vs. given front key ++ vs) (not_given later key h) ∙ append-nil (given front key))
 
--- ---- assignments behind references
-
-abbrev pub referred : List (Bor Assignment) → List Assignment
-referred refs = map (λ (one : Bor Assignment). one.now) refs
-
-filter_referred : (test : Assignment → Bool) (refs : List (Bor Assignment)) → filter test (referred refs) ≡ referred (filter (λ one. test one.now) refs)
-filter_referred test [] = refl
-filter_referred test (one ∷ refs) = ap (λ xs. cond (test one.now) (one.now ∷ xs) xs) (filter_referred test refs) ∙ by (test one.now)
-  where
-    by : (b : Bool) → cond b (one.now ∷ referred (filter (λ r. test r.now) refs)) (referred (filter (λ r. test r.now) refs)) ≡ referred (cond b (one ∷ filter (λ r. test r.now) refs) (filter (λ r. test r.now) refs))
-    by true = refl
-    by false = refl
-
--- references in a stable order refer to assignments in a stable order
-pub stable_referred : (refs ordered : List (Bor Assignment)) → IsStableBy (λ a b. is_lower a.now b.now) refs ordered → IsStableBy is_lower (referred refs) (referred ordered)
-stable_referred refs ordered stable one =
-    filter_referred (ties is_lower one) ordered
-    ∙ ap referred (stable (record { ref_ptr = (0, 0); now = one }))
-    ∙ sym (filter_referred (ties is_lower one) refs)
-
 -- ---- the first assignments of a later text
 
 pub begins : (old first rest all new : List Assignment) → new ≡ old ++ first → first ++ rest ≡ all → HasFrontOf old all new
@@ -153,3 +126,6 @@ of_second old first second new has =
     begins old (first ++ take has.applied second) (drop has.applied second) (first ++ second) new
     (has.front ∙ append_assoc old first (take has.applied second))
     (append_assoc first (take has.applied second) (drop has.applied second) ∙ ap (λ xs. first ++ xs) (take-append-drop has.applied second))
+
+pub none_first : (old later new : List Assignment) → new ≡ old → HasFrontOf old later new
+none_first old later new e = begins old [] later later new (e ∙ sym (append-nil old)) refl

@@ -1,5 +1,5 @@
 //! Assignments of a unit file.
-ghost use Rattle.std.specs.Prelude.{◌≡◌, IfOk, map};
+ghost use Rattle.std.specs.Prelude.{◌≡◌, IfOk};
 
 use crate::unit_key::UnitKey;
 use std::alloc::{AllocError, Global};
@@ -19,6 +19,15 @@ impl Drop for Assignment {
 }
 
 impl Assignment {
+    /// The key and the value, without a copy.
+    pub fn into_parts(self) -> (UnitKey, Text)
+        ensures key { result.0 ≡ self.at }
+        ensures value { result.1 ≡ self.value }
+    {
+        let Assignment { at, value } = self;
+        (at, value)
+    }
+
     /// An equal assignment.
     pub fn copy(&self, alloc: Global) -> Result<Assignment, AllocError>
         ensures { IfOk result (λ copied. copied ≡ self.now) }
@@ -28,22 +37,4 @@ impl Assignment {
             value: self.value.copy(alloc)?,
         })
     }
-}
-
-/// Equal assignments.
-pub fn copies(alloc: Global, assignments: &[Assignment]) -> Result<Vec<Assignment>, AllocError>
-    ensures { IfOk result (λ copied. copied.items ≡ assignments.now) }
-{
-    let mut copied = Vec::with_capacity(alloc, assignments.len())?;
-    for assignment in assignments {
-        copied.push(assignment.copy(alloc)?)?;
-    }
-    Ok(copied)
-}
-
-/// The assignments, one reference each.
-pub fn lent(alloc: Global, assignments: &[Assignment]) -> Result<Vec<&Assignment>, AllocError>
-    ensures { IfOk result (λ lent. map (λ one. one.now) lent.items ≡ assignments.now) }
-{
-    assignments.iter().collect(alloc)
 }

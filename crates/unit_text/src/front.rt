@@ -1,11 +1,13 @@
 //! What the copies of a text share.
-ghost use Rattle.std.specs.Prelude.{◌≡◌, [], List, map, IfOk};
+ghost use Rattle.std.specs.Prelude.{◌≡◌, [], List, None, map, IfOk, OnOk};
 ghost use Rattle.unit_text.specs.declared.unit_key.UnitKey.{UnitKey};
+ghost use Rattle.unit_text.specs.TextFault.{IsRefusedBy, text_fault};
 ghost use Rattle.unit_text.specs.UnitKey.{key_of};
-ghost use Rattle.unit_text.specs.UnitText.{AreAssignedIn, values_of};
+ghost use Rattle.unit_text.specs.UnitText.{AreAssignedIn, assignments, values_of};
 
 use crate::assignment::Assignment;
 use crate::layer::Layer;
+use crate::text_fault::TextFault;
 use crate::unit_key::UnitKey;
 use std::alloc::{AllocError, Global};
 use std::marker::Model;
@@ -45,11 +47,13 @@ impl Front {
         Front { layer: None }
     }
 
-    /// These assignments, without a copy.
-    pub fn of(alloc: Global, assignments: Vec<Assignment>) -> Result<Front, AllocError>
-        ensures { IfOk result (λ front. front ≡ assignments.items) }
+    /// Reads a file.
+    pub fn read(alloc: Global, bytes: &[u8]) -> Result<Front, TextFault>
+        ensures ok { IfOk result (λ front. front ≡ assignments bytes.now) }
+        ensures sound { OnOk result (text_fault bytes.now ≡ None) }
+        ensures fault { IsRefusedBy result (text_fault bytes.now) }
     {
-        let layer = Layer::of(alloc, assignments)?;
+        let layer = Layer::read(alloc, bytes)?;
         Ok(Front {
             layer: Some(Rc::new(alloc, layer)?),
         })
@@ -68,12 +72,12 @@ impl Front {
     }
 
     /// The assignments.
-    pub fn assignments(&self) -> &[Assignment]
-        ensures { result.now ≡ self.now }
+    pub fn assignments(&self, alloc: Global) -> Result<Vec<Assignment>, AllocError>
+        ensures { IfOk result (λ all. all.items ≡ self.now) }
     {
         match &self.layer {
-            Some(layer) => layer.as_ref().assignments(),
-            None => &[],
+            Some(layer) => layer.as_ref().assignments(alloc),
+            None => Ok(Vec::new(alloc)),
         }
     }
 

@@ -6,7 +6,7 @@ ghost use Rattle.unit_text.specs.UnitKey.{key_cmp, key_of};
 ghost use Rattle.unit_text.specs.Index.{IsIndexOf, IsPlaceFor};
 ghost use Rattle.unit_text.specs.UnitText.{values_of};
 
-use crate::assignment::{Assignment, lent};
+use crate::assignment::Assignment;
 use crate::unit_key::UnitKey;
 use std::alloc::{AllocError, Global};
 use switch_names::{Listed, Text};
@@ -36,16 +36,16 @@ impl Index {
         }
     }
 
-    /// The index of a text.
+    /// The index of a text, of which nothing is copied.
     ///
     /// The assignments are applied in the order of their keys, so that each new key goes to the end.
-    pub fn of(alloc: Global, assignments: &[Assignment]) -> Result<Index, AllocError>
-        ensures { IfOk result (λ index. IsIndexOf [] assignments.now index) }
+    pub fn of(alloc: Global, assignments: Vec<Assignment>) -> Result<Index, AllocError>
+        ensures { IfOk result (λ index. IsIndexOf [] assignments.items index) }
     {
-        let mut ordered = lent(alloc, assignments)?;
+        let mut ordered = assignments;
         ordered.sort_by(|one, other| one.at.cmp(&other.at))?;
         let mut index = Index::new(alloc);
-        for assignment in ordered.as_slice() {
+        for assignment in ordered {
             index.apply(alloc, &[], assignment)?;
         }
         Ok(index)
@@ -109,24 +109,29 @@ impl Index {
         &mut self,
         alloc: Global,
         before: &[Text],
-        assignment: &Assignment,
+        assignment: Assignment,
     ) -> Result<(), AllocError>
         requires sorted { IsStrictlySortedBy key_cmp self.old.keys }
         requires as_many { vec_len self.old.values ≡ length self.old.keys }
-        ensures ok { (front later : List Assignment) → IsIndexOf front later self.old → before.now ≡ values_of front assignment.now.at
-            → OnOk result (IsIndexOf front (later ++ assignment.now ∷ []) self.new) }
+        ensures ok { (front later : List Assignment) → IsIndexOf front later self.old → before.now ≡ values_of front assignment.at
+            → OnOk result (IsIndexOf front (later ++ assignment ∷ []) self.new) }
         ensures err { (front later : List Assignment) → IsIndexOf front later self.old → OnErr result (IsIndexOf front later self.new) }
     {
-        let Assignment { at: key, value } = assignment;
-        let is_empty = value.as_str().is_empty();
-        match self.find(key.section.as_str(), key.key.as_str()) {
+        let UnitKey { section, key } = &assignment.at;
+        let is_empty = assignment.value.as_str().is_empty();
+        match self.find(section.as_str(), key.as_str()) {
             Ok(at) if is_empty => {
                 self.clear(alloc, at);
                 Ok(())
             }
-            Ok(at) => self.add_value(at, value.copy(alloc)?),
-            Err(at) if is_empty => self.insert(at, key.copy(alloc)?, Listed::new(alloc)),
-            Err(at) => self.insert(at, key.copy(alloc)?, with_value(alloc, before, value)?),
+            Ok(at) => self.add_value(at, assignment.into_parts().1),
+            Err(at) if is_empty => {
+                self.insert(at, assignment.into_parts().0, Listed::new(alloc))
+            }
+            Err(at) => {
+                let (key, value) = assignment.into_parts();
+                self.insert(at, key, with_value(alloc, before, value)?)
+            }
         }
     }
 }
@@ -140,14 +145,14 @@ pub fn find_key(keys: &[UnitKey], section: &str, key: &str) -> Result<usize, usi
     keys.binary_search_by(|other| other.compare(section, key))
 }
 
-/// Copies of these values, with one more.
-fn with_value(alloc: Global, before: &[Text], value: &Text) -> Result<Listed<Text>, AllocError>
-    ensures { IfOk result (λ values. values ≡ before.now ++ value.now ∷ []) }
+/// Copies of these values, and one more.
+fn with_value(alloc: Global, before: &[Text], value: Text) -> Result<Listed<Text>, AllocError>
+    ensures { IfOk result (λ values. values ≡ before.now ++ value ∷ []) }
 {
     let mut values = Vec::with_capacity(alloc, before.len() + 1)?;
     for one in before {
         values.push(one.copy(alloc)?)?;
     }
-    values.push(value.copy(alloc)?)?;
+    values.push(value)?;
     Ok(Listed::from_vec(values))
 }

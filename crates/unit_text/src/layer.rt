@@ -1,61 +1,71 @@
-//! Assignments that several texts may share.
-ghost use Rattle.std.specs.Prelude.{◌≡◌, List, map, IfOk};
+//! A file that several texts may share.
+ghost use Rattle.std.specs.Prelude.{◌≡◌, List, None, map, IfOk, OnOk};
 ghost use Rattle.unit_text.specs.declared.unit_key.UnitKey.{UnitKey};
+ghost use Rattle.unit_text.specs.TextFault.{IsRefusedBy, text_fault};
 ghost use Rattle.unit_text.specs.UnitKey.{key_of};
-ghost use Rattle.unit_text.specs.UnitText.{AreAssignedIn, values_of};
+ghost use Rattle.unit_text.specs.UnitText.{AreAssignedIn, assignments, values_of};
 
 use crate::assignment::Assignment;
 use crate::index::Index;
+use crate::reader::read;
+use crate::text_fault::TextFault;
 use crate::unit_key::UnitKey;
 use std::alloc::{AllocError, Global};
 use std::marker::Model;
 use switch_names::{Listed, Text};
 
-/// Assignments in order, with their index.
+/// A file, with the index of its assignments.
 ///
-/// Contracts see the list of the assignments.
+/// Contracts see the list of the assignments. They aren't kept beside the index, but read again where
+/// they are asked for.
 pub struct Layer {
-    assignments: Vec<Assignment>,
+    bytes: Vec<u8>,
     index: Index,
 }
 
 /// One call: a derived drop is proved anew in each function that lets one go.
 impl Drop for Layer {
     fn drop(self) {
-        let Layer {
-            assignments: _,
-            index: _,
-        } = self;
+        let Layer { bytes: _, index: _ } = self;
     }
 }
 
 impl Model for Layer {
     ghost use Rattle.std.specs.Prelude.{List, []};
     ghost use Rattle.unit_text.specs.declared.assignment.Assignment.{Assignment};
+    ghost use Rattle.unit_text.specs.UnitText.{assignments};
 
     ghost Value = { List Assignment };
 
     ghost use Rattle.unit_text.specs.Index.{IsIndexOf};
 
-    ghost view = { λ layer. layer.assignments.items };
+    ghost view = { λ layer. assignments layer.bytes.items };
 
-    ghost invariant = { λ layer. IsIndexOf [] layer.assignments.items layer.index };
+    ghost invariant = { λ layer. IsIndexOf [] (assignments layer.bytes.items) layer.index };
 }
 
 impl Layer {
-    /// These assignments, without a copy.
-    pub fn of(alloc: Global, assignments: Vec<Assignment>) -> Result<Layer, AllocError>
-        ensures { IfOk result (λ layer. layer ≡ assignments.items) }
+    /// Reads a file.
+    pub fn read(alloc: Global, bytes: &[u8]) -> Result<Layer, TextFault>
+        ensures ok { IfOk result (λ layer. layer ≡ assignments bytes.now) }
+        ensures sound { OnOk result (text_fault bytes.now ≡ None) }
+        ensures fault { IsRefusedBy result (text_fault bytes.now) }
     {
-        let index = Index::of(alloc, assignments.as_slice())?;
-        Ok(Layer { assignments, index })
+        let index = Index::of(alloc, read(alloc, bytes)?)?;
+        Ok(Layer {
+            bytes: Vec::from_slice(alloc, bytes)?,
+            index,
+        })
     }
 
-    /// The assignments.
-    pub fn assignments(&self) -> &[Assignment]
-        ensures { result.now ≡ self.now }
+    /// The assignments. What was read once can be read again, if there is memory.
+    pub fn assignments(&self, alloc: Global) -> Result<Vec<Assignment>, AllocError>
+        ensures { IfOk result (λ all. all.items ≡ self.now) }
     {
-        self.assignments.as_slice()
+        match read(alloc, self.bytes.as_slice()) {
+            Ok(all) => Ok(all),
+            Err(_) => Err(AllocError),
+        }
     }
 
     /// The values that a key is given after the last empty assignment.

@@ -6,12 +6,11 @@ ghost use Rattle.unit_text.specs.TextFault.{IsFault, IsFirstFault, IsRefusedBy, 
 ghost use Rattle.unit_text.specs.UnitKey.{key_of};
 ghost use Rattle.unit_text.specs.UnitText.{HasFrontOf, assignments, flag_of, values_of};
 
-use crate::assignment::{Assignment, copies};
+use crate::assignment::Assignment;
 use crate::flag::truth;
 use crate::front::Front;
 use crate::index::Index;
 use crate::parts::Parts;
-use crate::reader::read;
 use crate::text_fault::TextFault;
 use crate::unit_key::UnitKey;
 use std::alloc::{AllocError, Global};
@@ -94,8 +93,7 @@ impl UnitText {
         ensures sound { OnOk result (text_fault bytes.now ≡ None) }
         ensures fault { IsRefusedBy result (text_fault bytes.now) }
     {
-        let assignments = read(alloc, bytes)?;
-        Ok(UnitText::after(alloc, Front::of(alloc, assignments)?))
+        Ok(UnitText::after(alloc, Front::read(alloc, bytes)?))
     }
 
     fn push(&mut self, alloc: Global, assignment: Assignment) -> Result<(), AllocError>
@@ -103,10 +101,10 @@ impl UnitText {
         ensures err { OnErr result (self.new ≡ self.old) }
     {
         self.later.reserve(1)?;
-        let before = self
-            .front
-            .values(assignment.at.section.as_str(), assignment.at.key.as_str());
-        self.changes.apply(alloc, before, &assignment)?;
+        let copied = assignment.copy(alloc)?;
+        let UnitKey { section, key } = &assignment.at;
+        let before = self.front.values(section.as_str(), key.as_str());
+        self.changes.apply(alloc, before, copied)?;
         self.later.push_reserved(assignment);
         Ok(())
     }
@@ -129,7 +127,8 @@ impl UnitText {
         ensures ok { OnOk result (self.new ≡ self.old ++ later.now) }
         ensures err { OnErr result (HasFrontOf self.old later.now self.new) }
     {
-        self.push_all(alloc, later.front.assignments())?;
+        let first = later.front.assignments(alloc)?;
+        self.push_all(alloc, first.as_slice())?;
         self.push_all(alloc, later.later.as_slice())
     }
 
