@@ -1,18 +1,15 @@
 -- A farm's end stays the same while the farm is put.
-use Rattle.std.proofs.Common.{◌≡◌, ◌≢◌, ℕ, ◌&&◌, ◌||◌, not, Bool, true, false, cond, List, ◌++◌, drop, length, codes, nat_eq, Option, None, Some, is_none, is_some, refl, sym, ap, subst, ◌∙◌, inl, inr, rules}
-use Rattle.std.proofs.lemmas.Bool.{and_parts, both_ways}
-use Rattle.std.proofs.lemmas.Bool.Decides.{Decides-eqb}
-use Rattle.std.proofs.lemmas.Slice.Eq.{starts_is}
+use Rattle.std.proofs.Common.{◌≡◌, ◌≢◌, ℕ, ◌||◌, not, Bool, true, false, cond, List, ◌++◌, drop, length, codes, Option, None, Some, is_some, refl, sym, ap, subst, ◌∙◌, inl, inr, rules}
+use Rattle.std.proofs.lemmas.Bool.{both_ways}
 use Rattle.std.specs.FinMap.{get, gets, insert, remove}
-use Rattle.std.specs.List.{starts_with}
 use Rattle.std.specs.Ordering.{eq_by_cmp}
 use Rattle.switch_names.specs.Names.{Name, has, is_name}
-use Rattle.switch_names.specs.Path.{path_fault}
 use Rattle.host_trait.specs.declared.leaf.LeafKind.{LeafKind}
-use Rattle.host_trait.specs.declared.leaf.LeafKind.TheVariants.{File, Link}
-use Rattle.host_trait.specs.World.{Leaves, bytes_cmp, content_of, file_at, file_bytes, leaf_content, store_place}
+use Rattle.host_trait.specs.declared.leaf.LeafKind.TheVariants.{Link}
+use Rattle.host_trait.specs.World.{Leaves, bytes_cmp, leaf_content, store_place}
 use Rattle.host_trait.proofs.Places.{at_same, itself, same_or_other}
 use Rattle.host_trait.proofs.Sound.{get_other}
+use Rattle.tree_put.proofs.StoreLemmas.{content_kept, store_place_begins}
 use Rattle.etc_manifest.specs.declared.item.Item.{Item}
 use Rattle.etc_manifest.specs.declared.item.ItemKind.{ItemKind}
 use Rattle.etc_manifest.specs.Manifest.{entry}
@@ -95,35 +92,13 @@ pub record IsAllBut (x : Name) (w m : Leaves) : Type 0 where
   pub others : (q : Name) → q ≢ x → at m q ≡ at w q
   pub clean : x ≢ clean_name → clean_of m ≡ clean_of w
 
-chosen : (b : Bool) (x y : List ℕ) → cond b (Some x) None ≡ Some y → (b ≡ true) × (x ≡ y)
-chosen true x y is = (refl, cc)
-chosen false x y is = absurd (cc)
-
-apart_of : (x rest : List ℕ) → eq_by_cmp bytes_cmp (drop 1 (codes "/nix/store/" ++ rest)) (place x) ≡ false
+apart_of : (x rest : List ℕ) → eq_by_cmp bytes_cmp (codes "nix/store/" ++ rest) (place x) ≡ false
 unfolding place
 apart_of x rest = refl
 
 -- no path of the store is a place in etc
 pub store_apart : (target p : List ℕ) (x : Name) → store_place target ≡ Some p → eq_by_cmp bytes_cmp p (place x) ≡ false
-store_apart target p x is =
-    let parts = chosen (starts_with nat_eq target (codes "/nix/store/") && is_none (path_fault (drop 1 target))) (drop 1 target) p is in
-    let starts = (starts_is Decides-eqb target (codes "/nix/store/") (starts_with nat_eq target (codes "/nix/store/")) refl).0
-    (and_parts (starts_with nat_eq target (codes "/nix/store/")) (is_none (path_fault (drop 1 target))) parts.0).0 in
-    subst (λ r. eq_by_cmp bytes_cmp r (place x) ≡ false) (sym (ap (drop 1) starts) ∙ parts.1) (apart_of x (drop (length (codes "/nix/store/")) target))
-
--- what is read at a place is the same where the leaf and each file of the store are
-module _ (w m : Leaves) (stored : (target p : List ℕ) → store_place target ≡ Some p → get m p ≡ get w p) where
-  file_kept : (target : List ℕ) (o : Option (List ℕ)) → store_place target ≡ o → file_at m o ≡ file_at w o
-  file_kept target None is = refl
-  file_kept target (Some p) is = ap file_bytes (stored target p is)
-
-  leaf_kept : (leaf : Option LeafKind) → leaf_content m leaf ≡ leaf_content w leaf
-  leaf_kept None = refl
-  leaf_kept (Some (File bytes mode uid gid)) = refl
-  leaf_kept (Some (Link target)) = file_kept target (store_place target) refl
-
-  pub content_kept : (path : List ℕ) → get m path ≡ get w path → content_of m path ≡ content_of w path
-  content_kept path same = ap (leaf_content m) same ∙ leaf_kept (get w path)
+store_apart target p x is = subst (λ r. eq_by_cmp bytes_cmp r (place x) ≡ false) (sym (store_place_begins target p is)) (apart_of x (drop (length (codes "/nix/store/")) target))
 
 module _ (w m : Leaves) (x : Name) (same : (p : List ℕ) → eq_by_cmp bytes_cmp p (place x) ≡ false → get m p ≡ get w p) where
   all_but : IsAllBut x w m

@@ -19,7 +19,7 @@ use Rattle.std.specs.declared.cmp.Ordering.TheVariants.{Less, Equal, Greater}
 use Rattle.switch_names.specs.Names.{Name, has, is_name}
 use Rattle.switch_names.specs.Path.{IsParentOf, is_below, slash}
 use Rattle.switch_names.proofs.Below.{below_front, rest_below}
-use Rattle.host_trait.specs.World.{bytes_cmp, is_in_line}
+use Rattle.host_trait.specs.World.{bytes_cmp}
 use Rattle.host_trait.proofs.Orders.{AreAbove, AreBelow, found_name, missing_name}
 use Rattle.host_trait.proofs.Places.{bytes_total, itself}
 use Rattle.host_trait.proofs.Seen.{other_of}
@@ -207,19 +207,3 @@ free_last names name free = none_among (λ q. is_below name q) names (λ q there
 
 pub above_found : (names : List Name) (name place : Name) → is_below name place ≡ true → has names place ≡ true → true ≡ list_any (λ q. is_below name q) names
 above_found names name place above there = sym (passes_among (λ q. is_below name q) names place there above)
-
--- ---- names in line with another
-
-either_passes : (p t : Name → Bool) (ks : List Name) → list_any (λ k. p k || t k) ks ≡ (list_any p ks || list_any t ks)
-either_passes p t [] = refl
-either_passes p t (k ∷ ks) = ap (λ b. (p k || t k) || b) (either_passes p t ks) ∙ swapped (p k) (t k) (list_any p ks) (list_any t ks)
-  where
-    swapped : (a b c d : Bool) → ((a || b) || (c || d)) ≡ ((a || c) || (b || d))
-    swapped true b c d = refl
-    swapped false true true d = refl
-    swapped false true false d = refl
-    swapped false false c d = refl
-
--- what is in line with a name lies below it or above it
-pub below_or_above : (names : List Name) (name : Name) → list_any (λ q. is_in_line q name) names ≡ (list_any (λ q. is_below q name) names || list_any (λ q. is_below name q) names)
-below_or_above names name = either_passes (λ q. is_below q name) (λ q. is_below name q) names

@@ -82,16 +82,16 @@ either_passes p q (k ∷ ks) = ap (λ b. (p k || q k) || b) (either_passes p q k
     swapped false true false d = refl
     swapped false false c d = refl
 
--- a leaf that blocks a path stands below it or above it
-pub below_or_above : (leaves : Leaves) (at : List ℕ) → is_blocked leaves at ≡ (list_any (λ q. is_below q at) (keys leaves) || list_any (λ q. is_below at q) (keys leaves))
-below_or_above leaves at = either_passes (λ q. is_below q at) (λ q. is_below at q) (keys leaves)
+-- what is in line with a path lies below it or above it
+pub below_or_above : (names : List (List ℕ)) (at : List ℕ) → list_any (λ q. is_in_line q at) names ≡ (list_any (λ q. is_below q at) names || list_any (λ q. is_below at q) names)
+below_or_above names at = either_passes (λ q. is_below q at) (λ q. is_below at q) names
 
 pub blocked_below : (leaves : Leaves) (at : List ℕ) → list_any (λ q. is_below q at) (keys leaves) ≡ true → true ≡ is_blocked leaves at
 blocked_below leaves at below =
-    sym (below_or_above leaves at ∙ or_left (list_any (λ q. is_below q at) (keys leaves)) (list_any (λ q. is_below at q) (keys leaves)) below)
+    sym (below_or_above (keys leaves) at ∙ or_left (list_any (λ q. is_below q at) (keys leaves)) (list_any (λ q. is_below at q) (keys leaves)) below)
 
 pub blocked_above : (leaves : Leaves) (at : List ℕ) → list_any (λ q. is_below q at) (keys leaves) ≡ false → list_any (λ q. is_below at q) (keys leaves) ≡ is_blocked leaves at
-blocked_above leaves at none = sym (below_or_above leaves at ∙ ap (λ b. b || list_any (λ q. is_below at q) (keys leaves)) none)
+blocked_above leaves at none = sym (below_or_above (keys leaves) at ∙ ap (λ b. b || list_any (λ q. is_below at q) (keys leaves)) none)
 
 not_the_stage : (at k : List ℕ) → is_in_line stage at ≡ false → is_below k at ≡ true → is_path k stage ≡ false
 not_the_stage at k apart below = elim (cases_Bool (is_path k stage)) [

@@ -1,3 +1,6 @@
 pub mod BlockedLemmas
+pub mod LeftLemmas
 pub mod PutLemmas
+pub mod SequenceLemmas
+pub mod StoreLemmas
 pub mod WayLemmas

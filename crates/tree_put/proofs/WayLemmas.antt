@@ -1,8 +1,8 @@
 -- What stands in the way of places, from one to the next.
-use Rattle.std.proofs.Common.{◌≡◌, ◌&&◌, ℕ, ◌<◌, ◌+◌, Bool, true, false, cond, List, ◌∷◌, None, Some, option_map, suc, length, get_or, drop, add-one, refl, sym, ap, subst, ◌∙◌}
+use Rattle.std.proofs.Common.{◌≡◌, ◌&&◌, ℕ, ◌<◌, ◌+◌, Bool, true, false, cond, List, [], ◌∷◌, None, Some, option_map, suc, length, get_or, drop, add-one, refl, sym, ap, subst, ◌∙◌}
 use Rattle.std.proofs.Math.Seq.{drop-cons}
 use Rattle.std.proofs.lemmas.Bool.{or_parts}
-use Rattle.std.specs.List.{find}
+use Rattle.std.specs.List.{AllByRecursion, find}
 use Rattle.host_trait.specs.World.{IsClear, Leaves}
 use Rattle.tree_put.specs.declared.written_place.WrittenPlace.{WrittenPlace}
 use Rattle.tree_put.specs.Put.{is_blocked}
@@ -30,3 +30,8 @@ clear_first leaves place places is =
       | true ↦ λ here none. absurd (cc)
       | false ↦ λ here none. (clear_of_free leaves place.at (or_parts (is_blocked leaves place.at) (place.is_read && lacks_content leaves place.at) here).0, none)
     ] refl is
+
+-- and where nothing is in the way of any, all are clear
+pub all_clear : (leaves : Leaves) (places : List WrittenPlace) → in_the_way places leaves ≡ None → AllByRecursion (λ place. IsClear leaves place.at) places
+all_clear leaves [] none = tt
+all_clear leaves (place ∷ places) none = let first = clear_first leaves place places none in (first.0, all_clear leaves places first.1)

@@ -2,9 +2,13 @@
 #![tactic(auto)]
 
 mod blocked;
+mod leaf_put;
 mod places;
+mod sequence;
 mod written_place;
 
 pub use blocked::is_blocked;
+pub use leaf_put::LeafPut;
 pub use places::{drop_leaf, put, put_if_other};
-pub use written_place::{WrittenPlace, first_in_the_way, is_in_the_way};
+pub use sequence::{drop_all, put_all};
+pub use written_place::{WrittenPlace, first_in_the_way, is_in_the_way, unread};

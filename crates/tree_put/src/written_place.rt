@@ -3,7 +3,7 @@ ghost use Rattle.std.specs.Prelude.{◌≡◌, false, IfOk};
 ghost use Rattle.host_trait.specs.Host.{Told};
 ghost use Rattle.host_trait.specs.Reading.{IsReading};
 ghost use Rattle.host_trait.specs.World.{is_in_line, stage};
-ghost use Rattle.tree_put.specs.WrittenPlace.{AreApartFromStage, in_the_way, is_in_the_way, lacks_content};
+ghost use Rattle.tree_put.specs.WrittenPlace.{AreApartFromStage, in_the_way, is_in_the_way, lacks_content, written};
 
 use crate::blocked::is_blocked;
 use host_trait::{HostFault, Tree, content};
@@ -22,6 +22,13 @@ impl Drop for WrittenPlace {
     fn drop(self) {
         let WrittenPlace { at: _, is_read: _ } = self;
     }
+}
+
+/// A place whose content isn't read before it is written.
+pub fn unread(at: Path) -> WrittenPlace
+    ensures { result ≡ written false at }
+{
+    WrittenPlace { at, is_read: false }
 }
 
 /// Whether a leaf without content stands at a place.
