@@ -1,19 +1,21 @@
 -- Places of a list, one by one.
-use Rattle.std.proofs.Common.{◌≡◌, ◌&&◌, ◌||◌, ◌==◌, Bool, true, false, nat_eq, nat_lt, slice_index, List, [], ◌∷◌, length, refl, sym, ap, subst, ◌∙◌, inl, inr}
+use Rattle.std.proofs.Common.{◌≡◌, ◌&&◌, ◌||◌, ◌==◌, Bool, true, false, nat_eq, nat_lt, slice_index, List, [], ◌∷◌, length, Option, refl, sym, ap, subst, ◌∙◌, inl, inr}
 use Rattle.std.proofs.lemmas.Bool.{both_ways, cases_Bool}
 use Rattle.std.specs.Cmp.Lexicographic.{same_text}
 use Rattle.std.specs.List.{AllByRecursion, starts_with}
 use Rattle.switch_names.specs.Names.{Name}
 use Rattle.switch_names.specs.Path.{is_below, slash}
-use Rattle.host_trait.specs.World.{is_in_line, is_path}
+use Rattle.host_trait.specs.World.{Leaves, WorldState, is_in_line, is_path, stage}
 use Rattle.tree_put.specs.declared.written_place.WrittenPlace.{WrittenPlace}
-use Rattle.switch_parts.specs.Leaves.{is_among, is_near}
+use Rattle.switch_parts.specs.declared.refusal.Refusal.{Refusal}
+use Rattle.switch_parts.specs.Leaves.{End, EndsSame, is_among, is_near, leaf_part}
+use Rattle.switch_parts.specs.Part.{IsPart, IsSameFor}
 
 and_false : (b : Bool) → b && false ≡ false
 and_false true = refl
 and_false false = refl
 
-both_false : (a b : Bool) → a ≡ false → b ≡ false → a || b ≡ false
+pub both_false : (a b : Bool) → a ≡ false → b ≡ false → a || b ≡ false
 both_false a b first second = cc
 
 -- a path that doesn't begin with another doesn't lie below it
@@ -41,3 +43,29 @@ each_among P (at ∷ places) all q among = elim (cases_Bool (is_path q at)) [
   | inl is ↦ subst P (sym (same_text q at (sym is))) all.0
   | inr other ↦ each_among P places all.1 q (sym (ap (λ b. b || is_among places q) other) ∙ among)
 ]
+
+-- ---- parts of leaves alone
+
+module _ (owns : Name → Bool) (places : Leaves → List WrittenPlace) (refusal : Leaves → Option Refusal) (end : End) where
+  pub ends_self : (w : WorldState) → EndsSame owns places refusal end w w
+  ends_self w = record { ends = λ q own. refl; free = λ way none. (way, none) }
+
+  pub ends_then : (w v m : WorldState) → EndsSame owns places refusal end w v → EndsSame owns places refusal end v m → EndsSame owns places refusal end w m
+  ends_then w v m first then = record {
+    ends = λ q own. then.ends q own ∙ first.ends q own;
+    free = λ way none. let middle = first.free way none in then.free middle.0 middle.1;
+  }
+
+  -- such a part is one where the same is left and free wherever the same stands for it
+  pub leaf_is_part :
+      (reads : Name → Bool) → ((w m : WorldState) → IsSameFor (leaf_part owns reads places refusal end) w m → EndsSame owns places refusal end w m) →
+      ((q : Name) → owns q ≡ true → reads q ≡ true) → reads stage ≡ false → IsPart (leaf_part owns reads places refusal end)
+  leaf_is_part reads frame reads_own no_stage = record {
+    keeps_self = ends_self;
+    keeps_then = ends_then;
+    same_end = λ w m keeps q own. keeps.ends q own;
+    stays_free = λ w m keeps free. let again = keeps.free free.way free.refusal in record { way = again.0; refusal = again.1 };
+    frame = frame;
+    reads_own = reads_own;
+    no_stage = no_stage;
+  }

@@ -1,15 +1,15 @@
 -- Two parts together are a part.
 use Rattle.std.proofs.Common.{◌≡◌, ◌≢◌, Bool, true, false, ◌&&◌, ◌||◌, cond, Option, None, Some, option_map, List, [], ◌∷◌, ◌++◌, refl, sym, ap, subst, ◌∙◌, inl, inr}
 use Rattle.std.proofs.lemmas.Option.{none-some}
-use Rattle.std.proofs.lemmas.Bool.{cases_Bool, both_ways, or_left, or_right, or_parts}
+use Rattle.std.proofs.lemmas.Bool.{cases_Bool, both_ways, or_left, or_right}
 use Rattle.std.specs.FinMap.{get}
 use Rattle.std.specs.Option.{option_or}
 use Rattle.host_trait.specs.World.{Leaves, WorldState, stage}
 use Rattle.switch_names.specs.Names.{Name}
 use Rattle.std.specs.List.{find}
-use Rattle.tree_put.specs.declared.written_place.WrittenPlace.{WrittenPlace}
-use Rattle.tree_put.specs.WrittenPlace.{in_the_way, is_in_the_way}
-use Rattle.switch_parts.specs.Part.{AreParted, IsAtEnd, IsFree, IsMomentOf, IsOnly, IsPart, IsSameFor, Part, both, final_leaf, no_part}
+use Rattle.tree_put.specs.WrittenPlace.{is_in_the_way}
+use Rattle.switch_parts.specs.Part.{AreParted, IsAtEnd, IsFree, IsMomentOf, IsOnly, IsPart, IsSameFor, Part, both, final_leaf}
+use Rattle.switch_parts.proofs.LeafLemmas.{both_false}
 
 pub left_false : (a b : Bool) → a || b ≡ false → a ≡ false
 left_false true b is = absurd (both_ways _ is refl)
@@ -32,9 +32,6 @@ false_by a b then none = elim (cases_Bool a) [ inl is ↦ absurd (both_ways _ no
 -- no part owns the stage
 pub not_stage : (p : Part) → IsPart p → (q : Name) → p.owns q ≡ true → q ≢ stage
 not_stage p part q own same = both_ways _ part.no_stage (subst (λ x. p.reads x ≡ true) same (part.reads_own q own))
-
-both_false : (a b : Bool) → a ≡ false → b ≡ false → a || b ≡ false
-both_false a b first second = cc
 
 -- where one part alone has changed something, nothing has changed for the other
 pub only_beside : (p q : Part) → IsPart q → ((at : Name) → p.owns at ≡ true → q.reads at ≡ false) → p.calls && q.calls ≡ false → (w m : WorldState) → IsOnly p w m → IsSameFor q w m
@@ -187,3 +184,15 @@ module _ (p q : Part) where
 
   pub only_second : (w m : WorldState) → IsOnly q w m → IsOnly (both p q) w m
   only_second w m only = record { leaves = λ at none. only.leaves at (right_false _ _ none); manager = λ none. only.manager (right_false _ _ none) }
+
+module _ (p q : Part) (first : IsPart p) (second : IsPart q) (beside : (at : Name) → p.owns at ≡ true → q.reads at ≡ false) where
+  -- where one part is at its end, and then the other, both are
+  pub ends_both : (w u v : WorldState) → IsAtEnd p w u → IsSameFor q w u → IsAtEnd q u v → IsOnly q u v → IsAtEnd (both p q) w v
+  ends_both w u v end same then only at own = elim (cases_Bool (p.owns at)) [
+    | inl is ↦
+        only.leaves at (false_by (q.owns at) (q.reads at) (second.reads_own at) (beside at is)) (not_stage p first at is)
+        ∙ end at is ∙ sym (ap (λ b. cond b (p.end w.leaves at) (q.end w.leaves at)) is)
+    | inr not ↦
+        let is = sym (ap (λ b. b || q.owns at) not) ∙ own in
+        then at is ∙ second.same_end w u (second.frame w u same) at is ∙ sym (ap (λ b. cond b (p.end w.leaves at) (q.end w.leaves at)) not)
+  ]

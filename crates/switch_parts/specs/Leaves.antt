@@ -1,5 +1,5 @@
 -- Parts of leaves alone, whose moments keep what they leave: rename(2), unlink(2).
-use Rattle.std.specs.Prelude.{◌≡◌, ◌||◌, Bool, true, false, List, Option, None}
+use Rattle.std.specs.Prelude.{◌≡◌, Bool, true, false, List, Option, None}
 use Rattle.std.specs.List.{list_any}
 use Rattle.host_trait.specs.declared.leaf.LeafKind.{LeafKind}
 use Rattle.host_trait.specs.World.{Leaves, WorldState, is_in_line, is_path}
