@@ -1,5 +1,5 @@
 -- The text of an entry, of its parts.
-use Rattle.std.proofs.Common.{◌≡◌, ℕ, List, [], ◌∷◌, ◌++◌, codes, Result, Ok, Err, IfOk, refl, sym, ap, ap₂, ◌∙◌}
+use Rattle.std.proofs.Common.{◌≡◌, ℕ, List, [], ◌∷◌, ◌++◌, codes, refl, sym, ap, ap₂, ◌∙◌}
 use Rattle.std.proofs.lemmas.List.{append_assoc}
 use Rattle.std.specs.Fmt.{decimal}
 use Rattle.boot_entries.specs.Entries.{entry_text, loader_text, more_params}
@@ -63,7 +63,3 @@ entry_is n system version params head middle is_head is_middle =
 pub loader_is : (n : ℕ) (text : List ℕ) → text ≡ codes "default nixos-generation-" ++ (decimal n ++ (codes ".conf" ++ 10 ∷ [])) → text ≡ loader_text n
 unfolding loader_text
 loader_is n text is = is ∙ sym (line (codes "default nixos-generation-" ∷ decimal n ∷ []) (codes ".conf") [])
-
-pub if_ok_as : {X E : Type 0} (r : Result X E) (P Q : X → Type 0) → IfOk r P → ((x : X) → P x → Q x) → IfOk r Q
-if_ok_as (Ok x) P Q holds weaker = weaker x holds
-if_ok_as (Err e) P Q holds weaker = tt

@@ -4,7 +4,6 @@ pub mod DefaultLaws
 pub mod Entries
 pub mod Laws
 pub mod Menu
-pub mod Numbers
 pub mod Places
 pub mod Steps
 pub mod Texts

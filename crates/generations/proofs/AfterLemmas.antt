@@ -20,14 +20,14 @@ use Rattle.host_trait.proofs.Seen.{other_of, seen_at}
 use Rattle.tree_put.proofs.PutLemmas.{apart_ne}
 use Rattle.generations.specs.declared.gens.Gen.{Gen}
 use Rattle.generations.specs.declared.gens.Gens.{Gens}
-use Rattle.generations.specs.After.{generation_after, gens_after, gens_below, list_with}
-use Rattle.generations.specs.Gens.{IsGensOf, listed_at, number_for_in}
+use Rattle.generations.specs.After.{generation_after, gens_after, gens_below}
+use Rattle.generations.specs.Gens.{IsGensOf, is_highest_of, listed_at, number_for_in}
 use Rattle.generations.specs.Places.{IsCurrent, generation_at, greatest_below, highest, is_number, link_name, link_path, link_target, number_after, profile, set_end, target_of, with_generation, with_profile}
 use Rattle.generations.specs.ProfilePart.{has_number, is_kept, profile_end, profile_part}
 use Rattle.generations.proofs.Apart.{link_profile, one_link, one_link_path, profile_apart}
 use Rattle.generations.proofs.BelowLemmas.{all_below, below_at, below_rising, below_same, beyond_at, all_lower, gen_of, list_is_below, listed_elsewhere, listed_here, listed_joined, none_after, rising_more}
 use Rattle.generations.proofs.NamesLaws.{link_text, of_system}
-use Rattle.generations.proofs.Numbers.{below_bound, highest_of_world, number_for_world, stands_at_number}
+use Rattle.generations.proofs.Numbers.{below_bound, highest_of_world, number_for_world, small_number, stands_at_number}
 use Rattle.generations.proofs.ProfileApart.{link_owned, profile_owned}
 use Rattle.generations.proofs.SetLaws.{above_highest, generation_of, generation_seen, named_there, next_of, number_is, others_there, profile_keeps, top_of}
 use Rattle.generations.proofs.SetLemmas.{kept_generation, new_generation}
@@ -53,9 +53,6 @@ number_small leaves system = either (is_kept leaves system) (highest leaves) (hi
     either : (b : Bool) (top : ℕ) → top ≤ 2 ^ 32 → cond b top (top + 1) < 2 ^ 64
     either true top small = grind arith
     either false top small = grind arith
-
-small_number : (n : ℕ) → is_number n ≡ true → n < 2 ^ 64
-small_number n is = let below = below_bound n is in grind arith
 
 -- the generation at the number that a set gives, and at another
 
@@ -309,7 +306,7 @@ after_of_none leaves gens system is none =
     ∙ sym (gens_after_is system leaves)
 
 -- and after one that finds this
-pub after_of_some : (leaves : Leaves) (gens : Gens) (system : Name) (n : ℕ) (list : List Gen) → IsGensOf leaves gens → number_for_in gens.list system ≡ Some n → list ≡ list_with gens.list system n →
+pub after_of_some : (leaves : Leaves) (gens : Gens) (system : Name) (n : ℕ) (list : List Gen) → IsGensOf leaves gens → number_for_in gens.list system ≡ Some n → list ≡ cond (is_highest_of gens.list system) gens.list (gens.list ++ gen_of n (Some system) ∷ []) →
     gens_with list (Some n) ≡ gens_after system leaves
 after_of_some leaves gens system n list is given made =
     let found = given_some (has_number leaves system) (number_after leaves system) n (sym given ∙ number_for_world leaves gens system is) in

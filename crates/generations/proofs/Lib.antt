@@ -1,6 +1,7 @@
 pub mod AfterLemmas
 pub mod Apart
 pub mod BelowLemmas
+pub mod DigitLemmas
 pub mod Entries
 pub mod LinkNumbers
 pub mod Lists

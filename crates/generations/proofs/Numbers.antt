@@ -69,6 +69,9 @@ stands_at_number leaves n is = elim (cases_Bool (is_number n)) [
 pub below_bound : (n : ℕ) → is_number n ≡ true → n < 2 ^ 32
 below_bound n is = grind arith
 
+pub small_number : (n : ℕ) → is_number n ≡ true → n < 2 ^ 64
+small_number n is = let below = below_bound n is in omega arith
+
 pub highest_is : (leaves : Leaves) (k : ℕ) → IsSome (generation_at leaves k) → ((m : ℕ) → k < m → generation_at leaves m ≡ None) → highest leaves ≡ k
 unfolding highest
 highest_is leaves k is above =

@@ -1,28 +1,23 @@
 -- What the profile's part owns begins as the profile's link does, and is among what it looks at.
-use Rattle.std.proofs.Common.{◌≡◌, ◌≢◌, ◌⊎◌, ℕ, ◌+◌, ◌%◌, ◌^◌, ◌<◌, Bool, true, false, ◌&&◌, ◌||◌, ◌==◌, nat_eq, nat_lt, slice_index, [], ◌∷◌, ◌++◌, codes, drop, length, refl, sym, ap, subst, ◌∙◌, inl, inr, ⊎_elim, arith}
-use Rattle.std.proofs.lemmas.Bool.{and_parts, both_ways, cases_Bool, ne_eqb, or_left, or_right}
+use Rattle.std.proofs.Common.{◌≡◌, ◌≢◌, ◌⊎◌, ℕ, ◌^◌, ◌<◌, Bool, true, false, ◌&&◌, ◌||◌, ◌==◌, nat_eq, nat_lt, slice_index, ◌++◌, codes, drop, length, refl, sym, ap, subst, ◌∙◌, inl, inr, ⊎_elim, arith}
+use Rattle.std.proofs.lemmas.Bool.{and_parts, both_ways, cases_Bool, or_left, or_right}
 use Rattle.std.proofs.lemmas.Bool.Decides.{Decides-eqb}
-use Rattle.std.proofs.lemmas.Fmt.{decimal_by_steps}
-use Rattle.std.proofs.lemmas.List.Folds.{list_any-append}
 use Rattle.std.proofs.lemmas.Slice.Eq.{starts_is}
 use Rattle.std.specs.Cmp.Lexicographic.{same_text}
-use Rattle.std.specs.Fmt.{decimal}
-use Rattle.std.specs.List.{list_any, starts_with}
+use Rattle.std.specs.List.{starts_with}
 use Rattle.switch_names.proofs.Below.{below_both, front_is_parent}
 use Rattle.switch_names.specs.Names.{Name}
 use Rattle.switch_names.specs.Path.{IsParentOf, is_below, slash}
-use Rattle.switch_parts.proofs.LeafLemmas.{BeginApart, not_below, not_line}
+use Rattle.switch_parts.proofs.LeafLemmas.{both_false, BeginApart, not_below, not_line}
 use Rattle.host_trait.specs.World.{is_in_line, is_path, stage}
-use Rattle.generations.proofs.Numbers.{below_bound}
+use Rattle.generations.proofs.DigitLemmas.{digits_no_slash}
+use Rattle.generations.proofs.Numbers.{small_number}
 use Rattle.generations.specs.Places.{is_number, link_name, link_path, profile, profiles}
 use Rattle.generations.specs.ProfilePart.{owns_profile, reads_profile}
 
 or_either : (a b : Bool) → a || b ≡ true → (a ≡ true) ⊎ (b ≡ true)
 or_either true b is = inl refl
 or_either false b is = inr is
-
-pub both_false : (a b : Bool) → a ≡ false → b ≡ false → a || b ≡ false
-both_false a b first second = cc
 
 -- what is owned begins as the profile's link does
 pub owned_begins : (q : Name) → owns_profile q ≡ true → q ≡ codes "nix/var/nix/profiles/system" ++ drop 27 q
@@ -102,26 +97,9 @@ profile_line_read q line = line_read profile profile_parent q line
 pub stage_line_read : (q : Name) → is_in_line q stage ≡ true → reads_profile q ≡ true
 stage_line_read q line = or_right (is_path q profiles || is_in_line q profiles) (is_in_line q stage) line
 
--- no digit is a slash
-digit_no_slash : (n : ℕ) → (48 + n == slash) ≡ false
-digit_no_slash n = ne_eqb (48 + n) slash (λ same. absurd (omega arith))
-
-decimal_no_slash : (n : ℕ) → n < 2 ^ 64 → list_any (λ byte. byte == slash) (decimal n) ≡ false
-decimal_no_slash n small = decimal_by_steps (λ k ds. list_any (λ byte. byte == slash) ds ≡ false)
-    (λ k digit. ap (λ b. b || false) (digit_no_slash k))
-    (λ k ds more none. list_any-append (λ byte. byte == slash) ds ((48 + k % 10) ∷ []) ∙ both_false _ _ none (ap (λ b. b || false) (digit_no_slash (k % 10))))
-    n small
-
-link_no_slash : (n : ℕ) → n < 2 ^ 64 → list_any (λ byte. byte == slash) (link_name n) ≡ false
-link_no_slash n small =
-    list_any-append (λ byte. byte == slash) (decimal n) (codes "-link") ∙ both_false _ _ (decimal_no_slash n small) refl
-
 link_parent : (n : ℕ) → n < 2 ^ 64 → IsParentOf (link_path n) profiles
 unfolding link_path profiles
-link_parent n small = front_is_parent (link_path n) profiles (link_name n) refl (link_no_slash n small)
-
-small_number : (n : ℕ) → is_number n ≡ true → n < 2 ^ 64
-small_number n is = let below = below_bound n is in omega arith
+link_parent n small = front_is_parent (link_path n) profiles (link_name n) refl (digits_no_slash n (codes "-link") small refl)
 
 pub link_line_read : (n : ℕ) → is_number n ≡ true → (q : Name) → is_in_line q (link_path n) ≡ true → reads_profile q ≡ true
 link_line_read n number q line = line_read (link_path n) (link_parent n (small_number n number)) q line

@@ -1,20 +1,21 @@
 -- The profile is a part of a switch: a set that was cut can be made again, and leaves the same.
-use Rattle.std.proofs.Common.{◌≡◌, ◌≢◌, ◌&&◌, ◌^◌, ℕ, nat_lt, Bool, true, false, cond, not, ◌∷◌, Option, Some, refl, sym, ap, subst, ◌∙◌, inl, inr, ⊎_elim}
+use Rattle.std.proofs.Common.{◌≡◌, ◌≢◌, ◌&&◌, ◌^◌, ℕ, nat_lt, Bool, true, false, cond, not, ◌∷◌, Option, None, Some, refl, sym, ap, subst, ◌∙◌, inl, inr, ⊎_elim}
 use Rattle.std.proofs.lemmas.Bool.{both_ways, cases_Bool}
-use Rattle.std.specs.Cmp.Lexicographic.{texts_ties}
-use Rattle.std.specs.FinMap.{get, get-insert, insert}
+use Rattle.std.specs.FinMap.{get}
 use Rattle.switch_names.specs.Names.{Name}
 use Rattle.switch_names.specs.Path.{slash}
 use Rattle.switch_names.specs.SystemName.{NamesSystem}
 use Rattle.host_trait.specs.declared.leaf.LeafKind.{LeafKind}
 use Rattle.host_trait.specs.declared.leaf.LeafKind.TheVariants.{Link}
-use Rattle.host_trait.specs.World.{IsClear, Leaves, WorldState, is_in_line, is_path, seen, stage, with_leaf}
-use Rattle.host_trait.proofs.Places.{bytes_total}
+use Rattle.host_trait.specs.World.{IsClear, WorldState, is_in_line, is_path, seen, stage, with_leaf}
 use Rattle.host_trait.proofs.Seen.{clear_seen, other_of, seen_at}
 use Rattle.host_trait.proofs.Sound.{clear_insert, get_other, in_line_either, not_in_line}
+use Rattle.tree_put.proofs.LeftLemmas.{leaf_after}
 use Rattle.switch_parts.specs.Part.{IsAtEnd, IsFree, IsMomentOf, IsOnly, IsPart, IsSameFor}
 use Rattle.generations.specs.Places.{generation_at, highest, is_of, link_name, link_path, link_target, number_after, profile, set_end, with_generation, with_profile}
-use Rattle.generations.specs.ProfilePart.{has_number, is_kept, owns_profile, profile_end, profile_part}
+use Rattle.generations.specs.ProfilePart.{has_number, is_kept, owns_profile, profile_end, profile_part, profile_places, reads_profile}
+use Rattle.switch_parts.specs.declared.refusal.Refusal.TheVariants.{GenerationsFull}
+use Rattle.switch_parts.proofs.LeafLemmas.{leaf_is_part}
 use Rattle.generations.specs.Set.{CanSet, IsSetMoment}
 use Rattle.generations.proofs.Apart.{link_apart, link_profile, profile_apart}
 use Rattle.generations.proofs.ProfileApart.{link_line_read, link_owned, owned_other, owned_read, profile_line_read, profile_owned, stage_line_read, stage_not_owned, stage_unread}
@@ -22,23 +23,19 @@ use Rattle.generations.proofs.ProfilePlaces.{can_of_free, free_of, number_of_fre
 use Rattle.generations.proofs.SetLaws.{KeepsSet, generation_of, generation_seen, highest_of_same, moment_keeps, number_is, number_same}
 use Rattle.generations.proofs.SetLemmas.{clear_with_generation}
 
--- what stands at a place after a leaf is put
-put_at : (leaves : Leaves) (at q : Name) (leaf : LeafKind) → get (insert leaves at leaf) q ≡ cond (is_path q at) (Some leaf) (get leaves q)
-put_at leaves at q leaf = get-insert bytes_total leaves at leaf q ∙ ap (λ b. cond b (Some leaf) (get leaves q)) (sym (texts_ties q at))
-
 -- the world with both links of a set
 abbrev set_world : Name → WorldState → WorldState
 set_world system w = with_profile (number_after w.leaves system) (with_generation system (number_after w.leaves system) w)
 
 set_at : (system : Name) (w : WorldState) (q : Name) → get (set_world system w).leaves q ≡ profile_end system w.leaves q
 set_at system w q =
-    put_at (with_generation system (number_after w.leaves system) w).leaves profile q (Link (link_name (number_after w.leaves system)))
+    leaf_after (with_generation system (number_after w.leaves system) w).leaves profile q (Link (link_name (number_after w.leaves system)))
     ∙ ap (λ o. cond (is_path q profile) (Some (Link (link_name (number_after w.leaves system)))) o) (link_at (is_kept w.leaves system))
   where
     link_at : (kept : Bool) → get (cond kept w (with_leaf (link_path (number_after w.leaves system)) (Link (link_target system)) w)).leaves q
         ≡ cond (not kept && is_path q (link_path (number_after w.leaves system))) (Some (Link (link_target system))) (get w.leaves q)
     link_at true = refl
-    link_at false = put_at w.leaves (link_path (number_after w.leaves system)) q (Link (link_target system))
+    link_at false = leaf_after w.leaves (link_path (number_after w.leaves system)) q (Link (link_target system))
 
 owned_not_stage : (q : Name) → owns_profile q ≡ true → q ≢ stage
 owned_not_stage q own = owned_other q stage own stage_not_owned
@@ -189,18 +186,10 @@ module _ (system : Name) (w m : WorldState) (same : IsSameFor (profile_part syst
 
 -- the profile is a part of a switch
 pub profile_is : (system : Name) → IsPart (profile_part system)
-profile_is system = record {
-  keeps_self = λ w. record { ends = λ q own. refl; free = λ way refusal. (way, refusal) };
-  keeps_then = λ w v m one then. record {
-    ends = λ q own. then.ends q own ∙ one.ends q own;
-    free = λ way refusal. let middle = one.free way refusal in then.free middle.0 middle.1;
-  };
-  same_end = λ w m keeps q own. keeps.ends q own;
-  stays_free = λ w m keeps free. let again = keeps.free free.way free.refusal in record { way = again.0; refusal = again.1 };
-  frame = λ w m same. record {
-    ends = λ q own. frame_end system w m same q own;
-    free = λ way refusal. let free = frame_free system w m same (record { way = way; refusal = refusal }) in (free.way, free.refusal);
-  };
-  reads_own = λ q own. owned_read q own;
-  no_stage = stage_unread;
-}
+profile_is system =
+    leaf_is_part owns_profile (λ leaves. profile_places leaves system) (λ leaves. cond (has_number leaves system) None (Some GenerationsFull)) (profile_end system) reads_profile
+    (λ w m same. record {
+      ends = λ q own. frame_end system w m same q own;
+      free = λ way refusal. let free = frame_free system w m same (record { way = way; refusal = refusal }) in (free.way, free.refusal);
+    })
+    (λ q own. owned_read q own) stage_unread

@@ -1,8 +1,7 @@
 -- The generations that stand after a set of the profile: Nix manual, "Profiles".
-use Rattle.std.specs.Prelude.{◌==◌, ◌++◌, ◌^◌, ℕ, zero, suc, List, [], ◌∷◌, Option, None, Some, option_map, option_to_list, if◌then◌else◌}
+use Rattle.std.specs.Prelude.{◌==◌, ◌++◌, ◌^◌, ℕ, zero, suc, List, [], Option, None, Some, option_map, option_to_list, if◌then◌else◌}
 use Rattle.generations.specs.declared.gens.Gen.{Gen}
 use Rattle.generations.specs.declared.gens.Gens.{Gens}
-use Rattle.generations.specs.Gens.{is_highest_of}
 use Rattle.generations.specs.Places.{generation_at, number_after}
 use Rattle.generations.specs.ProfilePart.{has_number}
 use Rattle.host_trait.specs.World.{Leaves}
@@ -23,7 +22,3 @@ gens_after system leaves = record {
   list = gens_below (generation_after system leaves) (2 ^ 32);
   current = if has_number leaves system then Some (number_after leaves system) else None;
 }
-
--- a list with the generation of a system at its end, where the highest one doesn't name it already
-abbrev pub list_with : List Gen → Name → ℕ → List Gen
-list_with list system n = if is_highest_of list system then list else list ++ record { number = n; target = Some system } ∷ []

@@ -1,7 +1,7 @@
 //! Generations of the system profile, and the numbers that they give.
-ghost use Rattle.std.specs.Prelude.{◌≡◌, ◌&&◌, Some, IfOk, nat_lt, is_some};
+ghost use Rattle.std.specs.Prelude.{◌≡◌, ◌&&◌, ◌++◌, ◌∷◌, [], Some, IfOk, nat_lt, is_some, if◌then◌else◌};
 ghost use Rattle.host_trait.specs.World.{Leaves};
-ghost use Rattle.generations.specs.After.{gens_after, list_with};
+ghost use Rattle.generations.specs.After.{gens_after};
 ghost use Rattle.generations.specs.Gens.{IsGensOf, is_highest_of, number_for_in, previous_in};
 ghost use Rattle.generations.specs.Places.{is_of};
 
@@ -113,7 +113,7 @@ fn list_with(
     system: &SystemName,
     number: u32,
 ) -> Result<Listed<Gen>, AllocError>
-    ensures { IfOk result (λ list. list ≡ list_with gens.now.list system.now number) }
+    ensures { IfOk result (λ list. list ≡ (if is_highest_of gens.now.list system.now then gens.now.list else gens.now.list ++ record { number = number; target = Some system.now } ∷ [])) }
 {
     let mut list = copy_list(alloc, gens.list.as_slice())?;
     if !is_highest_of(gens, system) {

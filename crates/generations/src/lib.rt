@@ -1,6 +1,7 @@
 //! The generations of the system profile: Nix manual, "Profiles".
 #![tactic(auto)]
 
+mod digits;
 mod gens;
 mod laws;
 mod link_number;
@@ -8,6 +9,7 @@ mod listing;
 mod places;
 mod setting;
 
+pub use digits::number_between;
 pub use gens::{Gen, Gens, after_set, is_highest_of, number_for, previous};
 pub use laws::{
     a_set_can_be_made_where_its_part_is_free, a_set_leaves_its_part_at_its_end,

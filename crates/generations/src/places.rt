@@ -11,14 +11,7 @@ use crate::setting::{generation_path, profile_path};
 use host_trait::stage_path;
 use std::alloc::{AllocError, Global};
 use switch_names::{Listed, Path, SystemName};
-use tree_put::WrittenPlace;
-
-/// A place whose content isn't read before it is written.
-fn unread(at: Path) -> WrittenPlace
-    ensures { result ≡ written false at }
-{
-    WrittenPlace { at, is_read: false }
-}
+use tree_put::{WrittenPlace, unread};
 
 /// The path of the link of the generation that a set makes, where it makes one.
 fn new_link(alloc: Global, gens: &Gens, system: &SystemName) -> Result<Option<Path>, AllocError>

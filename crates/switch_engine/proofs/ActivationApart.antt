@@ -13,7 +13,8 @@ use Rattle.etc_farm.proofs.PlaceLemmas.{place_of_owned}
 use Rattle.etc_manifest.specs.Owners.{OwnerIds}
 use Rattle.generations.specs.Places.{profiles}
 use Rattle.generations.specs.ProfilePart.{owns_profile, reads_profile}
-use Rattle.generations.proofs.ProfileApart.{both_false, etc_unread, owned_fails}
+use Rattle.switch_parts.proofs.LeafLemmas.{both_false}
+use Rattle.generations.proofs.ProfileApart.{etc_unread, owned_fails}
 use Rattle.host_trait.specs.Change.{definitions_place}
 use Rattle.host_trait.specs.declared.leaf.LeafKind.TheVariants.{Link}
 use Rattle.host_trait.specs.World.{Leaves, stage}

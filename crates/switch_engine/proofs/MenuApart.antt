@@ -13,7 +13,7 @@ use Rattle.etc_clean.specs.CleanList.{clean_name}
 use Rattle.etc_clean.specs.Etc.{static_name}
 use Rattle.etc_clean.specs.Names.{is_in_etc, place}
 use Rattle.etc_farm.specs.FarmPart.{fixed_places, is_in_store as is_in_farm_store, owns_farm, reads_farm}
-use Rattle.generations.proofs.ProfileApart.{both_false}
+use Rattle.switch_parts.proofs.LeafLemmas.{both_false}
 use Rattle.host_trait.specs.World.{is_in_line, is_path, stage}
 use Rattle.owed_lists.specs.Lists.{reloads_place, restarts_place, starts_place}
 use Rattle.owed_plan.specs.Store.{IsInStore}

@@ -13,7 +13,8 @@ use Rattle.etc_manifest.specs.Owners.{OwnerIds}
 use Rattle.generations.specs.Places.{profiles}
 use Rattle.generations.specs.declared.gens.Gens.{Gens}
 use Rattle.generations.specs.ProfilePart.{owns_profile, reads_profile}
-use Rattle.generations.proofs.ProfileApart.{both_false, owned_fails}
+use Rattle.switch_parts.proofs.LeafLemmas.{both_false}
+use Rattle.generations.proofs.ProfileApart.{owned_fails}
 use Rattle.host_trait.specs.World.{stage}
 use Rattle.owed_lists.specs.Lists.{reloads_place, restarts_place, starts_place}
 use Rattle.owed_plan.specs.Store.{IsInStore}

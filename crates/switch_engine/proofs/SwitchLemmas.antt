@@ -49,9 +49,7 @@ use Rattle.unit_stage.proofs.StepLemmas.{all_taken, manager_seen}
 use Rattle.unit_stage.proofs.SystemsLemmas.{is_system}
 use Rattle.unit_stage.proofs.TableLemmas.{all_entered, can_rest, final_states, in_one, ready, started_all}
 use Rattle.unit_stage.proofs.UnitsPartLemmas.{unit_moment_law, units_part_law}
-
-both_false : (a b : Bool) → a ≡ false → b ≡ false → a || b ≡ false
-both_false a b first second = cc
+use Rattle.switch_parts.proofs.LeafLemmas.{both_false}
 
 module _ (system : Name) (named : IsSystemPath system) (owed : Owed) (w : WorldState) (is_owed : IsOwedBy w system owed) (free : IsFree (switch_in system w.leaves) w.leaves) where
   abbrev owners : OwnerIds

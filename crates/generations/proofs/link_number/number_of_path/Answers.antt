@@ -1,5 +1,6 @@
 use Rattle.std.proofs.Common.{codes}
-use Rattle.generations.proofs.LinkNumbers.{if_ok_as, bears_after}
+use Rattle.generations.proofs.DigitLemmas.{if_ok_as}
+use Rattle.generations.proofs.LinkNumbers.{bears_after}
 use Rattle.generations.specs.LinkNumber.{Bears}
 use Rattle.generations.specs.Places.{link_name, link_path}
 use Rattle.generations.proofs.link_number.number_of_path.Goals as goal

@@ -1,6 +1,6 @@
 use Rattle.std.proofs.Common.{◌≡◌, ◌≢◌, ℕ, List, ◌++◌, MatchOption, rules}
-use Rattle.generations.proofs.LinkNumbers.{stands_between}
-use Rattle.boot_entries.proofs.number.between.Goals as goal
+use Rattle.generations.proofs.DigitLemmas.{stands_between}
+use Rattle.generations.proofs.digits.between.Goals as goal
 
 pub returns : goal.returns
 returns c =
