@@ -1,10 +1,6 @@
 -- Faults that the steps of planning and of setting accounts hand on, and the answer of a merge.
 use Rattle.std.proofs.Common.{◌≡◌, Result, Ok, Err, IsErrAnd, IsErrOf, ap, option_and_then}
-use Rattle.host_trait.specs.declared.tree.HostFault.{HostFault}
 use Rattle.host_trait.specs.declared.tree.HostFault.TheVariants.{Device, Memory}
-use Rattle.host_trait.specs.Host.{HasCause, HostState}
-use Rattle.host_trait.proofs.Causes.{cause_on}
-use Rattle.host_trait.proofs.Readings.{handed_on}
 use Rattle.switch_parts.specs.declared.plan_fault.PlanFault.{PlanFault}
 use Rattle.switch_parts.specs.declared.plan_fault.PlanFault.TheVariants.{Host, Refused}
 use Rattle.users_merge.proofs.ExistLemmas.{one_merge, some_merge}
@@ -29,11 +25,6 @@ module _ {Y : Type 0} where
   pub no_device : (s : Result Y PlanFault) → IsErrAnd s (λ x. x ≡ Host Memory) → IsErrOf s (Host Device) → ⊥
   no_device (Ok x) is e = absurd is
   no_device (Err x) is e = cc
-
--- the cause of a fault that is handed on
-pub cause_handed :
-    {a b c : HostState} {T U V : Type 0} {r : Result T HostFault} {f : HostFault} → HasCause a b r → HasCause {T = U} b c (Err f) → (s : Result V HostFault) → IsErrAnd s (λ x. x ≡ f) → HasCause a c s
-cause_handed {f = f} first second s is = cause_on first second (handed_on f s is)
 
 -- the answer of a merge is the one merge that there is
 pub merge_made :

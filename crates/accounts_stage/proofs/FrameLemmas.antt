@@ -2,15 +2,13 @@
 use Rattle.std.proofs.Common.{◌≡◌, ◌&&◌, ℕ, true, List, [], ◌∷◌, Option, None, Some, Ok, Err, is_none, is_some, option_map, option_and_then, cond, refl, ap, ap₂, ◌∙◌}
 use Rattle.std.specs.FinMap.{empty, get}
 use Rattle.std.specs.List.{AllByRecursion}
-use Rattle.std.specs.Option.{option_map_or, option_or, unwrap_or}
+use Rattle.std.specs.Option.{option_or, unwrap_or}
 use Rattle.account_text.specs.Group.{group_name, group_row}
 use Rattle.account_text.specs.Passwd.{passwd_name, passwd_row}
 use Rattle.account_text.specs.Shadow.{shadow_name, shadow_row}
 use Rattle.account_text.specs.Table.{rows_of, wrong_line}
 use Rattle.host_trait.specs.declared.leaf.LeafKind.{LeafKind}
-use Rattle.host_trait.specs.declared.leaf.LeafKind.TheVariants.{File, Link}
-use Rattle.host_trait.specs.World.{Leaves, content_of, file_at, file_bytes, leaf_content, store_place}
-use Rattle.id_memory.specs.Json.{ids_read}
+use Rattle.host_trait.specs.World.{Leaves, content_of}
 use Rattle.switch_names.specs.Names.{Name}
 use Rattle.switch_names.specs.SystemName.{IsSystemPath}
 use Rattle.switch_parts.specs.declared.refusal.MapFile.TheVariants.{Gid, Uid}
@@ -22,30 +20,20 @@ use Rattle.users_merge.specs.Merge.{fault, merge_of}
 use Rattle.users_merge.specs.Stored.{Merged, Stored, stored_of}
 use Rattle.users_spec.specs.Fields.{Read}
 use Rattle.users_spec.specs.Spec.{Accounts, accounts_of}
-use Rattle.accounts_stage.specs.AccountsPart.{accounts_end, accounts_refusal, end_by, is_in_store, map_refusal, merge_refusal, merged_by, merged_in, reads_accounts, refusal_of, table_refusal, tables_after, tables_by, wrong_table}
+use Rattle.switch_parts.specs.Store.{is_in_store}
+use Rattle.switch_parts.proofs.StoreLemmas.{store_content_kept}
+use Rattle.accounts_stage.specs.AccountsPart.{accounts_end, accounts_refusal, end_by, maps_refusal, merge_refusal, merged_by, merged_in, reads_accounts, refusal_of, table_refusal, tables_after, tables_by, wrong_table}
 use Rattle.accounts_stage.specs.Places.{account_names, account_places, gids_place, group_place, groups_place, owns_accounts, passwd_place, shadow_place, spec_path, uids_place, users_place}
-use Rattle.accounts_stage.specs.Standing.{bytes_at, declared_by, declared_in, ids_at, names_in, remembered_in, stored_in, tables_in}
-use Rattle.accounts_stage.proofs.OwnLemmas.{near_read, owned_read, reads_own, spec_stored, store_read, stored}
+use Rattle.accounts_stage.specs.Standing.{bytes_at, declared_by, declared_of, ids_of, memory_in, names_in, remembered_of, stored_in, tables_in}
+use Rattle.accounts_stage.proofs.OwnLemmas.{near_read, owned_read, reads_own, spec_stored, store_read}
 use Rattle.accounts_stage.proofs.WayLemmas.{AreReadAlike, all_free, each_free, same_way}
 
--- ---- what is read at a place is the same where the leaf and each file of the store are
+-- ---- what is read is the same where the store is
 
 module _ (w m : Leaves) (store : (q : Name) → is_in_store q ≡ true → get m q ≡ get w q) where
-  file_kept : (target : List ℕ) (o : Option (List ℕ)) → store_place target ≡ o → file_at m o ≡ file_at w o
-  file_kept target None is = refl
-  file_kept target (Some p) is = ap file_bytes (store p (stored target p is))
-
-  leaf_kept : (leaf : Option LeafKind) → leaf_content m leaf ≡ leaf_content w leaf
-  leaf_kept None = refl
-  leaf_kept (Some (File bytes mode uid gid)) = refl
-  leaf_kept (Some (Link target)) = file_kept target (store_place target) refl
-
-  pub content_kept : (at : Name) → get m at ≡ get w at → content_of m at ≡ content_of w at
-  content_kept at same = ap (leaf_content m) same ∙ leaf_kept (get w at)
-
   -- what a system declares is the same
   pub declared_kept : (system : Name) → IsSystemPath system → declared_by system m ≡ declared_by system w
-  declared_kept system named = ap (option_map accounts_of) (content_kept (spec_path system) (store (spec_path system) (spec_stored system named)))
+  declared_kept system named = ap (option_map accounts_of) (store_content_kept w m store (spec_path system) (store (spec_path system) (spec_stored system named)))
 
 -- ---- what is made of the contents of the places of accounts
 
@@ -92,13 +80,13 @@ module _ (w m : Leaves) (same : HaveSameContents w m) where
     shadow = rows_of shadow_row shadow_name (bytes_kept shadow_place own_shadow i);
   }
 
-  ids_kept : (q : Name) → owns_accounts q ≡ true → ids_at m q ≡ ids_at w q
-  ids_kept q own = ap (λ (o : Option (List ℕ)). option_map_or ids_read o (Some empty)) (same q own)
+  ids_kept : (q : Name) → owns_accounts q ≡ true → ids_of (content_of m q) ≡ ids_of (content_of w q)
+  ids_kept q own = ap ids_of (same q own)
 
-  remembered_kept : remembered_in m ≡ remembered_in w
+  remembered_kept : remembered_of (memory_in m) ≡ remembered_of (memory_in w)
   remembered_kept = λ i. record { uids = unwrap_or (ids_kept uids_place own_uids i) empty; gids = unwrap_or (ids_kept gids_place own_gids i) empty }
 
-  declared_names_kept : declared_in m ≡ declared_in w
+  declared_names_kept : declared_of (memory_in m) ≡ declared_of (memory_in w)
   declared_names_kept = λ i. record { users = names_in (bytes_kept users_place own_users i); groups = names_in (bytes_kept groups_place own_groups i) }
 
   pub stored_kept : stored_in m ≡ stored_in w
@@ -110,7 +98,7 @@ module _ (w m : Leaves) (same : HaveSameContents w m) where
       (option_or (wrong_table Passwd (wrong_line passwd_row (bytes_kept passwd_place own_passwd i)))
       (wrong_table Shadow (wrong_line shadow_row (bytes_kept shadow_place own_shadow i))))
 
-  map_refusal_kept : map_refusal m ≡ map_refusal w
+  map_refusal_kept : maps_refusal (memory_in m) ≡ maps_refusal (memory_in w)
   map_refusal_kept = λ i.
       option_or (cond (is_none (ids_kept uids_place own_uids i)) (Some (IdMap Uid)) None)
       (cond (is_none (ids_kept gids_place own_gids i)) (Some (IdMap Gid)) None)
@@ -146,7 +134,7 @@ module _ (w m : Leaves) (same : (q : Name) → reads_accounts q ≡ true → get
   store_same q is = same q (store_read q is)
 
   pub contents_same : HaveSameContents w m
-  contents_same q own = content_kept w m store_same q (same q (owned_read q own))
+  contents_same q own = store_content_kept w m store_same q (same q (owned_read q own))
 
   lacks_same : (q : Name) → owns_accounts q ≡ true → lacks_content m q ≡ lacks_content w q
   lacks_same q own =

@@ -18,17 +18,18 @@ use Rattle.tree_put.specs.WrittenPlace.{in_the_way, lacks_content}
 use Rattle.users_merge.specs.Law.{Put}
 use Rattle.users_merge.specs.Order.{group_rows, passwd_rows, shadow_rows}
 use Rattle.users_merge.specs.Stored.{Merged}
-use Rattle.accounts_stage.specs.declared.file_put.FilePut.{FilePut}
-use Rattle.accounts_stage.specs.Files.{names_text, with_puts}
+use Rattle.tree_put.specs.declared.leaf_put.LeafPut.{LeafPut}
+use Rattle.tree_put.specs.Sequence.{with_puts}
+use Rattle.accounts_stage.specs.Files.{names_text}
 use Rattle.accounts_stage.specs.Places.{account_places, owns_accounts}
-use Rattle.accounts_stage.proofs.EndLemmas.{leaf_after}
+use Rattle.tree_put.proofs.LeftLemmas.{leaf_after}
 use Rattle.accounts_stage.proofs.FrameLemmas.{own_gids, own_group, own_groups, own_passwd, own_shadow, own_uids, own_users}
 use Rattle.accounts_stage.proofs.OwnLemmas.{apart}
 use Rattle.accounts_stage.proofs.ReadLemmas.{IsContentAfter, content_after, put_of}
 use Rattle.accounts_stage.proofs.WayLemmas.{IsFreeAt, all_free, each_free}
 
 -- a put of a file at a place of accounts
-pub record IsFilePut (put : FilePut) : Type 0 where
+pub record IsFilePut (put : LeafPut) : Type 0 where
   pub text : List ℕ
   pub mode : ℕ
   pub own : owns_accounts put.at ≡ true
@@ -80,7 +81,7 @@ module _ (leaves : Leaves) (at : Name) (text : List ℕ) (mode : ℕ) (own : own
     still_free places beside.1 free.1,
   )
 
-put_free : (leaves : Leaves) (put : FilePut) → IsFilePut put → AllByRecursion (IsFreeAt leaves) account_places → AllByRecursion (IsFreeAt (insert leaves put.at put.leaf)) account_places
+put_free : (leaves : Leaves) (put : LeafPut) → IsFilePut put → AllByRecursion (IsFreeAt leaves) account_places → AllByRecursion (IsFreeAt (insert leaves put.at put.leaf)) account_places
 put_free leaves put file free =
     subst (λ leaf. AllByRecursion (IsFreeAt (insert leaves put.at leaf)) account_places) (sym file.leaf)
     (still_free leaves put.at file.text file.mode file.own account_places (apart put.at file.own) free)

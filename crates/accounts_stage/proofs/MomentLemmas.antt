@@ -30,15 +30,18 @@ use Rattle.users_spec.specs.declared.user_spec.UserSpec.{UserSpec}
 use Rattle.users_spec.specs.Fields.{Read}
 use Rattle.users_spec.specs.Spec.{Accounts, IsSound, accounts_of}
 use Rattle.users_spec.proofs.Sound.{declared_are_sound}
-use Rattle.accounts_stage.specs.declared.file_put.FilePut.{FilePut}
-use Rattle.accounts_stage.specs.AccountsPart.{KeepsAccounts, accounts_part, end_by, is_in_store, map_refusal, merge_refusal, merged_by, merged_in, refusal_of, table_refusal, tables_by, wrong_map, wrong_table}
-use Rattle.accounts_stage.specs.Files.{account_puts, merged_end, with_puts}
+use Rattle.tree_put.specs.declared.leaf_put.LeafPut.{LeafPut}
+use Rattle.tree_put.specs.Sequence.{with_puts}
+use Rattle.switch_parts.specs.Store.{is_in_store}
+use Rattle.accounts_stage.specs.AccountsPart.{KeepsAccounts, accounts_part, end_by, ids_refusal, maps_refusal, merge_refusal, merged_by, merged_in, refusal_of, table_refusal, tables_by, wrong_table}
+use Rattle.accounts_stage.specs.Files.{account_puts, merged_end}
 use Rattle.accounts_stage.specs.Laws.{AccountsMomentLaw}
 use Rattle.accounts_stage.specs.Places.{group_place, passwd_place, spec_path, uids_place}
 use Rattle.accounts_stage.specs.Plan.{puts_by}
-use Rattle.accounts_stage.specs.Standing.{bytes_at, declared_by, stored_in}
+use Rattle.accounts_stage.specs.Standing.{bytes_at, declared_by, memory_in, stored_in}
 use Rattle.accounts_stage.proofs.BackLemmas.{read_back}
-use Rattle.accounts_stage.proofs.EndLemmas.{left_at, left_elsewhere, only_elsewhere, only_puts}
+use Rattle.accounts_stage.proofs.EndLemmas.{only_elsewhere, only_puts}
+use Rattle.tree_put.proofs.LeftLemmas.{left_at, left_elsewhere}
 use Rattle.accounts_stage.proofs.FrameLemmas.{declared_kept}
 use Rattle.accounts_stage.proofs.FreeLemmas.{puts_free}
 use Rattle.accounts_stage.proofs.OwnLemmas.{not_stage, store_unowned}
@@ -127,8 +130,8 @@ module _ (s : Stored) (leaves : Leaves) (are : AreContentsOf s (content_of leave
       both_none (table_refusal leaves) _
       (both_none (wrong_table TableFile.Group (wrong_line group_row (bytes_at leaves group_place))) _ (ap (wrong_table TableFile.Group) are.group.complete)
       (both_none (wrong_table TableFile.Passwd (wrong_line passwd_row (bytes_at leaves passwd_place))) _ (ap (wrong_table TableFile.Passwd) are.passwd.complete) (ap (wrong_table TableFile.Shadow) are.shadow.complete)))
-      (both_none (map_refusal leaves) _
-      (both_none (wrong_map MapFile.Uid leaves uids_place) _ (ap (λ (o : Option Ids). cond (is_none o) (Some (Refusal.IdMap MapFile.Uid)) None) are.uids) (ap (λ (o : Option Ids). cond (is_none o) (Some (Refusal.IdMap MapFile.Gid)) None) are.gids))
+      (both_none (maps_refusal (memory_in leaves)) _
+      (both_none (ids_refusal MapFile.Uid (content_of leaves uids_place)) _ (ap (λ (o : Option Ids). cond (is_none o) (Some (Refusal.IdMap MapFile.Uid)) None) are.uids) (ap (λ (o : Option Ids). cond (is_none o) (Some (Refusal.IdMap MapFile.Gid)) None) are.gids))
       (ap (option_and_then merge_refusal) (ap (fault spec) stored_is ∙ fine)))
 
 -- ---- merges that leave the same
@@ -219,7 +222,7 @@ moment_keeps : (system : Name) (named : IsSystemPath system) (w m : WorldState) 
     seen m ≡ seen (with_puts (take k (puts_by (merged_by w.leaves declared))) w) → KeepsAccounts system w m
 moment_keeps system named w m free None declared k is = frame system named w m (seen_same system w m (is ∙ ap (λ puts. seen (with_puts puts w)) (none_left k)))
   where
-    none_left : (k : ℕ) → take {A = FilePut} k [] ≡ []
+    none_left : (k : ℕ) → take {A = LeafPut} k [] ≡ []
     none_left zero = refl
     none_left (suc k) = refl
 moment_keeps system named w m free (Some (Err why)) declared k is = absurd (let refused : Some (Refusal.UsersSpec why) ≡ None = sym (ap (refusal_of w.leaves) declared) ∙ free.refusal in cc)
@@ -229,7 +232,7 @@ moment_keeps system named w m free (Some (Ok spec)) declared k is =
     let merged = merge_of spec (stored_in w.leaves) in
     let then = with_puts (map (put_of merged) (take k puts)) w in
     keeps_then system w then m (put_keeps system named w spec declared can sound (read_back system w.leaves spec declared sound can.contents can.fine) k)
-    (frame system named then m (seen_same system then m (is ∙ ap (λ (all : List FilePut). seen (with_puts all w)) (first_puts_are merged k))))
+    (frame system named then m (seen_same system then m (is ∙ ap (λ (all : List LeafPut). seen (with_puts all w)) (first_puts_are merged k))))
 
 pub moment_law : AccountsMomentLaw
 moment_law system w m named free setting = record {

@@ -4,12 +4,14 @@ use Rattle.switch_names.specs.Names.{Name}
 use Rattle.switch_names.specs.SystemName.{IsSystemPath}
 use Rattle.host_trait.specs.World.{Leaves, WorldState}
 use Rattle.switch_parts.specs.Part.{IsSameFor}
+use Rattle.switch_parts.proofs.LeafLemmas.{ends_self, ends_then}
 use Rattle.users_merge.specs.declared.merged.Merged as answered
 use Rattle.users_merge.specs.Stored.{Stored}
 use Rattle.users_merge.specs.Merge.{kept, merge_of}
 use Rattle.users_spec.specs.Fields.{Read}
 use Rattle.users_spec.specs.Spec.{Accounts}
-use Rattle.accounts_stage.specs.AccountsPart.{KeepsAccounts, accounts_part}
+use Rattle.accounts_stage.specs.AccountsPart.{KeepsAccounts, accounts_end, accounts_part, accounts_refusal}
+use Rattle.accounts_stage.specs.Places.{account_places, owns_accounts}
 use Rattle.accounts_stage.specs.Laws.{AccountsPartLaw, AccountsPlanLaw}
 use Rattle.accounts_stage.specs.Plan.{IsAnswerOf, IsMergePlanned}
 use Rattle.accounts_stage.specs.Standing.{declared_by, stored_in}
@@ -17,14 +19,11 @@ use Rattle.accounts_stage.proofs.FrameLemmas.{contents_same, declared_same, end_
 use Rattle.accounts_stage.proofs.OwnLemmas.{owned_read, stage_unread}
 
 pub keeps_self : (system : Name) (w : WorldState) → KeepsAccounts system w w
-keeps_self system w = record { same = record { ends = λ q own. refl; free = λ way refusal. (way, refusal) }; tables = refl }
+keeps_self system w = record { same = ends_self owns_accounts (λ leaves. account_places) (accounts_refusal system) (accounts_end system) w; tables = refl }
 
 pub keeps_then : (system : Name) (w v m : WorldState) → KeepsAccounts system w v → KeepsAccounts system v m → KeepsAccounts system w m
 keeps_then system w v m first then = record {
-  same = record {
-    ends = λ q own. then.same.ends q own ∙ first.same.ends q own;
-    free = λ way refusal. let middle = first.same.free way refusal in then.same.free middle.0 middle.1;
-  };
+  same = ends_then owns_accounts (λ leaves. account_places) (accounts_refusal system) (accounts_end system) w v m first.same then.same;
   tables = then.tables ∙ first.tables;
 }
 

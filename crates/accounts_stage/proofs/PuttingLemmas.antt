@@ -1,42 +1,32 @@
 -- The puts of accounts, one after the other.
-use Rattle.std.proofs.Common.{◌≡◌, ℕ, zero, suc, ◌+◌, ◌<◌, ◌&&◌, ◌||◌, not, Bool, true, false, List, [], ◌∷◌, ◌++◌, length, get_or, take, Option, None, Some, Result, Ok, Err, OnOk, refl, sym, ap, ◌∙◌, inl, inr, ⊎_elim, arith}
+use Rattle.std.proofs.Common.{◌≡◌, ◌&&◌, ◌||◌, not, Bool, true, false, List, [], ◌∷◌, ◌++◌, Option, None, Some, Result, Ok, Err, OnOk, refl, sym, ap, ◌∙◌, inl, inr}
 use Rattle.std.proofs.lemmas.Bool.{and_parts, both_ways, cases_Bool}
-use Rattle.std.proofs.lemmas.List.{take_more}
 use Rattle.std.proofs.lemmas.Option.{none-some}
 use Rattle.std.specs.Cmp.Lexicographic.{same_text}
 use Rattle.std.specs.List.{AllByRecursion, list_all}
-use Rattle.host_trait.specs.declared.leaf.LeafKind.{LeafKind}
-use Rattle.host_trait.specs.World.{IsClear, Leaves, WorldState, is_in_line, is_path, seen, stage, with_leaf}
-use Rattle.host_trait.proofs.Seen.{clear_seen, seen_with_leaf, stage_clear_seen}
-use Rattle.host_trait.proofs.Sound.{clear_insert}
+use Rattle.host_trait.specs.World.{IsClear, Leaves, WorldState, is_in_line, is_path, stage}
 use Rattle.switch_names.specs.Names.{Name}
 use Rattle.switch_parts.specs.Leaves.{is_among}
 use Rattle.switch_parts.proofs.LeafLemmas.{each_among}
-use Rattle.tree_put.specs.declared.written_place.WrittenPlace.{WrittenPlace}
-use Rattle.tree_put.specs.Put.{AreApart, CanPut, IsOldOrNew}
+use Rattle.tree_put.specs.Put.{AreApart}
 use Rattle.tree_put.specs.WrittenPlace.{in_the_way}
-use Rattle.tree_put.proofs.WayLemmas.{clear_first}
-use Rattle.account_text.specs.declared.group.GroupRow.{GroupRow}
-use Rattle.account_text.specs.declared.passwd.PasswdRow.{PasswdRow}
-use Rattle.account_text.specs.declared.shadow.ShadowRow.{ShadowRow}
+use Rattle.tree_put.proofs.WayLemmas.{all_clear}
 use Rattle.account_text.specs.declared.tables.Tables.{Tables}
-use Rattle.account_text.specs.Group.{group_text}
-use Rattle.account_text.specs.Passwd.{passwd_text}
-use Rattle.account_text.specs.Shadow.{shadow_text}
-use Rattle.id_memory.specs.Json.{ids_text}
 use Rattle.users_merge.specs.declared.merged.Merged as answered
 use Rattle.users_merge.specs.Merge.{merge_of}
 use Rattle.users_merge.specs.Order.{group_rows, passwd_rows, shadow_rows}
-use Rattle.users_merge.specs.Stored.{Merged, merged_of}
+use Rattle.users_merge.specs.Stored.{Merged}
 use Rattle.users_spec.specs.Fields.{Read}
 use Rattle.users_spec.specs.Spec.{Accounts}
 use Rattle.accounts_stage.specs.declared.accounts_plan.AccountsPlan.{AccountsPlan}
-use Rattle.accounts_stage.specs.declared.file_put.FilePut.{FilePut}
-use Rattle.accounts_stage.specs.Files.{account_puts, closed_file, names_text, open_file, put_at, with_puts}
+use Rattle.tree_put.specs.declared.leaf_put.LeafPut.{LeafPut}
+use Rattle.tree_put.specs.Sequence.{ArePutsApart, CanPutAll}
+use Rattle.tree_put.proofs.SequenceLemmas.{apart_by}
+use Rattle.accounts_stage.specs.Files.{account_puts, ids_puts, names_puts, nine_puts, table_puts}
 use Rattle.accounts_stage.specs.Places.{account_names, account_places, gids_place, group_place, groups_place, memory_places, owns_accounts, passwd_place, shadow_place, table_places, uids_place, users_place}
-use Rattle.accounts_stage.specs.Plan.{CanSetAccounts, IsAccountsPlanOf, IsAnswerOf, IsMergePlanned, IsPutting, puts_by, puts_of}
+use Rattle.accounts_stage.specs.Plan.{CanSetAccounts, IsAccountsPlanOf, IsAnswerOf, IsMergePlanned, puts_by, puts_of}
 use Rattle.accounts_stage.specs.AccountsPart.{merged_by, tables_by}
-use Rattle.accounts_stage.specs.Puts.{AreAtAccounts, CanPutAccounts, answer_puts, ids_puts, names_puts, plan_puts, puts_if_any, table_puts}
+use Rattle.accounts_stage.specs.Puts.{AreAtAccounts, answer_puts, plan_puts, puts_if_any}
 use Rattle.accounts_stage.specs.Standing.{declared_by, stored_in, tables_in}
 
 -- ---- the places
@@ -67,49 +57,12 @@ module _ (p : Name) (own : owns_accounts p ≡ true) where
   pub place_apart : AreApart p stage
   place_apart = let both = and_parts (not (is_path p stage)) (not (is_in_line p stage)) parts.0 in record { other = not_true _ both.0; line = not_true _ both.1 }
 
-  stage_apart : is_in_line stage p ≡ false
-  stage_apart = not_true _ (and_parts (not (is_in_line stage p)) (list_all (λ q. not (is_in_line p q)) account_names) parts.1).0
-
-  places_apart : (q : Name) → owns_accounts q ≡ true → is_in_line p q ≡ false
+  pub places_apart : (q : Name) → owns_accounts q ≡ true → is_in_line p q ≡ false
   places_apart q other = not_true _ (all_among (λ q. not (is_in_line p q)) account_names (and_parts (not (is_in_line stage p)) (list_all (λ q. not (is_in_line p q)) account_names) parts.1).1 q other)
-
--- ---- one put after another
-
-pub can_put : (at : Name) (w : WorldState) → owns_accounts at ≡ true → CanPutAccounts w → CanPut at w
-can_put at w own can = record { stage = can.stage; place = can.places at own }
-
-pub can_next : (at : Name) (leaf : LeafKind) (w v : WorldState) → owns_accounts at ≡ true → seen v ≡ seen (with_leaf at leaf w) → CanPutAccounts w → CanPutAccounts v
-can_next at leaf w v own is can = record {
-  stage = stage_clear_seen v (with_leaf at leaf w) is (clear_insert w.leaves at stage leaf (place_apart at own).line can.stage);
-  places = λ q other. clear_seen v (with_leaf at leaf w) q (stage_apart q other) is (clear_insert w.leaves at q leaf (places_apart at own q other) (can.places q other));
-}
-
-pub at_place : (puts : List FilePut) (i : ℕ) (one : FilePut) → i < length puts → one ≡ get_or puts i one → AreAtAccounts puts → owns_accounts one.at ≡ true
-at_place [] i one inside is all = absurd (omega arith)
-at_place (put ∷ puts) zero one inside is all = ap (λ (put : FilePut). owns_accounts put.at) is ∙ all.0
-at_place (put ∷ puts) (suc i) one inside is all = at_place puts i one (omega arith) is all.1
-
-with_more : (puts : List FilePut) (one : FilePut) (w : WorldState) → with_puts (puts ++ one ∷ []) w ≡ with_leaf one.at one.leaf (with_puts puts w)
-with_more [] one w = refl
-with_more (put ∷ puts) one w = with_more puts one (with_leaf put.at put.leaf w)
-
-module _ (puts : List FilePut) (i : ℕ) (one : FilePut) (w v : WorldState) (inside : i < length puts) (is : one ≡ get_or puts i one) (before : seen v ≡ seen (with_puts (take i puts) w)) where
-  pub put_next : (u : WorldState) → seen u ≡ seen (with_leaf one.at one.leaf v) → seen u ≡ seen (with_puts (take (i + 1) puts) w)
-  put_next u now =
-      now ∙ seen_with_leaf one.at one.leaf v (with_puts (take i puts) w) before
-      ∙ ap seen (sym (with_more (take i puts) one w) ∙ ap (λ ps. with_puts ps w) (sym (take_more puts i one inside ∙ ap (λ k. take i puts ++ k ∷ []) (sym is))))
-
-  pub putting_next : (m : WorldState) → IsOldOrNew one.at one.leaf v m → IsPutting puts w m
-  putting_next m moment = ⊎_elim
-      (λ old. record { count = i; some = omega arith; world = old ∙ before })
-      (λ new. record { count = i + 1; some = omega arith; world = put_next m new }) moment
 
 pub on_ok_as : {T E P Q : Type 0} (result : Result T E) → (P → Q) → OnOk result P → OnOk result Q
 on_ok_as (Ok x) weaker holds = weaker holds
 on_ok_as (Err e) weaker holds = tt
-
-pub putting_none : (puts : List FilePut) (w : WorldState) → IsPutting puts w w
-putting_none puts w = record { count = 0; some = omega arith; world = refl }
 
 -- ---- what a plan puts
 
@@ -117,31 +70,16 @@ pub answer_at_places : (answer : answered.Merged) → AreAtAccounts (answer_puts
 unfolding answer_puts account_names group_place passwd_place shadow_place groups_place users_place gids_place uids_place
 answer_at_places answer = (refl, (refl, (refl, (refl, (refl, (refl, (refl, (refl, (refl, tt)))))))))
 
--- the nine puts, with these rows
-puts_with : Merged → List GroupRow → List PasswdRow → List ShadowRow → List FilePut
-puts_with m group passwd shadow =
-    put_at users_place (open_file (names_text m.all_users))
-    ∷ put_at groups_place (open_file (names_text m.all_groups))
-    ∷ put_at uids_place (open_file (ids_text m.uids))
-    ∷ put_at gids_place (open_file (ids_text m.gids))
-    ∷ put_at group_place (open_file (group_text group))
-    ∷ put_at passwd_place (open_file (passwd_text passwd))
-    ∷ put_at shadow_place (closed_file (shadow_text shadow))
-    ∷ put_at users_place (open_file (names_text m.users))
-    ∷ put_at groups_place (open_file (names_text m.groups))
-    ∷ []
-
 answer_is : (m : Merged) (answer : answered.Merged) → IsAnswerOf m answer → answer_puts answer ≡ account_puts m
-unfolding answer_puts account_puts puts_with
+unfolding answer_puts account_puts
 answer_is m answer is =
-    ap (λ group. puts_with (merged_of answer) group answer.tables.passwd answer.tables.shadow) is.order.group
-    ∙ ap (λ passwd. puts_with (merged_of answer) (group_rows (merged_of answer)) passwd answer.tables.shadow) is.order.passwd
-    ∙ ap (λ shadow. puts_with (merged_of answer) (group_rows (merged_of answer)) (passwd_rows (merged_of answer)) shadow) is.order.shadow
+    ap (λ (tables : Tables). nine_puts answer.union answer.remembered tables answer.declared)
+    (λ i. record { group = is.order.group i; passwd = is.order.passwd i; shadow = is.order.shadow i })
     ∙ ap account_puts is.merged
 
 -- the puts of an answer, one list after another
 pub answer_made :
-    (none first second third last : List FilePut) (answer : answered.Merged) → none ≡ [] → first ≡ none ++ names_puts answer.union → second ≡ first ++ ids_puts answer.remembered →
+    (none first second third last : List LeafPut) (answer : answered.Merged) → none ≡ [] → first ≡ none ++ names_puts answer.union → second ≡ first ++ ids_puts answer.remembered →
     third ≡ second ++ table_puts answer.tables → last ≡ third ++ names_puts answer.declared → last ≡ answer_puts answer
 unfolding answer_puts
 answer_made none first second third last answer is_none is_first is_second is_third is_last =
@@ -161,9 +99,10 @@ plan_puts_are system leaves plan is = by (declared_by system leaves) plan.merged
 
 -- ---- where a plan can be carried out
 
-all_clear : (leaves : Leaves) (places : List WrittenPlace) → in_the_way places leaves ≡ None → AllByRecursion (λ place. IsClear leaves place.at) places
-all_clear leaves [] none = tt
-all_clear leaves (place ∷ places) none = let first = clear_first leaves place places none in (first.0, all_clear leaves places first.1)
+-- no leaf stands above or below the stage or a place of accounts
+record CanPutAccounts (w : WorldState) : Type 0 where
+  pub stage : IsClear w.leaves stage
+  pub places : (q : Name) → owns_accounts q ≡ true → IsClear w.leaves q
 
 way_clear : (w : WorldState) → in_the_way account_places w.leaves ≡ None → CanPutAccounts w
 unfolding table_places memory_places account_names
@@ -174,8 +113,15 @@ way_clear w none =
       places = each_among (IsClear w.leaves) account_names (clear.0, (clear.1.0, (clear.1.1.0, (clear.1.1.1.1.0, (clear.1.1.1.1.1.0, (clear.1.1.1.1.1.1.0, (clear.1.1.1.1.1.1.1.0, tt)))))));
     }
 
-pub can_of_set : (system : Name) (plan : AccountsPlan) (w : WorldState) → CanSetAccounts system plan w → CanPutAccounts w
-can_of_set system plan w can = way_clear w can.free.way
+each_clear : (w : WorldState) → CanPutAccounts w → (puts : List LeafPut) → AreAtAccounts puts → AllByRecursion (λ (put : LeafPut). IsClear w.leaves put.at) puts
+each_clear w can [] at = tt
+each_clear w can (put ∷ puts) at = (can.places put.at at.0, each_clear w can puts at.1)
+
+pub can_of_set : (system : Name) (plan : AccountsPlan) (w : WorldState) (puts : List LeafPut) → AreAtAccounts puts → CanSetAccounts system plan w → CanPutAll puts w
+can_of_set system plan w puts at can = let clear = way_clear w can.free.way in record { stage = clear.stage; places = each_clear w clear puts at }
+
+pub accounts_apart : (puts : List LeafPut) → AreAtAccounts puts → ArePutsApart puts
+accounts_apart puts at = apart_by (λ p. owns_accounts p ≡ true) (λ p own. place_apart p own) (λ p q one other. places_apart p one q other) puts at
 
 -- ---- the tables that a plan leaves
 

@@ -19,12 +19,14 @@ use Rattle.switch_names.specs.Names.{Name}
 use Rattle.users_merge.specs.Law.{Put, after, after_all, puts}
 use Rattle.users_merge.specs.Order.{group_rows, passwd_rows, shadow_rows}
 use Rattle.users_merge.specs.Stored.{Merged, Stored, Table, table_of}
-use Rattle.accounts_stage.specs.declared.file_put.FilePut.{FilePut}
-use Rattle.accounts_stage.specs.Files.{account_puts, closed_file, names_text, open_file, put_at, with_puts}
+use Rattle.tree_put.specs.declared.leaf_put.LeafPut.{LeafPut}
+use Rattle.tree_put.specs.Sequence.{put_at, with_puts}
+use Rattle.accounts_stage.specs.Files.{account_puts, closed_file, names_text, open_file}
 use Rattle.accounts_stage.specs.Places.{gids_place, group_place, groups_place, owns_accounts, passwd_place, shadow_place, uids_place, users_place}
 use Rattle.accounts_stage.specs.Standing.{names_in}
-use Rattle.accounts_stage.proofs.EndLemmas.{leaf_after}
-use Rattle.accounts_stage.proofs.FrameLemmas.{content_kept, own_gids, own_group, own_groups, own_passwd, own_shadow, own_uids, own_users}
+use Rattle.tree_put.proofs.LeftLemmas.{leaf_after}
+use Rattle.switch_parts.proofs.StoreLemmas.{store_content_kept}
+use Rattle.accounts_stage.proofs.FrameLemmas.{own_gids, own_group, own_groups, own_passwd, own_shadow, own_uids, own_users}
 use Rattle.accounts_stage.proofs.OwnLemmas.{store_apart}
 
 -- the bytes of a content that may be missing
@@ -77,7 +79,7 @@ pub record IsReadBack (m : Merged) : Type 0 where
 -- ---- one put
 
 -- the leaf of each put, and its place
-abbrev pub put_of : Merged → Put → FilePut
+abbrev pub put_of : Merged → Put → LeafPut
 put_of m Put.AllUsers = put_at users_place (open_file (names_text m.all_users))
 put_of m Put.AllGroups = put_at groups_place (open_file (names_text m.all_groups))
 put_of m Put.Uids = put_at uids_place (open_file (ids_text m.uids))
@@ -201,7 +203,7 @@ module _ (s : Stored) (m : Merged) (back : IsReadBack m) (old new : Name → Opt
 pub content_after : (leaves : Leaves) (at : Name) (text : List ℕ) (mode uid gid : ℕ) → owns_accounts at ≡ true → IsContentAfter at text (content_of leaves) (content_of (insert leaves at (File text mode uid gid)))
 content_after leaves at text mode uid gid own = record {
   here = ap (leaf_content new) (leaf_after leaves at at leaf ∙ ap (λ b. cond b (Some leaf) (get leaves at)) (own_path at));
-  other = λ q apart. content_kept leaves new (λ p is. elsewhere p (store_apart at p own is)) q (elsewhere q apart);
+  other = λ q apart. store_content_kept leaves new (λ p is. elsewhere p (store_apart at p own is)) q (elsewhere q apart);
 }
   where
     leaf : LeafKind

@@ -1,9 +1,8 @@
 -- The part of a switch that sets the accounts: nixpkgs, update-users-groups.pl; NixOS manual, "User Management".
 use Rattle.std.specs.Prelude.{◌≡◌, ◌||◌, Bool, false, Option, None, Some, option_map, option_and_then, Ok, Err, is_none}
 use Rattle.std.specs.FinMap.{get}
-use Rattle.std.specs.List.{starts_with}
 use Rattle.std.specs.Option.{option_or}
-use Rattle.std.specs.Prelude.{codes, nat_eq, ℕ, if◌then◌else◌}
+use Rattle.std.specs.Prelude.{ℕ, List, if◌then◌else◌}
 use Rattle.account_text.specs.declared.tables.Tables.{Tables}
 use Rattle.account_text.specs.Group.{group_row}
 use Rattle.account_text.specs.Passwd.{passwd_row}
@@ -20,35 +19,40 @@ use Rattle.switch_parts.specs.declared.refusal.TableFile.{TableFile}
 use Rattle.switch_parts.specs.declared.refusal.TableFile.TheVariants.{Group, Passwd, Shadow}
 use Rattle.switch_parts.specs.Leaves.{EndsSame, is_near}
 use Rattle.switch_parts.specs.Part.{Part}
+use Rattle.switch_parts.specs.Store.{is_in_store}
 use Rattle.users_merge.specs.declared.merge_fault.MergeFault.{MergeFault}
 use Rattle.users_merge.specs.declared.merge_fault.MergeFault as faults
 use Rattle.users_merge.specs.Merge.{fault, merge_of}
-use Rattle.users_merge.specs.Order.{group_rows, passwd_rows, shadow_rows}
 use Rattle.users_merge.specs.Stored.{Merged}
 use Rattle.users_spec.specs.Fields.{Read}
 use Rattle.users_spec.specs.Spec.{Accounts}
-use Rattle.accounts_stage.specs.Files.{merged_end}
-use Rattle.accounts_stage.specs.Places.{account_places, gids_place, group_place, owns_accounts, passwd_place, shadow_place, uids_place}
-use Rattle.accounts_stage.specs.Standing.{bytes_at, declared_by, ids_at, stored_in, tables_in}
+use Rattle.accounts_stage.specs.declared.memory.MemoryTexts.{MemoryTexts}
+use Rattle.accounts_stage.specs.declared.reading.TableTexts.{TableTexts}
+use Rattle.accounts_stage.specs.Files.{merged_end, tables_with}
+use Rattle.accounts_stage.specs.Places.{account_places, owns_accounts}
+use Rattle.accounts_stage.specs.Standing.{declared_by, ids_of, memory_in, stored_in, tables_in, texts_in}
 
 -- why a table can't be read, or nothing: its first line that is no row
 abbrev pub wrong_table : TableFile → Option ℕ → Option Refusal
 wrong_table file line = option_map (λ at. Table file at) line
 
--- why the tables can't be read, or nothing
-abbrev pub table_refusal : Leaves → Option Refusal
-table_refusal leaves =
-    option_or (wrong_table Group (wrong_line group_row (bytes_at leaves group_place)))
-    (option_or (wrong_table Passwd (wrong_line passwd_row (bytes_at leaves passwd_place)))
-    (wrong_table Shadow (wrong_line shadow_row (bytes_at leaves shadow_place))))
+-- why three texts aren't tables, or nothing
+abbrev pub texts_refusal : TableTexts → Option Refusal
+texts_refusal texts =
+    option_or (wrong_table Group (wrong_line group_row texts.group))
+    (option_or (wrong_table Passwd (wrong_line passwd_row texts.passwd)) (wrong_table Shadow (wrong_line shadow_row texts.shadow)))
 
--- why a map of ids can't be read, or nothing
-abbrev pub wrong_map : MapFile → Leaves → Name → Option Refusal
-wrong_map file leaves at = if is_none (ids_at leaves at) then Some (IdMap file) else None
+-- why the tables that stand can't be read, or nothing
+abbrev pub table_refusal : Leaves → Option Refusal
+table_refusal leaves = texts_refusal (texts_in leaves)
+
+-- why a content is no map of ids, or nothing
+abbrev pub ids_refusal : MapFile → Option (List ℕ) → Option Refusal
+ids_refusal file content = if is_none (ids_of content) then Some (IdMap file) else None
 
 -- why the maps of ids can't be read, or nothing
-abbrev pub map_refusal : Leaves → Option Refusal
-map_refusal leaves = option_or (wrong_map Uid leaves uids_place) (wrong_map Gid leaves gids_place)
+abbrev pub maps_refusal : MemoryTexts → Option Refusal
+maps_refusal texts = option_or (ids_refusal Uid texts.uids) (ids_refusal Gid texts.gids)
 
 -- a fault of a merge as a refusal; want of memory is none
 abbrev pub merge_refusal : MergeFault → Option Refusal
@@ -60,7 +64,7 @@ merge_refusal faults.TheVariants.Memory = None
 abbrev pub refusal_of : Leaves → Option (Read Accounts) → Option Refusal
 refusal_of leaves None = table_refusal leaves
 refusal_of leaves (Some (Err why)) = Some (UsersSpec why)
-refusal_of leaves (Some (Ok spec)) = option_or (table_refusal leaves) (option_or (map_refusal leaves) (option_and_then merge_refusal (fault spec (stored_in leaves))))
+refusal_of leaves (Some (Ok spec)) = option_or (table_refusal leaves) (option_or (maps_refusal (memory_in leaves)) (option_and_then merge_refusal (fault spec (stored_in leaves))))
 
 -- the merge of accounts that are declared so
 abbrev pub merged_by : Leaves → Option (Read Accounts) → Option Merged
@@ -86,15 +90,11 @@ accounts_refusal system leaves = refusal_of leaves (declared_by system leaves)
 -- the rows of tables after a merge, and as they were without one
 abbrev pub tables_by : Option Merged → Leaves → Tables
 tables_by None leaves = tables_in leaves
-tables_by (Some m) leaves = record { group = group_rows m; passwd = passwd_rows m; shadow = shadow_rows m }
+tables_by (Some m) leaves = tables_with m
 
 -- the rows of the tables that a switch to a system leaves
 abbrev pub tables_after : Name → Leaves → Tables
 tables_after system leaves = tables_by (merged_in system leaves) leaves
-
--- a path lies in the store
-unfoldable pub is_in_store : Name → Bool
-is_in_store q = starts_with nat_eq q (codes "nix/store/")
 
 -- what setting accounts looks at: their places, the store, to which a link at one of them may lead, and what could be in the way
 abbrev pub reads_accounts : Name → Bool

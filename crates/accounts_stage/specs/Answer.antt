@@ -20,9 +20,9 @@ use Rattle.users_spec.specs.declared.spec_fault.SpecFault.{SpecFault}
 use Rattle.users_spec.specs.declared.spec_fault.SpecFault as spec_faults
 use Rattle.users_spec.specs.Fields.{Read}
 use Rattle.users_spec.specs.Spec.{Accounts}
-use Rattle.accounts_stage.specs.AccountsPart.{map_refusal, merge_refusal}
+use Rattle.accounts_stage.specs.AccountsPart.{maps_refusal, merge_refusal}
 use Rattle.accounts_stage.specs.Plan.{IsAnswerOf}
-use Rattle.accounts_stage.specs.Standing.{declared_in, remembered_in}
+use Rattle.accounts_stage.specs.Standing.{declared_of, memory_in, remembered_of}
 
 -- a step goes well where nothing is refused, and tells why where it is; the host may fail at any time
 pub record Answers {X : Type 0} (refusal : Option Refusal) (P : X → Type 0) (result : Result X PlanFault) : Type 0 where
@@ -59,12 +59,12 @@ pub record IsMergedBy (spec : Accounts) (s : Stored) (answer : answered.Merged) 
 
 -- all that stands of accounts, of which these are the tables
 abbrev pub stored_with : Leaves → Tables → Stored
-stored_with leaves tables = stored_of tables (remembered_in leaves) (declared_in leaves)
+stored_with leaves tables = stored_of tables (remembered_of (memory_in leaves)) (declared_of (memory_in leaves))
 
 -- why what is declared isn't merged with what stands, or nothing
 abbrev pub merging_refusal : Leaves → Tables → Option Accounts → Option Refusal
 merging_refusal leaves tables None = None
-merging_refusal leaves tables (Some spec) = option_or (map_refusal leaves) (option_and_then merge_refusal (fault spec (stored_with leaves tables)))
+merging_refusal leaves tables (Some spec) = option_or (maps_refusal (memory_in leaves)) (option_and_then merge_refusal (fault spec (stored_with leaves tables)))
 
 -- an answer is the merge of what is declared with what stands, and there is none where nothing is declared
 abbrev pub IsMergingOf : Leaves → Tables → Option Accounts → Option answered.Merged → Type 0

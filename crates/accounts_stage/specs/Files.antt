@@ -1,17 +1,21 @@
 -- The files of accounts that a merge leaves, and the order in which they are put: nixpkgs, update-users-groups.pl.
 use Rattle.std.specs.Prelude.{ℕ, ◌∷◌, ◌++◌, List, [], Option, None, Some, if◌then◌else◌}
 use Rattle.std.specs.List.{flat_map}
+use Rattle.account_text.specs.declared.tables.Tables.{Tables}
 use Rattle.account_text.specs.Group.{group_text}
 use Rattle.account_text.specs.Passwd.{passwd_text}
 use Rattle.account_text.specs.Shadow.{shadow_text}
 use Rattle.host_trait.specs.declared.leaf.LeafKind.{LeafKind}
 use Rattle.host_trait.specs.declared.leaf.LeafKind.TheVariants.{File}
-use Rattle.host_trait.specs.World.{WorldState, is_path, with_leaf}
+use Rattle.host_trait.specs.World.{is_path}
 use Rattle.id_memory.specs.Json.{ids_text}
 use Rattle.switch_names.specs.Names.{Name}
+use Rattle.users_merge.specs.declared.declared_names.Declared.{Declared}
+use Rattle.users_merge.specs.declared.remembered.Remembered.{Remembered}
 use Rattle.users_merge.specs.Order.{group_rows, passwd_rows, shadow_rows}
 use Rattle.users_merge.specs.Stored.{Merged}
-use Rattle.accounts_stage.specs.declared.file_put.FilePut.{FilePut}
+use Rattle.tree_put.specs.declared.leaf_put.LeafPut.{LeafPut}
+use Rattle.tree_put.specs.Sequence.{put_at}
 use Rattle.accounts_stage.specs.Places.{gids_place, group_place, groups_place, passwd_place, shadow_place, uids_place, users_place}
 
 -- a file of mode 0644 that root owns
@@ -38,26 +42,33 @@ merged_end m q =
     else if is_path q uids_place then Some (open_file (ids_text m.uids))
     else None
 
--- a leaf that is put at a place
-abbrev pub put_at : Name → LeafKind → FilePut
-put_at at leaf = record { at = at; leaf = leaf }
+-- the puts of names
+abbrev pub names_puts : Declared → List LeafPut
+names_puts names = put_at users_place (open_file (names_text names.users)) ∷ put_at groups_place (open_file (names_text names.groups)) ∷ []
 
--- The nine puts of a merge in their order: the names with the earlier ones go first, and those that are declared
--- now last, so that whoever is dropped from a table counts as declared until then.
-unfoldable pub account_puts : Merged → List FilePut
-account_puts m =
-    put_at users_place (open_file (names_text m.all_users))
-    ∷ put_at groups_place (open_file (names_text m.all_groups))
-    ∷ put_at uids_place (open_file (ids_text m.uids))
-    ∷ put_at gids_place (open_file (ids_text m.gids))
-    ∷ put_at group_place (open_file (group_text (group_rows m)))
-    ∷ put_at passwd_place (open_file (passwd_text (passwd_rows m)))
-    ∷ put_at shadow_place (closed_file (shadow_text (shadow_rows m)))
-    ∷ put_at users_place (open_file (names_text m.users))
-    ∷ put_at groups_place (open_file (names_text m.groups))
+-- the puts of ids
+abbrev pub ids_puts : Remembered → List LeafPut
+ids_puts ids = put_at uids_place (open_file (ids_text ids.uids)) ∷ put_at gids_place (open_file (ids_text ids.gids)) ∷ []
+
+-- the puts of tables
+abbrev pub table_puts : Tables → List LeafPut
+table_puts tables =
+    put_at group_place (open_file (group_text tables.group))
+    ∷ put_at passwd_place (open_file (passwd_text tables.passwd))
+    ∷ put_at shadow_place (closed_file (shadow_text tables.shadow))
     ∷ []
 
--- the world after some puts
-abbrev pub with_puts : List FilePut → WorldState → WorldState
-with_puts [] w = w
-with_puts (one ∷ rest) w = with_puts rest (with_leaf one.at one.leaf w)
+-- Nine puts in their order: the names with the earlier ones go first, and those that are declared now last, so that
+-- whoever is dropped from a table counts as declared until then.
+abbrev pub nine_puts : Declared → Remembered → Tables → Declared → List LeafPut
+nine_puts union ids tables declared = names_puts union ++ (ids_puts ids ++ (table_puts tables ++ names_puts declared))
+
+-- the rows of a merge, in the order of its tables
+abbrev pub tables_with : Merged → Tables
+tables_with m = record { group = group_rows m; passwd = passwd_rows m; shadow = shadow_rows m }
+
+-- the nine puts of a merge
+unfoldable pub account_puts : Merged → List LeafPut
+account_puts m = nine_puts
+    (record { users = m.all_users; groups = m.all_groups }) (record { uids = m.uids; gids = m.gids })
+    (tables_with m) (record { users = m.users; groups = m.groups })

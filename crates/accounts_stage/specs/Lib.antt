@@ -6,4 +6,3 @@ pub mod Places
 pub mod Plan
 pub mod Puts
 pub mod Standing
-pub mod Texts

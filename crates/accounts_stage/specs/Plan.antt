@@ -1,5 +1,5 @@
 -- What is planned for accounts, and the steps in which they are set: nixpkgs, update-users-groups.pl.
-use Rattle.std.specs.Prelude.{◌≡◌, ℕ, ◌≤◌, List, [], length, take, Option, None, Some, Ok, Err}
+use Rattle.std.specs.Prelude.{◌≡◌, List, [], Option, None, Some, Ok, Err}
 use Rattle.host_trait.specs.World.{Leaves, WorldState, seen}
 use Rattle.switch_names.specs.Names.{Name}
 use Rattle.switch_parts.specs.Part.{IsFree}
@@ -10,9 +10,10 @@ use Rattle.users_merge.specs.Stored.{Merged, merged_of}
 use Rattle.users_spec.specs.Fields.{Read}
 use Rattle.users_spec.specs.Spec.{Accounts}
 use Rattle.accounts_stage.specs.declared.accounts_plan.AccountsPlan.{AccountsPlan}
-use Rattle.accounts_stage.specs.declared.file_put.FilePut.{FilePut}
+use Rattle.tree_put.specs.declared.leaf_put.LeafPut.{LeafPut}
+use Rattle.tree_put.specs.Sequence.{IsPutting, with_puts}
 use Rattle.accounts_stage.specs.AccountsPart.{accounts_part, merged_in}
-use Rattle.accounts_stage.specs.Files.{account_puts, with_puts}
+use Rattle.accounts_stage.specs.Files.{account_puts}
 use Rattle.accounts_stage.specs.Standing.{declared_by, stored_in, tables_in}
 
 -- an answer of a merge is this merge, with its rows in order
@@ -38,19 +39,13 @@ pub record CanSetAccounts (system : Name) (plan : AccountsPlan) (w : WorldState)
   pub free : IsFree (accounts_part system) w.leaves
 
 -- the puts of a merge, and none without one
-abbrev pub puts_by : Option Merged → List FilePut
+abbrev pub puts_by : Option Merged → List LeafPut
 puts_by None = []
 puts_by (Some m) = account_puts m
 
 -- the puts that a switch to a system makes
-abbrev pub puts_of : Name → Leaves → List FilePut
+abbrev pub puts_of : Name → Leaves → List LeafPut
 puts_of system leaves = puts_by (merged_in system leaves)
-
--- but for the stage, a moment is the world after the first so many of some puts
-pub record IsPutting (puts : List FilePut) (w m : WorldState) : Type 0 where
-  pub count : ℕ
-  pub some : count ≤ length puts
-  pub world : seen m ≡ seen (with_puts (take count puts) w)
 
 -- a moment of setting the accounts of a system is exactly at one of its puts
 abbrev pub IsSettingAccounts : Name → WorldState → WorldState → Type 0

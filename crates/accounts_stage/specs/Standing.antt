@@ -19,27 +19,13 @@ use Rattle.users_merge.specs.Stored.{Stored, ordered, stored_of}
 use Rattle.users_spec.specs.AccountName.{is_account_name}
 use Rattle.users_spec.specs.Fields.{Read}
 use Rattle.users_spec.specs.Spec.{Accounts, accounts_of}
+use Rattle.accounts_stage.specs.declared.memory.MemoryTexts.{MemoryTexts}
+use Rattle.accounts_stage.specs.declared.reading.TableTexts.{TableTexts}
 use Rattle.accounts_stage.specs.Places.{gids_place, group_place, groups_place, passwd_place, shadow_place, spec_path, uids_place, users_place}
 
 -- the bytes at a place: where nothing stands, there are none
 abbrev pub bytes_at : Leaves → Name → List ℕ
 bytes_at leaves at = unwrap_or (content_of leaves at) []
-
--- the rows of the three tables
-abbrev pub tables_in : Leaves → Tables
-tables_in leaves = record {
-  group = rows_of group_row group_name (bytes_at leaves group_place);
-  passwd = rows_of passwd_row passwd_name (bytes_at leaves passwd_place);
-  shadow = rows_of shadow_row shadow_name (bytes_at leaves shadow_place);
-}
-
--- the ids that a map says, where it is one: one that isn't there says none
-abbrev pub ids_at : Leaves → Name → Option Ids
-ids_at leaves at = option_map_or ids_read (content_of leaves at) (Some empty)
-
--- the ids that are remembered
-abbrev pub remembered_in : Leaves → Remembered
-remembered_in leaves = record { uids = unwrap_or (ids_at leaves uids_place) empty; gids = unwrap_or (ids_at leaves gids_place) empty }
 
 -- a blank, a tab or a line feed
 abbrev pub is_between : ℕ → Bool
@@ -53,13 +39,46 @@ is_name_text text = is_utf8 text && is_account_name text
 abbrev pub names_in : List ℕ → List Name
 names_in bytes = ordered (filter is_name_text (slice_split is_between bytes))
 
+-- the texts of the three tables
+abbrev pub texts_in : Leaves → TableTexts
+texts_in leaves = record { group = bytes_at leaves group_place; passwd = bytes_at leaves passwd_place; shadow = bytes_at leaves shadow_place }
+
+-- the rows of three tables
+abbrev pub tables_of : TableTexts → Tables
+tables_of texts = record {
+  group = rows_of group_row group_name texts.group;
+  passwd = rows_of passwd_row passwd_name texts.passwd;
+  shadow = rows_of shadow_row shadow_name texts.shadow;
+}
+
+-- the rows of the three tables that stand
+abbrev pub tables_in : Leaves → Tables
+tables_in leaves = tables_of (texts_in leaves)
+
+-- the texts of what is remembered
+abbrev pub memory_in : Leaves → MemoryTexts
+memory_in leaves = record {
+  uids = content_of leaves uids_place;
+  gids = content_of leaves gids_place;
+  users = bytes_at leaves users_place;
+  groups = bytes_at leaves groups_place;
+}
+
+-- the ids that a content says, where it is a map: one that isn't there says none
+abbrev pub ids_of : Option (List ℕ) → Option Ids
+ids_of content = option_map_or ids_read content (Some empty)
+
+-- the ids that are remembered
+abbrev pub remembered_of : MemoryTexts → Remembered
+remembered_of texts = record { uids = unwrap_or (ids_of texts.uids) empty; gids = unwrap_or (ids_of texts.gids) empty }
+
 -- the names that were declared
-abbrev pub declared_in : Leaves → Declared
-declared_in leaves = record { users = names_in (bytes_at leaves users_place); groups = names_in (bytes_at leaves groups_place) }
+abbrev pub declared_of : MemoryTexts → Declared
+declared_of texts = record { users = names_in texts.users; groups = names_in texts.groups }
 
 -- all that stands of accounts
 abbrev pub stored_in : Leaves → Stored
-stored_in leaves = stored_of (tables_in leaves) (remembered_in leaves) (declared_in leaves)
+stored_in leaves = stored_of (tables_in leaves) (remembered_of (memory_in leaves)) (declared_of (memory_in leaves))
 
 -- what a system declares of accounts, where it does, or the first fault of that
 abbrev pub declared_by : Name → Leaves → Option (Read Accounts)

@@ -2,7 +2,6 @@
 #![tactic(auto)]
 
 mod accounts_plan;
-mod file_put;
 mod laws;
 mod memory;
 mod names;
@@ -13,7 +12,6 @@ mod reading;
 mod setting;
 
 pub use accounts_plan::AccountsPlan;
-pub use file_put::FilePut;
 pub use laws::{account_plans_stay, setting_accounts_is_a_part};
 pub use planning::plan_accounts;
 pub use reading::read_tables;

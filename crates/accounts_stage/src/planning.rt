@@ -12,11 +12,10 @@ ghost use Rattle.switch_parts.specs.declared.refusal.Refusal.{Refusal};
 ghost use Rattle.users_merge.specs.Merge.{fault};
 ghost use Rattle.users_merge.specs.Stored.{stored_of};
 ghost use Rattle.users_spec.specs.Spec.{accounts_of};
-ghost use Rattle.accounts_stage.specs.AccountsPart.{accounts_refusal, map_refusal, merge_refusal};
-ghost use Rattle.accounts_stage.specs.Answer.{Answers, IsMergedBy, IsMergingOf, merge_fault, merging_refusal, spec_fault, spec_refusal};
-ghost use Rattle.accounts_stage.specs.Texts.{declared_of, maps_refusal, remembered_of};
+ghost use Rattle.accounts_stage.specs.AccountsPart.{accounts_refusal, maps_refusal, merge_refusal};
+ghost use Rattle.accounts_stage.specs.Answer.{Answers, IsMergedBy, IsMergingOf, merge_fault, merging_refusal, spec_fault, spec_refusal, stored_with};
 ghost use Rattle.accounts_stage.specs.Plan.{IsAccountsPlanOf};
-ghost use Rattle.accounts_stage.specs.Standing.{declared_by, declared_in, remembered_in};
+ghost use Rattle.accounts_stage.specs.Standing.{declared_by, declared_of, remembered_of};
 
 use crate::accounts_plan::AccountsPlan;
 use crate::memory::{MemoryTexts, declared_of, read_memory, remembered_of};
@@ -140,8 +139,7 @@ fn read_merged<T: Tree>(
     requires passwd { IsSoundPasswd tables.now.passwd }
     requires shadow { IsSoundShadow tables.now.shadow }
     ensures merged { Told (T.host host.old) (λ w. Answers
-        (option_or (map_refusal w.leaves) (option_and_then merge_refusal (fault spec.now (stored_of tables.now (remembered_in w.leaves) (declared_in w.leaves)))))
-        (IsMergedBy spec.now (stored_of tables.now (remembered_in w.leaves) (declared_in w.leaves))) result) }
+        (merging_refusal w.leaves tables.now (Some spec.now)) (IsMergedBy spec.now (stored_with w.leaves tables.now)) result) }
     ensures reads { IsReadingOf (T.host host.old) (T.host host.new) (IsErrOf result (Host Device)) }
 {
     let texts = read_memory(alloc, host)?;

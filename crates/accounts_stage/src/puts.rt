@@ -1,11 +1,11 @@
 //! The files that a plan for accounts puts.
 ghost use Rattle.std.specs.Prelude.{◌≡◌, ◌++◌, IfOk, OnOk};
-ghost use Rattle.accounts_stage.specs.Files.{closed_file, names_text, open_file, put_at};
-ghost use Rattle.accounts_stage.specs.Puts.{AreAtAccounts, answer_puts, ids_puts, names_puts, plan_puts, table_puts};
+ghost use Rattle.tree_put.specs.Sequence.{put_at};
+ghost use Rattle.accounts_stage.specs.Files.{closed_file, ids_puts, names_puts, names_text, open_file, table_puts};
+ghost use Rattle.accounts_stage.specs.Puts.{AreAtAccounts, answer_puts, plan_puts};
 ghost use Rattle.id_memory.specs.Json.{ids_text};
 
 use crate::accounts_plan::AccountsPlan;
-use crate::file_put::FilePut;
 use crate::names::write_names;
 use crate::places::{
     gids_path, group_path, groups_path, passwd_path, shadow_path, uids_path, users_path,
@@ -15,30 +15,31 @@ use host_trait::Leaf;
 use id_memory::IdMap;
 use std::alloc::{AllocError, Global};
 use switch_names::{Bytes, Listed, Path, Text};
+use tree_put::LeafPut;
 use users_merge::{Declared, Merged, Remembered};
 
 /// A file of mode 0644 that root owns.
-fn open_put(at: Path, bytes: Bytes) -> FilePut
+fn open_put(at: Path, bytes: Bytes) -> LeafPut
     ensures { result ≡ put_at at (open_file bytes) }
 {
-    FilePut {
+    LeafPut {
         at,
         leaf: Leaf::file(bytes, 0o644, 0, 0),
     }
 }
 
 /// A file of mode 0600 that root owns.
-fn closed_put(at: Path, bytes: Bytes) -> FilePut
+fn closed_put(at: Path, bytes: Bytes) -> LeafPut
     ensures { result ≡ put_at at (closed_file bytes) }
 {
-    FilePut {
+    LeafPut {
         at,
         leaf: Leaf::file(bytes, 0o600, 0, 0),
     }
 }
 
 /// The file of names.
-fn names_put(alloc: Global, at: Path, names: &Listed<Text>) -> Result<FilePut, AllocError>
+fn names_put(alloc: Global, at: Path, names: &Listed<Text>) -> Result<LeafPut, AllocError>
     ensures { IfOk result (λ put. put ≡ put_at at (open_file (names_text names.now))) }
 {
     let text = write_names(alloc, names.as_slice())?;
@@ -46,7 +47,7 @@ fn names_put(alloc: Global, at: Path, names: &Listed<Text>) -> Result<FilePut, A
 }
 
 /// The file of a map of ids.
-fn ids_put(alloc: Global, at: Path, ids: &IdMap) -> Result<FilePut, AllocError>
+fn ids_put(alloc: Global, at: Path, ids: &IdMap) -> Result<LeafPut, AllocError>
     ensures { IfOk result (λ put. put ≡ put_at at (open_file (ids_text ids.now))) }
 {
     let text = ids.write(alloc)?;
@@ -54,7 +55,7 @@ fn ids_put(alloc: Global, at: Path, ids: &IdMap) -> Result<FilePut, AllocError>
 }
 
 /// Adds the files of names.
-fn add_names(alloc: Global, puts: &mut Listed<FilePut>, names: &Declared) -> Result<(), AllocError>
+fn add_names(alloc: Global, puts: &mut Listed<LeafPut>, names: &Declared) -> Result<(), AllocError>
     ensures { OnOk result (puts.new ≡ puts.old ++ names_puts names.now) }
 {
     let users = names_put(alloc, users_path(alloc)?, &names.users)?;
@@ -64,7 +65,7 @@ fn add_names(alloc: Global, puts: &mut Listed<FilePut>, names: &Declared) -> Res
 }
 
 /// Adds the files of the maps of ids.
-fn add_ids(alloc: Global, puts: &mut Listed<FilePut>, ids: &Remembered) -> Result<(), AllocError>
+fn add_ids(alloc: Global, puts: &mut Listed<LeafPut>, ids: &Remembered) -> Result<(), AllocError>
     ensures { OnOk result (puts.new ≡ puts.old ++ ids_puts ids.now) }
 {
     let uids = ids_put(alloc, uids_path(alloc)?, &ids.uids)?;
@@ -74,7 +75,7 @@ fn add_ids(alloc: Global, puts: &mut Listed<FilePut>, ids: &Remembered) -> Resul
 }
 
 /// Adds the files of the tables.
-fn add_tables(alloc: Global, puts: &mut Listed<FilePut>, tables: &Tables) -> Result<(), AllocError>
+fn add_tables(alloc: Global, puts: &mut Listed<LeafPut>, tables: &Tables) -> Result<(), AllocError>
     ensures { OnOk result (puts.new ≡ puts.old ++ table_puts tables.now) }
 {
     let group = open_put(group_path(alloc)?, write_group(alloc, &tables.group)?);
@@ -86,7 +87,7 @@ fn add_tables(alloc: Global, puts: &mut Listed<FilePut>, tables: &Tables) -> Res
 }
 
 /// The nine files of a merge, in the order in which they are put.
-fn answer_puts(alloc: Global, merged: &Merged) -> Result<Listed<FilePut>, AllocError>
+fn answer_puts(alloc: Global, merged: &Merged) -> Result<Listed<LeafPut>, AllocError>
     ensures { IfOk result (λ puts. puts ≡ answer_puts merged.now) }
 {
     let mut puts = Listed::new(alloc);
@@ -98,7 +99,7 @@ fn answer_puts(alloc: Global, merged: &Merged) -> Result<Listed<FilePut>, AllocE
 }
 
 /// The files that a plan puts, in the order in which it does.
-pub fn plan_puts(alloc: Global, plan: &AccountsPlan) -> Result<Listed<FilePut>, AllocError>
+pub fn plan_puts(alloc: Global, plan: &AccountsPlan) -> Result<Listed<LeafPut>, AllocError>
     ensures puts { IfOk result (λ puts. puts ≡ plan_puts plan.now) }
     ensures places { IfOk result AreAtAccounts }
 {

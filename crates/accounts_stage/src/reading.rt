@@ -11,10 +11,9 @@ ghost use Rattle.host_trait.specs.Reading.{IsReading, IsReadingOf};
 ghost use Rattle.switch_parts.specs.declared.plan_fault.PlanFault.TheVariants.{Host, Refused};
 ghost use Rattle.switch_parts.specs.declared.refusal.Refusal.{Refusal};
 ghost use Rattle.switch_parts.specs.declared.refusal.TableFile.TheVariants.{Group, Passwd, Shadow};
-ghost use Rattle.accounts_stage.specs.AccountsPart.{table_refusal, wrong_table};
+ghost use Rattle.accounts_stage.specs.AccountsPart.{table_refusal, texts_refusal, wrong_table};
 ghost use Rattle.accounts_stage.specs.Answer.{Answers, table_fault};
-ghost use Rattle.accounts_stage.specs.Standing.{bytes_at, tables_in};
-ghost use Rattle.accounts_stage.specs.Texts.{tables_of, texts_in, texts_refusal};
+ghost use Rattle.accounts_stage.specs.Standing.{bytes_at, tables_in, tables_of, texts_in};
 
 use crate::places::{group_path, passwd_path, shadow_path};
 use account_text::{

@@ -1,34 +1,14 @@
 //! Sets the accounts that are planned.
-ghost use Rattle.std.specs.Prelude.{◌≡◌, OnOk};
+ghost use Rattle.std.specs.Prelude.{OnOk};
 ghost use Rattle.host_trait.specs.Host.{HasCause, Leads, Passes, Told};
-ghost use Rattle.host_trait.specs.World.{seen};
-ghost use Rattle.accounts_stage.specs.Files.{with_puts};
-ghost use Rattle.accounts_stage.specs.Plan.{AreAccountsSet, CanSetAccounts, IsPutting, IsSettingAccounts};
-ghost use Rattle.accounts_stage.specs.Puts.{AreAtAccounts, CanPutAccounts};
+ghost use Rattle.accounts_stage.specs.Plan.{AreAccountsSet, CanSetAccounts, IsSettingAccounts};
 
 use crate::accounts_plan::AccountsPlan;
-use crate::file_put::FilePut;
 use crate::puts::plan_puts;
 use host_trait::{HostFault, Tree};
 use std::alloc::Global;
 use switch_names::SystemName;
-use tree_put::put_if_other;
-
-/// Puts files at places of accounts, one after the other, where other leaves or none stand.
-///
-/// A cut leaves the world after the first of them, but for the stage.
-fn put_all<T: Tree>(alloc: Global, host: &mut T, puts: &[FilePut]) -> Result<(), HostFault>
-    requires places { AreAtAccounts puts.now }
-    requires can { Told (T.host host.old) CanPutAccounts }
-    ensures ok { OnOk result (Leads (T.host host.old) (T.host host.new) (λ w v. seen v ≡ seen (with_puts puts.now w))) }
-    ensures moments { Passes (T.host host.old) (T.host host.new) (IsPutting puts.now) }
-    ensures cause { HasCause (T.host host.old) (T.host host.new) result }
-{
-    for one in puts {
-        put_if_other(alloc, host, &one.at, &one.leaf)?;
-    }
-    Ok(())
-}
+use tree_put::put_all;
 
 /// Sets the accounts that are planned: the names that were ever declared, the ids, the tables, and
 /// last the names that are declared now.

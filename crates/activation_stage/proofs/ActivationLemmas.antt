@@ -1,6 +1,6 @@
 -- What holds of an activation at each moment.
-use Rattle.std.proofs.Common.{◌≡◌, ◌||◌, true, false, cond, length, Option, None, Some, refl, sym, ap, subst, ◌∙◌, inl, inr, arith}
-use Rattle.std.proofs.lemmas.Bool.{cases_Bool, or_left, or_right}
+use Rattle.std.proofs.Common.{◌≡◌, length, Option, None, Some, refl, sym, ap, subst, ◌∙◌, arith}
+use Rattle.std.proofs.lemmas.Bool.{or_left, or_right}
 use Rattle.std.proofs.lemmas.List.{take_all}
 use Rattle.std.specs.Option.{option_or}
 use Rattle.switch_names.specs.Names.{Name}
@@ -9,14 +9,14 @@ use Rattle.host_trait.specs.Host.{HostState, Leads}
 use Rattle.host_trait.specs.World.{Leaves, WorldState, seen}
 use Rattle.host_trait.proofs.Moments.{one_world}
 use Rattle.switch_parts.specs.declared.refusal.Refusal.{Refusal}
-use Rattle.switch_parts.specs.Part.{IsAtEnd, IsFree, IsMomentOf, IsOnly, IsPart, IsSameFor, Part, both}
-use Rattle.switch_parts.proofs.Parts.{both_part, false_by, first_free, first_moment, moment_then, not_stage, only_beside, only_first, only_second, only_then, second_free, second_moment}
+use Rattle.switch_parts.specs.Part.{IsAtEnd, IsFree, IsMomentOf, IsOnly, IsPart, IsSameFor, Part}
+use Rattle.switch_parts.proofs.Parts.{both_part, first_free, first_moment, moment_then, only_beside, only_first, only_second, only_then, second_free, second_moment, ends_both}
 use Rattle.etc_manifest.specs.Entries.{manifest_of}
 use Rattle.etc_manifest.specs.Owners.{OwnerIds}
 use Rattle.etc_farm.specs.EtcPart.{CanPutEtc, IsEtcPlanOf, etc_part, refusal_in}
 use Rattle.etc_farm.proofs.EtcLemmas.{etc_frame, etc_is, etc_plan_law}
 use Rattle.accounts_stage.specs.AccountsPart.{accounts_part, accounts_refusal, tables_after}
-use Rattle.accounts_stage.specs.Files.{with_puts}
+use Rattle.tree_put.specs.Sequence.{with_puts}
 use Rattle.accounts_stage.specs.Plan.{AreAccountsSet, CanSetAccounts, IsSettingAccounts, puts_of}
 use Rattle.accounts_stage.proofs.EndLemmas.{end_law}
 use Rattle.accounts_stage.proofs.MomentLemmas.{moment_law}
@@ -27,20 +27,6 @@ use Rattle.activation_stage.specs.ActivationPart.{ActivationMomentLaw, Activatio
 use Rattle.activation_stage.specs.ActivationPart.IsActivating.{Making, Setting}
 use Rattle.activation_stage.specs.Owners.{owners_after, owners_in}
 use Rattle.activation_stage.proofs.PartedLemmas.{are_parted}
-
--- ---- two parts, one after the other
-
-module _ (p q : Part) (first : IsPart p) (second : IsPart q) (beside : (at : Name) → p.owns at ≡ true → q.reads at ≡ false) where
-  -- where one part is at its end, and then the other, both are
-  pub ends_both : (w u v : WorldState) → IsAtEnd p w u → IsSameFor q w u → IsAtEnd q u v → IsOnly q u v → IsAtEnd (both p q) w v
-  ends_both w u v end same then only at own = elim (cases_Bool (p.owns at)) [
-    | inl is ↦
-        only.leaves at (false_by (q.owns at) (q.reads at) (second.reads_own at) (beside at is)) (not_stage p first at is)
-        ∙ end at is ∙ sym (ap (λ b. cond b (p.end w.leaves at) (q.end w.leaves at)) is)
-    | inr not ↦
-        let is = sym (ap (λ b. b || q.owns at) not) ∙ own in
-        then at is ∙ second.same_end w u (second.frame w u same) at is ∙ sym (ap (λ b. cond b (p.end w.leaves at) (q.end w.leaves at)) not)
-  ]
 
 -- ---- an activation is a part
 

@@ -8,6 +8,7 @@ use Rattle.host_trait.proofs.Places.{same_or_other}
 use Rattle.tree_put.specs.declared.written_place.WrittenPlace.{WrittenPlace}
 use Rattle.switch_parts.specs.Leaves.{is_near}
 use Rattle.switch_parts.specs.Part.{AreParted}
+use Rattle.switch_parts.specs.Store.{is_in_store}
 use Rattle.switch_parts.proofs.LeafLemmas.{BeginApart, each_among, none_near}
 use Rattle.etc_manifest.specs.Owners.{OwnerIds}
 use Rattle.etc_manifest.specs.Place.{is_reserved, reserved_names}
@@ -16,21 +17,20 @@ use Rattle.etc_clean.specs.Etc.{is_owned, static_name}
 use Rattle.etc_clean.specs.Names.{is_in_etc, name_of, place}
 use Rattle.etc_clean.proofs.KeepsLemmas.{owned_free}
 use Rattle.etc_farm.specs.EtcPart.{etc_part}
-use Rattle.etc_farm.specs.FarmPart as farm_part
-use Rattle.etc_farm.specs.FarmPart.{fixed_places, owns_farm, reads_farm}
+use Rattle.etc_farm.specs.FarmPart.{owns_farm, reads_farm}
 use Rattle.etc_farm.proofs.LineLemmas.{free_line}
 use Rattle.etc_farm.proofs.PlaceLemmas.{owned_read, place_of_owned}
-use Rattle.accounts_stage.specs.AccountsPart.{accounts_part, is_in_store, reads_accounts}
+use Rattle.accounts_stage.specs.AccountsPart.{accounts_part, reads_accounts}
 use Rattle.accounts_stage.specs.Places.{account_names, account_places, gids_place, group_place, groups_place, memory_places, owns_accounts, passwd_place, shadow_place, table_places, uids_place, users_place}
 
 -- ---- a farm doesn't look at the places of accounts
 
 unread_in_etc : AllByRecursion (λ q. reads_farm q ≡ false) (group_place ∷ passwd_place ∷ shadow_place ∷ [])
-unfolding group_place passwd_place shadow_place is_in_etc name_of place static_name clean_name reserved_names stage farm_part.is_in_store
+unfolding group_place passwd_place shadow_place is_in_etc name_of place static_name clean_name reserved_names stage is_in_store
 unread_in_etc = (refl, (refl, (refl, tt)))
 
 unread_memory : AllByRecursion (λ q. reads_farm q ≡ false) (groups_place ∷ users_place ∷ gids_place ∷ uids_place ∷ [])
-unfolding groups_place users_place gids_place uids_place is_in_etc name_of place static_name clean_name reserved_names stage farm_part.is_in_store
+unfolding groups_place users_place gids_place uids_place is_in_etc name_of place static_name clean_name reserved_names stage is_in_store
 unread_memory = (refl, (refl, (refl, (refl, tt))))
 
 all_unread : AllByRecursion (λ q. reads_farm q ≡ false) account_names

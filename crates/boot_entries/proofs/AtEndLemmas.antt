@@ -23,9 +23,12 @@ use Rattle.boot_entries.specs.BootPart.{boot_end, boot_leaf, entry_end, loader_e
 use Rattle.boot_entries.specs.Entries.{loader_text}
 use Rattle.boot_entries.specs.Laws.{BootEndLaw, IsGenList}
 use Rattle.boot_entries.specs.Places.{entries_folder, entry_path, loader_path, number_below, numbered, owns_boot}
-use Rattle.boot_entries.specs.Steps.{AreEntries, IsBootPlace, IsBootSet, boot_files, with_files, without_places}
-use Rattle.boot_entries.specs.Texts.{IsBootPlanOf, boot_file, entries_of, entry_of, has_target}
-use Rattle.boot_entries.proofs.EndLemmas.{AreElsewhere, eqb, gone_at, in_gone, left_at, left_by, left_elsewhere, none_gone, numbered_entry, only_end}
+use Rattle.tree_put.specs.Sequence.{without_places}
+use Rattle.boot_entries.specs.Steps.{AreEntries, IsBootSet, boot_files, boot_put}
+use Rattle.boot_entries.proofs.PutLemmas.{IsBootPlace, with_files}
+use Rattle.boot_entries.specs.Texts.{boot_file, entries_of, entry_of, has_target, menu_of}
+use Rattle.tree_put.proofs.LeftLemmas.{gone_at, left_at, left_by}
+use Rattle.boot_entries.proofs.EndLemmas.{AreOthers, eqb, in_gone, left_files, left_others, none_gone, numbered_entry, only_end}
 use Rattle.boot_entries.proofs.NumberLemmas.{bears_numbered, one_entry}
 use Rattle.boot_entries.proofs.PutLemmas.{entry_parent, place_apart}
 use Rattle.generations.proofs.Numbers.{below_bound}
@@ -96,7 +99,7 @@ absent (gen ∷ list) n higher =
 
 -- what puts of entries leave at a number's entry, and whether a number has a system
 pub record IsEntryLeft (leaves : Leaves) (list : List Gen) (n : ℕ) : Type 0 where
-  pub left : (old : Option LeafKind) → left_by (entries_of leaves list) (entry_path n) old ≡ option_or (entry_end list leaves n) old
+  pub left : (old : Option LeafKind) → left_files (entries_of leaves list) (entry_path n) old ≡ option_or (entry_end list leaves n) old
   pub target : has_target list n ≡ is_some (system_at list n)
 
 abbrev gen_of : ℕ → Option Name → Gen
@@ -130,7 +133,7 @@ module _ (leaves : Leaves) (n : ℕ) (small : n < 2 ^ 32) where
   }
   first_left (Some system) list higher rest = record {
     left = λ old.
-        ap (λ b. left_by (entries_of leaves list) (entry_path n) (cond b (Some (boot_leaf (entry_of leaves n system).bytes)) old)) (itself (entry_path n))
+        ap (λ b. left_files (entries_of leaves list) (entry_path n) (cond b (Some (boot_leaf (entry_of leaves n system).bytes)) old)) (itself (entry_path n))
         ∙ rest.left (Some (boot_leaf (entry_of leaves n system).bytes))
         ∙ ap (λ o. option_or (option_map (λ (s : Name). boot_leaf (entry_of leaves n s).bytes) (option_and_then (λ (target : Option Name). target) o)) (Some (boot_leaf (entry_of leaves n system).bytes))) (absent list n higher).0
         ∙ sym (ap (λ b. end_by leaves n (gen_of n (Some system)) list b old) (eq_self n));
@@ -149,7 +152,7 @@ module _ (leaves : Leaves) (n : ℕ) (small : n < 2 ^ 32) where
   }
   other_left k (Some system) list other also rest = record {
     left = λ old.
-        ap (λ b. left_by (entries_of leaves list) (entry_path n) (cond b (Some (boot_leaf (entry_of leaves k system).bytes)) old))
+        ap (λ b. left_files (entries_of leaves list) (entry_path n) (cond b (Some (boot_leaf (entry_of leaves k system).bytes)) old))
         (not_equal (entry_path n) (entry_path k) (λ same. ne_other k n other (one_entry n k small also same)))
         ∙ rest.left old ∙ sym (ap (λ b. end_by leaves n (gen_of k (Some system)) list b old) other);
     target =
@@ -170,7 +173,7 @@ module _ (leaves : Leaves) (n : ℕ) (small : n < 2 ^ 32) where
 
 -- ---- the end
 
-pub left_on : (xs ys : List BootFile) (q : Name) (old : Option LeafKind) → left_by (xs ++ ys) q old ≡ left_by ys q (left_by xs q old)
+pub left_on : (xs ys : List BootFile) (q : Name) (old : Option LeafKind) → left_files (xs ++ ys) q old ≡ left_files ys q (left_files xs q old)
 unfolding left_by
 left_on [] ys q old = refl
 left_on (x ∷ xs) ys q old = left_on xs ys q (cond (eqb q x.at) (Some (boot_leaf x.bytes)) old)
@@ -178,15 +181,15 @@ left_on (x ∷ xs) ys q old = left_on xs ys q (cond (eqb q x.at) (Some (boot_lea
 abbrev pub last_file : Option (List ℕ) → List BootFile
 last_file loader = option_to_list (option_map (boot_file loader_path) loader)
 
-pub last_elsewhere : (loader : Option (List ℕ)) (n : ℕ) → AreElsewhere (entry_path n) (last_file loader)
+pub last_elsewhere : (loader : Option (List ℕ)) (n : ℕ) → AreOthers (entry_path n) (last_file loader)
 last_elsewhere None n = tt
 last_elsewhere (Some text) n = (not_equal (entry_path n) loader_path (λ same. loader_not_entry n (sym same)), tt)
 
-pub entries_elsewhere : (files : List BootFile) → AreEntries files → AreElsewhere loader_path files
+pub entries_elsewhere : (files : List BootFile) → AreEntries files → AreOthers loader_path files
 entries_elsewhere [] are = tt
 entries_elsewhere (file ∷ files) are = (not_equal loader_path file.at (λ same. loader_not_entry are.0.0 (same ∙ are.0.2)), entries_elsewhere files are.1)
 
-last_left : (current : Option ℕ) (leaves : Leaves) → left_by (last_file (option_map loader_text current)) loader_path (get leaves loader_path) ≡ loader_end current leaves
+last_left : (current : Option ℕ) (leaves : Leaves) → left_files (last_file (option_map loader_text current)) loader_path (get leaves loader_path) ≡ loader_end current leaves
 unfolding left_by
 last_left None leaves = refl
 last_left (Some n) leaves = ap (λ b. cond b (Some (boot_leaf (loader_text n))) (get leaves loader_path)) (itself loader_path)
@@ -196,26 +199,26 @@ chosen f None None = refl
 chosen f None (Some leaf) = refl
 chosen f (Some system) old = refl
 
-module _ (gens : Gens) (texts : BootTexts) (w v : WorldState) (list : IsGenList gens.list) (are : AreEntries texts.entries) (planned : IsBootPlanOf gens w.leaves texts) (is : IsBootSet texts w v) where
-  stands : (q : Name) → IsBootPlace q → get v.leaves q ≡ cond (list_any (eqb q) texts.gone) None (left_by (last_file texts.loader) q (left_by texts.entries q (get w.leaves q)))
+module _ (gens : Gens) (texts : BootTexts) (w v : WorldState) (list : IsGenList gens.list) (are : AreEntries texts.entries) (planned : texts ≡ menu_of gens w.leaves) (is : IsBootSet texts w v) where
+  stands : (q : Name) → IsBootPlace q → get v.leaves q ≡ cond (list_any (eqb q) texts.gone) None (left_files (last_file texts.loader) q (left_files texts.entries q (get w.leaves q)))
   stands q place =
       seen_at v (without_places texts.gone (with_files (boot_files texts) w)) is q (apart_ne q stage (place_apart q place))
       ∙ gone_at texts.gone (with_files (boot_files texts) w) q
-      ∙ ap (λ o. cond (list_any (eqb q) texts.gone) None o) (left_at (boot_files texts) w q ∙ left_on texts.entries (last_file texts.loader) q (get w.leaves q))
+      ∙ ap (λ o. cond (list_any (eqb q) texts.gone) None o) (left_at (map boot_put (boot_files texts)) w q ∙ left_on texts.entries (last_file texts.loader) q (get w.leaves q))
 
   entry_stands : (n : ℕ) → n < 2 ^ 32 → get v.leaves (entry_path n) ≡ boot_end gens w.leaves (entry_path n)
   entry_stands n small =
       let left = entries_left w.leaves n small gens.list list.rising list.numbers in
       let old = get w.leaves (entry_path n) in
       let gone : list_any (eqb (entry_path n)) texts.gone ≡ (not (is_some (system_at gens.list n)) && is_some old) =
-      ap (λ (names : List Name). list_any (eqb (entry_path n)) names) planned.gone ∙ in_gone w.leaves gens.list (entry_path n)
+      ap (λ (names : List Name). list_any (eqb (entry_path n)) names) (ap (λ (t : BootTexts). t.gone) planned) ∙ in_gone w.leaves gens.list (entry_path n)
       ∙ ap (λ o. not (option_map_or (has_target gens.list) o true) && (is_listed entries_folder (entry_path n) && is_some old)) (numbered_entry n small)
       ∙ ap (λ b. not (has_target gens.list n) && (b && is_some old)) (listed_entry n small)
       ∙ ap (λ b. not b && is_some old) left.target in
       stands (entry_path n) (inr (n, small, refl))
       ∙ ap (λ o. cond (list_any (eqb (entry_path n)) texts.gone) None o) (
-      left_elsewhere (last_file texts.loader) (entry_path n) (left_by texts.entries (entry_path n) old) (last_elsewhere texts.loader n)
-      ∙ ap (λ (files : List BootFile). left_by files (entry_path n) old) planned.entries ∙ left.left old)
+      left_others (last_file texts.loader) (entry_path n) (left_files texts.entries (entry_path n) old) (last_elsewhere texts.loader n)
+      ∙ ap (λ (files : List BootFile). left_files files (entry_path n) old) (ap (λ (t : BootTexts). t.entries) planned) ∙ left.left old)
       ∙ ap (λ b. cond b None (option_or (entry_end gens.list w.leaves n) old)) gone
       ∙ chosen (λ (system : Name). boot_leaf (entry_of w.leaves n system).bytes) (system_at gens.list n) old
       ∙ sym (
@@ -225,11 +228,11 @@ module _ (gens : Gens) (texts : BootTexts) (w v : WorldState) (list : IsGenList 
   loader_stands : get v.leaves loader_path ≡ boot_end gens w.leaves loader_path
   loader_stands =
       let gone : list_any (eqb loader_path) texts.gone ≡ false =
-      ap (λ (names : List Name). list_any (eqb loader_path) names) planned.gone ∙ none_gone w.leaves gens.list loader_path loader_unnumbered in
+      ap (λ (names : List Name). list_any (eqb loader_path) names) (ap (λ (t : BootTexts). t.gone) planned) ∙ none_gone w.leaves gens.list loader_path loader_unnumbered in
       stands loader_path (inl refl)
-      ∙ ap (λ b. cond b None (left_by (last_file texts.loader) loader_path (left_by texts.entries loader_path (get w.leaves loader_path)))) gone
-      ∙ ap (left_by (last_file texts.loader) loader_path) (left_elsewhere texts.entries loader_path (get w.leaves loader_path) (entries_elsewhere texts.entries are))
-      ∙ ap (λ loader. left_by (last_file loader) loader_path (get w.leaves loader_path)) planned.loader ∙ last_left gens.current w.leaves
+      ∙ ap (λ b. cond b None (left_files (last_file texts.loader) loader_path (left_files texts.entries loader_path (get w.leaves loader_path)))) gone
+      ∙ ap (left_files (last_file texts.loader) loader_path) (left_others texts.entries loader_path (get w.leaves loader_path) (entries_elsewhere texts.entries are))
+      ∙ ap (λ loader. left_files (last_file loader) loader_path (get w.leaves loader_path)) (ap (λ (t : BootTexts). t.loader) planned) ∙ last_left gens.current w.leaves
       ∙ sym (ap (λ b. cond b (loader_end gens.current w.leaves) (option_map_or (entry_end gens.list w.leaves) (numbered loader_path) (get w.leaves loader_path))) (nat_list_eq_equiv.refl loader_path))
 
   numbered_stands : (q : Name) (o : Option ℕ) → numbered q ≡ o → is_some o ≡ true → get v.leaves q ≡ boot_end gens w.leaves q

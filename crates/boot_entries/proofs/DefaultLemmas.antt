@@ -1,6 +1,5 @@
 -- What holds of making a system the boot default.
-use Rattle.std.proofs.Common.{◌≡◌, ◌||◌, true, false, cond, List, [], ◌∷◌, length, Option, None, Some, option_map, refl, sym, ap, ◌∙◌, inl, inr, arith, rules}
-use Rattle.std.proofs.lemmas.Bool.{cases_Bool}
+use Rattle.std.proofs.Common.{◌≡◌, true, List, [], ◌∷◌, length, Option, None, Some, option_map, refl, sym, ap, ◌∙◌, inr, arith, rules}
 use Rattle.std.proofs.lemmas.List.{take_all}
 use Rattle.std.specs.FinMap.{gets}
 use Rattle.std.specs.List.{AllByRecursion, cons_option}
@@ -21,36 +20,23 @@ use Rattle.host_trait.specs.World.{Leaves, WorldState, seen}
 use Rattle.switch_names.proofs.StorePaths.{NamesSystem-with_slash}
 use Rattle.switch_names.specs.Names.{Name}
 use Rattle.switch_names.specs.SystemName.{IsSystemPath}
-use Rattle.switch_parts.proofs.Parts.{both_part, false_by, first_free, first_moment, moment_then, not_stage, only_beside, second_moment}
-use Rattle.switch_parts.specs.Part.{IsAtEnd, IsFree, IsMomentOf, IsOnly, IsPart, IsSameFor, Part, both}
+use Rattle.switch_parts.proofs.Parts.{both_part, first_free, first_moment, moment_then, only_beside, second_moment, ends_both}
+use Rattle.switch_parts.specs.Part.{IsAtEnd, IsFree, IsMomentOf, IsPart, IsSameFor}
 use Rattle.boot_entries.specs.declared.boot_texts.BootTexts.{BootTexts}
 use Rattle.boot_entries.specs.BootDefault.{boot_default_part, menu_after, menu_end}
 use Rattle.boot_entries.specs.BootDefault.IsMakingDefault.{Listing, Setting}
 use Rattle.boot_entries.specs.BootPart.{boot_part}
 use Rattle.boot_entries.specs.DefaultLaws.{DefaultEndLaw, DefaultMomentLaw, DefaultNamesLaw, DefaultPartLaw, DefaultStaysLaw}
 use Rattle.boot_entries.specs.Laws.{IsBootGens}
-use Rattle.boot_entries.specs.Steps.{AreEntries, IsBootMoment, boot_files, with_files, without_places}
-use Rattle.boot_entries.specs.Texts.{IsBootPlanOf, entries_of, entry_of, menu_of}
+use Rattle.tree_put.specs.Sequence.{with_puts, without_places}
+use Rattle.boot_entries.specs.Steps.{AreEntries, IsBootMoment, boot_puts}
+use Rattle.boot_entries.specs.Texts.{entries_of, entry_of, menu_of}
 use Rattle.boot_entries.proofs.GensLemmas.{gens_after_law}
 use Rattle.boot_entries.proofs.AtEndLemmas.{end_law}
 use Rattle.boot_entries.proofs.KeptLemmas.{names_on, profile_kept}
 use Rattle.boot_entries.proofs.PartedLemmas.{are_parted}
 use Rattle.boot_entries.proofs.PartLemmas.{moment_law, part_law}
 use Rattle.boot_entries.proofs.PlanLawLemmas.{plan_law}
-
--- ---- two parts, one after the other
-
-module _ (p q : Part) (first : IsPart p) (second : IsPart q) (beside : (at : Name) → p.owns at ≡ true → q.reads at ≡ false) where
-  -- where one part is at its end, and then the other, both are
-  ends_both : (w u v : WorldState) → IsAtEnd p w u → IsSameFor q w u → IsAtEnd q u v → IsOnly q u v → IsAtEnd (both p q) w v
-  ends_both w u v end same then only at own = elim (cases_Bool (p.owns at)) [
-    | inl is ↦
-        only.leaves at (false_by (q.owns at) (q.reads at) (second.reads_own at) (beside at is)) (not_stage p first at is)
-        ∙ end at is ∙ sym (ap (λ b. cond b (p.end w.leaves at) (q.end w.leaves at)) is)
-    | inr not ↦
-        let is = sym (ap (λ b. b || q.owns at) not) ∙ own in
-        then at is ∙ second.same_end w u (second.frame w u same) at is ∙ sym (ap (λ b. cond b (p.end w.leaves at) (q.end w.leaves at)) not)
-  ]
 
 -- ---- the boot menu of some generations
 
@@ -65,14 +51,11 @@ entries_are leaves (gen ∷ list) numbers = by gen.target (entries_are leaves li
 pub menu_entries : (gens : Gens) (leaves : Leaves) → IsBootGens gens → AreEntries (menu_of gens leaves).entries
 menu_entries gens leaves is = entries_are leaves gens.list is.list.numbers
 
-pub menu_planned : (gens : Gens) (leaves : Leaves) → IsBootPlanOf gens leaves (menu_of gens leaves)
-menu_planned gens leaves = record { entries = refl; loader = refl; gone = refl }
-
 last_moment : (texts : BootTexts) (u v : WorldState) → seen v ≡ menu_end texts u → IsBootMoment texts u v
 last_moment texts u v is = inr (record {
   count = length texts.gone;
   some = omega arith;
-  world = is ∙ ap (λ (places : List Name). seen (without_places places (with_files (boot_files texts) u))) (sym (take_all (length texts.gone) texts.gone (omega arith)));
+  world = is ∙ ap (λ (places : List Name). seen (without_places places (with_puts (boot_puts texts) u))) (sym (take_all (length texts.gone) texts.gone (omega arith)));
 })
 
 -- ---- the profile is set, and then the boot menu is made
@@ -108,8 +91,8 @@ module _ (system : Name) (named : IsSystemPath system) (gens : Gens) (is : IsBoo
     pub menu_still : IsSameFor (boot_part gens) w u
     menu_still = only_beside (profile_part system) (boot_part gens) (part_law gens is) (are_parted system gens).first refl w u set_is.only
 
-    pub planned_still : IsBootPlanOf gens u.leaves (menu_of gens w.leaves)
-    planned_still = plan_law gens (menu_of gens w.leaves) w u is menu_still (menu_planned gens w.leaves)
+    pub planned_still : menu_of gens w.leaves ≡ menu_of gens u.leaves
+    planned_still = plan_law gens (menu_of gens w.leaves) w u is menu_still refl
 
     pub listed : (m : WorldState) → IsBootMoment (menu_of gens w.leaves) u m → IsMomentOf (boot_part gens) u m
     listed m moment = moment_law gens (menu_of gens w.leaves) u m is (menu_entries gens w.leaves is) planned_still moment

@@ -1,8 +1,8 @@
 -- What stands after the boot menu is made: each of its places at its end, and elsewhere what stood.
-use Rattle.std.proofs.Common.{◌≡◌, ℕ, zero, suc, ◌<◌, ◌^◌, ◌&&◌, ◌||◌, not, Bool, true, false, cond, List, [], ◌∷◌, ◌++◌, take, Option, None, Some, is_some, option_map, refl, sym, ap, subst, ◌∙◌, inl, inr, ⊎_elim}
+use Rattle.std.proofs.Common.{◌≡◌, ℕ, zero, suc, ◌<◌, ◌^◌, ◌&&◌, ◌||◌, not, Bool, true, false, cond, List, [], ◌∷◌, map, take, Option, None, Some, is_some, option_map, refl, sym, ap, subst, ◌∙◌, inl, inr, ⊎_elim}
 use Rattle.std.proofs.lemmas.Bool.{both_ways, or_left, or_parts, or_right}
 use Rattle.std.proofs.lemmas.Map.Views.{any-filter_same}
-use Rattle.std.specs.FinMap.{contains_key-keys, get, get-insert, get-remove, keys}
+use Rattle.std.specs.FinMap.{contains_key-keys, get, keys}
 use Rattle.std.specs.List.{AllByRecursion, list_any}
 use Rattle.std.specs.Option.{option_map_or}
 use Rattle.std.specs.Ordering.{eq_by_cmp}
@@ -10,59 +10,41 @@ use Rattle.std.specs.Prelude.{option_to_list}
 use Rattle.generations.specs.declared.gens.Gen.{Gen}
 use Rattle.generations.specs.declared.gens.Gens.{Gens}
 use Rattle.host_trait.specs.declared.leaf.LeafKind.{LeafKind}
-use Rattle.host_trait.specs.World.{Leaves, WorldState, bytes_cmp, is_listed, is_path, listed, seen, with_leaf, without_leaf}
-use Rattle.host_trait.proofs.Places.{bytes_total, same_or_other}
+use Rattle.host_trait.specs.World.{Leaves, WorldState, bytes_cmp, is_listed, is_path, listed, seen}
+use Rattle.host_trait.proofs.Places.{same_or_other}
 use Rattle.host_trait.proofs.Seen.{seen_at}
 use Rattle.switch_names.specs.Names.{Name}
 use Rattle.switch_parts.specs.Part.{IsOnly}
+use Rattle.tree_put.proofs.LeftLemmas.{gone_at, left_at, left_by, left_elsewhere}
+use Rattle.tree_put.proofs.SequenceLemmas.{all_take, places_manager, puts_manager}
 use Rattle.boot_entries.specs.declared.boot_texts.BootFile.{BootFile}
 use Rattle.boot_entries.specs.declared.boot_texts.BootTexts.{BootTexts}
-use Rattle.boot_entries.specs.BootPart.{boot_leaf, boot_part}
+use Rattle.boot_entries.specs.BootPart.{boot_part}
 use Rattle.boot_entries.specs.Laws.{BootOnlyLaw}
 use Rattle.boot_entries.specs.Places.{entries_folder, entry_path, loader_path, numbered, owns_boot}
-use Rattle.boot_entries.specs.Steps.{AreEntries, IsBootMoment, IsBootPlace, IsBootSet, boot_files, with_files, without_places}
-use Rattle.boot_entries.specs.Texts.{IsBootPlanOf, boot_file, gone_of, has_target, is_gone_by}
+use Rattle.tree_put.specs.Sequence.{without_places}
+use Rattle.boot_entries.specs.Steps.{AreEntries, IsBootMoment, IsBootSet, boot_files, boot_put}
+use Rattle.boot_entries.proofs.PutLemmas.{IsBootPlace, with_files}
+use Rattle.boot_entries.specs.Texts.{boot_file, gone_of, has_target, is_gone_by, menu_of}
 use Rattle.boot_entries.proofs.ApplyLemmas.{entries_places, loader_places}
 use Rattle.boot_entries.proofs.NumberLemmas.{bears_numbered}
-use Rattle.boot_entries.proofs.PutLemmas.{AreBootPlaces, all_take, each_place, itself}
+use Rattle.boot_entries.proofs.PutLemmas.{AreBootPlaces, both_all, each_place, itself, puts_all, putting_world}
 
 -- whether two paths are equal
 abbrev pub eqb : Name → Name → Bool
 eqb q p = eq_by_cmp bytes_cmp q p
 
--- ---- what stands after removals
-
-joined : {X : Type 0} (a b : Bool) (o : Option X) → cond b None (cond a None o) ≡ cond (a || b) None o
-joined true true o = refl
-joined true false o = refl
-joined false true o = refl
-joined false false o = refl
-
-pub gone_at : (places : List Name) (w : WorldState) (q : Name) → get (without_places places w).leaves q ≡ cond (list_any (eqb q) places) None (get w.leaves q)
-gone_at [] w q = refl
-gone_at (at ∷ places) w q =
-    gone_at places (without_leaf at w) q ∙ ap (λ o. cond (list_any (eqb q) places) None o) (get-remove bytes_total w.leaves at q)
-    ∙ joined (eqb q at) (list_any (eqb q) places) (get w.leaves q)
-
 -- ---- what stands after puts
 
--- what stands at a place after puts, where this stood
-unfoldable pub left_by : List BootFile → Name → Option LeafKind → Option LeafKind
-left_by [] q old = old
-left_by (file ∷ files) q old = left_by files q (cond (eqb q file.at) (Some (boot_leaf file.bytes)) old)
+-- what stands at a place after files are put, where this stood
+abbrev pub left_files : List BootFile → Name → Option LeafKind → Option LeafKind
+left_files files q old = left_by (map boot_put files) q old
 
-pub left_at : (files : List BootFile) (w : WorldState) (q : Name) → get (with_files files w).leaves q ≡ left_by files q (get w.leaves q)
-unfolding left_by
-left_at [] w q = refl
-left_at (file ∷ files) w q = left_at files (with_leaf file.at (boot_leaf file.bytes) w) q ∙ ap (left_by files q) (get-insert bytes_total w.leaves file.at (boot_leaf file.bytes) q)
+abbrev pub AreOthers : Name → List BootFile → Type 0
+AreOthers q files = AllByRecursion (λ (file : BootFile). eqb q file.at ≡ false) files
 
-abbrev pub AreElsewhere : Name → List BootFile → Type 0
-AreElsewhere q files = AllByRecursion (λ (file : BootFile). eqb q file.at ≡ false) files
-
-pub left_elsewhere : (files : List BootFile) (q : Name) (old : Option LeafKind) → AreElsewhere q files → left_by files q old ≡ old
-unfolding left_by
-left_elsewhere [] q old elsewhere = refl
-left_elsewhere (file ∷ files) q old elsewhere = ap (λ b. left_by files q (cond b (Some (boot_leaf file.bytes)) old)) elsewhere.0 ∙ left_elsewhere files q old elsewhere.1
+pub left_others : (files : List BootFile) (q : Name) (old : Option LeafKind) → AreOthers q files → left_files files q old ≡ old
+left_others files q old others = left_elsewhere (map boot_put files) q old (puts_all (λ at. eqb q at ≡ false) files others)
 
 -- ---- what is owned
 
@@ -80,7 +62,7 @@ other_of q p none place = elim (same_or_other q p) [
   | inr other ↦ other
 ]
 
-elsewhere : (q : Name) (files : List BootFile) → owns_boot q ≡ false → AreBootPlaces files → AreElsewhere q files
+elsewhere : (q : Name) (files : List BootFile) → owns_boot q ≡ false → AreBootPlaces files → AreOthers q files
 elsewhere q [] none places = tt
 elsewhere q (file ∷ files) none places = (other_of q file.at none places.0, elsewhere q files none places.1)
 
@@ -117,39 +99,27 @@ any_take test (name ∷ names) (suc n) none =
 
 -- ---- nothing else changes
 
-files_manager : (files : List BootFile) (w : WorldState) → (with_files files w).manager ≡ w.manager
-files_manager [] w = refl
-files_manager (file ∷ files) w = files_manager files (with_leaf file.at (boot_leaf file.bytes) w)
-
-places_manager : (places : List Name) (w : WorldState) → (without_places places w).manager ≡ w.manager
-places_manager [] w = refl
-places_manager (at ∷ places) w = places_manager places (without_leaf at w)
-
 only_of : (gens : Gens) (files : List BootFile) (places : List Name) (w m : WorldState) → AreBootPlaces files → ((q : Name) → owns_boot q ≡ false → list_any (eqb q) places ≡ false) →
     seen m ≡ seen (without_places places (with_files files w)) → IsOnly (boot_part gens) w m
 only_of gens files places w m at others is = record {
   leaves = λ q none ne.
       seen_at m (without_places places (with_files files w)) is q ne ∙ gone_at places (with_files files w) q
-      ∙ ap (λ b. cond b None (get (with_files files w).leaves q)) (others q none) ∙ left_at files w q ∙ left_elsewhere files q (get w.leaves q) (elsewhere q files none at);
-  manager = λ calls. ap (λ (x : WorldState). x.manager) is ∙ places_manager places (with_files files w) ∙ files_manager files w;
+      ∙ ap (λ b. cond b None (get (with_files files w).leaves q)) (others q none) ∙ left_at (map boot_put files) w q ∙ left_others files q (get w.leaves q) (elsewhere q files none at);
+  manager = λ calls. ap (λ (x : WorldState). x.manager) is ∙ places_manager places (with_files files w) ∙ puts_manager (map boot_put files) w;
 }
 
-both_places : (xs ys : List BootFile) → AreBootPlaces xs → AreBootPlaces ys → AreBootPlaces (xs ++ ys)
-both_places [] ys first second = second
-both_places (x ∷ xs) ys first second = (first.0, both_places xs ys first.1 second)
-
-module _ (gens : Gens) (texts : BootTexts) (w : WorldState) (are : AreEntries texts.entries) (planned : IsBootPlanOf gens w.leaves texts) where
+module _ (gens : Gens) (texts : BootTexts) (w : WorldState) (are : AreEntries texts.entries) (planned : texts ≡ menu_of gens w.leaves) where
   pub at_places : AreBootPlaces (boot_files texts)
-  at_places = both_places texts.entries (option_to_list (option_map (boot_file loader_path) texts.loader)) (entries_places texts.entries are) (loader_places texts.loader)
+  at_places = both_all (λ (file : BootFile). IsBootPlace file.at) texts.entries (option_to_list (option_map (boot_file loader_path) texts.loader)) (entries_places texts.entries are) (loader_places texts.loader)
 
   others_stay : (q : Name) → owns_boot q ≡ false → list_any (eqb q) texts.gone ≡ false
   others_stay q none =
-      ap (λ (names : List Name). list_any (eqb q) names) planned.gone
+      ap (λ (names : List Name). list_any (eqb q) names) (ap (λ (t : BootTexts). t.gone) planned)
       ∙ none_gone w.leaves gens.list q (no_some (numbered q) (or_parts (is_path q loader_path) (is_some (numbered q)) none).1)
 
   pub only_moment : (m : WorldState) → IsBootMoment texts w m → IsOnly (boot_part gens) w m
   only_moment m moment = ⊎_elim
-      (λ put. only_of gens (take put.count (boot_files texts)) [] w m (all_take (λ (file : BootFile). IsBootPlace file.at) (boot_files texts) put.count at_places) (λ q none. refl) put.world)
+      (λ put. only_of gens (take put.count (boot_files texts)) [] w m (all_take (λ (file : BootFile). IsBootPlace file.at) (boot_files texts) put.count at_places) (λ q none. refl) (putting_world texts w m put))
       (λ gone. only_of gens (boot_files texts) (take gone.count texts.gone) w m at_places (λ q none. any_take (eqb q) texts.gone gone.count (others_stay q none)) gone.world)
       moment
 

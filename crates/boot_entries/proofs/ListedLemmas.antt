@@ -19,7 +19,8 @@ use Rattle.boot_entries.specs.BootPart.{boot_leaf}
 use Rattle.boot_entries.specs.Places.{entry_path}
 use Rattle.boot_entries.specs.Texts.{entries_of, entry_of}
 use Rattle.boot_entries.proofs.AtEndLemmas.{absent}
-use Rattle.boot_entries.proofs.EndLemmas.{eqb, left_by}
+use Rattle.tree_put.proofs.LeftLemmas.{left_by}
+use Rattle.boot_entries.proofs.EndLemmas.{eqb, left_files}
 use Rattle.boot_entries.proofs.NumberLemmas.{one_entry}
 
 -- a leaf is the entry of the generation that a list has at this number
@@ -80,17 +81,17 @@ module _ (leaves : Leaves) (n : ℕ) (small : n < 2 ^ 32) where
 
 -- what puts leave at a place is what stood, or what one of them has put there
 pub left_is : (P : LeafKind → Type 0) (files : List BootFile) (q : Name) (old : Option LeafKind) → AllByRecursion (λ (file : BootFile). eqb q file.at ≡ true → P (boot_leaf file.bytes)) files →
-    (left_by files q old ≡ old) ⊎ ((leaf : LeafKind) × (left_by files q old ≡ Some leaf) × P leaf)
+    (left_files files q old ≡ old) ⊎ ((leaf : LeafKind) × (left_files files q old ≡ Some leaf) × P leaf)
 unfolding left_by
 left_is P [] q old all = inl refl
 left_is P (file ∷ files) q old all = elim (cases_Bool (eqb q file.at)) [
   | inl here ↦
-      let put = ap (λ b. left_by files q (cond b (Some (boot_leaf file.bytes)) old)) here in
+      let put = ap (λ b. left_files files q (cond b (Some (boot_leaf file.bytes)) old)) here in
       ⊎_elim
       (λ kept. inr (boot_leaf file.bytes, put ∙ kept, all.0 here)) (λ later. inr (later.0, put ∙ later.1, later.2))
       (left_is P files q (Some (boot_leaf file.bytes)) all.1)
   | inr away ↦
-      let rest = ap (λ b. left_by files q (cond b (Some (boot_leaf file.bytes)) old)) away in
+      let rest = ap (λ b. left_files files q (cond b (Some (boot_leaf file.bytes)) old)) away in
       ⊎_elim (λ kept. inl (rest ∙ kept)) (λ later. inr (later.0, rest ∙ later.1, later.2)) (left_is P files q old all.1)
 ]
 
@@ -107,10 +108,6 @@ pub take_one : (x : BootFile) (i : ℕ) → (take i (x ∷ []) ≡ []) ⊎ (take
 take_one x zero = inl refl
 take_one x (suc zero) = inr refl
 take_one x (suc (suc i)) = inr refl
-
-pub both_all : (P : BootFile → Type 0) (xs ys : List BootFile) → AllByRecursion P xs → AllByRecursion P ys → AllByRecursion P (xs ++ ys)
-both_all P [] ys first second = second
-both_all P (x ∷ xs) ys first second = (first.0, both_all P xs ys first.1 second)
 
 pub not_gone : {X : Type 0} (b : Bool) (o : Option X) (x : X) → cond b None o ≡ Some x → o ≡ Some x
 not_gone true o x is = absurd (none-some x is)

@@ -23,9 +23,10 @@ use Rattle.boot_entries.specs.BootDefault.{CanMakeDefault, IsDefaultPlanOf, IsMa
 use Rattle.boot_entries.specs.BootDefault.IsMakingDefault.{Listing}
 use Rattle.boot_entries.specs.BootPart.{boot_part}
 use Rattle.boot_entries.specs.Laws.{IsBootGens}
-use Rattle.boot_entries.specs.Steps.{CanApplyBoot, IsBootMoment, IsBootSet, boot_files, with_files}
-use Rattle.boot_entries.specs.Texts.{IsBootPlanOf}
-use Rattle.boot_entries.proofs.ApplyLemmas.{seen_with_files, seen_without_places}
+use Rattle.boot_entries.specs.Steps.{CanApplyBoot, IsBootMoment, IsBootSet, boot_puts}
+use Rattle.boot_entries.specs.Texts.{menu_of}
+use Rattle.tree_put.specs.Sequence.{with_puts}
+use Rattle.tree_put.proofs.SequenceLemmas.{seen_with_puts, seen_without_places}
 use Rattle.boot_entries.proofs.DefaultLemmas.{menu_still, planned_still, profile_free, set_is_seen}
 use Rattle.boot_entries.proofs.GensLemmas.{gens_after_law}
 use Rattle.boot_entries.proofs.PartLemmas.{part_law}
@@ -41,7 +42,7 @@ module _ (system : Name) (plan : BootDefaultPlan) (w : WorldState) (can : CanMak
 
   -- the boot menu that is planned
   menu_is : plan.menu ≡ menu_after system w.leaves
-  menu_is = λ i. record { gone = can.planned.menu.gone i; entries = can.planned.menu.entries i; loader = can.planned.menu.loader i }
+  menu_is = can.planned.menu
 
   pub can_set : CanSet system w
   can_set = can_of_free system w (profile_free system can.named gens gens_are w can.free)
@@ -63,7 +64,7 @@ module _ (system : Name) (plan : BootDefaultPlan) (w : WorldState) (can : CanMak
         let texts = menu_after system w.leaves in
         let same = set ∙ sym (set_is_seen system w) in
         subst (λ (ts : BootTexts). IsBootSet ts u v) menu_is made
-        ∙ seen_without_places texts.gone (with_files (boot_files texts) u) (with_files (boot_files texts) (set_end system w)) (seen_with_files (boot_files texts) u (set_end system w) same)
+        ∙ seen_without_places texts.gone (with_puts (boot_puts texts) u) (with_puts (boot_puts texts) (set_end system w)) (seen_with_puts (boot_puts texts) u (set_end system w) same)
 
 -- ---- a plan is made
 
@@ -92,11 +93,11 @@ module _ (system : Name) (leaves : Leaves) (gens : Gens) (is : IsGensOf leaves g
     pub no_refusal : (boot_default_in system leaves).refusal leaves ≡ None
     no_refusal = refusal_of system leaves true (some_is (has_number leaves system) (number_after leaves system) number (sym (number_for_world leaves gens system is) ∙ some))
 
-    pub default_planned : (after : Gens) (menu : BootTexts) → after ≡ gens_after system leaves → IsBootPlanOf after leaves menu → IsDefaultPlanOf system leaves (record { gens = gens; number = number; menu = menu })
+    pub default_planned : (after : Gens) (menu : BootTexts) → after ≡ gens_after system leaves → menu ≡ menu_of after leaves → IsDefaultPlanOf system leaves (record { gens = gens; number = number; menu = menu })
     default_planned after menu same planned = record {
       gens = is;
       number = number_of_world leaves gens system number is some;
-      menu = subst (λ (gs : Gens). IsBootPlanOf gs leaves menu) same planned;
+      menu = planned ∙ ap (λ (gs : Gens). menu_of gs leaves) same;
     }
 
 pub refused_as : {T : Type 0} (one why : Refusal) → IsErrOf {T = T} (Err (Refused one)) (Refused why) → one ≡ why

@@ -1,5 +1,5 @@
 -- What a firmware finds in the boot menu at any moment.
-use Rattle.std.proofs.Common.{◌≡◌, ◌⊎◌, ℕ, ◌<◌, ◌^◌, ◌&&◌, not, true, false, cond, List, [], ◌∷◌, ◌++◌, length, take, Option, None, Some, IfSome, IsSome, is_some, option_and_then, option_map, refl, sym, ap, subst, ◌∙◌, inl, inr, ⊎_elim, arith}
+use Rattle.std.proofs.Common.{◌≡◌, ◌⊎◌, ℕ, ◌<◌, ◌^◌, ◌&&◌, not, true, false, cond, List, [], ◌∷◌, ◌++◌, length, take, Option, None, Some, IfSome, IsSome, is_some, option_and_then, option_map, refl, sym, ap, subst, ◌∙◌, inl, inr, ⊎_elim, arith, map}
 use Rattle.std.proofs.lemmas.List.{take_all}
 use Rattle.std.proofs.lemmas.Option.{none-some}
 use Rattle.std.specs.FinMap.{get}
@@ -27,13 +27,16 @@ use Rattle.boot_entries.specs.Entries.{loader_text}
 use Rattle.boot_entries.specs.Laws.{IsBootGens}
 use Rattle.boot_entries.specs.Menu.{IsEntryOf, IsLoaderOf, IsMenuBetween, IsMenuWhole}
 use Rattle.boot_entries.specs.Places.{entries_folder, entry_path, loader_path, numbered, owns_boot}
-use Rattle.boot_entries.specs.Steps.{AreEntries, IsBootPlace, boot_files, with_files, without_places, IsBootMoment}
+use Rattle.tree_put.specs.Sequence.{without_places}
+use Rattle.boot_entries.specs.Steps.{AreEntries, boot_files, IsBootMoment, boot_put}
 use Rattle.boot_entries.specs.Texts.{entry_of, has_target, menu_of}
 use Rattle.boot_entries.proofs.AtEndLemmas.{entries_elsewhere, entries_left, last_elsewhere, last_file, left_on, loader_not_entry, loader_unnumbered, end_law, entry_not_loader}
 use Rattle.boot_entries.proofs.DefaultLemmas.{menu_entries, listed, menu_still, planned_still, profile_free, set_is, set_is_seen, set_moment}
-use Rattle.boot_entries.proofs.EndLemmas.{AreElsewhere, any_take, boot_owned, eqb, gone_at, in_gone, left_at, left_by, left_elsewhere, none_gone, numbered_entry}
+use Rattle.tree_put.proofs.LeftLemmas.{gone_at, left_at, left_by}
+use Rattle.boot_entries.proofs.EndLemmas.{AreOthers, any_take, boot_owned, eqb, in_gone, left_files, left_others, none_gone, numbered_entry}
 use Rattle.boot_entries.proofs.KeptLemmas.{current_kept, generation_kept, menu_kept, profile_kept}
-use Rattle.boot_entries.proofs.PutLemmas.{all_take, place_apart}
+use Rattle.tree_put.proofs.SequenceLemmas.{all_take}
+use Rattle.boot_entries.proofs.PutLemmas.{IsBootPlace, both_all, place_apart, putting_world, with_files}
 use Rattle.generations.proofs.ProfilePlaces.{number_of_free}
 use Rattle.generations.specs.After.{gens_after}
 use Rattle.generations.specs.ProfilePart.{has_number, profile_part}
@@ -45,7 +48,7 @@ use Rattle.boot_entries.specs.BootDefault.{boot_default_in, boot_default_part, m
 use Rattle.boot_entries.specs.BootDefault.IsMakingDefault.{Listing, Setting}
 use Rattle.boot_entries.proofs.GensLemmas.{gens_after_law}
 use Rattle.boot_entries.proofs.PartLemmas.{part_law}
-use Rattle.boot_entries.proofs.ListedLemmas.{IsFileOf, IsListedEntry, both_all, files_listed, left_is, not_gone, one_some, same_path, take_one, take_parts}
+use Rattle.boot_entries.proofs.ListedLemmas.{IsFileOf, IsListedEntry, files_listed, left_is, not_gone, one_some, same_path, take_one, take_parts}
 
 -- a generation that stands has a number that an entry can have
 small_of : (leaves : Leaves) (n : ℕ) → IsSome (generation_at leaves n) → n < 2 ^ 32
@@ -126,18 +129,18 @@ module _ (gens : Gens) (is : IsBootGens gens) (first : Leaves) (u : WorldState) 
     abbrev put : List BootFile
     put = take k (boot_files texts)
 
-    stands_at : (q : Name) → IsBootPlace q → get m.leaves q ≡ cond (list_any (eqb q) (take j texts.gone)) None (left_by put q (get first q))
+    stands_at : (q : Name) → IsBootPlace q → get m.leaves q ≡ cond (list_any (eqb q) (take j texts.gone)) None (left_files put q (get first q))
     stands_at q place =
         seen_at m (without_places (take j texts.gone) (with_files put u)) world q (apart_ne q stage (place_apart q place))
         ∙ gone_at (take j texts.gone) (with_files put u) q
-        ∙ ap (λ o. cond (list_any (eqb q) (take j texts.gone)) None o) (left_at put u q ∙ ap (left_by put q) (menu q (boot_owned q place)))
+        ∙ ap (λ o. cond (list_any (eqb q) (take j texts.gone)) None o) (left_at (map boot_put put) u q ∙ ap (left_files put q) (menu q (boot_owned q place)))
 
-    stands_left : (q : Name) → IsBootPlace q → list_any (eqb q) texts.gone ≡ false → get m.leaves q ≡ left_by put q (get first q)
-    stands_left q place none = stands_at q place ∙ ap (λ b. cond b None (left_by put q (get first q))) (any_take (eqb q) texts.gone j none)
+    stands_left : (q : Name) → IsBootPlace q → list_any (eqb q) texts.gone ≡ false → get m.leaves q ≡ left_files put q (get first q)
+    stands_left q place none = stands_at q place ∙ ap (λ b. cond b None (left_files put q (get first q))) (any_take (eqb q) texts.gone j none)
 
     entry_left : (n : ℕ) → n < 2 ^ 32 →
-        (left_by put (entry_path n) (get first (entry_path n)) ≡ get first (entry_path n))
-        ⊎ ((leaf : LeafKind) × (left_by put (entry_path n) (get first (entry_path n)) ≡ Some leaf) × IsListedEntry first gens.list n leaf)
+        (left_files put (entry_path n) (get first (entry_path n)) ≡ get first (entry_path n))
+        ⊎ ((leaf : LeafKind) × (left_files put (entry_path n) (get first (entry_path n)) ≡ Some leaf) × IsListedEntry first gens.list n leaf)
     entry_left n small = left_is (IsListedEntry first gens.list n) put (entry_path n) (get first (entry_path n))
         (all_take (IsFileOf first gens.list n) (boot_files texts) k
         (both_all (IsFileOf first gens.list n) texts.entries (last_file texts.loader) (files_listed first n small gens.list is.list.rising is.list.numbers) (last_none texts.loader n)))
@@ -147,7 +150,7 @@ module _ (gens : Gens) (is : IsBootGens gens) (first : Leaves) (u : WorldState) 
 
     entries_between : (n : ℕ) (leaf : LeafKind) → n < 2 ^ 32 → get m.leaves (entry_path n) ≡ Some leaf → (get first (entry_path n) ≡ Some leaf) ⊎ IsEntryOf first m.leaves n leaf
     entries_between n leaf small stands =
-        let left = not_gone (list_any (eqb (entry_path n)) (take j texts.gone)) (left_by put (entry_path n) (get first (entry_path n))) leaf (sym (stands_at (entry_path n) (inr (n, small, refl))) ∙ stands) in
+        let left = not_gone (list_any (eqb (entry_path n)) (take j texts.gone)) (left_files put (entry_path n) (get first (entry_path n))) leaf (sym (stands_at (entry_path n) (inr (n, small, refl))) ∙ stands) in
         ⊎_elim
         (λ kept. inl (sym kept ∙ left))
         (λ made. inr (entry_is n leaf (subst (IsListedEntry first gens.list n) (one_some made.0 leaf (sym made.1 ∙ left)) made.2)))
@@ -164,12 +167,12 @@ module _ (gens : Gens) (is : IsBootGens gens) (first : Leaves) (u : WorldState) 
         (entry_left n small)
 
     -- where the loader's file isn't put yet it is as it was
-    loader_before : (files : List BootFile) → put ≡ files → AreElsewhere loader_path files → get m.leaves loader_path ≡ get first loader_path
+    loader_before : (files : List BootFile) → put ≡ files → AreOthers loader_path files → get m.leaves loader_path ≡ get first loader_path
     loader_before files before elsewhere =
-        stands_left loader_path (inl refl) loader_stands ∙ ap (λ (fs : List BootFile). left_by fs loader_path (get first loader_path)) before
-        ∙ left_elsewhere files loader_path (get first loader_path) elsewhere
+        stands_left loader_path (inl refl) loader_stands ∙ ap (λ (fs : List BootFile). left_files fs loader_path (get first loader_path)) before
+        ∙ left_others files loader_path (get first loader_path) elsewhere
 
-    before_last : AreElsewhere loader_path (texts.entries ++ [])
+    before_last : AreOthers loader_path (texts.entries ++ [])
     before_last = both_all (λ (file : BootFile). eqb loader_path file.at ≡ false) texts.entries [] (entries_elsewhere texts.entries are) tt
 
     module _ (number : ℕ) (current : IsCurrent u.leaves number) (system : Name) (named : generation_at u.leaves number ≡ Some (Some system)) where
@@ -189,15 +192,15 @@ module _ (gens : Gens) (is : IsBootGens gens) (first : Leaves) (u : WorldState) 
         number = number;
         current = current_kept u.leaves m.leaves profile number current;
         named =
-            stands_left loader_path (inl refl) loader_stands ∙ ap (λ (fs : List BootFile). left_by fs loader_path (get first loader_path)) all
+            stands_left loader_path (inl refl) loader_stands ∙ ap (λ (fs : List BootFile). left_files fs loader_path (get first loader_path)) all
             ∙ left_on texts.entries last loader_path (get first loader_path)
-            ∙ ap (λ b. cond b (Some (boot_leaf (loader_text number))) (left_by texts.entries loader_path (get first loader_path))) (itself loader_path);
+            ∙ ap (λ b. cond b (Some (boot_leaf (loader_text number))) (left_files texts.entries loader_path (get first loader_path))) (itself loader_path);
         entry = boot_leaf (entry_of first number system).bytes;
         stands =
             stands_left (entry_path number) (inr (number, number_small, refl)) (stays number system number_small listed_current)
-            ∙ ap (λ (fs : List BootFile). left_by fs (entry_path number) (get first (entry_path number))) all
+            ∙ ap (λ (fs : List BootFile). left_files fs (entry_path number) (get first (entry_path number))) all
             ∙ left_on texts.entries last (entry_path number) (get first (entry_path number))
-            ∙ left_elsewhere last (entry_path number) (left_by texts.entries (entry_path number) (get first (entry_path number))) (last_elsewhere (Some (loader_text number)) number)
+            ∙ left_others last (entry_path number) (left_files texts.entries (entry_path number) (get first (entry_path number))) (last_elsewhere (Some (loader_text number)) number)
             ∙ (entries_left first number number_small gens.list is.list.rising is.list.numbers).left (get first (entry_path number))
             ∙ ap (λ o. option_or (option_map (λ (s : Name). boot_leaf (entry_of first number s).bytes) (option_and_then (λ (target : Option Name). target) o)) (get first (entry_path number))) listed_current;
         is_entry = record { system = system; stands = generation_kept u.leaves m.leaves profile number ∙ named; text = refl };
@@ -258,7 +261,7 @@ module _ (system : Name) (named : IsSystemPath system) (w : WorldState) (gens : 
       let is_current = subst (λ o. IfSome o (IsCurrent u.leaves)) current stand.current in
       ⊎_elim
       (λ putting. menu_between gens is w.leaves u same_menu stand m profile putting.count 0
-      (putting.world ∙ ap (λ (places : List Name). seen (without_places places (with_files (take putting.count (boot_files texts)) u))) (sym (take_none texts.gone)))
+      (putting_world texts u m putting ∙ ap (λ (places : List Name). seen (without_places places (with_files (take putting.count (boot_files texts)) u))) (sym (take_none texts.gone)))
       number is_current system number_named current)
       (λ removing. menu_between gens is w.leaves u same_menu stand m profile (length (boot_files texts)) removing.count
       (removing.world ∙ ap (λ (files : List BootFile). seen (without_places (take removing.count texts.gone) (with_files files u))) (sym (take_all (length (boot_files texts)) (boot_files texts) (omega arith))))

@@ -66,7 +66,7 @@ keys_keyed : (names : List Name) → map (λ (e : Name × Bool). e.0) (keyed nam
 keys_keyed [] = refl
 keys_keyed (name ∷ names) = ap (λ rest. name ∷ rest) (keys_keyed names)
 
-entry_places_have : (list : List Gen) (q : Name) → has (entry_places list) q ≡ has (filter_map place_if list) q
+pub entry_places_have : (list : List Gen) (q : Name) → has (entry_places list) q ≡ has (filter_map place_if list) q
 entry_places_have list q =
     let names = filter_map place_if list in
     sym (contains_key-keys (from_entries {R = bytes_cmp} (keyed names)) q) ∙ ap is_some (get-from_entries bytes_total (keyed names) q)
@@ -89,14 +89,14 @@ menu_added before between after entries list sorted same first last =
 
 -- ---- the stage is apart from each
 
-each_of : (P : Name → Type 0) (names : List Name) → AllByRecursion P names → (q : Name) → has names q ≡ true → P q
+pub each_of : (P : Name → Type 0) (names : List Name) → AllByRecursion P names → (q : Name) → has names q ≡ true → P q
 each_of P [] all q is = absurd (both_ways _ refl is)
 each_of P (name ∷ names) all q is = elim (same_or_other q name) [
   | inl same ↦ subst P (sym same) all.0
   | inr other ↦ each_of P names all.1 q (sym (ap (λ b. b || has names q) other) ∙ is)
 ]
 
-all_of : (P : Name → Type 0) (names : List Name) → ((q : Name) → has names q ≡ true → P q) → AllByRecursion P names
+pub all_of : (P : Name → Type 0) (names : List Name) → ((q : Name) → has names q ≡ true → P q) → AllByRecursion P names
 all_of P [] each = tt
 all_of P (name ∷ names) each = (
   each name (or_left (is_name name name) (has names name) (ap is_eq (tied_itself bytes_total name))),

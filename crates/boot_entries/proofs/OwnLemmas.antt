@@ -1,20 +1,15 @@
 -- What making the boot menu looks at, and what is read of the store.
-use Rattle.std.proofs.Common.{◌≡◌, ◌≢◌, ◌⊎◌, ℕ, ◌<◌, ◌^◌, ◌&&◌, ◌||◌, Bool, true, false, cond, List, ◌++◌, codes, drop, length, nat_eq, Option, None, Some, append_assoc, is_none, is_some, refl, sym, ap, subst, ◌∙◌, inl, inr, ⊎_elim}
-use Rattle.std.proofs.lemmas.Bool.{and_parts, both_ways, or_left, or_right}
-use Rattle.std.proofs.lemmas.Bool.Decides.{Decides-eqb}
-use Rattle.std.proofs.lemmas.Slice.Eq.{starts_is}
+use Rattle.std.proofs.Common.{◌≡◌, ◌≢◌, ◌⊎◌, ℕ, ◌<◌, ◌^◌, ◌||◌, Bool, true, false, ◌++◌, codes, drop, None, is_some, refl, sym, ap, subst, ◌∙◌, inl, inr, ⊎_elim}
+use Rattle.std.proofs.lemmas.Bool.{both_ways, or_left, or_right}
 use Rattle.std.specs.Cmp.Lexicographic.{nat_list_eq_equiv}
-use Rattle.std.specs.FinMap.{get}
-use Rattle.std.specs.List.{starts_with}
 use Rattle.switch_names.specs.Names.{Name}
-use Rattle.switch_names.specs.Path.{is_below, path_fault}
-use Rattle.switch_names.specs.SystemName.{IsSystemPath, store_folder, store_name}
+use Rattle.switch_names.specs.Path.{is_below}
+use Rattle.switch_names.specs.SystemName.{IsSystemPath}
 use Rattle.switch_names.proofs.Below.{below_both}
-use Rattle.switch_names.proofs.StorePaths.{IsStorePath-from_named, store_path_is}
-use Rattle.host_trait.specs.declared.leaf.LeafKind.{LeafKind}
-use Rattle.host_trait.specs.declared.leaf.LeafKind.TheVariants.{File, Link}
-use Rattle.host_trait.specs.World.{Leaves, content_of, file_at, file_bytes, is_in_line, is_path, leaf_content, stage, store_place}
-use Rattle.boot_entries.specs.BootPart.{is_in_store, reads_boot}
+use Rattle.host_trait.specs.World.{is_in_line, is_path, stage}
+use Rattle.switch_parts.specs.Store.{is_in_store}
+use Rattle.switch_parts.proofs.StoreLemmas.{store_is, system_stored}
+use Rattle.boot_entries.specs.BootPart.{reads_boot}
 use Rattle.boot_entries.specs.Entries.{params_path, version_path}
 use Rattle.boot_entries.specs.Places.{entries_folder, entry_path, loader_path, numbered, owns_boot}
 use Rattle.boot_entries.proofs.NumberLemmas.{bears_numbered}
@@ -84,38 +79,13 @@ stage_unread = stage_away (is_some (numbered stage)) (ap is_some stage_unnumbere
 
 -- ---- the store
 
-chosen : (b : Bool) (x y : List ℕ) → cond b (Some x) None ≡ Some y → (b ≡ true) × (x ≡ y)
-chosen true x y is = (refl, cc)
-chosen false x y is = absurd (cc)
-
-store_begins : (rest : List ℕ) → is_in_store (codes "nix/store/" ++ rest) ≡ true
-unfolding is_in_store
-store_begins rest = (starts_is Decides-eqb (codes "nix/store/" ++ rest) (codes "nix/store/") (starts_with nat_eq (codes "nix/store/" ++ rest) (codes "nix/store/")) refl).1 rest refl
-
-stored : (target p : List ℕ) → store_place target ≡ Some p → is_in_store p ≡ true
-stored target p is =
-    let parts = chosen (starts_with nat_eq target (codes "/nix/store/") && is_none (path_fault (drop 1 target))) (drop 1 target) p is in
-    let starts = (starts_is Decides-eqb target (codes "/nix/store/") (starts_with nat_eq target (codes "/nix/store/")) refl).0
-    (and_parts (starts_with nat_eq target (codes "/nix/store/")) (is_none (path_fault (drop 1 target))) parts.0).0 in
-    subst (λ r. is_in_store r ≡ true) (sym (ap (drop 1) starts) ∙ parts.1) (store_begins (drop (length (codes "/nix/store/")) target))
-
-file_stored : (system name : Name) → IsSystemPath system → is_in_store (system ++ name) ≡ true
-file_stored system name named =
-    let path : system ≡ store_folder ++ store_name system =
-    subst (λ p. p ≡ store_folder ++ store_name p) named.same (store_path_is _ (IsStorePath-from_named system named.no_fault).begins) in
-    ap (λ p. is_in_store (p ++ name)) path ∙ ap is_in_store (append_assoc store_folder (store_name system) name) ∙ store_begins (store_name system ++ name)
-
 pub version_stored : (system : Name) → IsSystemPath system → is_in_store (version_path system) ≡ true
 unfolding version_path
-version_stored system named = file_stored system (codes "/nixos-version") named
+version_stored system named = system_stored system (codes "/nixos-version") named
 
 pub params_stored : (system : Name) → IsSystemPath system → is_in_store (params_path system) ≡ true
 unfolding params_path
-params_stored system named = file_stored system (codes "/kernel-params") named
-
-store_is : (q : Name) → is_in_store q ≡ true → q ≡ codes "nix/store/" ++ drop 10 q
-unfolding is_in_store
-store_is q is = (starts_is Decides-eqb q (codes "nix/store/") (starts_with nat_eq q (codes "nix/store/")) refl).0 is
+params_stored system named = system_stored system (codes "/kernel-params") named
 
 begins_other : (rest : Name) (n : ℕ) → codes "nix/store/" ++ rest ≢ entry_path n
 unfolding entry_path
@@ -132,24 +102,3 @@ begins_unowned rest =
 
 pub store_unowned : (q : Name) → is_in_store q ≡ true → owns_boot q ≡ false
 store_unowned q is = subst (λ p. owns_boot p ≡ false) (sym (store_is q is)) (begins_unowned (drop 10 q))
-
-stage_unstored : is_in_store stage ≡ false
-unfolding is_in_store stage
-stage_unstored = refl
-
-pub store_not_stage : (q : Name) → is_in_store q ≡ true → q ≢ stage
-store_not_stage q is same = both_ways _ stage_unstored (subst (λ x. is_in_store x ≡ true) same is)
-
--- what is read at a place is the same where the leaf and each file of the store are
-module _ (w m : Leaves) (store : (q : Name) → is_in_store q ≡ true → get m q ≡ get w q) where
-  file_kept : (target : List ℕ) (o : Option (List ℕ)) → store_place target ≡ o → file_at m o ≡ file_at w o
-  file_kept target None is = refl
-  file_kept target (Some p) is = ap file_bytes (store p (stored target p is))
-
-  leaf_kept : (leaf : Option LeafKind) → leaf_content m leaf ≡ leaf_content w leaf
-  leaf_kept None = refl
-  leaf_kept (Some (File bytes mode uid gid)) = refl
-  leaf_kept (Some (Link target)) = file_kept target (store_place target) refl
-
-  pub content_kept : (at : Name) → is_in_store at ≡ true → content_of m at ≡ content_of w at
-  content_kept at is = ap (leaf_content m) (store at is) ∙ leaf_kept (get w at)

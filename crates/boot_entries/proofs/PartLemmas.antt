@@ -1,23 +1,22 @@
 -- Making the boot menu is a part of a switch.
 use Rattle.std.proofs.Common.{◌≡◌, ◌⊎◌, ℕ, ◌==◌, ◌&&◌, ◌||◌, Bool, true, false, cond, List, [], ◌∷◌, ◌++◌, map, take, Option, None, Some, IfSome, is_some, option_and_then, option_map, refl, sym, ap, ap₂, subst, ◌∙◌, inl, inr, ⊎_elim}
-use Rattle.std.proofs.lemmas.Bool.{both_ways, cases_Bool, or_from, or_left, or_right}
-use Rattle.std.specs.BTreeMap.{is_at}
-use Rattle.std.specs.FinMap.{contains_key-keys, from_entries, get, keys}
+use Rattle.std.proofs.lemmas.Bool.{both_ways, cases_Bool, or_from}
+use Rattle.std.specs.FinMap.{get}
 use Rattle.std.specs.List.{AllByRecursion, cons_option, filter_map, find, list_any}
-use Rattle.std.specs.Map.{lookup}
 use Rattle.std.specs.Option.{option_map_or, unwrap_or}
 use Rattle.generations.proofs.Numbers.{below_bound}
 use Rattle.generations.specs.declared.gens.Gen.{Gen}
 use Rattle.generations.specs.declared.gens.Gens.{Gens}
 use Rattle.generations.specs.Places.{is_number}
-use Rattle.host_trait.specs.World.{IsClear, Leaves, WorldState, bytes_cmp, is_in_line, is_path, seen, stage, without_leaf}
-use Rattle.host_trait.proofs.Places.{found, itself, same_or_other}
+use Rattle.host_trait.specs.World.{IsClear, Leaves, WorldState, is_in_line, is_path, seen, stage}
 use Rattle.host_trait.proofs.Seen.{clear_seen, seen_at, stage_clear_seen}
-use Rattle.host_trait.proofs.Sound.{clear_remove}
 use Rattle.switch_names.specs.Names.{Name}
 use Rattle.switch_names.specs.SystemName.{IsSystemPath}
 use Rattle.switch_parts.specs.Leaves.{EndsSame}
 use Rattle.switch_parts.specs.Part.{IsOnly, IsSameFor}
+use Rattle.switch_parts.proofs.LeafLemmas.{leaf_is_part}
+use Rattle.switch_parts.specs.Store.{is_in_store}
+use Rattle.switch_parts.proofs.StoreLemmas.{store_content_kept, store_not_stage}
 use Rattle.tree_put.specs.declared.written_place.WrittenPlace.{WrittenPlace}
 use Rattle.tree_put.specs.Put.{is_blocked}
 use Rattle.tree_put.specs.WrittenPlace.{in_the_way, is_in_the_way, lacks_content, written}
@@ -26,16 +25,21 @@ use Rattle.tree_put.proofs.PutLemmas.{apart_ne}
 use Rattle.tree_put.proofs.WayLemmas.{clear_first}
 use Rattle.boot_entries.specs.declared.boot_texts.BootFile.{BootFile}
 use Rattle.boot_entries.specs.declared.boot_texts.BootTexts.{BootTexts}
-use Rattle.boot_entries.specs.BootPart.{boot_end, boot_leaf, boot_part, boot_places, entry_end, entry_places, is_in_store, loader_end, place_if, reads_boot, system_at}
+use Rattle.boot_entries.specs.BootPart.{boot_end, boot_leaf, boot_part, boot_places, entry_end, entry_places, loader_end, place_if, reads_boot, system_at}
 use Rattle.boot_entries.specs.Entries.{entry_text, first_line, line_at, loader_text, params_path, version_path}
 use Rattle.boot_entries.specs.Laws.{BootMomentLaw, BootPartLaw, IsBootGens}
 use Rattle.boot_entries.specs.Places.{entry_path, loader_path, numbered, owns_boot}
-use Rattle.boot_entries.specs.Steps.{AreEntries, IsBootMoment, IsBootPlace, IsEntryPlace, boot_files, with_files, without_places}
-use Rattle.boot_entries.specs.Texts.{IsBootPlanOf, boot_file, entry_of}
+use Rattle.tree_put.specs.Sequence.{without_places}
+use Rattle.boot_entries.specs.Steps.{AreEntries, IsBootMoment, IsEntryPlace, boot_files, boot_put}
+use Rattle.boot_entries.proofs.PutLemmas.{IsBootPlace, with_files}
+use Rattle.boot_entries.specs.Texts.{boot_file, entry_of, menu_of}
 use Rattle.boot_entries.proofs.AtEndLemmas.{entries_elsewhere, last_file, loader_unnumbered}
-use Rattle.boot_entries.proofs.EndLemmas.{AreElsewhere, any_take, at_places, boot_owned, eqb, gone_at, left_at, left_elsewhere, none_gone, only_moment}
-use Rattle.boot_entries.proofs.OwnLemmas.{content_kept, entry_line_read, loader_line_read, owned_read, params_stored, stage_line_read, stage_unread, store_not_stage, store_read, store_unowned, version_stored}
-use Rattle.boot_entries.proofs.PutLemmas.{AreBootPlaces, all_take, clear_after, place_apart, stage_after, stage_apart}
+use Rattle.tree_put.proofs.LeftLemmas.{gone_at, left_at}
+use Rattle.boot_entries.proofs.EndLemmas.{AreOthers, any_take, at_places, boot_owned, eqb, left_others, none_gone, only_moment}
+use Rattle.boot_entries.proofs.MenuPlacesLemmas.{all_of, each_of, entry_places_have}
+use Rattle.boot_entries.proofs.OwnLemmas.{entry_line_read, loader_line_read, owned_read, params_stored, stage_line_read, stage_unread, store_read, store_unowned, version_stored}
+use Rattle.boot_entries.proofs.PutLemmas.{AreBootPlaces, both_all, files_clear, files_stage, place_apart, putting_world, stage_apart}
+use Rattle.tree_put.proofs.SequenceLemmas.{all_take, removed_clear}
 
 -- ---- the places that are written
 
@@ -47,37 +51,9 @@ place_among (gen ∷ list) numbers = by gen.target (place_among list numbers.1)
     by None rest = rest
     by (Some system) rest = ((gen.number, below_bound gen.number numbers.0, refl), rest)
 
-among : (P : Name → Type 0) (names : List Name) → AllByRecursion P names → (q : Name) → list_any (eqb q) names ≡ true → P q
-among P [] all q is = absurd (both_ways _ refl is)
-among P (name ∷ names) all q is = elim (same_or_other q name) [
-  | inl same ↦ subst P (sym same) all.0
-  | inr other ↦ among P names all.1 q (sym (ap (λ b. b || list_any (eqb q) names) other) ∙ is)
-]
-
-all_of : (P : Name → Type 0) (names : List Name) → ((q : Name) → list_any (eqb q) names ≡ true → P q) → AllByRecursion P names
-all_of P [] each = tt
-all_of P (name ∷ names) each = (
-  each name (or_left (eqb name name) (list_any (eqb name) names) (itself name)),
-  all_of P names (λ q is. each q (or_right (eqb q name) (list_any (eqb q) names) is)),
-)
-
-any_is : (names : List Name) (q : Name) → list_any (eqb q) names ≡ is_some (lookup (is_at (bytes_cmp q)) (map (λ (at : Name). (at, true)) names))
-any_is [] q = refl
-any_is (name ∷ names) q = by (eqb q name) (any_is names q)
-  where
-    by : (b : Bool) → list_any (eqb q) names ≡ is_some (lookup (is_at (bytes_cmp q)) (map (λ (at : Name). (at, true)) names)) →
-        (b || list_any (eqb q) names) ≡ is_some (cond b (Some true) (lookup (is_at (bytes_cmp q)) (map (λ (at : Name). (at, true)) names)))
-    by true rest = refl
-    by false rest = rest
-
-ordered_any : (names : List Name) (q : Name) → list_any (eqb q) (keys (from_entries {R = bytes_cmp} (map (λ (at : Name). (at, true)) names))) ≡ list_any (eqb q) names
-ordered_any names q =
-    sym (contains_key-keys (from_entries {R = bytes_cmp} (map (λ (at : Name). (at, true)) names)) q)
-    ∙ ap is_some (found (map (λ (at : Name). (at, true)) names) q) ∙ sym (any_is names q)
-
 entry_places_are : (list : List Gen) → AllByRecursion (λ (gen : Gen). is_number gen.number ≡ true) list → AllByRecursion IsEntryPlace (entry_places list)
 entry_places_are list numbers = all_of IsEntryPlace (entry_places list)
-    (λ q is. among IsEntryPlace (filter_map place_if list) (place_among list numbers) q (sym (ordered_any (filter_map place_if list) q) ∙ is))
+    (λ q is. each_of IsEntryPlace (filter_map place_if list) (place_among list numbers) q (sym (entry_places_have list q) ∙ is))
 
 -- a place of the menu, or the stage
 abbrev IsWay : Name → Type 0
@@ -111,7 +87,7 @@ system_is (gen ∷ list) systems n = by (gen.number == n) (system_is list system
 
 module _ (gens : Gens) (is : IsBootGens gens) (w m : Leaves) (store : (q : Name) → is_in_store q ≡ true → get m q ≡ get w q) where
   line_kept : (at : Name) → is_in_store at ≡ true → line_at m at ≡ line_at w at
-  line_kept at stored = ap (λ (o : Option (List ℕ)). first_line (unwrap_or o [])) (content_kept w m store at stored)
+  line_kept at stored = ap (λ (o : Option (List ℕ)). first_line (unwrap_or o [])) (store_content_kept w m store at (store at stored))
 
   pub entry_kept : (n : ℕ) (system : Name) → IsSystemPath system → entry_of m n system ≡ entry_of w n system
   entry_kept n system named =
@@ -169,35 +145,16 @@ frame gens is w m same = keeps_boot gens is w m
     (λ p way clear q line. same.leaves q (way_line p q way line) ∙ clear q line)
 
 pub part_law : BootPartLaw
-part_law gens is = record {
-  keeps_self = λ w. record { ends = λ q own. refl; free = λ way refusal. (way, refusal) };
-  keeps_then = λ w v m first then. record {
-    ends = λ q own. then.ends q own ∙ first.ends q own;
-    free = λ way refusal. let middle = first.free way refusal in then.free middle.0 middle.1;
-  };
-  same_end = λ w m keeps q own. keeps.ends q own;
-  stays_free = λ w m keeps free. let again = keeps.free free.way free.refusal in record { way = again.0; refusal = again.1 };
-  frame = frame gens is;
-  reads_own = owned_read;
-  no_stage = stage_unread;
-}
+part_law gens is = leaf_is_part owns_boot (λ leaves. boot_places gens.list) (λ leaves. None) (boot_end gens) reads_boot (frame gens is) owned_read stage_unread
 
 -- ---- each moment
 
-removed_clear : (places : List Name) (w : WorldState) (p : Name) → IsClear w.leaves p → IsClear (without_places places w).leaves p
-removed_clear [] w p clear = clear
-removed_clear (at ∷ places) w p clear = removed_clear places (without_leaf at w) p (clear_remove w.leaves at p clear)
-
-both_elsewhere : (q : Name) (xs ys : List BootFile) → AreElsewhere q xs → AreElsewhere q ys → AreElsewhere q (xs ++ ys)
-both_elsewhere q [] ys first second = second
-both_elsewhere q (x ∷ xs) ys first second = (first.0, both_elsewhere q xs ys first.1 second)
-
-no_last : (current : Option ℕ) → current ≡ None → AreElsewhere loader_path (last_file (option_map loader_text current))
+no_last : (current : Option ℕ) → current ≡ None → AreOthers loader_path (last_file (option_map loader_text current))
 no_last None none = tt
 no_last (Some n) none = absurd (cc)
 
-module _ (gens : Gens) (texts : BootTexts) (w : WorldState) (is : IsBootGens gens) (are : AreEntries texts.entries) (planned : IsBootPlanOf gens w.leaves texts) where
-  moment_of : (files : List BootFile) (places : List Name) (m : WorldState) → AreBootPlaces files → (gens.current ≡ None → AreElsewhere loader_path files) → list_any (eqb loader_path) places ≡ false →
+module _ (gens : Gens) (texts : BootTexts) (w : WorldState) (is : IsBootGens gens) (are : AreEntries texts.entries) (planned : texts ≡ menu_of gens w.leaves) where
+  moment_of : (files : List BootFile) (places : List Name) (m : WorldState) → AreBootPlaces files → (gens.current ≡ None → AreOthers loader_path files) → list_any (eqb loader_path) places ≡ false →
       seen m ≡ seen (without_places places (with_files files w)) → IsOnly (boot_part gens) w m → KeepsBoot gens w m
   moment_of files places m at elsewhere gone now only =
       let u = without_places places (with_files files w) in
@@ -205,19 +162,19 @@ module _ (gens : Gens) (texts : BootTexts) (w : WorldState) (is : IsBootGens gen
       (λ q stored. only.leaves q (store_unowned q stored) (store_not_stage q stored))
       (λ none.
       seen_at m u now loader_path (apart_ne loader_path stage (place_apart loader_path (inl refl))) ∙ gone_at places (with_files files w) loader_path
-      ∙ ap (λ b. cond b None (get (with_files files w).leaves loader_path)) gone ∙ left_at files w loader_path
-      ∙ left_elsewhere files loader_path (get w.leaves loader_path) (elsewhere none))
+      ∙ ap (λ b. cond b None (get (with_files files w).leaves loader_path)) gone ∙ left_at (map boot_put files) w loader_path
+      ∙ left_others files loader_path (get w.leaves loader_path) (elsewhere none))
       (λ p way clear. ⊎_elim
-      (λ place. clear_seen m u p (stage_apart p place) now (removed_clear places (with_files files w) p (clear_after files p w at place clear)))
-      (λ staged. subst (λ x. IsClear m.leaves x) (sym staged) (stage_clear_seen m u now (removed_clear places (with_files files w) stage (stage_after files w at (subst (λ x. IsClear w.leaves x) staged clear)))))
+      (λ place. clear_seen m u p (stage_apart p place) now (removed_clear places (with_files files w) p (files_clear files p w at place clear)))
+      (λ staged. subst (λ x. IsClear m.leaves x) (sym staged) (stage_clear_seen m u now (removed_clear places (with_files files w) stage (files_stage files w at (subst (λ x. IsClear w.leaves x) staged clear)))))
       way)
 
-  all_elsewhere : gens.current ≡ None → AreElsewhere loader_path (boot_files texts)
-  all_elsewhere none = both_elsewhere loader_path texts.entries (last_file texts.loader) (entries_elsewhere texts.entries are)
-      (subst (λ (loader : Option (List ℕ)). AreElsewhere loader_path (last_file loader)) (sym planned.loader) (no_last gens.current none))
+  all_elsewhere : gens.current ≡ None → AreOthers loader_path (boot_files texts)
+  all_elsewhere none = both_all (λ (file : BootFile). eqb loader_path file.at ≡ false) texts.entries (last_file texts.loader) (entries_elsewhere texts.entries are)
+      (subst (λ (loader : Option (List ℕ)). AreOthers loader_path (last_file loader)) (sym (ap (λ (t : BootTexts). t.loader) planned)) (no_last gens.current none))
 
   loader_stays : list_any (eqb loader_path) texts.gone ≡ false
-  loader_stays = ap (λ (names : List Name). list_any (eqb loader_path) names) planned.gone ∙ none_gone w.leaves gens.list loader_path loader_unnumbered
+  loader_stays = ap (λ (names : List Name). list_any (eqb loader_path) names) (ap (λ (t : BootTexts). t.gone) planned) ∙ none_gone w.leaves gens.list loader_path loader_unnumbered
 
   places : AreBootPlaces (boot_files texts)
   places = at_places gens texts w are planned
@@ -227,7 +184,7 @@ module _ (gens : Gens) (texts : BootTexts) (w : WorldState) (is : IsBootGens gen
       let only = only_moment gens texts w are planned m moment in
       ⊎_elim
       (λ put. moment_of (take put.count (boot_files texts)) [] m (all_take (λ (file : BootFile). IsBootPlace file.at) (boot_files texts) put.count places)
-      (λ none. all_take (λ (file : BootFile). eqb loader_path file.at ≡ false) (boot_files texts) put.count (all_elsewhere none)) refl put.world only)
+      (λ none. all_take (λ (file : BootFile). eqb loader_path file.at ≡ false) (boot_files texts) put.count (all_elsewhere none)) refl (putting_world texts w m put) only)
       (λ gone. moment_of (boot_files texts) (take gone.count texts.gone) m places all_elsewhere (any_take (eqb loader_path) texts.gone gone.count loader_stays) gone.world only)
       moment
 

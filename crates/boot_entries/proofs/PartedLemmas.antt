@@ -9,9 +9,11 @@ use Rattle.host_trait.specs.World.{is_in_line, is_path, stage}
 use Rattle.switch_names.specs.Names.{Name}
 use Rattle.switch_parts.proofs.LeafLemmas.{not_line}
 use Rattle.switch_parts.specs.Part.{AreParted}
-use Rattle.boot_entries.specs.BootPart.{boot_part, is_in_store, reads_boot}
+use Rattle.switch_parts.specs.Store.{is_in_store}
+use Rattle.boot_entries.specs.BootPart.{boot_part, reads_boot}
 use Rattle.boot_entries.specs.Places.{entries_folder, entry_name, entry_path, loader_path, numbered, owns_boot}
-use Rattle.boot_entries.specs.Steps.{IsBootPlace, IsEntryPlace}
+use Rattle.boot_entries.specs.Steps.{IsEntryPlace}
+use Rattle.boot_entries.proofs.PutLemmas.{IsBootPlace}
 use Rattle.boot_entries.proofs.AtEndLemmas.{numbered_is}
 use Rattle.boot_entries.proofs.NumberLemmas.{bears_numbered}
 use Rattle.boot_entries.proofs.PutLemmas.{each_place}

@@ -1,22 +1,22 @@
 -- A plan of the boot menu stays one where nothing has changed that the part looks at.
-use Rattle.std.proofs.Common.{◌≡◌, ℕ, ◌&&◌, ◌||◌, not, Bool, true, false, cond, List, [], ◌∷◌, map, Option, None, Some, IfSome, is_some, option_map, refl, sym, ap, subst, ◌∙◌}
+use Rattle.std.proofs.Common.{◌≡◌, ℕ, ◌&&◌, not, Bool, true, false, List, [], ◌∷◌, Option, None, Some, IfSome, is_some, option_map, refl, sym, ap, ◌∙◌}
 use Rattle.std.proofs.lemmas.Bool.{both_ways, or_right}
 use Rattle.std.proofs.lemmas.List.Kept.{IsStrictlySortedBy-filter}
-use Rattle.std.specs.BTreeMap.{is_at}
-use Rattle.std.specs.FinMap.{from_entries, get, keys}
+use Rattle.std.proofs.lemmas.Map.Lookups.{btree_set_from_contains, exact_bytes}
+use Rattle.std.specs.FinMap.{get, keys}
 use Rattle.std.specs.List.{AllByRecursion, cons_option, list_any}
 use Rattle.std.specs.List.Sorted.{IsStrictlySortedBy}
-use Rattle.std.specs.Map.{keys_of, lookup}
 use Rattle.std.specs.Option.{option_map_or}
 use Rattle.generations.specs.declared.gens.Gen.{Gen}
 use Rattle.generations.specs.declared.gens.Gens.{Gens}
 use Rattle.host_trait.specs.World.{Leaves, bytes_cmp, is_listed, is_path, listed}
 use Rattle.host_trait.proofs.KeyOrder.{keys_sorted}
-use Rattle.host_trait.proofs.Places.{alike, found, ordered_keys}
+use Rattle.host_trait.proofs.Places.{bytes_total}
 use Rattle.switch_names.specs.Names.{Name}
 use Rattle.switch_names.specs.SystemName.{IsSystemPath}
 use Rattle.boot_entries.specs.declared.boot_texts.BootFile.{BootFile}
-use Rattle.boot_entries.specs.BootPart.{is_in_store}
+use Rattle.switch_parts.specs.Store.{is_in_store}
+use Rattle.boot_entries.specs.Entries.{loader_text}
 use Rattle.boot_entries.specs.Laws.{BootPlanLaw, IsBootGens}
 use Rattle.boot_entries.specs.Places.{entries_folder, loader_path, numbered, owns_boot}
 use Rattle.boot_entries.specs.Texts.{entries_of, entry_of, gone_of, has_target, is_gone_by}
@@ -26,31 +26,8 @@ use Rattle.boot_entries.proofs.PartLemmas.{entry_kept}
 
 -- ---- sorted names are the same where the same are among them
 
-abbrev pairs : List Name → List (Name × Bool)
-pairs names = map (λ (at : Name). (at, true)) names
-
-lookup_is : (names : List Name) (q : Name) → lookup (is_at (bytes_cmp q)) (pairs names) ≡ cond (list_any (eqb q) names) (Some true) None
-lookup_is [] q = refl
-lookup_is (name ∷ names) q = by (eqb q name) (lookup_is names q)
-  where
-    by : (b : Bool) → lookup (is_at (bytes_cmp q)) (pairs names) ≡ cond (list_any (eqb q) names) (Some true) None →
-        cond b (Some true) (lookup (is_at (bytes_cmp q)) (pairs names)) ≡ cond (b || list_any (eqb q) names) (Some true) None
-    by true rest = refl
-    by false rest = rest
-
-keys_pairs : (names : List Name) → keys_of (pairs names) ≡ names
-keys_pairs [] = refl
-keys_pairs (name ∷ names) = ap (λ (ns : List Name). name ∷ ns) (keys_pairs names)
-
-keys_are : (names : List Name) → IsStrictlySortedBy bytes_cmp names → keys (from_entries {R = bytes_cmp} (pairs names)) ≡ names
-keys_are names sorted = ordered_keys (pairs names) (subst (IsStrictlySortedBy bytes_cmp) (sym (keys_pairs names)) sorted) ∙ keys_pairs names
-
 same_names : (names others : List Name) → IsStrictlySortedBy bytes_cmp names → IsStrictlySortedBy bytes_cmp others → ((q : Name) → list_any (eqb q) names ≡ list_any (eqb q) others) → names ≡ others
-same_names names others sorted also same =
-    sym (keys_are names sorted)
-    ∙ ap keys (alike (from_entries {R = bytes_cmp} (pairs names)) (from_entries {R = bytes_cmp} (pairs others)) (λ q.
-    found (pairs names) q ∙ lookup_is names q ∙ ap (λ b. cond b (Some true) None) (same q) ∙ sym (lookup_is others q) ∙ sym (found (pairs others) q)))
-    ∙ keys_are others also
+same_names names others sorted also same = btree_set_from_contains bytes_total (record { keys = names }) (record { keys = others }) sorted also same exact_bytes
 
 -- ---- what goes
 
@@ -88,8 +65,10 @@ entries_same gens is w u store (gen ∷ list) systems = by gen.target systems.0 
         ∙ ap (λ (files : List BootFile). entry_of w gen.number system ∷ files) rest
 
 pub plan_law : BootPlanLaw
-plan_law gens texts w u is same planned = record {
-  entries = planned.entries ∙ sym (entries_same gens is w.leaves u.leaves (λ q stored. same.leaves q (store_read q stored)) gens.list is.systems);
-  loader = planned.loader;
-  gone = planned.gone ∙ sym (gone_same w.leaves u.leaves gens.list (λ q own. same.leaves q (owned_read q own)));
-}
+plan_law gens texts w u is same planned =
+    planned
+    ∙ (λ i. record {
+      gone = gone_same u.leaves w.leaves gens.list (λ q own. sym (same.leaves q (owned_read q own))) i;
+      entries = entries_same gens is u.leaves w.leaves (λ q stored. sym (same.leaves q (store_read q stored))) gens.list is.systems i;
+      loader = option_map loader_text gens.current;
+    })

@@ -1,52 +1,29 @@
 -- Files of the boot menu are put one after another, and what goes is removed so.
-use Rattle.std.proofs.Common.{◌≡◌, ℕ, zero, suc, ◌+◌, ◌<◌, ◌^◌, ◌||◌, ◌==◌, ◌%◌, Bool, true, false, List, [], ◌∷◌, ◌++◌, codes, length, get_or, take, Result, Err, IsErrAnd, refl, sym, ap, subst, ◌∙◌, inl, inr, ⊎_elim, arith}
-use Rattle.std.proofs.lemmas.Bool.{both_ways, cases_Bool, ne_eqb}
-use Rattle.std.proofs.lemmas.Fmt.{decimal_by_steps}
-use Rattle.std.proofs.lemmas.List.{take_more}
-use Rattle.std.proofs.lemmas.List.Folds.{list_any-append}
+use Rattle.std.proofs.Common.{◌≡◌, ◌⊎◌, ℕ, zero, suc, ◌<◌, ◌^◌, true, false, List, [], ◌∷◌, ◌++◌, codes, map, take, refl, sym, ap, subst, ◌∙◌, inl, inr, ⊎_elim, arith}
+use Rattle.std.proofs.lemmas.Bool.{both_ways, cases_Bool}
 use Rattle.std.specs.FinMap.{get, remove, gets}
 use Rattle.std.specs.Fmt.{decimal}
 use Rattle.std.specs.List.{AllByRecursion, list_any}
 use Rattle.switch_names.proofs.Below.{front_is_parent}
 use Rattle.switch_names.specs.Names.{Name}
-use Rattle.switch_names.specs.Path.{IsParentOf, is_below, slash}
-use Rattle.switch_parts.proofs.LeafLemmas.{not_below, not_line}
-use Rattle.host_trait.specs.declared.tree.HostFault.{HostFault}
-use Rattle.host_trait.specs.Host.{HasCause, HostState}
-use Rattle.host_trait.specs.World.{IsClear, Leaves, WorldState, is_in_line, is_path, seen, stage, with_leaf, without_leaf}
-use Rattle.host_trait.proofs.Causes.{cause_on}
-use Rattle.host_trait.proofs.Readings.{handed_on}
-use Rattle.host_trait.proofs.Places.{alike}
-use Rattle.host_trait.proofs.Seen.{clear_seen, seen_with_leaf, stage_clear_seen}
-use Rattle.host_trait.proofs.Sound.{clear_insert}
-use Rattle.tree_put.specs.Put.{AreApart, CanPut, IsOldOrGone, IsOldOrNew}
+use Rattle.switch_names.specs.Path.{IsParentOf, is_below}
+use Rattle.switch_parts.proofs.LeafLemmas.{both_false, not_below, not_line}
+use Rattle.host_trait.specs.World.{IsClear, WorldState, is_in_line, is_path, seen, stage}
+use Rattle.tree_put.specs.Put.{AreApart}
+use Rattle.tree_put.specs.declared.leaf_put.LeafPut.{LeafPut}
+use Rattle.tree_put.specs.Sequence.{ArePutsApart, IsPutting, with_puts}
+use Rattle.tree_put.proofs.SequenceLemmas.{apart_by, clear_after, stage_after}
+use Rattle.generations.proofs.DigitLemmas.{digits_no_slash}
 use Rattle.boot_entries.specs.declared.boot_texts.BootFile.{BootFile}
-use Rattle.boot_entries.specs.BootPart.{boot_leaf}
+use Rattle.boot_entries.specs.declared.boot_texts.BootTexts.{BootTexts}
 use Rattle.boot_entries.specs.Places.{entries_folder, entry_name, entry_path, loader_path}
-use Rattle.boot_entries.specs.Steps.{CanPutFiles, IsBootPlace, IsPutting, IsRemoving, with_files, without_places}
-use Rattle.std.proofs.Common.{rules}
+use Rattle.boot_entries.specs.Steps.{IsEntryPlace, boot_files, boot_put, boot_puts}
 
 -- ---- the places are apart
 
-both_false : (a b : Bool) → a ≡ false → b ≡ false → a || b ≡ false
-both_false a b first second = cc
-
-digit_no_slash : (n : ℕ) → (48 + n == slash) ≡ false
-digit_no_slash n = ne_eqb (48 + n) slash (λ same. absurd (omega arith))
-
-decimal_no_slash : (n : ℕ) → n < 2 ^ 64 → list_any (λ byte. byte == slash) (decimal n) ≡ false
-decimal_no_slash n small = decimal_by_steps (λ k ds. list_any (λ byte. byte == slash) ds ≡ false)
-    (λ k digit. ap (λ b. b || false) (digit_no_slash k))
-    (λ k ds more none. list_any-append (λ byte. byte == slash) ds ((48 + k % 10) ∷ []) ∙ both_false _ _ none (ap (λ b. b || false) (digit_no_slash (k % 10))))
-    n small
-
-name_no_slash : (n : ℕ) → n < 2 ^ 32 → list_any (λ byte. byte == slash) (entry_name n) ≡ false
-name_no_slash n small =
-    list_any-append (λ byte. byte == slash) (decimal n) (codes ".conf") ∙ both_false _ _ (decimal_no_slash n (omega (arith, small))) refl
-
 pub entry_parent : (n : ℕ) → n < 2 ^ 32 → IsParentOf (entry_path n) entries_folder
 unfolding entry_path entries_folder
-entry_parent n small = front_is_parent (entry_path n) entries_folder (entry_name n) refl (name_no_slash n small)
+entry_parent n small = front_is_parent (entry_path n) entries_folder (entry_name n) refl (digits_no_slash n (codes ".conf") (omega (arith, small)) refl)
 
 not_folder : (n : ℕ) → is_path (entry_path n) entries_folder ≡ false
 unfolding entry_path entries_folder
@@ -83,6 +60,10 @@ loader_loader : is_in_line loader_path loader_path ≡ false
 unfolding loader_path
 loader_loader = refl
 
+-- a place of what is put: a generation's entry, or what the boot loader reads first
+abbrev pub IsBootPlace : Name → Type 0
+IsBootPlace at = (at ≡ loader_path) ⊎ IsEntryPlace at
+
 -- a property of paths that the loader's and each entry's has
 pub each_place : (P : Name → Type 0) → P loader_path → ((n : ℕ) → n < 2 ^ 32 → P (entry_path n)) → (p : Name) → IsBootPlace p → P p
 each_place P loader entry p place = ⊎_elim (λ is. subst P (sym is) loader) (λ is. subst P (sym is.2) (entry is.0 is.1)) place
@@ -116,98 +97,46 @@ place_apart = each_place (λ p. AreApart p stage) loader_apart (λ n small. entr
 pub stage_apart : (p : Name) → IsBootPlace p → is_in_line stage p ≡ false
 stage_apart = each_place (λ p. is_in_line stage p ≡ false) loader_under (λ n small. entry_under n)
 
--- ---- lists of files
-
-pub all_at : (P : BootFile → Type 0) (files : List BootFile) (i : ℕ) (one : BootFile) → i < length files → one ≡ get_or files i one → AllByRecursion P files → P one
-all_at P [] i one inside is all = absurd (omega arith)
-all_at P (file ∷ files) zero one inside is all = subst P (sym is) all.0
-all_at P (file ∷ files) (suc i) one inside is all = all_at P files i one (omega arith) is all.1
-
-pub all_take : (P : BootFile → Type 0) (files : List BootFile) (i : ℕ) → AllByRecursion P files → AllByRecursion P (take i files)
-all_take P [] zero all = tt
-all_take P [] (suc i) all = tt
-all_take P (file ∷ files) zero all = tt
-all_take P (file ∷ files) (suc i) all = (all.0, all_take P files i all.1)
+-- ---- files as puts
 
 abbrev pub AreBootPlaces : List BootFile → Type 0
 AreBootPlaces files = AllByRecursion (λ (file : BootFile). IsBootPlace file.at) files
 
+-- the world after files are put
+abbrev pub with_files : List BootFile → WorldState → WorldState
+with_files files w = with_puts (map boot_put files) w
+
+pub both_all : (P : BootFile → Type 0) (xs ys : List BootFile) → AllByRecursion P xs → AllByRecursion P ys → AllByRecursion P (xs ++ ys)
+both_all P [] ys first second = second
+both_all P (x ∷ xs) ys first second = (first.0, both_all P xs ys first.1 second)
+
+-- what holds of the places of files holds of those of their puts
+pub puts_all : (P : Name → Type 0) (files : List BootFile) → AllByRecursion (λ (file : BootFile). P file.at) files → AllByRecursion (λ (put : LeafPut). P put.at) (map boot_put files)
+puts_all P [] all = tt
+puts_all P (file ∷ files) all = (all.0, puts_all P files all.1)
+
+first_puts : (files : List BootFile) (k : ℕ) → take k (map boot_put files) ≡ map boot_put (take k files)
+first_puts [] zero = refl
+first_puts [] (suc k) = refl
+first_puts (file ∷ files) zero = refl
+first_puts (file ∷ files) (suc k) = ap (λ (puts : List LeafPut). boot_put file ∷ puts) (first_puts files k)
+
+-- the world of a moment among the puts
+pub putting_world : (texts : BootTexts) (w m : WorldState) (putting : IsPutting (boot_puts texts) w m) → seen m ≡ seen (with_files (take putting.count (boot_files texts)) w)
+putting_world texts w m putting = putting.world ∙ ap (λ (puts : List LeafPut). seen (with_puts puts w)) (first_puts (boot_files texts) putting.count)
+
 -- ---- what is clear stays so
 
-pub clear_after : (files : List BootFile) (p : Name) (w : WorldState) → AreBootPlaces files → IsBootPlace p → IsClear w.leaves p → IsClear (with_files files w).leaves p
-clear_after [] p w places place clear = clear
-clear_after (file ∷ files) p w places place clear =
-    clear_after files p (with_leaf file.at (boot_leaf file.bytes) w) places.1 place (clear_insert w.leaves file.at p (boot_leaf file.bytes) (boot_line file.at p places.0 place) clear)
+lines_to : (p : Name) → IsBootPlace p → (files : List BootFile) → AreBootPlaces files → AllByRecursion (λ (file : BootFile). is_in_line file.at p ≡ false) files
+lines_to p place [] places = tt
+lines_to p place (file ∷ files) places = (boot_line file.at p places.0 place, lines_to p place files places.1)
 
-pub stage_after : (files : List BootFile) (w : WorldState) → AreBootPlaces files → IsClear w.leaves stage → IsClear (with_files files w).leaves stage
-stage_after [] w places clear = clear
-stage_after (file ∷ files) w places clear =
-    stage_after files (with_leaf file.at (boot_leaf file.bytes) w) places.1 (clear_insert w.leaves file.at stage (boot_leaf file.bytes) (place_apart file.at places.0).line clear)
+pub files_clear : (files : List BootFile) (p : Name) (w : WorldState) → AreBootPlaces files → IsBootPlace p → IsClear w.leaves p → IsClear (with_files files w).leaves p
+files_clear files p w places place clear = clear_after (map boot_put files) p w (puts_all (λ at. is_in_line at p ≡ false) files (lines_to p place files places)) clear
 
-pub can_put_after :
-    (files : List BootFile) (i : ℕ) (one : BootFile) (w v : WorldState) → i < length files → one ≡ get_or files i one → AreBootPlaces files →
-    seen v ≡ seen (with_files (take i files) w) → CanPutFiles files w → CanPut one.at v
-can_put_after files i one w v inside is places before can =
-    let place = all_at (λ (file : BootFile). IsBootPlace file.at) files i one inside is places in
-    let some = all_take (λ (file : BootFile). IsBootPlace file.at) files i places in
-    record {
-      stage = stage_clear_seen v (with_files (take i files) w) before (stage_after (take i files) w some can.stage);
-      place = clear_seen v (with_files (take i files) w) one.at (stage_apart one.at place) before
-          (clear_after (take i files) one.at w some place (all_at (λ (file : BootFile). IsClear w.leaves file.at) files i one inside is can.places));
-    }
+-- the puts of files are apart
+pub files_apart : (files : List BootFile) → AreBootPlaces files → ArePutsApart (map boot_put files)
+files_apart files places = apart_by IsBootPlace place_apart boot_line (map boot_put files) (puts_all IsBootPlace files places)
 
--- ---- one put after another
-
-files_more : (files : List BootFile) (one : BootFile) (w : WorldState) → with_files (files ++ one ∷ []) w ≡ with_leaf one.at (boot_leaf one.bytes) (with_files files w)
-files_more [] one w = refl
-files_more (file ∷ files) one w = files_more files one (with_leaf file.at (boot_leaf file.bytes) w)
-
-module _ (files : List BootFile) (i : ℕ) (one : BootFile) (w v : WorldState) (inside : i < length files) (is : one ≡ get_or files i one) (before : seen v ≡ seen (with_files (take i files) w)) where
-  pub file_next : (u : WorldState) → seen u ≡ seen (with_leaf one.at (boot_leaf one.bytes) v) → seen u ≡ seen (with_files (take (i + 1) files) w)
-  file_next u now =
-      now ∙ seen_with_leaf one.at (boot_leaf one.bytes) v (with_files (take i files) w) before
-      ∙ ap seen (sym (files_more (take i files) one w) ∙ ap (λ (fs : List BootFile). with_files fs w) (sym (take_more files i one inside ∙ ap (λ k. take i files ++ k ∷ []) (sym is))))
-
-  pub putting_next : (m : WorldState) → IsOldOrNew one.at (boot_leaf one.bytes) v m → IsPutting files w m
-  putting_next m moment = ⊎_elim
-      (λ old. record { count = i; some = omega arith; world = old ∙ before })
-      (λ new. record { count = i + 1; some = omega arith; world = file_next m new }) moment
-
-pub putting_none : (files : List BootFile) (w : WorldState) → IsPutting files w w
-putting_none files w = record { count = 0; some = omega arith; world = refl }
-
--- ---- one removal after another
-
-pub seen_without_leaf : (at : List ℕ) (v w : WorldState) → seen v ≡ seen w → seen (without_leaf at v) ≡ seen (without_leaf at w)
-seen_without_leaf at v w is =
-    let leaves : remove (remove v.leaves at) stage ≡ remove (remove w.leaves at) stage =
-    swap v.leaves ∙ ap (λ (l : Leaves). remove l at) (ap (λ (x : WorldState). x.leaves) is) ∙ sym (swap w.leaves) in
-    let manager = ap (λ (x : WorldState). x.manager) is in
-    λ i. record { leaves = leaves i; manager = manager i }
-  where
-    swap : (l : Leaves) → remove (remove l at) stage ≡ remove (remove l stage) at
-    swap l = alike _ _ (λ q. grind (gets, rules))
-
-places_more : (places : List Name) (one : Name) (w : WorldState) → without_places (places ++ one ∷ []) w ≡ without_leaf one (without_places places w)
-places_more [] one w = refl
-places_more (at ∷ places) one w = places_more places one (without_leaf at w)
-
-module _ (places : List Name) (i : ℕ) (one : Name) (w v : WorldState) (inside : i < length places) (is : one ≡ get_or places i one) (before : seen v ≡ seen (without_places (take i places) w)) where
-  pub place_next : (u : WorldState) → seen u ≡ seen (without_leaf one v) → seen u ≡ seen (without_places (take (i + 1) places) w)
-  place_next u now =
-      now ∙ seen_without_leaf one v (without_places (take i places) w) before
-      ∙ ap seen (sym (places_more (take i places) one w) ∙ ap (λ (ps : List Name). without_places ps w) (sym (take_more places i one inside ∙ ap (λ k. take i places ++ k ∷ []) (sym is))))
-
-  pub removing_next : (m : WorldState) → IsOldOrGone one v m → IsRemoving places w m
-  removing_next m moment = ⊎_elim
-      (λ old. record { count = i; some = omega arith; world = ap seen old ∙ before })
-      (λ gone. record { count = i + 1; some = omega arith; world = place_next m (ap seen gone) }) moment
-
-pub removing_none : (places : List Name) (w : WorldState) → IsRemoving places w w
-removing_none places w = record { count = 0; some = omega arith; world = refl }
-
--- ---- causes
-
-pub cause_handed :
-    {a b c : HostState} {T U V : Type 0} {r : Result T HostFault} {f : HostFault} → HasCause a b r → HasCause {T = U} b c (Err f) → (s : Result V HostFault) → IsErrAnd s (λ x. x ≡ f) → HasCause a c s
-cause_handed {f = f} first second s is = cause_on first second (handed_on f s is)
+pub files_stage : (files : List BootFile) (w : WorldState) → AreBootPlaces files → IsClear w.leaves stage → IsClear (with_files files w).leaves stage
+files_stage files w places clear = stage_after (map boot_put files) w (files_apart files places).stage clear

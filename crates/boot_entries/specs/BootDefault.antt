@@ -18,8 +18,8 @@ use Rattle.boot_entries.specs.declared.boot_default.BootDefaultPlan.{BootDefault
 use Rattle.boot_entries.specs.declared.boot_texts.BootTexts.{BootTexts}
 use Rattle.boot_entries.specs.BootPart.{boot_part, entry_places}
 use Rattle.boot_entries.specs.Places.{loader_path}
-use Rattle.boot_entries.specs.Steps.{AreEntries, IsBootMoment, boot_files, with_files, without_places}
-use Rattle.boot_entries.specs.Texts.{IsBootPlanOf, menu_of}
+use Rattle.boot_entries.specs.Steps.{AreEntries, IsBootMoment, with_menu}
+use Rattle.boot_entries.specs.Texts.{menu_of}
 
 -- the part that points the profile to a system and makes the boot menu of these generations
 abbrev pub boot_default_part : Name → Gens → Part
@@ -39,7 +39,7 @@ menu_after system leaves = menu_of (gens_after system leaves) leaves
 
 -- but for the stage, the world in which this boot menu is made
 abbrev pub menu_end : BootTexts → WorldState → WorldState
-menu_end texts u = seen (without_places texts.gone (with_files (boot_files texts) u))
+menu_end texts u = seen (with_menu texts u)
 
 -- but for the stage, the world in which a system is the boot default
 abbrev pub default_end : Name → WorldState → WorldState
@@ -54,7 +54,7 @@ pub data IsMakingDefault (system : Name) (w m : WorldState) : Type 0 where
 pub record IsDefaultPlanOf (system : Name) (leaves : Leaves) (plan : BootDefaultPlan) : Type 0 where
   pub gens : IsGensOf leaves plan.gens
   pub number : plan.number ≡ number_after leaves system
-  pub menu : IsBootPlanOf (gens_after system leaves) leaves plan.menu
+  pub menu : plan.menu ≡ menu_after system leaves
 
 -- a plan has the number that its generations give a system, and its entries are put at the places of entries
 pub record IsDefaultFor (system : Name) (plan : BootDefaultPlan) : Type 0 where

@@ -1,7 +1,7 @@
 -- The part of a switch that makes the boot menu: Boot Loader Specification, "Type #1 Boot Loader Specification Entries"; loader.conf(5).
-use Rattle.std.specs.Prelude.{◌||◌, ◌++◌, ◌∷◌, ℕ, Bool, true, false, List, [], codes, nat_eq, map, Option, None, Some, option_map, option_and_then, if◌then◌else◌}
+use Rattle.std.specs.Prelude.{◌||◌, ◌++◌, ◌∷◌, ℕ, Bool, true, false, List, [], map, Option, None, Some, option_map, option_and_then, if◌then◌else◌}
 use Rattle.std.specs.FinMap.{from_entries, get, keys}
-use Rattle.std.specs.List.{filter_map, starts_with}
+use Rattle.std.specs.List.{filter_map}
 use Rattle.std.specs.Option.{option_map_or}
 use Rattle.generations.specs.declared.gens.Gen.{Gen}
 use Rattle.generations.specs.declared.gens.Gens.{Gens}
@@ -12,6 +12,7 @@ use Rattle.host_trait.specs.World.{Leaves, bytes_cmp, is_in_line, is_path, stage
 use Rattle.switch_names.specs.Names.{Name}
 use Rattle.switch_parts.specs.Leaves.{leaf_part}
 use Rattle.switch_parts.specs.Part.{Part}
+use Rattle.switch_parts.specs.Store.{is_in_store}
 use Rattle.tree_put.specs.declared.written_place.WrittenPlace.{WrittenPlace}
 use Rattle.tree_put.specs.WrittenPlace.{written}
 use Rattle.boot_entries.specs.Entries.{loader_text}
@@ -33,10 +34,6 @@ entry_places list = keys (from_entries {R = bytes_cmp} (map (λ at. (at, true)) 
 -- the places that are written, in byte order
 abbrev pub boot_places : List Gen → List WrittenPlace
 boot_places list = map (written false) (entry_places list) ++ written false loader_path ∷ written false stage ∷ []
-
--- a path lies in the store
-unfoldable pub is_in_store : Name → Bool
-is_in_store q = starts_with nat_eq q (codes "nix/store/")
 
 -- what the boot menu looks at: its places, the store, and what could be in the way
 abbrev pub reads_boot : Name → Bool

@@ -12,7 +12,7 @@ use Rattle.switch_parts.specs.Part.{IsAtEnd, IsMomentOf, IsOnly, IsPart, IsSameF
 use Rattle.boot_entries.specs.declared.boot_texts.BootTexts.{BootTexts}
 use Rattle.boot_entries.specs.BootPart.{boot_part}
 use Rattle.boot_entries.specs.Steps.{AreEntries, IsBootMoment, IsBootSet}
-use Rattle.boot_entries.specs.Texts.{IsBootPlanOf}
+use Rattle.boot_entries.specs.Texts.{menu_of}
 
 -- a list of generations: their numbers are such, and rise
 pub record IsGenList (list : List Gen) : Type 0 where
@@ -22,14 +22,14 @@ pub record IsGenList (list : List Gen) : Type 0 where
 -- at each moment of making the menu that is planned, nothing has changed but its places and the stage
 abbrev pub BootOnlyLaw : Type 0
 BootOnlyLaw =
-    (gens : Gens) (texts : BootTexts) (w m : WorldState) → AreEntries texts.entries → IsBootPlanOf gens w.leaves texts → IsBootMoment texts w m →
+    (gens : Gens) (texts : BootTexts) (w m : WorldState) → AreEntries texts.entries → texts ≡ menu_of gens w.leaves → IsBootMoment texts w m →
     IsOnly (boot_part gens) w m
 
 -- the last moment leaves each place of the menu at its end
 abbrev pub BootEndLaw : Type 0
 BootEndLaw =
     (gens : Gens) (texts : BootTexts) (w v : WorldState) → IsGenList gens.list → AreEntries texts.entries →
-    IsBootPlanOf gens w.leaves texts → IsBootSet texts w v → IsAtEnd (boot_part gens) w v × IsOnly (boot_part gens) w v
+    texts ≡ menu_of gens w.leaves → IsBootSet texts w v → IsAtEnd (boot_part gens) w v × IsOnly (boot_part gens) w v
 
 -- generations of the profile: their numbers rise, and each that has a target names a system
 pub record IsBootGens (gens : Gens) : Type 0 where
@@ -43,11 +43,11 @@ BootPartLaw = (gens : Gens) → IsBootGens gens → IsPart (boot_part gens)
 -- each moment of making the menu that is planned is one of the part
 abbrev pub BootMomentLaw : Type 0
 BootMomentLaw =
-    (gens : Gens) (texts : BootTexts) (w m : WorldState) → IsBootGens gens → AreEntries texts.entries → IsBootPlanOf gens w.leaves texts →
+    (gens : Gens) (texts : BootTexts) (w m : WorldState) → IsBootGens gens → AreEntries texts.entries → texts ≡ menu_of gens w.leaves →
     IsBootMoment texts w m → IsMomentOf (boot_part gens) w m
 
 -- a plan stays one where nothing has changed that the part looks at
 abbrev pub BootPlanLaw : Type 0
 BootPlanLaw =
-    (gens : Gens) (texts : BootTexts) (w u : WorldState) → IsBootGens gens → IsSameFor (boot_part gens) w u → IsBootPlanOf gens w.leaves texts →
-    IsBootPlanOf gens u.leaves texts
+    (gens : Gens) (texts : BootTexts) (w u : WorldState) → IsBootGens gens → IsSameFor (boot_part gens) w u → texts ≡ menu_of gens w.leaves →
+    texts ≡ menu_of gens u.leaves

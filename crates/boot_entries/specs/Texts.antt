@@ -1,5 +1,5 @@
 -- The entries that a boot menu has for some generations: NixOS manual, "Rolling Back Configuration Changes"; loader.conf(5).
-use Rattle.std.specs.Prelude.{◌≡◌, ◌&&◌, ◌==◌, not, ℕ, Bool, true, List, filter, Option, is_some, option_map}
+use Rattle.std.specs.Prelude.{◌&&◌, ◌==◌, not, ℕ, Bool, true, List, filter, Option, is_some, option_map}
 use Rattle.std.specs.List.{filter_map, list_any}
 use Rattle.std.specs.Option.{option_map_or}
 use Rattle.generations.specs.declared.gens.Gen.{Gen}
@@ -39,12 +39,6 @@ is_gone_by among q = not (option_map_or among (numbered q) true)
 abbrev pub gone_of : Leaves → List Gen → List Name
 gone_of leaves list = filter (is_gone_by (has_target list)) (listed entries_folder leaves)
 
--- what is planned for the boot menu of these generations: it boots the current one, where there is one
-pub record IsBootPlanOf (gens : Gens) (leaves : Leaves) (texts : BootTexts) : Type 0 where
-  pub entries : texts.entries ≡ entries_of leaves gens.list
-  pub loader : texts.loader ≡ option_map loader_text gens.current
-  pub gone : texts.gone ≡ gone_of leaves gens.list
-
--- the boot menu of these generations
+-- the boot menu of these generations: it boots the current one, where there is one
 abbrev pub menu_of : Gens → Leaves → BootTexts
 menu_of gens leaves = record { gone = gone_of leaves gens.list; entries = entries_of leaves gens.list; loader = option_map loader_text gens.current }

@@ -1,13 +1,8 @@
 //! Puts and removes the files of a boot menu that is planned.
-ghost use Rattle.std.specs.Prelude.{◌≡◌, IfOk, OnOk, option_map, option_to_list};
-ghost use Rattle.std.specs.List.{AllByRecursion};
-ghost use Rattle.host_trait.specs.Host.{Comes, HasCause, Leads, Passes, Told};
-ghost use Rattle.host_trait.specs.World.{with_leaf};
-ghost use Rattle.tree_put.specs.Put.{AreApart, CanPut, IsOldOrNew};
-ghost use Rattle.host_trait.specs.World.{stage};
-ghost use Rattle.boot_entries.specs.BootPart.{boot_leaf};
+ghost use Rattle.std.specs.Prelude.{◌≡◌, ◌++◌, IfOk, OnOk, map, option_map, option_to_list};
+ghost use Rattle.host_trait.specs.Host.{HasCause, Leads, Passes, Told};
 ghost use Rattle.boot_entries.specs.Places.{loader_path};
-ghost use Rattle.boot_entries.specs.Steps.{AreEntries, CanApplyBoot, CanPutFiles, IsBootMoment, IsBootPlace, IsBootSet, IsPutting, IsRemoving, with_files, without_places};
+ghost use Rattle.boot_entries.specs.Steps.{AreEntries, CanApplyBoot, IsBootMoment, IsBootSet, boot_put, boot_puts};
 ghost use Rattle.boot_entries.specs.Texts.{boot_file};
 
 use crate::boot_texts::{BootFile, BootTexts};
@@ -15,70 +10,62 @@ use crate::entry::loader_path;
 use host_trait::{HostFault, Leaf, Tree};
 use std::alloc::{AllocError, Global};
 use switch_names::{Bytes, Listed, Path};
-use tree_put::{drop_leaf, put_if_other};
+use tree_put::{LeafPut, drop_all, put_all};
 
-/// Puts a file, where another leaf or none stands at its place.
-fn put_file<T: Tree>(alloc: Global, host: &mut T, file: &BootFile) -> Result<(), HostFault>
-    requires apart { AreApart file.now.at stage }
-    requires can { Told (T.host host.old) (CanPut file.now.at) }
-    ensures ok { OnOk result (Comes (T.host host.old) (T.host host.new) (with_leaf file.now.at (boot_leaf file.now.bytes))) }
-    ensures moments { Passes (T.host host.old) (T.host host.new) (IsOldOrNew file.now.at (boot_leaf file.now.bytes)) }
-    ensures cause { HasCause (T.host host.old) (T.host host.new) result }
+/// A file of mode 0644 that root owns, put at a place.
+fn file_at(alloc: Global, at: Path, bytes: &Bytes) -> Result<LeafPut, AllocError>
+    ensures { IfOk result (λ put. put ≡ boot_put (boot_file at bytes.now)) }
 {
-    let bytes = file.bytes.copy(alloc)?;
-    let leaf = Leaf::file(bytes, 0o644, 0, 0);
-    put_if_other(alloc, host, &file.at, &leaf)?;
-    Ok(())
+    let leaf = Leaf::file(bytes.copy(alloc)?, 0o644, 0, 0);
+    Ok(LeafPut { at, leaf })
 }
 
-/// Puts files, one after the other, where other leaves or none stand.
-///
-/// A cut leaves the world after the first of them, but for the stage.
-fn put_files<T: Tree>(alloc: Global, host: &mut T, files: &[BootFile]) -> Result<(), HostFault>
-    requires places { AllByRecursion (λ file. IsBootPlace file.at) files.now }
-    requires can { Told (T.host host.old) (CanPutFiles files.now) }
-    ensures ok { OnOk result (Comes (T.host host.old) (T.host host.new) (with_files files.now)) }
-    ensures moments { Passes (T.host host.old) (T.host host.new) (IsPutting files.now) }
-    ensures cause { HasCause (T.host host.old) (T.host host.new) result }
+/// Adds the puts of entries, in their order.
+fn add_entries(
+    alloc: Global,
+    puts: &mut Listed<LeafPut>,
+    entries: &[BootFile],
+) -> Result<(), AllocError>
+    ensures { OnOk result (puts.new ≡ puts.old ++ map boot_put entries.now) }
 {
-    for file in files {
-        put_file(alloc, host, file)?;
+    for entry in entries {
+        let at = entry.at.copy(alloc)?;
+        puts.push(file_at(alloc, at, &entry.bytes)?)?;
     }
     Ok(())
 }
 
-/// Removes the leaves at some places, one after the other.
-///
-/// A cut leaves the world without the leaves at the first of them.
-fn drop_places<T: Tree>(alloc: Global, host: &mut T, places: &[Path]) -> Result<(), HostFault>
-    ensures ok { OnOk result (Comes (T.host host.old) (T.host host.new) (without_places places.now)) }
-    ensures moments { Passes (T.host host.old) (T.host host.new) (IsRemoving places.now) }
-    ensures cause { HasCause (T.host host.old) (T.host host.new) result }
+/// Adds the put of what the boot loader reads first, where there is one.
+fn add_loader(
+    alloc: Global,
+    puts: &mut Listed<LeafPut>,
+    loader: &Option<Bytes>,
+) -> Result<(), AllocError>
+    ensures { OnOk result (puts.new ≡ puts.old ++ map boot_put (option_to_list (option_map (boot_file loader_path) loader.now))) }
 {
-    for at in places {
-        drop_leaf(alloc, host, at)?;
-    }
-    Ok(())
+    let Some(text) = loader else {
+        return Ok(());
+    };
+    let at = loader_path(alloc)?;
+    puts.push(file_at(alloc, at, text)?)
 }
 
-/// The file that the boot loader reads first, where it is put.
-fn loader_files(alloc: Global, loader: &Option<Bytes>) -> Result<Listed<BootFile>, AllocError>
-    ensures { IfOk result (λ files. files ≡ option_to_list (option_map (boot_file loader_path) loader.now)) }
+/// The puts of a boot menu: those of the entries, and then that of what the boot loader reads first.
+fn menu_puts(alloc: Global, texts: &BootTexts) -> Result<Listed<LeafPut>, AllocError>
+    ensures { IfOk result (λ puts. puts ≡ boot_puts texts.now) }
 {
-    let mut files = Listed::new(alloc);
-    if let Some(text) = loader {
-        let at = loader_path(alloc)?;
-        let bytes = text.copy(alloc)?;
-        files.push(BootFile { at, bytes })?;
-    }
-    Ok(files)
+    let mut puts = Listed::new(alloc);
+    add_entries(alloc, &mut puts, texts.entries.as_slice())?;
+    add_loader(alloc, &mut puts, &texts.loader)?;
+    Ok(puts)
 }
 
 /// Makes the boot menu that is planned: puts the entries by ascending number, then what the boot
 /// loader reads first, and then removes the entries that go.
 ///
 /// A leaf that stands already is left alone. At each moment the world is, but for the stage, the
-/// one after the first so many of these steps.
+/// one after the first so many of these steps. All memory but that of host calls is taken before
+/// the first change.
 ///
 /// Source: Boot Loader Specification, "Type #1 Boot Loader Specification Entries"; loader.conf(5).
 pub fn apply<T: Tree>(alloc: Global, host: &mut T, texts: &BootTexts) -> Result<(), HostFault>
@@ -88,9 +75,8 @@ pub fn apply<T: Tree>(alloc: Global, host: &mut T, texts: &BootTexts) -> Result<
     ensures moments { Passes (T.host host.old) (T.host host.new) (IsBootMoment texts.now) }
     ensures cause { HasCause (T.host host.old) (T.host host.new) result }
 {
-    let last = loader_files(alloc, &texts.loader)?;
-    put_files(alloc, host, texts.entries.as_slice())?;
-    put_files(alloc, host, last.as_slice())?;
-    drop_places(alloc, host, texts.gone.as_slice())?;
+    let puts = menu_puts(alloc, texts)?;
+    put_all(alloc, host, puts.as_slice())?;
+    drop_all(alloc, host, texts.gone.as_slice())?;
     Ok(())
 }

@@ -13,14 +13,7 @@ use generations::Gen;
 use std::alloc::{AllocError, Global};
 use std::collections::BTreeSet;
 use switch_names::{Listed, Path};
-use tree_put::WrittenPlace;
-
-/// A place whose content isn't read before it is written.
-fn unread(at: Path) -> WrittenPlace
-    ensures { result ≡ written false at }
-{
-    WrittenPlace { at, is_read: false }
-}
+use tree_put::{WrittenPlace, unread};
 
 /// The place of a generation's entry, where it names a system.
 fn place_of(alloc: Global, generation: &Gen) -> Result<Option<Path>, AllocError>

@@ -5,7 +5,7 @@ ghost use Rattle.host_trait.specs.Reading.{IsReading};
 ghost use Rattle.boot_entries.specs.Entries.{entry_text, first_line, line_at, loader_text};
 ghost use Rattle.boot_entries.specs.Places.{entry_path};
 ghost use Rattle.boot_entries.specs.Steps.{AreEntries, IsEntryPlace};
-ghost use Rattle.boot_entries.specs.Texts.{IsBootPlanOf, boot_file, entries_of, entry_if, entry_of};
+ghost use Rattle.boot_entries.specs.Texts.{boot_file, entries_of, entry_if, entry_of, menu_of};
 
 use crate::boot_texts::{BootFile, BootTexts};
 use crate::entry::{entry_path, entry_text, first_line, loader_text, params_path, version_path};
@@ -125,7 +125,7 @@ fn loader_of(alloc: Global, current: Option<u32>) -> Result<Option<Bytes>, Alloc
 /// Source: Boot Loader Specification, "Type #1 Boot Loader Specification Entries"; loader.conf(5).
 pub fn texts<T: Tree>(alloc: Global, host: &mut T, gens: &Gens) -> Result<BootTexts, HostFault>
     ensures places { IfOk result (λ texts. AreEntries texts.entries) }
-    ensures texts { IfOk result (λ texts. Told (T.host host.old) (λ w. IsBootPlanOf gens.now w.leaves texts)) }
+    ensures texts { IfOk result (λ texts. Told (T.host host.old) (λ w. texts ≡ menu_of gens.now w.leaves)) }
     ensures reads { IsReading (T.host host.old) (T.host host.new) result }
 {
     let entries = read_entries(alloc, host, gens.list.as_slice())?;

@@ -6,7 +6,7 @@ use Rattle.std.specs.FinMap.{get}
 use Rattle.std.specs.List.{AllByRecursion}
 use Rattle.boot_entries.specs.BootDefault.{boot_default_in, menu_after}
 use Rattle.boot_entries.specs.BootPart.{boot_part}
-use Rattle.boot_entries.specs.Steps.{boot_files, with_files, without_places}
+use Rattle.boot_entries.specs.Steps.{with_menu}
 use Rattle.generations.specs.After.{gens_after}
 use Rattle.generations.specs.declared.gens.Gens.{Gens}
 use Rattle.generations.specs.Places.{link_name, number_after, profile, set_end}
@@ -111,7 +111,7 @@ module _ (command : Command) (on : (row_of command).changes ≡ true) (off : (ro
     its_system = new_system command w.leaves
 
     set_end_of : (b : Bool) → (end : WorldState) × (seen end ≡ set_world (if_so b its_system) w)
-    set_end_of true = let menu = menu_after its_system w.leaves in (without_places menu.gone (with_files (boot_files menu) (set_end its_system w)), refl)
+    set_end_of true = (with_menu (menu_after its_system w.leaves) (set_end its_system w), refl)
     set_end_of false = (w, refl)
 
     abbrev left : WorldState

@@ -1,5 +1,5 @@
 -- The steps of putting a farm, one after the other, on a host.
-use Rattle.std.proofs.Common.{◌≡◌, ◌||◌, false, List, Some, sym, ap, subst, ◌∙◌}
+use Rattle.std.proofs.Common.{◌≡◌, ◌||◌, false, List, Some, map, sym, ap, subst, ◌∙◌}
 use Rattle.std.specs.List.{AllByRecursion}
 use Rattle.std.specs.List.Sorted.{IsStrictlySortedBy}
 use Rattle.switch_names.specs.Names.{Name, has}
@@ -9,6 +9,7 @@ use Rattle.host_trait.specs.Host.{HostState, Leads, Passes, Told}
 use Rattle.host_trait.specs.World.{WorldState, bytes_cmp, seen, with_leaf}
 use Rattle.host_trait.proofs.Moments.{goes_on, leads_as, leads_then, passes_as, told_after, told_as}
 use Rattle.tree_put.specs.Put.{CanPut, IsOldOrNew}
+use Rattle.tree_put.specs.Sequence.{IsRemoving, without_places}
 use Rattle.switch_parts.specs.Part.{IsAtEnd, IsMomentOf}
 use Rattle.etc_manifest.specs.declared.item.Item.{Item}
 use Rattle.etc_manifest.specs.Manifest.{IsManifest, places}
@@ -20,9 +21,9 @@ use Rattle.etc_clean.specs.Farm.{at}
 use Rattle.etc_clean.specs.Keeps.{IsFirstList}
 use Rattle.etc_clean.specs.Names.{place}
 use Rattle.etc_farm.specs.FarmPart.{CanApply, farm_part}
-use Rattle.etc_farm.specs.Steps.{AllListed, ArePut, CanPutEntries, IsFarmMoment, IsInnerMoment, IsNoneGone, IsRemoving, placed_but, without_names}
+use Rattle.etc_farm.specs.Steps.{AllListed, ArePut, CanPutEntries, IsFarmMoment, IsInnerMoment, IsNoneGone, placed_but}
 use Rattle.etc_farm.proofs.EntryLemmas.{all_listed_then, manifest_free}
-use Rattle.etc_farm.proofs.RemovalLemmas.{removed_moment, removing_moment}
+use Rattle.etc_farm.proofs.RemovalLemmas.{first_places, removed_moment, removing_moment}
 use Rattle.etc_farm.proofs.StageLemmas.{IsBegun, at_end, can_put_clean, can_put_static, entries_there, first_begun, first_free, first_moment, is_first, last_moment, moment_of, none_gone_there, own_here, placed_free, static_begun, static_moment, static_there}
 use Rattle.etc_farm.proofs.StepLemmas.{moment_then}
 
@@ -55,17 +56,23 @@ lists_of farm manifest found items blocked clean more first placed is_items is_b
 
 -- ---- what the calls do, with the lists and items for what they were given
 
-pub old_or_new_as : {a b : HostState} (path : Name) {leaf other : LeafKind} → leaf ≡ other → Passes a b (IsOldOrNew path leaf) → Passes a b (IsOldOrNew path other)
-old_or_new_as path is moments = passes_as moments (IsOldOrNew path _) (λ w m at moment. subst (λ l. IsOldOrNew path l w m) is moment)
+pub old_or_new_as : {a b : HostState} {name one : Name} {leaf other : LeafKind} → name ≡ one → leaf ≡ other → Passes a b (IsOldOrNew (place name) leaf) → Passes a b (IsOldOrNew (place one) other)
+old_or_new_as {one = one} {leaf = leaf} {other = other} is_name is moments =
+    passes_as moments (IsOldOrNew (place one) other) (λ w m at moment. subst (λ l. IsOldOrNew (place one) l w m) is (subst (λ n. IsOldOrNew (place n) leaf w m) is_name moment))
 
-pub comes_as : {a b : HostState} (path : Name) {leaf other : LeafKind} → leaf ≡ other → Leads a b (λ w v. seen v ≡ seen (with_leaf path leaf w)) → Leads a b (λ w v. seen v ≡ seen (with_leaf path other w))
-comes_as path {other = other} is ok = leads_as ok (λ w v. seen v ≡ seen (with_leaf path other w)) (λ w v at new. new ∙ ap (λ l. seen (with_leaf path l w)) is)
+pub comes_as : {a b : HostState} {name one : Name} {leaf other : LeafKind} → name ≡ one → leaf ≡ other → Leads a b (λ w v. seen v ≡ seen (with_leaf (place name) leaf w)) →
+    Leads a b (λ w v. seen v ≡ seen (with_leaf (place one) other w))
+comes_as {one = one} {leaf = leaf} {other = other} is_name is ok =
+    leads_as ok (λ w v. seen v ≡ seen (with_leaf (place one) other w)) (λ w v at new. new ∙ ap (λ n. seen (with_leaf (place n) leaf w)) is_name ∙ ap (λ l. seen (with_leaf (place one) l w)) is)
 
-pub removing_as : {a b : HostState} {names other : List Name} → names ≡ other → Passes a b (IsRemoving names) → Passes a b (IsRemoving other)
-removing_as {other = other} is moments = passes_as moments (IsRemoving other) (λ w m at moment. subst (λ ns. IsRemoving ns w m) is moment)
+pub clear_as : {a : HostState} {name one : Name} → one ≡ name → Told a (CanPut (place name)) → Told a (CanPut (place one))
+clear_as {one = one} is told = told_as told (CanPut (place one)) (λ w at can. subst (λ n. CanPut (place n) w) (sym is) can)
 
-pub removed_as : {a b : HostState} {names other : List Name} → names ≡ other → Leads a b (λ w v. v ≡ without_names names w) → Leads a b (λ w v. v ≡ without_names other w)
-removed_as {other = other} is ok = leads_as ok (λ w v. v ≡ without_names other w) (λ w v at now. now ∙ ap (λ ns. without_names ns w) is)
+pub removing_as : {a b : HostState} {places other : List Name} → places ≡ other → Passes a b (IsRemoving places) → Passes a b (IsRemoving other)
+removing_as {other = other} is moments = passes_as moments (IsRemoving other) (λ w m at moment. subst (λ ps. IsRemoving ps w m) is moment)
+
+pub removed_as : {a b : HostState} {places other : List Name} → places ≡ other → Leads a b (λ w v. v ≡ without_places places w) → Leads a b (λ w v. v ≡ without_places other w)
+removed_as {other = other} is ok = leads_as ok (λ w v. v ≡ without_places other w) (λ w v at now. now ∙ ap (λ ps. without_places ps w) is)
 
 pub inner_as : {a b : HostState} {items other : List Item} → items ≡ other → Passes a b (IsInnerMoment items) → Passes a b (IsInnerMoment other)
 inner_as {other = other} is moments = passes_as moments (IsInnerMoment other) (λ w m at moment. subst (λ list. IsInnerMoment list w m) is moment)
@@ -125,13 +132,13 @@ module _ (farm : Farm) (manifest : IsManifest farm.items) (found : Sorted) {a : 
           let from = (come way).has v is in static_there farm manifest found from.0 from.1 v from.2 leaf u new)
 
   -- the removals
-  module _ {b c : HostState} (leaf : LeafKind) (way : Passes a b (IsFarmMoment farm.items)) (moments : Passes b c (IsRemoving found.gone)) where
+  module _ {b c : HostState} (leaf : LeafKind) (way : Passes a b (IsFarmMoment farm.items)) (moments : Passes b c (IsRemoving (map place found.gone))) where
     pub removal_way : Passes a c (IsFarmMoment farm.items)
     removal_way = way_on way moments (λ w v m can is_v moment step.
-        subst (λ x. IsFarmMoment farm.items v x) (sym step.1)
-        (removing_moment farm.items (manifest_free farm.items manifest) found.gone v (own_here farm manifest found w can v moment) step.0).moment)
+        subst (λ x. IsFarmMoment farm.items v x) (sym (step.world ∙ ap (λ ps. without_places ps v) (first_places found.gone step.count)))
+        (removing_moment farm.items (manifest_free farm.items manifest) found.gone v (own_here farm manifest found w can v moment) step.count).moment)
 
-    module _ (ok : Leads b c (λ w v. v ≡ without_names found.gone w)) where
+    module _ (ok : Leads b c (λ w v. v ≡ without_places (map place found.gone) w)) where
       pub removal_inner : Leads b c (IsInnerMoment farm.items)
       removal_inner = record {
         to = λ v is.

@@ -30,7 +30,8 @@ use Rattle.etc_farm.specs.FarmPart.{CanApply, KeepsFarm, farm_of, farm_part}
 use Rattle.etc_farm.proofs.ClearLemmas.{gone_same, reserved_not_gone}
 use Rattle.etc_farm.proofs.PartLemmas.{farm_is, frame_alike, keeps_farm_self, keeps_farm_then}
 use Rattle.etc_farm.proofs.PlaceLemmas.{owned_read, place_of_owned, stage_unread, store_read}
-use Rattle.etc_farm.proofs.StoreLemmas.{manifest_same, store_not_owned, store_not_stage}
+use Rattle.switch_parts.proofs.StoreLemmas.{store_not_stage}
+use Rattle.etc_farm.proofs.StoreLemmas.{manifest_same, store_not_owned}
 
 -- ---- what is wanted isn't reserved
 

@@ -15,9 +15,10 @@ use Rattle.etc_clean.specs.Farm.{placed}
 use Rattle.etc_clean.specs.Keeps.{AreAlike, AreFree, Keeps}
 use Rattle.etc_clean.specs.Names.{name_of, place}
 use Rattle.etc_clean.proofs.FarmLemmas.{placed_kept, placed_known}
-use Rattle.etc_clean.proofs.KeepsLemmas.{alike_law, content_kept, end_law, keeps_self, owned_name, steps_law}
+use Rattle.etc_clean.proofs.KeepsLemmas.{alike_law, end_law, keeps_self, owned_name, steps_law}
 use Rattle.etc_farm.specs.FarmPart.{AreListed, KeepsFarm, farm_part}
-use Rattle.etc_farm.proofs.PlaceLemmas.{IsWayFree, free_way, near_clean, near_read, near_stage, near_static, owned_place, owned_read, place_of_owned, stage_unread, store_read, stored, way_free}
+use Rattle.switch_parts.proofs.StoreLemmas.{store_content_kept}
+use Rattle.etc_farm.proofs.PlaceLemmas.{IsWayFree, free_way, near_clean, near_read, near_stage, near_static, owned_place, owned_read, place_of_owned, stage_unread, store_read, way_free}
 
 -- ---- what is listed
 
@@ -52,13 +53,13 @@ module _ (farm : Farm) (w m : WorldState) (free : AreFree farm.items) (same : Is
   frame_alike = record {
     leaves = λ q own. same.leaves (place q) (owned_read (place q) (owned_place q own));
     clean = ap names_in
-        (content_kept w.leaves m.leaves (λ target p is. same.leaves p (store_read p (stored target p is))) (place clean_name)
+        (store_content_kept w.leaves m.leaves (λ p is. same.leaves p (store_read p is)) (place clean_name)
         (same.leaves (place clean_name) (owned_read (place clean_name) (owned_place clean_name clean_owned))));
   }
 
   frame_content : content_of m.leaves (place clean_name) ≡ content_of w.leaves (place clean_name)
   frame_content =
-      content_kept w.leaves m.leaves (λ target p is. same.leaves p (store_read p (stored target p is))) (place clean_name)
+      store_content_kept w.leaves m.leaves (λ p is. same.leaves p (store_read p is)) (place clean_name)
       (same.leaves (place clean_name) (owned_read (place clean_name) (owned_place clean_name clean_owned)))
 
   frame_way : IsWayFree w.leaves → IsWayFree m.leaves

@@ -1,12 +1,9 @@
 -- The places of a farm, and what could be in their way.
-use Rattle.std.proofs.Common.{◌≡◌, ◌≢◌, ℕ, ◌&&◌, ◌||◌, Bool, true, false, cond, List, [], ◌∷◌, ◌++◌, codes, drop, length, nat_eq, None, Some, is_none, option_map, refl, sym, ap, subst, ◌∙◌}
+use Rattle.std.proofs.Common.{◌≡◌, ◌≢◌, ◌&&◌, ◌||◌, Bool, true, false, cond, List, [], ◌∷◌, None, Some, option_map, refl, ap, subst, ◌∙◌}
 use Rattle.std.proofs.lemmas.Bool.{and_parts, both_ways, or_left, or_parts, or_right}
-use Rattle.std.proofs.lemmas.Bool.Decides.{Decides-eqb}
-use Rattle.std.proofs.lemmas.Slice.Eq.{starts_is}
-use Rattle.std.specs.List.{find, starts_with}
+use Rattle.std.specs.List.{find}
 use Rattle.switch_names.specs.Names.{Name}
-use Rattle.switch_names.specs.Path.{path_fault}
-use Rattle.host_trait.specs.World.{IsClear, Leaves, is_in_line, is_path, stage, store_place}
+use Rattle.host_trait.specs.World.{IsClear, Leaves, is_in_line, is_path, stage}
 use Rattle.host_trait.proofs.Sound.{not_in_line}
 use Rattle.tree_put.specs.declared.written_place.WrittenPlace.{WrittenPlace}
 use Rattle.tree_put.specs.Put.{AreApart, is_blocked}
@@ -18,7 +15,9 @@ use Rattle.etc_clean.specs.CleanList.{clean_name}
 use Rattle.etc_clean.specs.Etc.{is_owned, static_name}
 use Rattle.etc_clean.specs.Names.{is_in_etc, name_of, place}
 use Rattle.etc_clean.proofs.NameLemmas.{in_etc, place_in_etc}
-use Rattle.etc_farm.specs.FarmPart.{fixed_places, is_in_store, owns_farm, reads_farm}
+use Rattle.switch_parts.specs.Store.{is_in_store}
+use Rattle.switch_parts.proofs.StoreLemmas.{stage_unstored}
+use Rattle.etc_farm.specs.FarmPart.{fixed_places, owns_farm, reads_farm}
 
 pub name_of_place : (q : Name) → name_of (place q) ≡ q
 unfolding name_of place
@@ -43,32 +42,11 @@ store_read path is = or_right (owns_farm path) (is_in_store path || is_near fixe
 pub near_read : (path : Name) → is_near fixed_places path ≡ true → reads_farm path ≡ true
 near_read path is = or_right (owns_farm path) (is_in_store path || is_near fixed_places path) (or_right (is_in_store path) (is_near fixed_places path) is)
 
--- ---- the store
-
-chosen : (b : Bool) (x y : List ℕ) → cond b (Some x) None ≡ Some y → (b ≡ true) × (x ≡ y)
-chosen true x y is = (refl, cc)
-chosen false x y is = absurd (cc)
-
-store_begins : (rest : List ℕ) → is_in_store (drop 1 (codes "/nix/store/" ++ rest)) ≡ true
-unfolding is_in_store
-store_begins rest = (starts_is Decides-eqb (codes "nix/store/" ++ rest) (codes "nix/store/") (starts_with nat_eq (codes "nix/store/" ++ rest) (codes "nix/store/")) refl).1 rest refl
-
-pub stored : (target p : List ℕ) → store_place target ≡ Some p → is_in_store p ≡ true
-stored target p is =
-    let parts = chosen (starts_with nat_eq target (codes "/nix/store/") && is_none (path_fault (drop 1 target))) (drop 1 target) p is in
-    let starts = (starts_is Decides-eqb target (codes "/nix/store/") (starts_with nat_eq target (codes "/nix/store/")) refl).0
-    (and_parts (starts_with nat_eq target (codes "/nix/store/")) (is_none (path_fault (drop 1 target))) parts.0).0 in
-    subst (λ r. is_in_store r ≡ true) (sym (ap (drop 1) starts) ∙ parts.1) (store_begins (drop (length (codes "/nix/store/")) target))
-
 -- ---- the stage
 
 pub stage_not_owned : owns_farm stage ≡ false
 unfolding stage is_in_etc
 stage_not_owned = refl
-
-pub stage_not_stored : is_in_store stage ≡ false
-unfolding stage is_in_store
-stage_not_stored = refl
 
 pub clean_stage : is_in_line stage (place clean_name) ≡ false
 unfolding stage place clean_name
@@ -84,7 +62,7 @@ fixed_apart = (clean_stage, (static_stage, (not_in_line stage, tt)))
 
 pub stage_unread : reads_farm stage ≡ false
 stage_unread = none_of (owns_farm stage) (is_in_store stage) (is_in_line stage (place clean_name)) (is_in_line stage (place static_name)) (is_in_line stage stage)
-    stage_not_owned stage_not_stored clean_stage static_stage (not_in_line stage)
+    stage_not_owned stage_unstored clean_stage static_stage (not_in_line stage)
   where
     none_of : (a b c d e : Bool) → a ≡ false → b ≡ false → c ≡ false → d ≡ false → e ≡ false → (a || (b || (c || (d || (e || false))))) ≡ false
     none_of a b c d e p q r s t =

@@ -1,16 +1,10 @@
 -- What is gone is removed name by name.
-use Rattle.std.proofs.Common.{◌≡◌, ℕ, zero, suc, ◌+◌, ◌<◌, ◌&&◌, not, Bool, true, false, List, [], ◌∷◌, ◌++◌, length, get_or, take, Result, Err, IsErrAnd, is_some, refl, sym, ap, ◌∙◌, ⊎_elim}
+use Rattle.std.proofs.Common.{◌≡◌, ℕ, zero, suc, ◌&&◌, not, Bool, true, false, List, [], ◌∷◌, map, take, is_some, refl, sym, ap, ◌∙◌}
 use Rattle.std.proofs.lemmas.Bool.{both_ways, false_from_ne_true, or_left, or_right}
-use Rattle.std.proofs.lemmas.List.{take_more}
 use Rattle.std.specs.List.{AllByRecursion}
 use Rattle.switch_names.specs.Names.{Name, has, is_name}
-use Rattle.host_trait.specs.declared.tree.HostFault.{HostFault}
-use Rattle.host_trait.specs.Host.{HasCause, HostState}
 use Rattle.host_trait.specs.World.{Leaves, WorldState, without_leaf}
-use Rattle.host_trait.proofs.Causes.{cause_on}
 use Rattle.host_trait.proofs.Places.{itself}
-use Rattle.host_trait.proofs.Readings.{handed_on}
-use Rattle.tree_put.specs.Put.{IsOldOrGone}
 use Rattle.etc_manifest.specs.declared.item.Item.{Item}
 use Rattle.etc_manifest.specs.Place.{is_reserved}
 use Rattle.etc_clean.specs.CleanList.{clean_name, clean_of}
@@ -21,29 +15,16 @@ use Rattle.etc_clean.specs.Names.{place}
 use Rattle.etc_clean.proofs.FarmLemmas.{gone_not_foreign}
 use Rattle.etc_clean.proofs.KeepsLemmas.{removed}
 use Rattle.etc_clean.proofs.NameLemmas.{clean_reserved, not_reserved_other, static_reserved}
-use Rattle.etc_farm.specs.Steps.{AreGone, IsFarmMoment, IsInnerMoment, IsNoneGone, IsOwn, IsRemoving, without_names}
+use Rattle.etc_farm.specs.Steps.{AreGone, IsFarmMoment, IsInnerMoment, IsNoneGone, IsOwn, without_names}
 use Rattle.etc_farm.proofs.ClearLemmas.{gone_removed}
 use Rattle.etc_farm.proofs.StepLemmas.{moment_self, moment_then, remove_own}
 
--- the cause of a fault that is handed on
-pub cause_handed :
-    {a b c : HostState} {T U V : Type 0} {r : Result T HostFault} {f : HostFault} → HasCause a b r → HasCause {T = U} b c (Err f) → (s : Result V HostFault) → IsErrAnd s (λ x. x ≡ f) → HasCause a c s
-cause_handed {f = f} first second s is = cause_on first second (handed_on f s is)
-
--- ---- one name after another
-
-without_more : (names : List Name) (x : Name) (w : WorldState) → without_names (names ++ x ∷ []) w ≡ without_leaf (place x) (without_names names w)
-without_more [] x w = refl
-without_more (q ∷ names) x w = without_more names x (without_leaf (place q) w)
-
-module _ (names : List Name) (i : ℕ) (x : Name) (w v : WorldState) (inside : i < length names) (is : x ≡ get_or names i x) (before : v ≡ without_names (take i names) w) where
-  pub removed_next : (u : WorldState) → u ≡ without_leaf (place x) v → u ≡ without_names (take (i + 1) names) w
-  removed_next u now =
-      now ∙ ap (without_leaf (place x)) before ∙ sym (without_more (take i names) x w)
-      ∙ ap (λ (ns : List Name). without_names ns w) (sym (take_more names i x inside ∙ ap (λ k. take i names ++ k ∷ []) (sym is)))
-
-  pub removing_next : (m : WorldState) → IsOldOrGone (place x) v m → IsRemoving names w m
-  removing_next m moment = ⊎_elim (λ old. (i, old ∙ before)) (λ gone. (i + 1, removed_next m gone)) moment
+-- the first places are those of the first names
+pub first_places : (names : List Name) (n : ℕ) → take n (map place names) ≡ map place (take n names)
+first_places [] zero = refl
+first_places [] (suc n) = refl
+first_places (q ∷ names) zero = refl
+first_places (q ∷ names) (suc n) = ap (λ (places : List Name). place q ∷ places) (first_places names n)
 
 -- ---- each is a moment of the farm
 

@@ -18,7 +18,8 @@ use Rattle.etc_clean.specs.Farm.{is_blocked, is_entry, placed}
 use Rattle.etc_clean.specs.Keeps.{AreFree, IsFirstList, IsLastList, Keeps}
 use Rattle.etc_clean.specs.Names.{place}
 use Rattle.etc_clean.proofs.FarmLemmas.{placed_known}
-use Rattle.etc_clean.proofs.KeepsLemmas.{IsAllBut, content_kept, first_list_law, inserted, last_list_law, listed_there, owned_name, put_law, removal_law, removed, other_name, removed_other, static_law, static_not_clean, store_apart}
+use Rattle.tree_put.proofs.StoreLemmas.{content_kept}
+use Rattle.etc_clean.proofs.KeepsLemmas.{IsAllBut, first_list_law, inserted, last_list_law, listed_there, owned_name, put_law, removal_law, removed, other_name, removed_other, static_law, static_not_clean, store_apart}
 use Rattle.etc_clean.proofs.NameLemmas.{clean_reserved, not_reserved_other, other_place, static_reserved}
 use Rattle.etc_farm.specs.FarmPart.{AreListed, owns_farm}
 use Rattle.etc_farm.specs.Steps.{AllListed, IsFarmMoment, IsOwn}

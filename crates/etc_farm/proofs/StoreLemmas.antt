@@ -1,17 +1,13 @@
 -- What a system wants below /etc stays the same where the store does.
-use Rattle.std.proofs.Common.{◌≡◌, ◌≢◌, ◌&&◌, ◌++◌, ◌∷◌, not, Bool, true, false, inl, inr, cond, List, ℕ, codes, nat_eq, map, Option, None, Some, Result, Err, is_some, option_map, option_and_then, refl, sym, ap, subst, ◌∙◌}
+use Rattle.std.proofs.Common.{◌≡◌, ◌&&◌, ◌++◌, ◌∷◌, not, Bool, true, false, inl, inr, cond, List, ℕ, codes, map, Option, None, Some, Result, Err, is_some, option_map, option_and_then, append_assoc, refl, sym, ap, subst, ◌∙◌}
 use Rattle.std.proofs.lemmas.Bool.{both_ways, cases_Bool}
-use Rattle.std.proofs.lemmas.Bool.Decides.{Decides-eqb}
 use Rattle.std.proofs.lemmas.Map.Lookups.{btree_set_from_contains, exact_bytes}
-use Rattle.std.proofs.lemmas.Slice.Eq.{starts_is}
 use Rattle.std.specs.FinMap.{get}
-use Rattle.std.specs.List.{starts_with}
 use Rattle.switch_names.specs.Names.{Name}
 use Rattle.switch_names.specs.Path.{slash}
-use Rattle.switch_names.specs.SystemName.{IsSystemPath, store_folder, store_name}
-use Rattle.switch_names.proofs.StorePaths.{IsStorePath, IsStorePath-from_named, store_path_is}
+use Rattle.switch_names.specs.SystemName.{IsSystemPath}
 use Rattle.host_trait.specs.declared.leaf.LeafKind.{LeafKind}
-use Rattle.host_trait.specs.World.{Leaves, content_of, stage}
+use Rattle.host_trait.specs.World.{Leaves, content_of}
 use Rattle.host_trait.proofs.Places.{bytes_total}
 use Rattle.etc_manifest.specs.declared.item.ItemKind.{ItemKind}
 use Rattle.etc_manifest.specs.declared.manifest_fault.ManifestFault.{ManifestFault}
@@ -27,10 +23,10 @@ use Rattle.etc_manifest.specs.Place.{etc_folder, is_reserved, path_in}
 use Rattle.etc_manifest.proofs.LeafLemmas.{entries_exact, entries_sorted}
 use Rattle.etc_clean.specs.Etc.{is_owned}
 use Rattle.etc_clean.specs.Names.{is_in_etc, name_of, place}
-use Rattle.etc_clean.proofs.KeepsLemmas.{content_kept}
 use Rattle.etc_clean.proofs.NameLemmas.{in_etc}
-use Rattle.etc_farm.specs.FarmPart.{is_in_store, owns_farm}
-use Rattle.etc_farm.proofs.PlaceLemmas.{stage_not_stored, stored}
+use Rattle.switch_parts.specs.Store.{is_in_store}
+use Rattle.switch_parts.proofs.StoreLemmas.{store_content_kept, system_stored}
+use Rattle.etc_farm.specs.FarmPart.{owns_farm}
 
 -- ---- no farm writes in the store
 
@@ -44,32 +40,20 @@ store_not_owned path inside = elim (cases_Bool (is_in_etc path)) [
   | inr out ↦ ap (λ b. b && is_owned (name_of path)) out
 ]
 
-pub store_not_stage : (path : Name) → is_in_store path ≡ true → path ≢ stage
-store_not_stage path inside same = both_ways _ stage_not_stored (subst (λ p. is_in_store p ≡ true) same inside)
-
 -- ---- what a system wants lies in the store
-
-store_front : (rest : List ℕ) → is_in_store (store_folder ++ rest) ≡ true
-unfolding is_in_store
-store_front rest = (starts_is Decides-eqb (store_folder ++ rest) (codes "nix/store/") (starts_with nat_eq (store_folder ++ rest) (codes "nix/store/")) refl).1 rest refl
-
-begins_so : (system : Name) → IsSystemPath system → system ≡ store_folder ++ store_name system
-begins_so system named =
-    let path = subst (λ path. IsStorePath path) named.same (IsStorePath-from_named system named.no_fault) in
-    store_path_is system path.begins
 
 -- whatever lies in a system's etc lies in the store
 pub etc_stored : (system name : Name) → IsSystemPath system → is_in_store (path_in (etc_folder system) name) ≡ true
 unfolding etc_folder
 etc_stored system name named =
-    subst (λ s. is_in_store ((s ++ codes "/etc") ++ slash ∷ name) ≡ true) (sym (begins_so system named)) (store_front ((store_name system ++ codes "/etc") ++ slash ∷ name))
+    ap is_in_store (append_assoc system (codes "/etc") (slash ∷ name)) ∙ system_stored system (codes "/etc" ++ slash ∷ name) named
 
 module _ (w m : Leaves) (same : (path : Name) → is_in_store path ≡ true → get m path ≡ get w path) (system : Name) (named : IsSystemPath system) where
   leaf_same : (name : Name) → get m (path_in (etc_folder system) name) ≡ get w (path_in (etc_folder system) name)
   leaf_same name = same (path_in (etc_folder system) name) (etc_stored system name named)
 
   content_same : (name : Name) → content_of m (path_in (etc_folder system) name) ≡ content_of w (path_in (etc_folder system) name)
-  content_same name = content_kept w m (λ target p leads. same p (stored target p leads)) (path_in (etc_folder system) name) (leaf_same name)
+  content_same name = store_content_kept w m same (path_in (etc_folder system) name) (leaf_same name)
 
   has_same : (name : Name) → has_leaf m (etc_folder system) name ≡ has_leaf w (etc_folder system) name
   has_same name = ap (λ (leaf : Option LeafKind). is_some leaf) (leaf_same name)

@@ -1,6 +1,5 @@
 -- The part of a switch that puts a farm of links and copies below /etc: setup-etc.pl of nixpkgs.
-use Rattle.std.specs.Prelude.{◌≡◌, ◌⊎◌, ◌&&◌, ◌||◌, ◌++◌, ◌∷◌, ℕ, Bool, true, false, List, [], codes, nat_eq, None}
-use Rattle.std.specs.List.{starts_with}
+use Rattle.std.specs.Prelude.{◌≡◌, ◌⊎◌, ◌&&◌, ◌||◌, ◌++◌, ◌∷◌, ℕ, Bool, true, false, List, [], codes, None}
 use Rattle.switch_names.specs.Names.{Name, has}
 use Rattle.switch_names.specs.Path.{slash}
 use Rattle.host_trait.specs.World.{Leaves, WorldState, stage}
@@ -8,6 +7,7 @@ use Rattle.tree_put.specs.declared.written_place.WrittenPlace.{WrittenPlace}
 use Rattle.tree_put.specs.WrittenPlace.{in_the_way, written}
 use Rattle.switch_parts.specs.Leaves.{is_near}
 use Rattle.switch_parts.specs.Part.{IsFree, Part}
+use Rattle.switch_parts.specs.Store.{is_in_store}
 use Rattle.etc_manifest.specs.declared.item.Item.{Item}
 use Rattle.etc_manifest.specs.Manifest.{AreApart, places}
 use Rattle.etc_clean.specs.declared.sorting.Sorted.{Sorted}
@@ -29,10 +29,6 @@ farm_of system items = record { items = items; target = static_target system }
 -- a path is one of the farm's own places
 abbrev pub owns_farm : Name → Bool
 owns_farm path = is_in_etc path && is_owned (name_of path)
-
--- a path lies in the store
-unfoldable pub is_in_store : Name → Bool
-is_in_store path = starts_with nat_eq path (codes "nix/store/")
 
 -- the places that are always written, in byte order
 abbrev pub fixed_places : List WrittenPlace

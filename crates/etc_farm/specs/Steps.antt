@@ -1,9 +1,10 @@
 -- What each step of putting a farm needs and leaves: setup-etc.pl of nixpkgs.
-use Rattle.std.specs.Prelude.{◌≡◌, ◌≢◌, ◌&&◌, ℕ, not, true, false, List, [], ◌∷◌, map, filter, take, None, Some}
+use Rattle.std.specs.Prelude.{◌≡◌, ◌≢◌, ◌&&◌, not, true, false, List, map, filter, None, Some}
 use Rattle.std.specs.FinMap.{get}
 use Rattle.std.specs.List.Sorted.{IsStrictlySortedBy}
 use Rattle.switch_names.specs.Names.{Name, has}
-use Rattle.host_trait.specs.World.{Leaves, WorldState, bytes_cmp, stage, without_leaf}
+use Rattle.host_trait.specs.World.{Leaves, WorldState, bytes_cmp, stage}
+use Rattle.tree_put.specs.Sequence.{without_places}
 use Rattle.tree_put.specs.WrittenPlace.{in_the_way}
 use Rattle.etc_manifest.specs.declared.item.Item.{Item}
 use Rattle.etc_manifest.specs.declared.item.ItemKind.{ItemKind}
@@ -55,12 +56,7 @@ placed_but blocked items = map (λ item. item.place) (filter (λ item. is_made i
 
 -- the world without the leaves at these names
 abbrev pub without_names : List Name → WorldState → WorldState
-without_names [] w = w
-without_names (q ∷ names) w = without_names names (without_leaf (place q) w)
-
--- the leaves at the first of these names are removed
-abbrev pub IsRemoving : List Name → WorldState → WorldState → Type 0
-IsRemoving names w m = (n : ℕ) × (m ≡ without_names (take n names) w)
+without_names names w = without_places (map place names) w
 
 -- entries may be put: they are apart, nothing is gone or in the way, what is blocked is known, and each copy is listed
 pub record CanPutEntries (items : List Item) (blocked : List Name) (w : WorldState) : Type 0 where

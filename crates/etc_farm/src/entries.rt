@@ -44,6 +44,23 @@ fn item_leaf(alloc: Global, item: &Item) -> Result<Leaf, AllocError>
     }
 }
 
+/// Puts a leaf at a name below `etc`, where another leaf or none stands there.
+pub fn put_name<T: Tree>(
+    alloc: Global,
+    host: &mut T,
+    name: &Path,
+    leaf: &Leaf,
+) -> Result<(), HostFault>
+    requires { Told (T.host host.old) (CanPut (place name.now)) }
+    ensures ok { OnOk result (Comes (T.host host.old) (T.host host.new) (with_leaf (place name.now) leaf.now)) }
+    ensures moments { Passes (T.host host.old) (T.host host.new) (IsOldOrNew (place name.now) leaf.now) }
+    ensures cause { HasCause (T.host host.old) (T.host host.new) result }
+{
+    let at = etc_place(alloc, name)?;
+    put_if_other(alloc, host, &at, leaf)?;
+    Ok(())
+}
+
 /// Puts what stands at an entry, where another leaf or none stands there.
 fn put_item<T: Tree>(alloc: Global, host: &mut T, item: &Item) -> Result<(), HostFault>
     requires { Told (T.host host.old) (CanPut (place item.now.place)) }
@@ -51,9 +68,8 @@ fn put_item<T: Tree>(alloc: Global, host: &mut T, item: &Item) -> Result<(), Hos
     ensures moments { Passes (T.host host.old) (T.host host.new) (IsOldOrNew (place item.now.place) (leaf_of item.now.place item.now.kind)) }
     ensures cause { HasCause (T.host host.old) (T.host host.new) result }
 {
-    let at = etc_place(alloc, &item.place)?;
     let leaf = item_leaf(alloc, item)?;
-    put_if_other(alloc, host, &at, &leaf)?;
+    put_name(alloc, host, &item.place, &leaf)?;
     Ok(())
 }
 

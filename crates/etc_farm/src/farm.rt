@@ -1,25 +1,20 @@
 //! Puts a farm of links and copies below `/etc`.
 ghost use Rattle.std.specs.Prelude.{◌≡◌, IfOk, OnOk};
 ghost use Rattle.host_trait.specs.declared.leaf.LeafKind.TheVariants.{Link};
-ghost use Rattle.host_trait.specs.Host.{Told, Leads, Comes, Passes, HasCause};
-ghost use Rattle.host_trait.specs.World.{with_leaf};
+ghost use Rattle.host_trait.specs.Host.{Told, Leads, Passes, HasCause};
 ghost use Rattle.switch_parts.specs.Part.{IsAtEnd, IsMomentOf};
-ghost use Rattle.tree_put.specs.Put.{CanPut, IsOldOrNew};
-ghost use Rattle.etc_clean.specs.CleanList.{clean_name};
-ghost use Rattle.etc_clean.specs.Etc.{static_name};
-ghost use Rattle.etc_clean.specs.Names.{place};
 ghost use Rattle.etc_farm.specs.FarmPart.{CanApply, farm_of, farm_part, static_target};
 
-use crate::entries::{link_leaf, put_entries};
+use crate::entries::{link_leaf, put_entries, put_name};
 use crate::lists::{joined, list_leaf, placed_names};
-use crate::places::static_path;
-use crate::removal::drop_names;
-use etc_clean::{Sorted, clean_path};
+use crate::places::{clean_name, static_name};
+use crate::removal::gone_places;
+use etc_clean::Sorted;
 use etc_manifest::Manifest;
 use host_trait::{HostFault, Leaf, Tree};
 use std::alloc::{AllocError, Global};
 use switch_names::SystemName;
-use tree_put::put_if_other;
+use tree_put::drop_all;
 
 /// The link to a system's own etc.
 #[tactic(auto, unfolding(crate::specs::FarmPart::static_target))]
@@ -29,30 +24,6 @@ fn static_leaf(alloc: Global, system: &SystemName) -> Result<Leaf, AllocError>
     let mut target = system.link_text(alloc)?.into_string();
     target.push_str("/etc")?;
     link_leaf(alloc, target.as_str())
-}
-
-/// Puts a clean list's leaf, where another one or none stands.
-fn put_clean<T: Tree>(alloc: Global, host: &mut T, leaf: &Leaf) -> Result<(), HostFault>
-    requires { Told (T.host host.old) (CanPut (place clean_name)) }
-    ensures ok { OnOk result (Comes (T.host host.old) (T.host host.new) (with_leaf (place clean_name) leaf.now)) }
-    ensures moments { Passes (T.host host.old) (T.host host.new) (IsOldOrNew (place clean_name) leaf.now) }
-    ensures cause { HasCause (T.host host.old) (T.host host.new) result }
-{
-    let at = clean_path(alloc)?;
-    put_if_other(alloc, host, &at, leaf)?;
-    Ok(())
-}
-
-/// Puts the link to a system's own etc, where another leaf or none stands.
-fn put_static<T: Tree>(alloc: Global, host: &mut T, leaf: &Leaf) -> Result<(), HostFault>
-    requires { Told (T.host host.old) (CanPut (place static_name)) }
-    ensures ok { OnOk result (Comes (T.host host.old) (T.host host.new) (with_leaf (place static_name) leaf.now)) }
-    ensures moments { Passes (T.host host.old) (T.host host.new) (IsOldOrNew (place static_name) leaf.now) }
-    ensures cause { HasCause (T.host host.old) (T.host host.new) result }
-{
-    let at = static_path(alloc)?;
-    put_if_other(alloc, host, &at, leaf)?;
-    Ok(())
 }
 
 /// Puts the farm of a system: the first clean list, the link at `static`, the removal of what is
@@ -82,10 +53,13 @@ pub fn apply<T: Tree>(
     let first_leaf = list_leaf(alloc, &first)?;
     let last_leaf = list_leaf(alloc, &placed)?;
     let fixed_link = static_leaf(alloc, system)?;
-    put_clean(alloc, host, &first_leaf)?;
-    put_static(alloc, host, &fixed_link)?;
-    drop_names(alloc, host, sorted.gone.as_slice())?;
+    let list_name = clean_name(alloc)?;
+    let link_name = static_name(alloc)?;
+    let gone = gone_places(alloc, sorted.gone.as_slice())?;
+    put_name(alloc, host, &list_name, &first_leaf)?;
+    put_name(alloc, host, &link_name, &fixed_link)?;
+    drop_all(alloc, host, gone.as_slice())?;
     put_entries(alloc, host, items, blocked)?;
-    put_clean(alloc, host, &last_leaf)?;
+    put_name(alloc, host, &list_name, &last_leaf)?;
     Ok(())
 }

@@ -1,6 +1,7 @@
 //! The places that a farm always writes.
 ghost use Rattle.std.specs.Prelude.{◌≡◌, IfOk};
 ghost use Rattle.tree_put.specs.WrittenPlace.{AreApartFromStage};
+ghost use Rattle.etc_clean.specs.CleanList.{clean_name};
 ghost use Rattle.etc_clean.specs.Etc.{static_name};
 ghost use Rattle.etc_clean.specs.Names.{place};
 ghost use Rattle.etc_farm.specs.FarmPart.{fixed_places};
@@ -9,11 +10,27 @@ use etc_clean::clean_path;
 use host_trait::{fixed_path, stage_path};
 use std::alloc::{AllocError, Global};
 use switch_names::{Listed, Path};
-use tree_put::WrittenPlace;
+use tree_put::{WrittenPlace, unread};
+
+/// The name of the link to a system's own etc.
+#[tactic(auto, unfolding(etc_clean::specs::Etc::static_name))]
+pub fn static_name(alloc: Global) -> Result<Path, AllocError>
+    ensures { IfOk result (λ name. name ≡ static_name) }
+{
+    fixed_path(alloc, "static")
+}
+
+/// The name of the clean list.
+#[tactic(auto, unfolding(etc_clean::specs::CleanList::clean_name))]
+pub fn clean_name(alloc: Global) -> Result<Path, AllocError>
+    ensures { IfOk result (λ name. name ≡ clean_name) }
+{
+    fixed_path(alloc, ".clean")
+}
 
 /// The place of the link to a system's own etc.
 #[tactic(auto, unfolding(etc_clean::specs::Names::place, etc_clean::specs::Etc::static_name))]
-pub fn static_path(alloc: Global) -> Result<Path, AllocError>
+fn static_path(alloc: Global) -> Result<Path, AllocError>
     ensures { IfOk result (λ path. path ≡ place static_name) }
 {
     fixed_path(alloc, "etc/static")
@@ -28,14 +45,8 @@ fn places_in_order(alloc: Global) -> Result<Listed<WrittenPlace>, AllocError>
         at: clean_path(alloc)?,
         is_read: true,
     })?;
-    places.push(WrittenPlace {
-        at: static_path(alloc)?,
-        is_read: false,
-    })?;
-    places.push(WrittenPlace {
-        at: stage_path(alloc)?,
-        is_read: false,
-    })?;
+    places.push(unread(static_path(alloc)?))?;
+    places.push(unread(stage_path(alloc)?))?;
     Ok(places)
 }
 

@@ -2,13 +2,14 @@
 use Rattle.std.proofs.Common.{◌≡◌, Bool, true, false, ◌||◌, ◌++◌, codes, Some, refl, sym, ap, subst, ◌∙◌, inl, inr}
 use Rattle.std.proofs.lemmas.Bool.{both_ways, cases_Bool}
 use Rattle.std.specs.List.{AllByRecursion}
-use Rattle.accounts_stage.specs.AccountsPart.{is_in_store as is_stored, reads_accounts}
+use Rattle.accounts_stage.specs.AccountsPart.{reads_accounts}
 use Rattle.accounts_stage.specs.Places.{account_names, account_places, gids_place, group_place, groups_place, memory_places, owns_accounts, passwd_place, shadow_place, table_places, uids_place, users_place}
 use Rattle.activation_stage.specs.ActivationPart.{activation_part}
 use Rattle.etc_clean.specs.CleanList.{clean_name}
 use Rattle.etc_clean.specs.Etc.{static_name}
 use Rattle.etc_clean.specs.Names.{is_in_etc, name_of, place}
-use Rattle.etc_farm.specs.FarmPart.{fixed_places, is_in_store, owns_farm, reads_farm, static_target}
+use Rattle.switch_parts.specs.Store.{is_in_store}
+use Rattle.etc_farm.specs.FarmPart.{fixed_places, owns_farm, reads_farm, static_target}
 use Rattle.etc_farm.proofs.PlaceLemmas.{place_of_owned}
 use Rattle.etc_manifest.specs.Owners.{OwnerIds}
 use Rattle.generations.specs.Places.{profiles}
@@ -88,7 +89,7 @@ not_owns_store q inside = elim (cases_Bool (owns_accounts q || owns_farm q)) [
 -- ---- what an activation looks at
 
 units_accounts : AllByRecursion (λ q. reads_accounts q ≡ false) owned_places
-unfolding current_place reloads_place restarts_place starts_place stage account_names table_places memory_places group_place passwd_place shadow_place groups_place users_place gids_place uids_place is_stored
+unfolding current_place reloads_place restarts_place starts_place stage account_names table_places memory_places group_place passwd_place shadow_place groups_place users_place gids_place uids_place is_in_store
 units_accounts = (refl, (refl, (refl, (refl, tt))))
 
 units_farm : AllByRecursion (λ q. reads_farm q ≡ false) owned_places
@@ -104,7 +105,7 @@ abbrev profile_path : Name → Name
 profile_path rest = codes "nix/var/nix/profiles/system" ++ rest
 
 accounts_apart : (rest : Name) → reads_accounts (profile_path rest) ≡ false
-unfolding stage account_names table_places memory_places group_place passwd_place shadow_place groups_place users_place gids_place uids_place is_stored
+unfolding stage account_names table_places memory_places group_place passwd_place shadow_place groups_place users_place gids_place uids_place is_in_store
 accounts_apart rest =
     both_false _ _ refl (both_false _ _ refl (none_near (profile_path rest) account_places (
       record { first = refl; second = refl },

@@ -3,16 +3,17 @@ use Rattle.std.proofs.Common.{◌≡◌, ◌≢◌, ◌||◌, ◌++◌, ℕ, Boo
 use Rattle.std.proofs.lemmas.Bool.{both_ways, cases_Bool}
 use Rattle.std.specs.Cmp.Lexicographic.{nat_list_eq_equiv, same_text}
 use Rattle.std.specs.List.{AllByRecursion, starts_with}
-use Rattle.accounts_stage.specs.AccountsPart.{is_in_store as is_stored, reads_accounts}
+use Rattle.accounts_stage.specs.AccountsPart.{reads_accounts}
 use Rattle.accounts_stage.specs.Places.{account_names, account_places, gids_place, group_place, groups_place, memory_places, owns_accounts, passwd_place, shadow_place, table_places, uids_place, users_place}
-use Rattle.boot_entries.specs.BootPart.{is_in_store, reads_boot}
+use Rattle.switch_parts.specs.Store.{is_in_store}
+use Rattle.boot_entries.specs.BootPart.{reads_boot}
 use Rattle.boot_entries.specs.Places.{entries_folder, entry_path, loader_path, numbered, owns_boot}
 use Rattle.boot_entries.proofs.AtEndLemmas.{numbered_is}
 use Rattle.boot_entries.proofs.NumberLemmas.{bears_numbered}
 use Rattle.etc_clean.specs.CleanList.{clean_name}
 use Rattle.etc_clean.specs.Etc.{static_name}
 use Rattle.etc_clean.specs.Names.{is_in_etc, place}
-use Rattle.etc_farm.specs.FarmPart.{fixed_places, is_in_store as is_in_farm_store, owns_farm, reads_farm}
+use Rattle.etc_farm.specs.FarmPart.{fixed_places, owns_farm, reads_farm}
 use Rattle.switch_parts.proofs.LeafLemmas.{both_false}
 use Rattle.host_trait.specs.World.{is_in_line, is_path, stage}
 use Rattle.owed_lists.specs.Lists.{reloads_place, restarts_place, starts_place}
@@ -113,7 +114,7 @@ units_apart rest =
     (not_below (menu_path rest) (codes "nix/store") refl)
 
 accounts_apart : (rest : Name) → reads_accounts (menu_path rest) ≡ false
-unfolding stage account_names table_places memory_places group_place passwd_place shadow_place groups_place users_place gids_place uids_place is_stored
+unfolding stage account_names table_places memory_places group_place passwd_place shadow_place groups_place users_place gids_place uids_place is_in_store
 accounts_apart rest =
     both_false _ _ refl (both_false _ _ refl (none_near (menu_path rest) account_places (
       record { first = refl; second = refl },
@@ -130,7 +131,7 @@ accounts_apart rest =
     )))
 
 farm_apart : (rest : Name) → reads_farm (menu_path rest) ≡ false
-unfolding stage is_in_etc place clean_name static_name is_in_farm_store
+unfolding stage is_in_etc place clean_name static_name is_in_store
 farm_apart rest =
     both_false _ _ refl (both_false _ _ refl (none_near (menu_path rest) fixed_places
     (record { first = refl; second = refl }, (record { first = refl; second = refl }, (record { first = refl; second = refl }, tt)))))

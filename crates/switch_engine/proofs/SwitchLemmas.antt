@@ -1,5 +1,5 @@
 -- All steps of a switch of the units, one after the other: each is a moment of its parts, and the last leaves them at their ends.
-use Rattle.std.proofs.Common.{◌≡◌, Bool, true, false, cond, ◌||◌, List, length, ◌++◌, None, Some, refl, sym, ap, subst, ◌∙◌, inl, inr}
+use Rattle.std.proofs.Common.{◌≡◌, true, false, cond, ◌||◌, List, length, ◌++◌, None, Some, refl, sym, ap, subst, ◌∙◌, inl, inr}
 use Rattle.std.proofs.lemmas.Bool.{both_ways, cases_Bool}
 use Rattle.std.specs.Cmp.Lexicographic.{same_text}
 use Rattle.std.specs.FinMap.{get}

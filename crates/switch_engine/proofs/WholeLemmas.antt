@@ -7,7 +7,7 @@ use Rattle.boot_entries.specs.BootDefault.{boot_default_in, menu_after}
 use Rattle.boot_entries.specs.DefaultLaws.{IsSameMenu, IsSameProfile}
 use Rattle.boot_entries.specs.Menu.{IsMenuWhole}
 use Rattle.boot_entries.specs.Places.{entry_path, owns_boot}
-use Rattle.boot_entries.specs.Steps.{boot_files, with_files, without_places}
+use Rattle.boot_entries.specs.Steps.{with_menu}
 use Rattle.boot_entries.proofs.EndLemmas.{boot_owned}
 use Rattle.generations.specs.After.{gens_after}
 use Rattle.generations.specs.Places.{link_path, set_end}
@@ -51,7 +51,7 @@ module _ (command : Command) (w : WorldState) (named : IsSystemPath (new_system 
 
   -- a world in which the system is the boot default
   abbrev end : WorldState
-  end = without_places (menu_after system w.leaves).gone (with_files (boot_files (menu_after system w.leaves)) (set_end system w))
+  end = with_menu (menu_after system w.leaves) (set_end system w)
 
   free : IsFree second w.leaves
   free = subst (λ b. IsFree (part_if b second) w.leaves) sets (second_free first (part_if (row_of command).sets second) w.leaves (free_command command w.leaves none).parts)

@@ -10,7 +10,8 @@ use Rattle.etc_clean.specs.Etc.{leaf_of}
 use Rattle.etc_clean.specs.Names.{place}
 use Rattle.etc_farm.specs.Steps.{ArePut, CanPutEntries, IsInnerMoment}
 use Rattle.etc_farm.proofs.EntryLemmas.{can_put, known_item, put_can, put_inner, put_more, skipped}
-use Rattle.etc_farm.proofs.RemovalLemmas.{cause_handed, inner_self, inner_then}
+use Rattle.tree_put.proofs.SequenceLemmas.{cause_handed}
+use Rattle.etc_farm.proofs.RemovalLemmas.{inner_self, inner_then}
 use Rattle.etc_farm.proofs.entries.put_entries.Goals as goal
 
 pub loop-item-init : goal.loop-item-init

@@ -3,31 +3,30 @@ use Rattle.host_trait.specs.World.{seen, stage, with_leaf}
 use Rattle.host_trait.proofs.Causes.{cause_ok}
 use Rattle.host_trait.proofs.Moments.{leads_as, passes_as, started, told_as}
 use Rattle.tree_put.specs.Put.{AreApart, CanPut, IsOldOrNew}
-use Rattle.etc_clean.specs.CleanList.{clean_name}
 use Rattle.etc_clean.specs.Names.{place}
 use Rattle.etc_farm.proofs.PlaceLemmas.{place_apart}
-use Rattle.etc_farm.proofs.farm.put_clean.Goals as goal
+use Rattle.etc_farm.proofs.entries.put_name.Goals as goal
 
 pub returns-in_err-at-clause-moments : goal.returns-in_err-at-clause-moments
-returns-in_err-at-clause-moments g c = started (IsOldOrNew (place clean_name) c.args.leaf.now) (λ w is. inl refl)
+returns-in_err-at-clause-moments g c = started (IsOldOrNew (place c.args.name.now) c.args.leaf.now) (λ w is. inl refl)
 
 pub put_if_other-requires-clause-apart : goal.put_if_other-requires-clause-apart
-put_if_other-requires-clause-apart g c = subst (λ p. AreApart p stage) (sym c.in_ok-at.ensures) (place_apart clean_name)
+put_if_other-requires-clause-apart g c = subst (λ p. AreApart p stage) (sym c.in_ok-at.ensures) (place_apart c.args.name.now)
 
 pub put_if_other-requires-clause-can : goal.put_if_other-requires-clause-can
 put_if_other-requires-clause-can g c = told_as c.requires (CanPut c.in_ok-at.at) (λ w is can. subst (λ p. CanPut p w) (sym c.in_ok-at.ensures) can)
 
 pub returns-in_err-put_if_other-clause-moments : goal.returns-in_err-put_if_other-clause-moments
 returns-in_err-put_if_other-clause-moments g c =
-    passes_as c.put_if_other.ensures.moments (IsOldOrNew (place clean_name) c.args.leaf.now) (λ w m is moment. subst (λ p. IsOldOrNew p c.args.leaf.now w m) c.in_ok-at.ensures moment)
+    passes_as c.put_if_other.ensures.moments (IsOldOrNew (place c.args.name.now) c.args.leaf.now) (λ w m is moment. subst (λ p. IsOldOrNew p c.args.leaf.now w m) c.in_ok-at.ensures moment)
 
 pub returns-clause-ok : goal.returns-clause-ok
 returns-clause-ok g c =
-    leads_as c.in_ok-put_if_other.ensures.ok (λ w v. seen v ≡ seen (with_leaf (place clean_name) c.args.leaf.now w)) (λ w v is new. new ∙ ap (λ p. seen (with_leaf p c.args.leaf.now w)) c.in_ok-at.ensures)
+    leads_as c.in_ok-put_if_other.ensures.ok (λ w v. seen v ≡ seen (with_leaf (place c.args.name.now) c.args.leaf.now w)) (λ w v is new. new ∙ ap (λ p. seen (with_leaf p c.args.leaf.now w)) c.in_ok-at.ensures)
 
 pub returns-clause-moments : goal.returns-clause-moments
 returns-clause-moments g c =
-    passes_as c.put_if_other.ensures.moments (IsOldOrNew (place clean_name) c.args.leaf.now) (λ w m is moment. subst (λ p. IsOldOrNew p c.args.leaf.now w m) c.in_ok-at.ensures moment)
+    passes_as c.put_if_other.ensures.moments (IsOldOrNew (place c.args.name.now) c.args.leaf.now) (λ w m is moment. subst (λ p. IsOldOrNew p c.args.leaf.now w m) c.in_ok-at.ensures moment)
 
 pub returns-clause-cause : goal.returns-clause-cause
 returns-clause-cause g c = cause_ok c.put_if_other.ensures.cause tt
