@@ -1,7 +1,9 @@
-use Rattle.std.proofs.Common.{ap, option_copied, option_map}
+use Rattle.std.proofs.Common.{ap, option_copied, option_map, rules}
 use Rattle.unit_defs.specs.Part.{part_of}
 use Rattle.unit_defs.proofs.FaultLemmas.{none_left}
 use Rattle.unit_defs.proofs.part.Part.read.Goals as goal
 
 pub returns-in_default : goal.returns-in_default
-returns-in_default c = ap (λ o. option_map part_of (option_copied o)) (none_left c.args.content c.in_default.not-Some)
+returns-in_default c =
+    let none = ap (λ o. option_map part_of (option_copied o)) (none_left c.args.content c.in_default.not-Some) in
+    search (rules, none)
