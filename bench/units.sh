@@ -85,7 +85,7 @@ use unit_text::{UnitText, parse};
 /// How many values a text has.
 fn values_of(text: &UnitText) -> usize {
     let mut count: usize = 0;
-    for values in text.values_by_key() {
+    for values in text.parts().front_values {
         count = count.saturating_add(values.as_slice().len());
     }
     count
