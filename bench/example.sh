@@ -101,7 +101,7 @@ mkdir -p "$runs" || exit 1
 cp -r crates/nixswitch/data/root crates/nixswitch/data/example "$scratch" || exit 1
 cp -r crates/nixswitch/data/example "$scratch/cut" || exit 1
 if [ -z "$program" ]; then
-    echo "The program of this run isn't proved: its sources are compiled as they stand, in some two minutes."
+    echo "The program of this run isn't proved: its sources are compiled as they stand, in one to two minutes."
     echo "make build proves it, which takes up to half an hour the first time; from then on make run shows that one."
     plan 1-boot root boot nix/store/a-sys
     plan 2-dry-activate example dry-activate nix/store/web-24.11
