@@ -1,6 +1,6 @@
 //! What the crates read of texts and make of them, as the cases on standard input try it from outside:
-//! account specifications, account tables, maps of ids, merges of accounts, fstabs, and what systems want
-//! below `/etc`.
+//! account specifications, account tables, maps of ids, merges of accounts, fstabs, clean lists, and what
+//! systems want below `/etc`.
 //!
 //! Each case that gives something else than it has to is put out by its name, with both, and at the end
 //! how many cases there are.
@@ -8,6 +8,7 @@
 
 mod account_specs;
 mod account_tables;
+mod clean_lists;
 mod fstabs;
 mod id_maps;
 mod manifests;
@@ -17,6 +18,7 @@ mod writing;
 
 use crate::account_specs::show_spec;
 use crate::account_tables::{show_group, show_passwd, show_shadow};
+use crate::clean_lists::show_clean;
 use crate::fstabs::{show_fstab, show_unit_name, show_units};
 use crate::id_maps::{show_free, show_ids};
 use crate::manifests::show_manifest;
@@ -37,6 +39,7 @@ fn show_reading(alloc: Global, lines: &mut Lines, command: &str, text: &Bytes) -
         "passwd" => show_passwd(alloc, lines, text.as_slice())?,
         "group" => show_group(alloc, lines, text.as_slice())?,
         "shadow" => show_shadow(alloc, lines, text.as_slice())?,
+        "clean list" => show_clean(alloc, lines, text.as_slice())?,
         "fstab" => show_fstab(alloc, lines, text.as_slice())?,
         "fstab units" => show_units(alloc, lines, text.as_slice())?,
         "account name" => show_value(lines, &is_account_name(text_of(text)?)),
