@@ -207,6 +207,26 @@ grow() {
     last="$1 $2"
 }
 
+# make_plain: compiles bench/plain_switch.rs, and sets `plain` to that program.
+make_plain() {
+    plain=$work/plain_switch
+    rustc --edition 2021 -O -o "$plain" "$here/bench/plain_switch.rs"
+}
+
+# processor WORDS..: prints the processor time of a run in milliseconds.
+processor() {
+    local TIMEFORMAT='%U %S'
+    { time "$@" >"$work/stdout" 2>"$work/stderr"; } 2>&1 | awk '{ print ($1 + $2) * 1000 }'
+}
+
+# tell_ratio: of lines with the milliseconds of the program and of plain Rust, prints the least of each and their ratio.
+tell_ratio() {
+    awk '
+        NR == 1 || $1 < ours { ours = $1 }
+        NR == 1 || $2 < plain { plain = $2 }
+        END { printf "8000 units, milliseconds of processor time: %d, plain Rust %d, ratio %.2f\n", ours, plain, ours / plain }'
+}
+
 # What reads the calls that strace writes: it counts them, and how often one unit file is opened and read up to
 # its end. A script adds what it counts besides.
 cat >"$work/count.awk" <<'AWK'

@@ -4,7 +4,7 @@
 # bench/dry.sh [PROGRAM [UNITS..]]
 #
 # Needs bash 5, awk and the coreutils. The calls are left out where strace isn't there or may not
-# trace, and the peak memory where /usr/bin/time isn't there. Where rustc is there, bench/plain_dry.rs is compiled, a
+# trace, and the peak memory where /usr/bin/time isn't there. Where rustc is there, bench/plain_switch.rs is compiled, a
 # plain Rust program that makes the same report of the same files.
 #
 # Each root has two systems of that many units (500, 4,000 and 16,000): services of ten lines, one in
@@ -117,27 +117,17 @@ index($0, root) > 0 && (kind ~ /^(p?write|creat|f?truncate|mk|rename|link|symlin
 END { print calls + 0, opens + 0, reads + 0, changes + 0 }
 AWK
 
-# processor WORDS..: prints the processor time of a run in milliseconds.
-processor() {
-    local TIMEFORMAT='%U %S'
-    { time "$@" >"$work/stdout" 2>"$work/stderr"; } 2>&1 | awk '{ print ($1 + $2) * 1000 }'
-}
-
 # Compares the program with plain Rust on a root of 8,000 units.
 compare() {
-    local plain=$work/plain_dry
-    rustc --edition 2021 -O -o "$plain" "$here/bench/plain_dry.rs" || return 1
+    make_plain || return 1
     make_machine "$root" 8000
-    if ! "$plain" "$root" nix/store/new-sys | cmp -s - "$work/wanted"; then
+    if ! "$plain" "$root" dry-activate nix/store/new-sys | cmp -s - "$work/wanted"; then
         echo "plain Rust plans another switch"
         return 1
     fi
     for _ in $(seq 9); do
-        echo "$(processor "$program" "$root" dry-activate nix/store/new-sys) $(processor "$plain" "$root" nix/store/new-sys)"
-    done | awk '
-        NR == 1 || $1 < ours { ours = $1 }
-        NR == 1 || $2 < plain { plain = $2 }
-        END { printf "8000 units, milliseconds of processor time: %d, plain Rust %d, ratio %.2f\n", ours, plain, ours / plain }'
+        echo "$(processor "$program" "$root" dry-activate nix/store/new-sys) $(processor "$plain" "$root" dry-activate nix/store/new-sys)"
+    done | tell_ratio
 }
 
 find_tools

@@ -4,7 +4,8 @@
 # bench/test.sh [PROGRAM [UNITS..]]
 #
 # Needs bash 5, awk and the coreutils. The calls are left out where strace isn't there or may not
-# trace, and the peak memory where /usr/bin/time isn't there.
+# trace, and the peak memory where /usr/bin/time isn't there. Where rustc is there, bench/plain_switch.rs is compiled, a
+# plain Rust program that does the same to the same files.
 #
 # Each root has two systems of that many units (500, 4,000 and 16,000): services of ten lines, one in
 # ten with another program in the new system, a target that wants them all, and all of them active. Each
@@ -16,7 +17,8 @@
 #   acts          what was done to units
 #   drafts        new files of the manager's state: one for each act, and one for the loaded definitions
 #   puts          writes to standard output
-# and then the growth. It ends with 1 where a switch fails, where its output, the manager's state, the
+# and then the growth, and with rustc the processor time of 8,000 units in the program and in plain Rust, the least of
+# nine runs in turn each, and their ratio. It ends with 1 where a switch fails, where its output, the manager's state, the
 # links or the store aren't the ones expected, where a list or the stage is left, where a unit file is
 # opened more than once, or where the manager's state is written more often than that. It is no part of
 # the gate.
@@ -102,6 +104,24 @@ time_switches() {
     micros=$least
 }
 
+# timed_alone PROGRAM: prints the processor time of a switch on a new root by this program.
+timed_alone() {
+    fresh
+    processor "$1" "$root" test nix/store/new-sys
+}
+
+# Compares the program with plain Rust on a root of 8,000 units.
+compare() {
+    make_plain || return 1
+    expect 8000
+    fresh
+    program=$plain switch
+    after 8000
+    for _ in $(seq 9); do
+        echo "$(timed_alone "$program") $(timed_alone "$plain")"
+    done | tell_ratio
+}
+
 find_tools
 form='%8s %12s %9s %9s %6s %6s %6s %7s %6s\n'
 # shellcheck disable=SC2059
@@ -134,4 +154,7 @@ for count in "$@"; do
     grow "$count" "$micros"
 done
 printf '%s' "$grown"
+if command -v rustc >"$work/stdout"; then
+    compare || failed=1
+fi
 exit $failed

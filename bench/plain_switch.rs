@@ -1,13 +1,16 @@
-//! A dry run in plain Rust, with which the program's is compared: bench/dry.sh compiles it where rustc is there.
+//! A dry run and a test in plain Rust, with which the program's are compared: bench/dry.sh and bench/test.sh compile it
+//! where rustc is there.
 //!
-//! usage: plain_dry ROOT nix/store/NAME
+//! usage: plain_switch ROOT dry-activate|test nix/store/NAME
 //!
 //! It reads the units of both systems of a root of `make_machine`, looks for a link before each open as the program does,
 //! compares them key by key, lists what stands below etc and what the new system wants there, and prints the same
-//! report. It knows no drop-ins, templates, masks, fstab, accounts or lists of a cut switch.
+//! report. A test then does what the program does: the lists, the stops, the farm's link, the link to the system, and the
+//! starts, each leaf by a stage and each act by a draft of the manager's file. It knows no drop-ins, templates, masks,
+//! fstab, accounts, copies below etc or lists of a cut switch.
 use std::collections::{BTreeMap, BTreeSet};
-use std::fs;
-use std::io::{Error, ErrorKind, Result};
+use std::fs::{self, OpenOptions};
+use std::io::{Error, ErrorKind, Result, Write};
 use std::path::Path;
 
 /// The values of each key, by the key and its section.
@@ -120,9 +123,75 @@ fn do_the_same(one: &Unit, other: &Unit) -> bool {
     one.keys().chain(other.keys()).filter(counts).all(alike)
 }
 
+/// Replaces a file in one step, by way of another one. Its folder is looked at before each change.
+fn replace(stage: &Path, place: &Path, text: &str) -> Result<()> {
+    let folder = place.parent().ok_or_else(foreign)?;
+    fs::create_dir_all(folder)?;
+    let mut file = OpenOptions::new().write(true).create_new(true).open(stage)?;
+    file.write_all(text.as_bytes())?;
+    if !fs::symlink_metadata(folder)?.is_dir() {
+        return Err(foreign());
+    }
+    fs::rename(stage, place)
+}
+
+/// The manager's state: its lines, of which the first says what is loaded, and the others the states of units.
+struct Manager<'a> {
+    root: &'a Path,
+    states: BTreeMap<&'a str, String>,
+    loaded: String,
+    journal: String,
+}
+
+impl<'a> Manager<'a> {
+    /// Writes the state.
+    fn write(&self) -> Result<()> {
+        let mut text = format!("loaded {}\n", self.loaded);
+        self.states.values().for_each(|line| text.push_str(line));
+        text.push_str(&self.journal);
+        replace(&self.root.join("manager.new"), &self.root.join("manager"), &text)
+    }
+
+    /// Stops or starts a unit.
+    fn act(&mut self, act: &str, unit: &'a str) -> Result<()> {
+        match act {
+            "start" => self.states.insert(unit, format!("active {unit}\n")),
+            _ => self.states.remove(unit),
+        };
+        self.journal.push_str(&format!("{act} {unit} {}\n", self.loaded));
+        self.write()
+    }
+}
+
+/// Carries a test out, of which nothing below etc is removed.
+fn carry_out(root: &Path, system: &str, state: &str, stopped: &[&str], started: &BTreeSet<&str>) -> Result<()> {
+    let tree = root.join("tree");
+    let stage = tree.join("nix/var/nixswitch.stage");
+    let list = tree.join("run/nixos/start-list");
+    let put = |place: &Path, text: &str| replace(&stage, place, text);
+    fs::create_dir_all(tree.join("nix/var"))?;
+    let mut lines = state.lines();
+    let loaded = lines.next().and_then(|line| line.strip_prefix("loaded ")).ok_or_else(foreign)?.to_string();
+    let states = lines.filter_map(|line| Some((line.strip_prefix("active ")?, format!("{line}\n")))).collect();
+    let mut manager = Manager { root, states, loaded, journal: String::new() };
+    let names: String = started.iter().map(|name| format!("{name}\n")).collect();
+    put(&list, &format!("F 0644 0 0\n{names}"))?;
+    for unit in stopped {
+        manager.act("stop", unit)?;
+    }
+    put(&tree.join("etc/static"), &format!("L /{system}/etc\n"))?;
+    put(&tree.join("run/current-system"), &format!("L /{system}\n"))?;
+    manager.loaded = format!("/{system}/etc");
+    manager.write()?;
+    for unit in started {
+        manager.act("start", unit)?;
+    }
+    fs::remove_file(&list)
+}
+
 fn main() -> Result<()> {
     let words: Vec<String> = std::env::args().collect();
-    let [_, root, system] = &words[..] else {
+    let [_, root, command, system] = &words[..] else {
         return Err(foreign());
     };
     let tree = Path::new(root).join("tree");
@@ -144,5 +213,9 @@ fn main() -> Result<()> {
     started.iter().for_each(|name| report.push_str(&format!("start {name}\n")));
     unwanted.for_each(|path| report.push_str(&format!("remove etc/{path}\n")));
     print!("{report}");
+    if command == "test" {
+        carry_out(Path::new(root), system, &state, &stopped, &started)?;
+        println!("done");
+    }
     Ok(())
 }
