@@ -5,8 +5,10 @@
 #
 # Each crate has a line in the table of README.md, a heading in docs/CRATES.md and a row in the table of
 # docs/ARCHITECTURE.md. What each crate may use, in docs/ARCHITECTURE.md, is what crates.txt says, without the crates
-# of the kit: --write writes it anew. No cell of README.md has more than 200 characters. Each fault is a line, and it
-# ends with 1 where there is one. Needs awk, grep and the coreutils.
+# of the kit: --write writes it anew. No cell of README.md has more than 200 characters. Each wrong body in must-fail/
+# says by which public clause it is forbidden (`# clause: CRATE FUNCTION CLAUSE`, which stands in src/), and for which input
+# the body breaks it (`# why: ..`). Each fault is a line, and it ends with 1 where there is one. Needs awk, grep and the
+# coreutils.
 cd "$(dirname "$0")/.." || exit 1
 page=docs/ARCHITECTURE.md
 failed=0
@@ -78,4 +80,34 @@ awk -F '|' '
             }
     }
     END { exit bad }' README.md >&2 || failed=1
+
+# The clauses of all functions, and what impls and traits say of themselves: a line for each, with its crate.
+clauses() {
+    find crates/*/src -name '*.rt' -exec awk '
+        FNR == 1 { split(FILENAME, parts, "/"); name = "" }
+        /^ *(pub(\([a-z]+\))? )?fn / { name = $0; sub(/^.*fn /, "", name); sub(/[^a-z_0-9].*/, "", name) }
+        $1 ~ /^ensures\*?$/ { print parts[2], name, ($2 == "{" ? "ensures" : $2) }
+        $1 == "ghost" && $3 == "=" { print parts[2], "-", $2 }' {} +
+}
+
+# What is wrong with the lines of the wrong bodies that name a clause.
+wrong_clauses() {
+    clauses | awk '
+        FILENAME == "-" { stands[$0]; next }
+        FNR == 1 { files[++count] = FILENAME }
+        /^# clause: / {
+            sub(/^.*::/, "", $4)
+            named[FILENAME] = (($3 " " $4 " " $5) in stands || ($3 " - " $5) in stands) && NF == 5 ? "yes" : "no"
+        }
+        /^# why: ./ { told[FILENAME] }
+        END {
+            for (at = 1; at <= count; at++) {
+                if (named[files[at]] != "yes")
+                    print files[at] ": " (files[at] in named && named[files[at]] == "no" ? "its clause stands nowhere" : "it names no clause")
+                if (!(files[at] in told)) print files[at] ": it does not say why"
+            }
+        }' - crates/*/must-fail/*.edit
+}
+wrong=$(wrong_clauses)
+[ -z "$wrong" ] || fault "$wrong"
 exit "$failed"
