@@ -1,4 +1,5 @@
 pub mod Index
+pub mod Layer
 pub mod Lines
 pub mod Parts
 pub mod Reader

@@ -1,5 +1,5 @@
 //! What the copies of a text share.
-ghost use Rattle.std.specs.Prelude.{◌≡◌, [], List, None, map, IfOk, OnOk};
+ghost use Rattle.std.specs.Prelude.{◌≡◌, true, [], List, None, map, IfOk, OnOk};
 ghost use Rattle.unit_text.specs.declared.unit_key.UnitKey.{UnitKey};
 ghost use Rattle.unit_text.specs.TextFault.{IsRefusedBy, text_fault};
 ghost use Rattle.unit_text.specs.UnitKey.{key_of};
@@ -57,6 +57,40 @@ impl Front {
         Ok(Front {
             layer: Some(Rc::new(alloc, layer)?),
         })
+    }
+
+    /// Whether these are the assignments of a file with these bytes.
+    fn has_bytes(&self, bytes: &[u8]) -> bool
+        ensures text { result ≡ true → self.now ≡ assignments bytes.now }
+        ensures sound { result ≡ true → text_fault bytes.now ≡ None }
+    {
+        match &self.layer {
+            Some(layer) => layer.as_ref().has_bytes(bytes),
+            None => false,
+        }
+    }
+
+    /// Reads a file, or shares what was read of one with the same bytes.
+    pub fn read_beside(alloc: Global, bytes: &[u8], other: &Front) -> Result<Front, TextFault>
+        ensures ok { IfOk result (λ front. front ≡ assignments bytes.now) }
+        ensures sound { OnOk result (text_fault bytes.now ≡ None) }
+        ensures fault { IsRefusedBy result (text_fault bytes.now) }
+    {
+        if other.has_bytes(bytes) {
+            Ok(other.copy()?)
+        } else {
+            Front::read(alloc, bytes)
+        }
+    }
+
+    /// Whether both are the assignments of files with the same bytes.
+    pub fn is_same_file(&self, other: &Front) -> bool
+        ensures { result ≡ true → self.now ≡ other.now }
+    {
+        match (&self.layer, &other.layer) {
+            (Some(one), Some(other)) => one.as_ref().is_same_file(other.as_ref()),
+            _other => false,
+        }
     }
 
     /// The same assignments, which both share.

@@ -1,5 +1,5 @@
 //! A file that several texts may share.
-ghost use Rattle.std.specs.Prelude.{◌≡◌, List, None, map, IfOk, OnOk};
+ghost use Rattle.std.specs.Prelude.{◌≡◌, true, List, None, map, IfOk, OnOk};
 ghost use Rattle.unit_text.specs.declared.unit_key.UnitKey.{UnitKey};
 ghost use Rattle.unit_text.specs.TextFault.{IsRefusedBy, text_fault};
 ghost use Rattle.unit_text.specs.UnitKey.{key_of};
@@ -37,11 +37,11 @@ impl Model for Layer {
 
     ghost Value = { List Assignment };
 
-    ghost use Rattle.unit_text.specs.Index.{IsIndexOf};
+    ghost use Rattle.unit_text.specs.Layer.{IsLayer};
 
     ghost view = { λ layer. assignments layer.bytes.items };
 
-    ghost invariant = { λ layer. IsIndexOf [] (assignments layer.bytes.items) layer.index };
+    ghost invariant = { λ layer. IsLayer layer.bytes.items layer.index };
 }
 
 impl Layer {
@@ -58,13 +58,29 @@ impl Layer {
         })
     }
 
+    /// Whether the file has these bytes.
+    pub fn has_bytes(&self, bytes: &[u8]) -> bool
+        ensures text { result ≡ true → self.now ≡ assignments bytes.now }
+        ensures sound { result ≡ true → text_fault bytes.now ≡ None }
+    {
+        self.bytes.as_slice() == bytes
+    }
+
+    /// Whether another file has the same bytes.
+    pub fn is_same_file(&self, other: &Layer) -> bool
+        ensures { result ≡ true → self.now ≡ other.now }
+    {
+        self.has_bytes(other.bytes.as_slice())
+    }
+
     /// The assignments. What was read once can be read again, if there is memory.
     pub fn assignments(&self, alloc: Global) -> Result<Vec<Assignment>, AllocError>
         ensures { IfOk result (λ all. all.items ≡ self.now) }
     {
         match read(alloc, self.bytes.as_slice()) {
             Ok(all) => Ok(all),
-            Err(_) => Err(AllocError),
+            Err(TextFault::Memory) => Err(AllocError),
+            Err(_fault) => unreachable!(),
         }
     }
 

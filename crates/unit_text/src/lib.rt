@@ -17,4 +17,4 @@ mod unit_text;
 pub use parts::Parts;
 pub use text_fault::TextFault;
 pub use unit_key::UnitKey;
-pub use unit_text::{UnitText, parse};
+pub use unit_text::{UnitText, parse, parse_beside};

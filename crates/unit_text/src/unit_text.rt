@@ -1,5 +1,5 @@
 //! Unit texts.
-ghost use Rattle.std.specs.Prelude.{◌≡◌, ◌≢◌, ◌⊎◌, ◌++◌, ◌∷◌, [], ℕ, List, None, OnOk, OnErr, IfOk, IfErr};
+ghost use Rattle.std.specs.Prelude.{◌≡◌, ◌≢◌, ◌⊎◌, ◌++◌, ◌∷◌, [], ℕ, true, List, None, OnOk, OnErr, IfOk, IfErr};
 ghost use Rattle.unit_text.specs.declared.text_fault.TextFault.{TextFault};
 ghost use Rattle.unit_text.specs.Parts.{AreParts};
 ghost use Rattle.unit_text.specs.TextFault.{IsFault, IsFirstFault, IsRefusedBy, text_fault};
@@ -66,7 +66,26 @@ pub fn parse(alloc: Global, bytes: &[u8]) -> Result<UnitText, TextFault>
     ensures sound { OnOk result ((number : ℕ) (fault : TextFault) → ¬ IsFault bytes.now number fault) }
     ensures first { IfErr result (λ fault. (fault ≡ TextFault.Memory) ⊎ IsFirstFault bytes.now fault) }
 {
-    UnitText::from_bytes(alloc, bytes)
+    parse_beside(alloc, bytes, None)
+}
+
+/// Reads a unit file as `parse` does, beside a text that may begin with a file of the same bytes.
+///
+/// Then both texts share what was read of it, and nothing is read again.
+pub fn parse_beside(
+    alloc: Global,
+    bytes: &[u8],
+    other: Option<&UnitText>,
+) -> Result<UnitText, TextFault>
+    ensures ok { IfOk result (λ text. text ≡ assignments bytes.now) }
+    ensures exact { OnOk result (text_fault bytes.now ≡ None) }
+    ensures fault { IsRefusedBy result (text_fault bytes.now) }
+
+    // The same by the faults of the file: there is none, or it is the first of them.
+    ensures sound { OnOk result ((number : ℕ) (fault : TextFault) → ¬ IsFault bytes.now number fault) }
+    ensures first { IfErr result (λ fault. (fault ≡ TextFault.Memory) ⊎ IsFirstFault bytes.now fault) }
+{
+    UnitText::from_bytes(alloc, bytes, other)
 }
 
 impl UnitText {
@@ -88,12 +107,21 @@ impl UnitText {
         }
     }
 
-    fn from_bytes(alloc: Global, bytes: &[u8]) -> Result<UnitText, TextFault>
+    /// The text of a file, which shares what was read of another one with the same bytes.
+    fn from_bytes(
+        alloc: Global,
+        bytes: &[u8],
+        other: Option<&UnitText>,
+    ) -> Result<UnitText, TextFault>
         ensures ok { IfOk result (λ text. text ≡ assignments bytes.now) }
         ensures sound { OnOk result (text_fault bytes.now ≡ None) }
         ensures fault { IsRefusedBy result (text_fault bytes.now) }
     {
-        Ok(UnitText::after(alloc, Front::read(alloc, bytes)?))
+        let front = match other {
+            Some(text) => Front::read_beside(alloc, bytes, &text.front)?,
+            None => Front::read(alloc, bytes)?,
+        };
+        Ok(UnitText::after(alloc, front))
     }
 
     fn push(&mut self, alloc: Global, assignment: Assignment) -> Result<(), AllocError>
@@ -181,6 +209,13 @@ impl UnitText {
             changed_keys: self.changes.keys.as_slice(),
             changed_values: self.changes.values.as_slice(),
         }
+    }
+
+    /// Whether both texts are those of files with the same bytes, to which nothing was applied.
+    pub fn is_same_file(&self, other: &UnitText) -> bool
+        ensures { result ≡ true → self.now ≡ other.now }
+    {
+        self.later.is_empty() && other.later.is_empty() && self.front.is_same_file(&other.front)
     }
 
     /// An equal text, which shares what was read of the first file.
