@@ -1,5 +1,6 @@
 -- Which keys can differ, and what a comparison says of all keys.
-use Rattle.std.proofs.Common.{◌≡◌, Bool, true, false, not, cond, ◌&&◌, ◌||◌, List, [], ◌∷◌, ◌++◌, map, refl, sym, ap, ◌∙◌}
+use Rattle.std.proofs.Common.{◌≡◌, ◌↔◌, Bool, true, false, not, cond, ◌&&◌, ◌||◌, List, [], ◌∷◌, ◌++◌, map, refl, sym, ap, ◌∙◌, subst}
+use Rattle.std.specs.Cmp.Lexicographic.{bytes_decides, pointwise_decides}
 use Rattle.std.specs.List.{filter, list_any}
 use Rattle.std.proofs.lemmas.Bool.{and_parts, and_from, true≢false}
 use Rattle.std.proofs.lemmas.List.{map-append}
@@ -199,3 +200,26 @@ module _ (kind : UnitKind) (old new : List Assignment) where
     λ e. changed_to found_change found_other refl e,
     λ other. ap (λ c. by_tests c found_other) (change_found other.key other.other other.not_taken_up),
   )
+
+-- ---- a comparison in the words of its clauses
+
+-- a text says the same as itself
+pub self_same : (text : List Assignment) → AreSame text text
+self_same text key = by (is_ignored key) ((pointwise_decides bytes_decides (values_of text key) (values_of text key)).1 refl)
+  where
+    by : (t : Bool) → are_same_values (values_of text key) (values_of text key) ≡ true → (not t && not (are_same_values (values_of text key) (values_of text key))) ≡ false
+    by true e = refl
+    by false e = ap not e
+
+pub self_comparison : (kind : UnitKind) (text : List Assignment) → comparison kind text text ≡ Same
+self_comparison kind text = comparison_made kind text text ∙ (same_exact kind text text).1 (self_same text)
+
+module _ (kind : UnitKind) (old new : List Assignment) (outcome : Comparison) (is : outcome ≡ comparison kind old new) where
+  pub same_where : (outcome ≡ Same) ↔ AreSame old new
+  same_where = subst (λ (o : Comparison). (o ≡ Same) ↔ AreSame old new) (sym (is ∙ comparison_made kind old new)) (same_exact kind old new)
+
+  pub reload_only_where : (outcome ≡ ReloadOnly) ↔ AreReloadOnly kind old new
+  reload_only_where = subst (λ (o : Comparison). (o ≡ ReloadOnly) ↔ AreReloadOnly kind old new) (sym (is ∙ comparison_made kind old new)) (reload_exact kind old new)
+
+  pub changed_where : (outcome ≡ Changed) ↔ AreChanged kind old new
+  changed_where = subst (λ (o : Comparison). (o ≡ Changed) ↔ AreChanged kind old new) (sym (is ∙ comparison_made kind old new)) (changed_exact kind old new)

@@ -108,6 +108,17 @@ fn compare_keys(kind: UnitKind, old: &UnitText, new: &UnitText, keys: &[UnitKey]
     outcome
 }
 
+/// How a unit of this kind changed from an old text to a new one, by the keys of both.
+fn compare_texts(kind: UnitKind, old: &UnitText, new: &UnitText) -> Comparison
+    ensures { result ≡ comparison kind old.now new.now }
+{
+    let old_parts = old.parts();
+    let new_parts = new.parts();
+    compare_fronts(kind, &old_parts, &new_parts)
+        .worse(compare_keys(kind, old, new, old_parts.changed_keys))
+        .worse(compare_keys(kind, old, new, new_parts.changed_keys))
+}
+
 /// How a unit of this kind changed from an old text to a new one.
 ///
 /// Source: NixOS manual, "Unit handling".
@@ -119,9 +130,9 @@ pub fn compare(kind: UnitKind, old: &UnitText, new: &UnitText) -> Comparison
     ensures reload_only { (result ≡ Comparison.ReloadOnly) ↔ AreReloadOnly kind old.now new.now }
     ensures changed { (result ≡ Comparison.Changed) ↔ AreChanged kind old.now new.now }
 {
-    let old_parts = old.parts();
-    let new_parts = new.parts();
-    compare_fronts(kind, &old_parts, &new_parts)
-        .worse(compare_keys(kind, old, new, old_parts.changed_keys))
-        .worse(compare_keys(kind, old, new, new_parts.changed_keys))
+    if old.is_same_file(new) {
+        Comparison::Same
+    } else {
+        compare_texts(kind, old, new)
+    }
 }

@@ -1,59 +1,30 @@
-use Rattle.std.proofs.Common.{◌≡◌, ◌↔◌, ◌∙◌, ◌++◌, ap, sym, subst}
-use Rattle.unit_compare.specs.declared.comparison.Comparison.{Comparison}
-use Rattle.unit_compare.specs.declared.comparison.Comparison.TheVariants.{Same, ReloadOnly, Changed}
-use Rattle.unit_compare.specs.Compare.{AreSame, AreReloadOnly, AreChanged, comparison, differs}
-use Rattle.unit_compare.specs.Walk.{worse}
-use Rattle.unit_compare.proofs.Differing.{comparison_made, made_of, same_exact, reload_exact, changed_exact}
-use Rattle.unit_compare.proofs.Outcomes.{made_append, outcome_made, worse_assoc}
-use Rattle.unit_compare.proofs.WalkLemmas.{walked}
+use Rattle.std.proofs.Common.{◌≡◌, ◌∙◌, ap, sym}
+use Rattle.unit_compare.specs.declared.comparison.Comparison.TheVariants.{Same}
+use Rattle.unit_compare.specs.Compare.{comparison}
+use Rattle.unit_compare.proofs.Differing.{self_comparison, same_where, reload_only_where, changed_where}
 use Rattle.unit_compare.proofs.walk.compare.Goals as goal
 
-exact : (c : goal.After-worse-2) → c.worse-2.result ≡ comparison c.args.kind c.args.old.now c.args.new.now
-exact c =
-    let kind = c.args.kind in
-    let old = c.parts-old_parts.result in
-    let new = c.parts-new_parts.result in
-    let this = old.text.now in
-    let that = new.text.now in
-    let fronts = old.front_keys.now ++ new.front_keys.now in
-    let old_text : this ≡ c.args.old.now = c.parts-old_parts.ensures.text in
-    let new_text : that ≡ c.args.new.now = c.parts-new_parts.ensures.text in
-    let first : c.compare_fronts.result ≡ made_of kind this that fronts = c.compare_fronts.ensures ∙ outcome_made kind (differs this that) fronts in
-    let second : c.compare_keys.result ≡ made_of kind this that old.changed_keys.now =
-    c.compare_keys.ensures ∙ outcome_made kind (differs c.args.old.now c.args.new.now) old.changed_keys.now
-    ∙ sym (λ i. made_of kind (old_text i) (new_text i) old.changed_keys.now) in
-    let third : c.compare_keys-2.result ≡ made_of kind this that new.changed_keys.now =
-    c.compare_keys-2.ensures ∙ outcome_made kind (differs c.args.old.now c.args.new.now) new.changed_keys.now
-    ∙ sym (λ i. made_of kind (old_text i) (new_text i) new.changed_keys.now) in
-    c.worse-2.ensures
-    ∙ ap (λ o. worse o c.compare_keys-2.result) c.worse.ensures
-    ∙ (λ i. worse (worse (first i) (second i)) (third i))
-    ∙ worse_assoc (made_of kind this that fronts) (made_of kind this that old.changed_keys.now) (made_of kind this that new.changed_keys.now)
-    ∙ ap (λ o. worse (made_of kind this that fronts) o) (sym (made_append kind (differs this that) old.changed_keys.now new.changed_keys.now))
-    ∙ sym (made_append kind (differs this that) fronts (old.changed_keys.now ++ new.changed_keys.now))
-    ∙ walked old new c.parts-old_parts.ensures.parts c.parts-new_parts.ensures.parts kind
-    ∙ (λ i. comparison kind (old_text i) (new_text i))
+-- equal texts have no key that differs
+exact : (c : goal.Then-is_same_file) → Same ≡ comparison c.args.kind c.args.old.now c.args.new.now
+exact c = sym (self_comparison c.args.kind c.args.old.now) ∙ ap (comparison c.args.kind c.args.old.now) (c.is_same_file.ensures c.if-is_same_file.true)
 
-pub returns-clause-exact : goal.returns-clause-exact
-returns-clause-exact c = exact c
+pub returns-then-is_same_file-clause-exact : goal.returns-then-is_same_file-clause-exact
+returns-then-is_same_file-clause-exact c = exact c
 
-pub returns-clause-same : goal.returns-clause-same
-returns-clause-same c =
-    let kind = c.args.kind in
-    let old = c.args.old.now in
-    let new = c.args.new.now in
-    subst (λ (r : Comparison). (r ≡ Same) ↔ AreSame old new) (sym (exact c ∙ comparison_made kind old new)) (same_exact kind old new)
+pub returns-then-is_same_file-clause-same : goal.returns-then-is_same_file-clause-same
+returns-then-is_same_file-clause-same c = same_where c.args.kind c.args.old.now c.args.new.now Same (exact c)
 
-pub returns-clause-reload_only : goal.returns-clause-reload_only
-returns-clause-reload_only c =
-    let kind = c.args.kind in
-    let old = c.args.old.now in
-    let new = c.args.new.now in
-    subst (λ (r : Comparison). (r ≡ ReloadOnly) ↔ AreReloadOnly kind old new) (sym (exact c ∙ comparison_made kind old new)) (reload_exact kind old new)
+pub returns-then-is_same_file-clause-reload_only : goal.returns-then-is_same_file-clause-reload_only
+returns-then-is_same_file-clause-reload_only c = reload_only_where c.args.kind c.args.old.now c.args.new.now Same (exact c)
 
-pub returns-clause-changed : goal.returns-clause-changed
-returns-clause-changed c =
-    let kind = c.args.kind in
-    let old = c.args.old.now in
-    let new = c.args.new.now in
-    subst (λ (r : Comparison). (r ≡ Changed) ↔ AreChanged kind old new) (sym (exact c ∙ comparison_made kind old new)) (changed_exact kind old new)
+pub returns-then-is_same_file-clause-changed : goal.returns-then-is_same_file-clause-changed
+returns-then-is_same_file-clause-changed c = changed_where c.args.kind c.args.old.now c.args.new.now Same (exact c)
+
+pub returns-else-is_same_file-clause-same : goal.returns-else-is_same_file-clause-same
+returns-else-is_same_file-clause-same c = same_where c.args.kind c.args.old.now c.args.new.now c.compare_texts.result c.compare_texts.ensures
+
+pub returns-else-is_same_file-clause-reload_only : goal.returns-else-is_same_file-clause-reload_only
+returns-else-is_same_file-clause-reload_only c = reload_only_where c.args.kind c.args.old.now c.args.new.now c.compare_texts.result c.compare_texts.ensures
+
+pub returns-else-is_same_file-clause-changed : goal.returns-else-is_same_file-clause-changed
+returns-else-is_same_file-clause-changed c = changed_where c.args.kind c.args.old.now c.args.new.now c.compare_texts.result c.compare_texts.ensures
