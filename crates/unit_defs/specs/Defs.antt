@@ -7,6 +7,8 @@ use Rattle.switch_names.specs.UnitName.{IsUnitName}
 use Rattle.host_trait.specs.World.{Leaves, bytes_cmp}
 use Rattle.unit_text.specs.declared.assignment.Assignment.{Assignment}
 use Rattle.unit_defs.specs.declared.part.Part.{Part}
+use Rattle.unit_defs.specs.declared.place.Place.{Place}
+use Rattle.unit_defs.specs.declared.place.Place.TheVariants.{File, DropIn, Want}
 use Rattle.unit_defs.specs.declared.unit.Unit.{Unit}
 use Rattle.unit_defs.specs.declared.unit.Wants.{Wants}
 use Rattle.switch_names.specs.Names.{Name, has, is_name}
@@ -23,6 +25,12 @@ part_in units name = option_and_then (λ unit. unit.part) (unit_in units name)
 -- the text that a unit has of its own
 abbrev pub own_in : List Unit → List ℕ → Option (List Assignment)
 own_in units name = option_map (λ part. part.text) (part_in units name)
+
+-- the text that the unit whose file stands at a place has of its own
+abbrev pub own_at : List Unit → Place → Option (List Assignment)
+own_at units (File unit) = own_in units unit
+own_at units (DropIn unit name) = None
+own_at units (Want unit name) = None
 
 -- the names in a unit's folders of units that it wants, and those that the fstab makes it want
 abbrev pub names_in : List Unit → List ℕ → List (List ℕ)

@@ -14,7 +14,7 @@ ghost use Rattle.switch_names.specs.UnitName.{IsUnitName};
 
 use crate::answering::fault::first_fault;
 use crate::answering::search::{find_template, find_unit};
-use crate::answering::wanting::{find_text, names_of, wants_of};
+use crate::answering::wanting::{find_text, names_of, own_text, wants_of};
 use crate::defs_fault::DefsFault;
 use crate::reading::read_units;
 use crate::unit::{Unit, Wants};
@@ -120,7 +120,30 @@ impl Defs {
 
         ensures reads { IsReadingOf (T.host host.old) (T.host host.new) (IsErrOf result (Host Device)) }
     {
-        let units = read_units(alloc, host, system)?;
+        let none = Defs::none(alloc);
+        Defs::read_beside(alloc, host, system, &none)
+    }
+
+    /// Reads the units of a system as `read` does, beside those of another system.
+    ///
+    /// What was read of a unit's file there is shared where its bytes are the same here.
+    pub fn read_beside<T: Tree>(
+        alloc: Global,
+        host: &mut T,
+        system: &SystemName,
+        other: &Defs,
+    ) -> Result<Defs, DefsFault>
+        ensures defs { IfOk result (λ defs. Told (T.host host.old) (λ w. AreDefsOf w.leaves system.now defs)) }
+        ensures sound { OnOk result (Told (T.host host.old) (λ w. HasNoFault w.leaves system.now)) }
+        ensures text { (unit : List ℕ) (line : ℕ) → IsErrOf result (Text unit line) → Told (T.host host.old) (λ w. IsFirstFault w.leaves system.now unit line) }
+
+        // By the law `first_faults_are_found` that is the first fault among the units with files.
+        ensures not_faulty { OnOk result (Told (T.host host.old) (λ w. first_fault_of w.leaves system.now ≡ None)) }
+        ensures faulty { (unit : List ℕ) (line : ℕ) → IsErrOf result (Text unit line) → Told (T.host host.old) (λ w. first_fault_of w.leaves system.now ≡ Some (unit, line)) }
+
+        ensures reads { IsReadingOf (T.host host.old) (T.host host.new) (IsErrOf result (Host Device)) }
+    {
+        let units = read_units(alloc, host, system, other)?;
         Defs::from_sound(alloc, units)
     }
 
@@ -133,8 +156,16 @@ impl Defs {
         ensures defs { IfOk result (λ defs. Told (T.host host.old) (λ w. AreDefsOf w.leaves system.now defs)) }
         ensures reads { IsReading (T.host host.old) (T.host host.new) result }
     {
-        let old_units = read_units(alloc, host, system)?;
+        let none = Defs::none(alloc);
+        let old_units = read_units(alloc, host, system, &none)?;
         Ok(Defs::from_units(alloc, old_units)?)
+    }
+
+    /// The text that a unit has of its own.
+    pub(crate) fn own_text(&self, unit: &UnitName) -> Option<&UnitText>
+        ensures { option_copied result ≡ own_in self.now unit.now }
+    {
+        own_text(self.units.as_slice(), unit)
     }
 
     /// The text of a unit: its own, or else its template's.

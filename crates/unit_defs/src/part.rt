@@ -5,7 +5,7 @@ ghost use Rattle.unit_defs.specs.Part.{line_of, part_of};
 
 use std::alloc::{AllocError, Global};
 use switch_names::Bytes;
-use unit_text::{TextFault, UnitText, parse};
+use unit_text::{TextFault, UnitText, parse_beside};
 
 /// What one file says, or several one after the other.
 pub struct Part {
@@ -36,14 +36,18 @@ fn line_of(fault: &TextFault) -> u32
 }
 
 impl Part {
-    /// Reads a file, where it has content.
-    pub fn read(alloc: Global, content: Option<&Bytes>) -> Result<Option<Part>, AllocError>
+    /// Reads a file, where it has content, beside a text that may begin with the same file.
+    pub fn read(
+        alloc: Global,
+        content: Option<&Bytes>,
+        beside: Option<&UnitText>,
+    ) -> Result<Option<Part>, AllocError>
         ensures { IfOk result (λ part. part ≡ option_map part_of (option_copied content.entry)) }
     {
         let Some(bytes) = content else {
             return Ok(None);
         };
-        match parse(alloc, bytes.as_slice()) {
+        match parse_beside(alloc, bytes.as_slice(), beside) {
             Ok(text) => Ok(Some(Part { text, fault: None })),
             Err(TextFault::Memory) => Err(AllocError),
             Err(fault) => Ok(Some(Part {

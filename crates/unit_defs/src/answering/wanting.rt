@@ -15,7 +15,7 @@ use switch_names::{Listed, Text, UnitName};
 use unit_text::UnitText;
 
 /// The text that a unit has of its own.
-fn own_text<'a>(units: &'a [Unit], name: &UnitName) -> Option<&'a UnitText>
+pub fn own_text<'a>(units: &'a [Unit], name: &UnitName) -> Option<&'a UnitText>
     requires { AreSorted units.now }
     ensures { option_copied result ≡ own_in units.now name.now }
 {

@@ -8,7 +8,7 @@ use Rattle.unit_defs.specs.Units.{HasNoFault, IsFirstFault, first_fault_of}
 use Rattle.unit_defs.proofs.AgreeLemmas.{are_defs}
 use Rattle.unit_defs.proofs.FaultLemmas.{first_is, no_fault}
 use Rattle.unit_defs.proofs.FirstFaultLemmas.{first_is_found, none_is_found}
-use Rattle.unit_defs.proofs.defs.Defs.read.Goals as goal
+use Rattle.unit_defs.proofs.defs.Defs.read_beside.Goals as goal
 
 pub returns-clause-defs : goal.returns-clause-defs
 returns-clause-defs g c =
