@@ -75,18 +75,19 @@ fn read_old<T: Tree>(alloc: Global, host: &mut T) -> Result<OldSystem, HostFault
     Ok(OldSystem { name, defs })
 }
 
-/// Reads the units of the system that comes into use.
+/// Reads the units of the system that comes into use, beside those of the system in use.
 pub fn read_new<T: Tree>(
     alloc: Global,
     host: &mut T,
     system: &SystemName,
+    old: &Defs,
 ) -> Result<Defs, PlanFault>
     ensures defs { IfOk result (λ defs. Told (T.host host.old) (λ w. AreDefsOf w.leaves system.now defs)) }
     ensures not_refused { OnOk result (Told (T.host host.old) (λ w. unit_refusal w.leaves system.now ≡ None)) }
     ensures refused { (why : Refusal) → IsErrOf result (Refused why) → Told (T.host host.old) (λ w. unit_refusal w.leaves system.now ≡ Some why) }
     ensures reads { IsReadingOf (T.host host.old) (T.host host.new) (IsErrOf result (Host Device)) }
 {
-    match Defs::read(alloc, host, system) {
+    match Defs::read_beside(alloc, host, system, old) {
         Ok(defs) => Ok(defs),
         Err(DefsFault::Text { unit, line }) => {
             Err(PlanFault::Refused(Refusal::UnitText { unit, line }))
@@ -117,7 +118,7 @@ pub fn read_known<H: Manager>(
     ensures reads { IsReadingOf (H.host host.old) (H.host host.new) (IsErrOf result (Host Device)) }
 {
     let old = read_old(alloc, host)?;
-    let new = read_new(alloc, host, system)?;
+    let new = read_new(alloc, host, system, &old.defs)?;
     let units = read_states(alloc, host)?;
     Ok(Known { old, new, units })
 }
