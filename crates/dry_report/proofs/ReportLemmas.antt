@@ -1,7 +1,5 @@
 -- A world has one report of a command, and the text of its plan is that.
 use Rattle.std.proofs.Common.{◌≡◌, ℕ, Bool, true, false, List, Option, None, Some, Result, Ok, Err, IfOk, option_map, refl, ap, ap₂, sym, subst, ◌∙◌}
-use Rattle.activation_report.proofs.ReportLemmas.{one_report}
-use Rattle.activation_report.specs.Report.{IsActivationReport}
 use Rattle.activation_stage.specs.ActivationPart.{IsActivationPlanOf}
 use Rattle.activation_stage.specs.declared.activation_plan.ActivationPlan.{ActivationPlan}
 use Rattle.boot_entries.specs.declared.boot_default.BootDefaultPlan.{BootDefaultPlan}
@@ -23,6 +21,8 @@ use Rattle.unit_stage.specs.declared.unit_plan.UnitPlan.{UnitPlan}
 use Rattle.unit_stage.specs.Plan.{IsPlannedIn, IsUnitPlanOf, owed_of}
 use Rattle.unit_stage.specs.System.{current_system}
 use Rattle.std.proofs.lemmas.Bool.{both_ways}
+use Rattle.dry_report.proofs.ActivationLemmas.{one_report}
+use Rattle.dry_report.specs.Activation.{IsActivationReport}
 use Rattle.dry_report.specs.Report.{IsReport, IsReportBy, IsUnitReport, number_if, number_of, profile_report, report_of}
 
 -- ---- one report

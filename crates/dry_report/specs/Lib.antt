@@ -1,2 +1,4 @@
+pub mod Activation
 pub mod Close
+pub mod Lines
 pub mod Report

@@ -2,7 +2,6 @@
 use Rattle.std.specs.Prelude.{◌≡◌, ◌↔◌, ℕ, ◌++◌, Bool, true, false, List, [], ◌∷◌, Option, None, Some, codes, filter, not, option_map, if◌then◌else◌}
 use Rattle.std.specs.Fmt.{decimal}
 use Rattle.std.specs.List.{flat_map}
-use Rattle.activation_report.specs.Report.{IsActivationReport}
 use Rattle.generations.specs.Places.{number_after}
 use Rattle.host_trait.specs.declared.entry.Act.{Act}
 use Rattle.host_trait.specs.declared.entry.Act.TheVariants.{Stop, Reload, Restart, Start}
@@ -19,6 +18,7 @@ use Rattle.switch_names.specs.Names.{Name}
 use Rattle.unit_stage.specs.Owes.{is_stop}
 use Rattle.unit_stage.specs.Plan.{IsPlannedIn}
 use Rattle.unit_stage.specs.System.{current_system}
+use Rattle.dry_report.specs.Activation.{IsActivationReport}
 
 -- a line of two words
 abbrev pub line : List ℕ → List ℕ → List ℕ

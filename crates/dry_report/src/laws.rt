@@ -2,7 +2,7 @@
 ghost use Rattle.std.specs.Prelude.{◌≡◌, ℕ, List, None};
 ghost use Rattle.std.specs.List.{AllByRecursion};
 ghost use Rattle.host_trait.specs.States.{UnitStates};
-ghost use Rattle.host_trait.specs.World.{WorldState};
+ghost use Rattle.host_trait.specs.World.{Leaves, WorldState};
 ghost use Rattle.switch_engine.specs.declared.command.Command.{Command};
 ghost use Rattle.switch_engine.specs.declared.plan.Plan.{Plan};
 ghost use Rattle.switch_engine.specs.Commands.{IsBoot, IsQuery, brought_to};
@@ -10,12 +10,19 @@ ghost use Rattle.switch_engine.specs.Final.{IsFinalOf};
 ghost use Rattle.switch_engine.specs.Moments.{LeadsBy};
 ghost use Rattle.switch_engine.specs.Plan.{IsPlanOf};
 ghost use Rattle.switch_engine.specs.Rows.{refusal};
+ghost use Rattle.switch_names.specs.Names.{Name};
+ghost use Rattle.dry_report.specs.Activation.{IsActivationReport};
 ghost use Rattle.dry_report.specs.Close.{IsClosing, close_of, failed_in};
 ghost use Rattle.dry_report.specs.Report.{IsReport, KeepsReport};
 
 /// From a world, a command has one report.
 pub fn one_report_is_made()
     ensures { (command : Command) (w : WorldState) (one other : List ℕ) → IsReport command w one → IsReport command w other → one ≡ other }
+{}
+
+/// From the leaves of a tree, one report is made of an activation.
+pub fn one_activation_is_told()
+    ensures { (system : Name) (leaves : Leaves) (one other : List ℕ) → IsActivationReport system leaves one → IsActivationReport system leaves other → one ≡ other }
 {}
 
 /// A command that switches no units, as a boot, makes the same report from each world in which it was

@@ -1,6 +1,7 @@
 //! The report of a command, from its plan, and its closing text, from how it ended.
 #![tactic(auto)]
 
+mod activation;
 mod closing;
 pub mod laws;
 mod reporting;

@@ -2,7 +2,6 @@
 ghost use Rattle.std.specs.Prelude.{◌≡◌, ◌++◌, ◌∷◌, ℕ, List, [], Some, codes, IfOk, OnOk};
 ghost use Rattle.std.specs.List.{flat_map};
 ghost use Rattle.std.specs.Option.{option_copied};
-ghost use Rattle.activation_report.specs.Report.{IsActivationReport};
 ghost use Rattle.activation_stage.specs.ActivationPart.{IsActivationPlanOf};
 ghost use Rattle.activation_stage.specs.declared.activation_plan.ActivationPlan.{ActivationPlan};
 ghost use Rattle.host_trait.specs.World.{Leaves, WorldState};
@@ -10,9 +9,10 @@ ghost use Rattle.switch_engine.specs.Commands.{new_system};
 ghost use Rattle.switch_engine.specs.Plan.{IsPlanOf};
 ghost use Rattle.switch_names.specs.Names.{Name};
 ghost use Rattle.unit_stage.specs.Owes.{is_stop};
+ghost use Rattle.dry_report.specs.Activation.{IsActivationReport};
 ghost use Rattle.dry_report.specs.Report.{IsReport, act_word, generation_line, line, number_of, other_lines, profile_report, report_front, report_of, stop_lines, system_text};
 
-use activation_report::write_activation;
+use crate::activation::write_activation;
 use activation_stage::ActivationPlan;
 use host_trait::Act;
 use owed_plan::Duty;

@@ -1,6 +1,0 @@
-use Rattle.std.proofs.Common.{append_assoc, rules}
-use Rattle.std.proofs.lemmas.Result.{IfOk-equal}
-use Rattle.activation_report.proofs.accounts.write_tables.Goals as goal
-
-pub returns : goal.returns
-returns c = search (rules, IfOk-equal, append_assoc)

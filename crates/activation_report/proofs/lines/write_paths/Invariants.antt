@@ -1,7 +1,0 @@
-use Rattle.std.proofs.Common.{◌≡◌, ◌++◌, take}
-use Rattle.activation_report.specs.Lines.{told_each}
-use Rattle.activation_report.proofs.lines.write_paths.Given as goal
-
--- the paths so far are told
-abbrev pub invariant-loop-path : goal.invariant-loop-path
-invariant-loop-path l = l.out.items ≡ l.fn.out.items ++ told_each l.front (take l.path-index l.paths)
