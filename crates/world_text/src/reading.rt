@@ -7,6 +7,11 @@ use std::alloc::Global;
 use std::test::Fail;
 use switch_names::{Bytes, Path, UnitName};
 
+/// Where the units of the two systems lie in the store.
+const OLD_UNITS: &str = "a-sys/etc/systemd/system";
+
+const NEW_UNITS: &str = "b-sys/etc/systemd/system";
+
 /// Puts the leaf of a node's text at a path.
 fn put_node(alloc: Global, world: &mut World, at: &str, node: &[u8]) -> Result<(), Fail> {
     let at = Path::parse(alloc, at)?;
@@ -20,18 +25,18 @@ fn put_manager(alloc: Global, world: &mut World, text: &[u8]) -> Result<(), Fail
     Ok(())
 }
 
-/// Puts a leaf into a system's folder of units: a link where the text begins with `->`, and else a file.
-fn put_unit(
+/// Puts a leaf into a folder of a system: a link where the text begins with `->`, and else a file.
+fn put_file(
     alloc: Global,
     world: &mut World,
-    system: &str,
+    folder: &str,
     (name, text): (&str, &[u8]),
 ) -> Result<(), Fail> {
     let leaf = match text {
         [b'-', b'>', target @ ..] => Leaf::link(alloc, std::str::from_utf8(target)?)?,
         _ => Leaf::file(Bytes::from_slice(alloc, text)?, 420, 0, 0),
     };
-    let at = format!(in alloc; "nix/store/{system}/etc/systemd/system/{name}")?;
+    let at = format!(in alloc; "nix/store/{folder}/{name}")?;
     world.set_leaf(Path::parse(alloc, at.as_str())?, leaf)?;
     Ok(())
 }
@@ -50,12 +55,13 @@ fn put_place(alloc: Global, world: &mut World, place: &str, text: &[u8]) -> Resu
         return put_node(alloc, world, at, text);
     }
     match place.split_once(' ') {
-        Some(("old", name)) => put_unit(alloc, world, "a-sys", (name, text)),
-        Some(("new", name)) => put_unit(alloc, world, "b-sys", (name, text)),
+        Some(("old", name)) => put_file(alloc, world, OLD_UNITS, (name, text)),
+        Some(("new", name)) => put_file(alloc, world, NEW_UNITS, (name, text)),
         Some(("both", name)) => {
-            put_unit(alloc, world, "a-sys", (name, text))?;
-            put_unit(alloc, world, "b-sys", (name, text))
+            put_file(alloc, world, OLD_UNITS, (name, text))?;
+            put_file(alloc, world, NEW_UNITS, (name, text))
         }
+        Some(("wants", name)) => put_file(alloc, world, "a-sys/etc", (name, text)),
         None if place == "manager" => put_manager(alloc, world, text),
         None if place == "active" => put_states(alloc, world, text, State::Active),
         None if place == "failed" => put_states(alloc, world, text, State::Failed),
