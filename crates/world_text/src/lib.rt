@@ -1,7 +1,7 @@
-//! The language of the cases that the test programs try: cases as lines of fields, each with the lines
+//! The language of the cases that the program `worlds` tries: cases as lines of fields, each with the lines
 //! that it has to give, and worlds by what stands at places.
 //!
-//! The head of each program's `stdin` explains the language.
+//! The head of that program's `stdin` explains the language.
 #![tactic(auto)]
 
 mod cases;

@@ -1,3 +1,0 @@
-pub mod EmptyLemmas
-pub mod FallenLemmas
-pub mod NoUnitLemmas

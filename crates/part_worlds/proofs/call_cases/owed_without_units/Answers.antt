@@ -1,5 +1,0 @@
-use Rattle.part_worlds.proofs.NoUnitLemmas.{none_pulled}
-use Rattle.part_worlds.proofs.call_cases.owed_without_units.Goals as goal
-
-pub plan-requires : goal.plan-requires
-plan-requires c = none_pulled _ _ c.none-none.result c.new.result c.none-none.ensures c.new.ensures

@@ -1,5 +1,0 @@
-use Rattle.host_trait.specs.Manager.{HasPlainTexts}
-use Rattle.part_worlds.proofs.managers.make.Given as goal
-
-abbrev pub invariant-loop-call : goal.invariant-loop-call
-invariant-loop-call l = HasPlainTexts l.state

@@ -1,0 +1,4 @@
+pub mod EmptyLemmas
+pub mod FallenLemmas
+pub mod NoUnitLemmas
+mod Silence

@@ -1,0 +1,48 @@
+//! What a folder's host reads, and what another one's acts have left.
+use super::files::show_manager;
+use crate::outcome::{show_faults, show_told, word_of};
+use host_folder::FolderHost;
+use host_trait::{HostFault, Manager};
+use std::alloc::Global;
+use std::test::Fail;
+use switch_names::UnitName;
+use world_text::Lines;
+
+/// Loads definitions, and starts a unit.
+fn load_and_start<M: Manager>(
+    alloc: Global,
+    host: &mut M,
+    unit: &UnitName,
+) -> Result<(), HostFault> {
+    host.daemon_reload(alloc)?;
+    host.start(alloc, unit)
+}
+
+/// Shows what a new host tells of a unit, how it then starts it, and its faults before and after each.
+fn show_start(
+    alloc: Global,
+    lines: &mut Lines,
+    host: &mut FolderHost<HostRuntime>,
+    unit: &UnitName,
+) -> Result<(), Fail> {
+    show_faults(lines, host.faults());
+    show_told(alloc, lines, host, unit)?;
+    show_faults(lines, host.faults());
+    lines.add_word("start");
+    lines.add_word(word_of(&load_and_start(alloc, host, unit))?);
+    show_faults(lines, host.faults());
+    Ok(())
+}
+
+/// Shows the start of a unit over a root, and the text of the manager's state that is left there.
+pub fn show_opened(
+    rt: &HostRuntime,
+    lines: &mut Lines,
+    root: &str,
+    unit: &str,
+) -> Result<(), Fail> {
+    let unit = UnitName::parse(rt.alloc(), unit)?;
+    let mut host = FolderHost::open(rt, root)?;
+    show_start(rt.alloc(), lines, &mut host, &unit)?;
+    show_manager(rt, lines, root)
+}

@@ -1,0 +1,89 @@
+//! Steps on a host over a folder: leaves are put and removed, definitions loaded, and units called.
+use host_folder::FolderHost;
+use host_trait::{HostFault, Leaf, Manager, Tree, stage_path};
+use node_text::read_node;
+use std::alloc::Global;
+use std::rt::Files;
+use std::test::Fail;
+use switch_names::{Bytes, Path, UnitName};
+use world_text::{misread, text_of};
+
+/// Puts a leaf at a path by way of the stage, which is no such path.
+fn put<R: Files + AllocGlobal + Clone + Drop>(
+    alloc: Global,
+    host: &mut FolderHost<R>,
+    leaf: &Leaf,
+    at: &Path,
+) -> Result<(), HostFault> {
+    let stage = stage_path(alloc)?;
+    if *at == stage {
+        return Err(HostFault::Device);
+    }
+    host.write_stage(alloc, leaf)?;
+    host.rename_stage(alloc, at)
+}
+
+/// Does the act of a word to a unit.
+fn act<R: Files + AllocGlobal + Clone + Drop>(
+    alloc: Global,
+    host: &mut FolderHost<R>,
+    word: &str,
+    unit: &UnitName,
+) -> Result<Result<(), HostFault>, Fail> {
+    match word {
+        "start" => Ok(host.start(alloc, unit)),
+        "stop" => Ok(host.stop(alloc, unit)),
+        "restart" => Ok(host.restart(alloc, unit)),
+        "reload" => Ok(host.reload(alloc, unit)),
+        _ => misread(),
+    }
+}
+
+/// Takes a step that is no put: a leaf is written to the stage or removed, definitions are loaded, or a unit
+/// is called.
+fn take_other<R: Files + AllocGlobal + Clone + Drop>(
+    alloc: Global,
+    host: &mut FolderHost<R>,
+    word: &str,
+    given: &Bytes,
+) -> Result<Result<(), HostFault>, Fail> {
+    match word {
+        "stage" => Ok(host.write_stage(alloc, &read_node(alloc, given.as_slice())?)),
+        "remove" => Ok(host.remove(alloc, &Path::parse(alloc, text_of(given)?)?)),
+        "load" => Ok(host.daemon_reload(alloc)),
+        _ => act(alloc, host, word, &UnitName::parse(alloc, text_of(given)?)?),
+    }
+}
+
+/// Takes a step: its word, and what that is about. After `tree/` it is a path, where a leaf is put.
+pub fn take<R: Files + AllocGlobal + Clone + Drop>(
+    alloc: Global,
+    host: &mut FolderHost<R>,
+    step: &[Bytes],
+) -> Result<Result<(), HostFault>, Fail> {
+    let [word, given] = step else {
+        return misread();
+    };
+    let word = text_of(word)?;
+    match word.strip_prefix("tree/") {
+        Some(at) => {
+            let leaf = read_node(alloc, given.as_slice())?;
+            Ok(put(alloc, host, &leaf, &Path::parse(alloc, at)?))
+        }
+        None => take_other(alloc, host, word, given),
+    }
+}
+
+/// Takes steps in turn, as far as none fails.
+pub fn take_all<R: Files + AllocGlobal + Clone + Drop>(
+    alloc: Global,
+    host: &mut FolderHost<R>,
+    steps: &[Bytes],
+) -> Result<Result<(), HostFault>, Fail> {
+    for step in steps.chunks(2) {
+        if let Err(fault) = take(alloc, host, step)? {
+            return Ok(Err(fault));
+        }
+    }
+    Ok(Ok(()))
+}

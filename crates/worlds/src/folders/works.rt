@@ -1,0 +1,89 @@
+//! What steps on a host leave in its folder.
+use super::files::{show_file, show_manager};
+use super::steps::{take, take_all};
+use host_folder::FolderHost;
+use host_trait::Tree;
+use std::alloc::Global;
+use std::fs;
+use std::test::Fail;
+use switch_names::{Bytes, Path};
+use world_text::{Lines, misread, text_of};
+
+/// Shows the paths of the leaves below one.
+fn show_paths<T: Tree>(
+    alloc: Global,
+    lines: &mut Lines,
+    host: &mut T,
+    under: &str,
+) -> Result<(), Fail> {
+    let under = Path::parse(alloc, under)?;
+    let paths = host.list(alloc, &under)?;
+    for path in paths.as_slice() {
+        lines.add_word(path.as_str());
+        lines.end_line();
+    }
+    Ok(())
+}
+
+/// Takes steps in a root, and shows the paths of the leaves then, and the manager's file.
+pub fn show_work(
+    rt: &HostRuntime,
+    lines: &mut Lines,
+    root: &str,
+    steps: &[Bytes],
+) -> Result<(), Fail> {
+    let mut host = FolderHost::open(rt, root)?;
+    take_all(rt.alloc(), &mut host, steps)??;
+    show_paths(rt.alloc(), lines, &mut host, "etc")?;
+    show_paths(rt.alloc(), lines, &mut host, "nix")?;
+    show_manager(rt, lines, root)
+}
+
+/// Takes a step in a root, and shows the manager's file then, below the step.
+fn show_step(
+    rt: &HostRuntime,
+    lines: &mut Lines,
+    root: &str,
+    host: &mut FolderHost<HostRuntime>,
+    step: &[Bytes],
+) -> Result<(), Fail> {
+    take(rt.alloc(), host, step)??;
+    lines.add_word("after");
+    for field in step {
+        lines.add_word(text_of(field)?);
+    }
+    lines.end_line();
+    show_manager(rt, lines, root)
+}
+
+/// Takes steps in a root, and shows the manager's file after each.
+pub fn show_steps(
+    rt: &HostRuntime,
+    lines: &mut Lines,
+    root: &str,
+    steps: &[Bytes],
+) -> Result<(), Fail> {
+    let mut host = FolderHost::open(rt, root)?;
+    for step in steps.chunks(2) {
+        show_step(rt, lines, root, &mut host, step)?;
+    }
+    Ok(())
+}
+
+/// Gives a file of a root a second name, takes steps, and shows what each name has then.
+pub fn show_second_name(
+    rt: &HostRuntime,
+    lines: &mut Lines,
+    root: &str,
+    fields: &[Bytes],
+) -> Result<(), Fail> {
+    let [file, name, steps @ ..] = fields else {
+        return misread();
+    };
+    let file = format!(in rt.alloc(); "{root}/{}", text_of(file)?)?;
+    fs::hard_link(rt, file.as_str(), text_of(name)?)?;
+    let mut host = FolderHost::open(rt, root)?;
+    take_all(rt.alloc(), &mut host, steps)??;
+    show_file(rt, lines, file.as_str())?;
+    show_file(rt, lines, text_of(name)?)
+}

@@ -1,0 +1,48 @@
+//! What specifications declare of accounts, by the options `users.users` and `users.groups` of the NixOS
+//! manual.
+use crate::writing::{show_value, show_words};
+use std::alloc::Global;
+use users_spec::{GroupSpec, Spec, UserSpec};
+use world_text::Lines;
+
+/// Shows a group: its name, its id and its members.
+fn show_group(lines: &mut Lines, group: &GroupSpec) {
+    lines.add_word("group");
+    lines.add_word(group.name.as_str());
+    lines.add_value(&group.gid);
+    show_words(lines, group.members.as_slice());
+}
+
+/// Shows a user: its name, its id and its group, of which kind it is, its texts and its hashes.
+fn show_user(lines: &mut Lines, user: &UserSpec) {
+    lines.add_word("user");
+    lines.add_word(user.name.as_str());
+    lines.add_value(&user.uid);
+    lines.add_word(user.group.as_str());
+    lines.add_word(if user.system { "system" } else { "normal" });
+    lines.add_value(&user.description.as_str());
+    lines.add_value(&user.home.as_str());
+    lines.add_value(&user.shell.as_str());
+    lines.add_value(&user.hashed);
+    show_value(lines, &user.initial);
+}
+
+/// Shows whether other accounts stay, and the accounts in the order of declaration.
+fn show_accounts(lines: &mut Lines, spec: &Spec) {
+    lines.add_word(if spec.mutable() { "mutable" } else { "fixed" });
+    lines.end_line();
+    for group in spec.groups().as_slice() {
+        show_group(lines, group);
+    }
+    for user in spec.users().as_slice() {
+        show_user(lines, user);
+    }
+}
+
+/// Shows what a specification declares, or its fault.
+pub fn show_spec(alloc: Global, lines: &mut Lines, text: &[u8]) {
+    match Spec::read(alloc, text) {
+        Ok(spec) => show_accounts(lines, &spec),
+        Err(fault) => show_value(lines, &fault),
+    }
+}

@@ -1,0 +1,64 @@
+//! The calls by which what is owed is given.
+use crate::fields::names_of;
+use crate::writing::show_names;
+use host_memory::MemoryHost;
+use host_trait::States;
+use owed_lists::{Lists, load};
+use owed_plan::{Owed, calls, plan};
+use std::alloc::{AllocError, Global};
+use std::test::Fail;
+use switch_names::{Bytes, Listed};
+use unit_defs::Defs;
+use world_text::{Lines, misread};
+
+/// Shows the units that are left, and the calls in some states, a line each.
+fn show_calls(
+    alloc: Global,
+    lines: &mut Lines,
+    owed: &Owed,
+    states: &States,
+) -> Result<(), AllocError> {
+    show_names(lines, "left", owed.left.as_slice());
+    let duties = calls(alloc, owed, states)?;
+    for duty in duties.as_slice() {
+        lines.add_value(&duty.act);
+        lines.add_word(duty.unit.as_str());
+        lines.end_line();
+    }
+    Ok(())
+}
+
+/// Shows the units that are left, and the calls of what five fields give.
+pub fn show_calls_of(
+    alloc: Global,
+    lines: &mut Lines,
+    states: &States,
+    given: &[Bytes],
+) -> Result<(), Fail> {
+    let [stops, reloads, restarts, starts, left, ..] = given else {
+        return misread();
+    };
+    let owed = Owed {
+        stops: names_of(alloc, stops)?,
+        reloads: names_of(alloc, reloads)?,
+        restarts: names_of(alloc, restarts)?,
+        starts: names_of(alloc, starts)?,
+        left: names_of(alloc, left)?,
+    };
+    Ok(show_calls(alloc, lines, &owed, states)?)
+}
+
+/// What is owed between two systems without units.
+fn owed_without_units(alloc: Global, states: &States, lists: &Lists) -> Result<Owed, AllocError> {
+    let none = Defs::none(alloc);
+    plan(alloc, &none, &none, states, lists, &Listed::new(alloc))
+}
+
+/// Shows the units that are left between two systems without units, and the calls, by the states and
+/// the lists of a host.
+pub fn show_owed(alloc: Global, lines: &mut Lines, host: &mut MemoryHost) -> Result<(), Fail> {
+    let lists = load(alloc, host)?;
+    let states = host.world().states();
+    let owed = owed_without_units(alloc, states, &lists)?;
+    Ok(show_calls(alloc, lines, &owed, states)?)
+}
