@@ -1,5 +1,5 @@
 -- Rows and the fields of their lines.
-use Rattle.std.proofs.Common.{◌≡◌, ℕ, ◌<◌, ◌&&◌, Bool, true, false, cond, not, List, [], ◌∷◌, length, filter, ◌==◌, Option, None, Some, option_map, option_and_then, refl, sym, ap, ◌∙◌, arith}
+use Rattle.std.proofs.Common.{◌≡◌, ℕ, ◌≢◌, ◌≤◌, ◌&&◌, Bool, true, false, cond, not, List, [], ◌∷◌, length, filter, ◌==◌, Option, None, Some, option_map, option_and_then, refl, sym, ap, ◌∙◌, arith}
 use Rattle.std.specs.List.{count_by, join_with_byte, list_all, list_any, slice_split}
 use Rattle.std.proofs.lemmas.Bool.{and_parts, and_from, eqb-true, eq-eqb, ne_eqb}
 use Rattle.std.proofs.lemmas.List.Splits.{join_with_byte-slice_split, length-slice_split}
@@ -13,25 +13,44 @@ use Rattle.account_text.specs.Shadow.{shadow_row, is_shadow_row}
 use Rattle.account_text.proofs.FieldLemmas.{low_id, joined_lacks, parts_lack, parts_uncut, split_joined}
 use Rattle.account_text.proofs.FirstLemmas.{not_true}
 
--- ---- too many fields
+-- ---- too few or too many fields
 
-pub long_passwd : (a b c d e f : List ℕ) (rest : List (List ℕ)) → 1 < length rest → passwd_row (a ∷ b ∷ c ∷ d ∷ e ∷ f ∷ rest) ≡ None
-long_passwd a b c d e f [] more = absurd (omega arith)
-long_passwd a b c d e f (g ∷ []) more = absurd (let none : ⊥ = omega arith in none)
-long_passwd a b c d e f (g ∷ h ∷ rest) more = refl
+pub other_passwd : (parts : List (List ℕ)) → length parts ≢ 7 → passwd_row parts ≡ None
+other_passwd [] other = refl
+other_passwd (a ∷ []) other = refl
+other_passwd (a ∷ (b ∷ [])) other = refl
+other_passwd (a ∷ (b ∷ (c ∷ []))) other = refl
+other_passwd (a ∷ (b ∷ (c ∷ (d ∷ [])))) other = refl
+other_passwd (a ∷ (b ∷ (c ∷ (d ∷ (e ∷ []))))) other = refl
+other_passwd (a ∷ (b ∷ (c ∷ (d ∷ (e ∷ (f ∷ [])))))) other = refl
+other_passwd (a ∷ (b ∷ (c ∷ (d ∷ (e ∷ (f ∷ (g ∷ []))))))) other = absurd (other refl)
+other_passwd (a ∷ (b ∷ (c ∷ (d ∷ (e ∷ (f ∷ (g ∷ (h ∷ rest)))))))) other = refl
 
-pub long_group : (a b c : List ℕ) (rest : List (List ℕ)) → 1 < length rest → group_row (a ∷ b ∷ c ∷ rest) ≡ None
-long_group a b c [] more = absurd (omega arith)
-long_group a b c (d ∷ []) more = absurd (omega arith)
-long_group a b c (d ∷ e ∷ rest) more = refl
+pub other_group : (parts : List (List ℕ)) → length parts ≢ 4 → group_row parts ≡ None
+other_group [] other = refl
+other_group (a ∷ []) other = refl
+other_group (a ∷ (b ∷ [])) other = refl
+other_group (a ∷ (b ∷ (c ∷ []))) other = refl
+other_group (a ∷ (b ∷ (c ∷ (d ∷ [])))) other = absurd (other refl)
+other_group (a ∷ (b ∷ (c ∷ (d ∷ (e ∷ rest))))) other = refl
+
+abbrev pub shadow_with : List ℕ → List ℕ → List ℕ → Option ShadowRow
+shadow_with name password rest = Some (record { name = name; password = password; rest = rest })
+
+pub few_shadow : (parts : List (List ℕ)) → length parts ≤ 2 → shadow_row parts ≡ None
+few_shadow [] few = refl
+few_shadow (a ∷ []) few = refl
+few_shadow (a ∷ (b ∷ [])) few = none (not (is_empty a))
+  where
+    none : (some : Bool) → cond (some && false) (shadow_with a b []) None ≡ None
+    none true = refl
+    none false = refl
+few_shadow (a ∷ (b ∷ (c ∷ rest))) few = absurd (omega arith)
 
 -- ---- the fields of a line of shadow
 
 seven : (rest : List ℕ) → count_by is_colon rest ≡ 6 → (length (fields rest) == 7) ≡ true
 seven rest six = eq-eqb (length (fields rest)) 7 (omega (arith, length-slice_split is_colon rest))
-
-abbrev pub shadow_with : List ℕ → List ℕ → List ℕ → Option ShadowRow
-shadow_with name password rest = Some (record { name = name; password = password; rest = rest })
 
 pub shadow_read : (name password rest : List ℕ) → is_empty name ≡ false → count_by is_colon rest ≡ 6 → shadow_row (name ∷ password ∷ fields rest) ≡ shadow_with name password rest
 shadow_read name password rest some six =

@@ -1,8 +1,11 @@
 -- What is read is sound, and what is written of sound rows is read as those.
-use Rattle.std.proofs.Common.{◌≡◌, ℕ, ◌+◌, ◌&&◌, Bool, true, false, cond, not, List, [], ◌∷◌, ◌++◌, map, min, Option, None, Some, option_map, is_none, refl, sym, ap, ◌∙◌, append_assoc, Result, Ok, Err, IfOk, OnOk}
+use Rattle.std.proofs.Common.{◌≡◌, ℕ, ◌+◌, ◌<◌, ◌&&◌, Bool, true, false, cond, not, List, [], ◌∷◌, ◌++◌, get_or, length, map, min, take, Option, None, Some, option_map, is_none, refl, sym, ap, ◌∙◌, append_assoc, Result, Ok, Err, IfOk, OnOk}
 use Rattle.std.specs.List.{filter_map, cons_option, list_any, list_all, position}
 use Rattle.std.specs.Str.{is_utf8}
 use Rattle.std.proofs.lemmas.Bool.{and_parts, and_from, or_from}
+use Rattle.std.proofs.lemmas.List.{append-nil, take_more}
+use Rattle.std.proofs.lemmas.List.Concat.{flat_map-append}
+use Rattle.std.proofs.lemmas.List.Folds.{list_all_more}
 use Rattle.std.proofs.lemmas.List.Splits.{slice_split_at}
 use Rattle.switch_names.specs.Names.{Name}
 use Rattle.account_text.specs.Field.{fields, is_colon, is_empty, is_line_feed, is_plain, lines}
@@ -109,3 +112,20 @@ module _ {Row : Type 0} (row_of : List (List ℕ) → Option Row) (is_sound : Ro
 pub both_ok : {T E : Type 0} (r : Result T E) (P R : T → Type 0) (Q : Type 0) → IfOk r P → OnOk r Q → ((x : T) → P x → Q → R x) → IfOk r R
 both_ok (Ok x) P R Q first second join = join x first second
 both_ok (Err e) P R Q first second join = tt
+
+-- ---- one row more is written
+
+pub written_more : {Row : Type 0} (line_of : Row → List ℕ) (rows : List Row) (i : ℕ) (row : Row) (text new : List ℕ) → i < length rows → row ≡ get_or rows i row
+    → text ≡ table_text line_of (take i rows) → new ≡ text ++ line_of row ++ 10 ∷ [] → new ≡ table_text line_of (take (i + 1) rows)
+written_more line_of rows i row text new within is before after =
+    after
+    ∙ ap (λ t. t ++ line_of row ++ 10 ∷ []) before
+    ∙ append_assoc (table_text line_of (take i rows)) (line_of row) (10 ∷ [])
+    ∙ ap (λ t. table_text line_of (take i rows) ++ t) (sym (append-nil (line_of row ++ 10 ∷ [])))
+    ∙ sym (flat_map-append (λ r. line_of r ++ 10 ∷ []) (take i rows) (row ∷ []))
+    ∙ ap (table_text line_of) (ap (λ r. take i rows ++ r ∷ []) is ∙ sym (take_more rows i row within))
+
+pub utf8_more : {Row : Type 0} (line_of : Row → List ℕ) (rows : List Row) (i : ℕ) (row : Row) → i < length rows → row ≡ get_or rows i row
+    → list_all (λ r. is_utf8 (line_of r)) (take i rows) ≡ true → is_utf8 (line_of row) ≡ true → list_all (λ r. is_utf8 (line_of r)) (take (i + 1) rows) ≡ true
+utf8_more line_of rows i row within is before good =
+    list_all_more (λ r. is_utf8 (line_of r)) rows i row within ∙ and_from _ _ before (ap (λ r. is_utf8 (line_of r)) (sym is) ∙ good)

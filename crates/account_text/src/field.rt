@@ -1,5 +1,5 @@
 //! Fields of a line.
-ghost use Rattle.std.specs.Prelude.{◌≡◌, ◌<◌, ◌∷◌, [], length, MatchOption, IfOk, OnOk, ◌++◌, string_bytes, filter, not};
+ghost use Rattle.std.specs.Prelude.{◌≡◌, ◌<◌, ◌≤◌, ◌∷◌, [], length, MatchOption, IfOk, OnOk, ◌++◌, string_bytes, filter, not};
 ghost use Rattle.std.specs.List.{flat_map, join_with_byte};
 ghost use Rattle.std.specs.Str.{all_ascii_digits};
 ghost use Rattle.account_text.specs.Field.{fields, id_of, is_empty, members_of};
@@ -25,6 +25,19 @@ pub fn last_field(text: &str) -> Option<&str>
         Some(_) => None,
         None => Some(text),
     }
+}
+
+/// The first two fields of a text that has more, and the text of the others.
+pub fn cut_two(text: &str) -> Option<(&str, &str, &str)>
+    ensures { MatchOption result (length (fields text.now) ≤ 2) (λ cut. fields text.now ≡ cut.0.now ∷ cut.1.now ∷ fields cut.2.now) }
+{
+    let Some((first, rest)) = cut_field(text) else {
+        return None;
+    };
+    let Some((second, rest)) = cut_field(rest) else {
+        return None;
+    };
+    Some((first, second, rest))
 }
 
 /// Whether a field has nothing but digits.

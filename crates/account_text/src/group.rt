@@ -5,7 +5,7 @@ ghost use Rattle.account_text.specs.Table.{wrong_line};
 ghost use Rattle.account_text.specs.Group.{group_row, group_text, IsGroup, IsSoundGroup};
 ghost use Rattle.account_text.specs.Reading.{group_of};
 
-use crate::field::{cut_field, join_members, last_field, read_id, read_members};
+use crate::field::{cut_field, cut_two, join_members, last_field, read_id, read_members};
 use crate::row_fault::RowFault;
 use crate::table::{Row, read_rows, write_rows};
 use std::alloc::{AllocError, Global};
@@ -48,9 +48,12 @@ struct GroupFields<'a> {
 fn group_fields(line: &str) -> Option<GroupFields<'_>>
     ensures { MatchOption result (group_row (fields line.now) ≡ None) (λ read. group_row (fields line.now) ≡ Some (group_of read)) }
 {
-    let (name, rest) = cut_field(line)?;
-    let (password, rest) = cut_field(rest)?;
-    let (gid, rest) = cut_field(rest)?;
+    let Some((name, password, rest)) = cut_two(line) else {
+        return None;
+    };
+    let Some((gid, rest)) = cut_field(rest) else {
+        return None;
+    };
     let Some(members) = last_field(rest) else {
         return None;
     };

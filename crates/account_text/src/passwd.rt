@@ -1,11 +1,11 @@
 //! User accounts: passwd(5).
-ghost use Rattle.std.specs.Prelude.{◌≡◌, ℕ, None, Some, IfOk, OnOk, IsErrOf, MatchOption};
+ghost use Rattle.std.specs.Prelude.{◌≡◌, ◌≢◌, ◌∷◌, [], ℕ, length, None, Some, IfOk, OnOk, IsErrOf, MatchOption};
 ghost use Rattle.account_text.specs.Field.{fields};
 ghost use Rattle.account_text.specs.Table.{wrong_line};
 ghost use Rattle.account_text.specs.Passwd.{passwd_row, passwd_text, IsPasswd, IsSoundPasswd};
 ghost use Rattle.account_text.specs.Reading.{passwd_of};
 
-use crate::field::{cut_field, last_field, read_id};
+use crate::field::{cut_field, cut_two, last_field, read_id};
 use crate::row_fault::RowFault;
 use crate::table::{Row, read_rows, write_rows};
 use std::alloc::{AllocError, Global};
@@ -56,17 +56,31 @@ struct PasswdFields<'a> {
     shell: &'a str,
 }
 
+/// The fields of a text that has three.
+fn three_fields(text: &str) -> Option<(&str, &str, &str)>
+    ensures { MatchOption result (length (fields text.now) ≢ 3) (λ cut. fields text.now ≡ cut.0.now ∷ cut.1.now ∷ cut.2.now ∷ []) }
+{
+    let Some((gecos, rest)) = cut_field(text) else {
+        return None;
+    };
+    let (home, rest) = cut_field(rest)?;
+    let Some(shell) = last_field(rest) else {
+        return None;
+    };
+    Some((gecos, home, shell))
+}
+
 /// The fields of a row's line.
 fn passwd_fields(line: &str) -> Option<PasswdFields<'_>>
     ensures { MatchOption result (passwd_row (fields line.now) ≡ None) (λ read. passwd_row (fields line.now) ≡ Some (passwd_of read)) }
 {
-    let (name, rest) = cut_field(line)?;
-    let (password, rest) = cut_field(rest)?;
-    let (uid, rest) = cut_field(rest)?;
-    let (gid, rest) = cut_field(rest)?;
-    let (gecos, rest) = cut_field(rest)?;
-    let (home, rest) = cut_field(rest)?;
-    let Some(shell) = last_field(rest) else {
+    let Some((name, password, rest)) = cut_two(line) else {
+        return None;
+    };
+    let Some((uid, gid, rest)) = cut_two(rest) else {
+        return None;
+    };
+    let Some((gecos, home, shell)) = three_fields(rest) else {
         return None;
     };
     if name.is_empty() {

@@ -5,7 +5,7 @@ ghost use Rattle.account_text.specs.Table.{wrong_line};
 ghost use Rattle.account_text.specs.Shadow.{shadow_row, shadow_text, IsShadow, IsSoundShadow};
 ghost use Rattle.account_text.specs.Reading.{shadow_of};
 
-use crate::field::cut_field;
+use crate::field::cut_two;
 use crate::row_fault::RowFault;
 use crate::table::{Row, read_rows, write_rows};
 use std::alloc::{AllocError, Global};
@@ -51,8 +51,9 @@ fn count_colons(text: &str) -> usize
 fn shadow_fields(line: &str) -> Option<ShadowFields<'_>>
     ensures { MatchOption result (shadow_row (fields line.now) ≡ None) (λ read. shadow_row (fields line.now) ≡ Some (shadow_of read)) }
 {
-    let (name, rest) = cut_field(line)?;
-    let (password, rest) = cut_field(rest)?;
+    let Some((name, password, rest)) = cut_two(line) else {
+        return None;
+    };
     if name.is_empty() {
         return None;
     }
