@@ -1,7 +1,7 @@
 -- What loops have collected, with one item more.
-use Rattle.std.proofs.Common.{◌≡◌, ◌⊎◌, ℕ, ◌+◌, ◌<◌, ◌&&◌, Bool, true, false, not, cond, List, [], ◌∷◌, ◌++◌, length, get_or, take, drop, map, Option, None, Some, is_some, Result, Ok, Err, IfErr, refl, sym, ap, ◌∙◌, inl, inr, append_assoc}
+use Rattle.std.proofs.Common.{◌≡◌, ◌⊎◌, ℕ, ◌+◌, ◌<◌, ◌&&◌, Bool, true, false, not, cond, List, [], ◌∷◌, ◌++◌, length, get_or, take, drop, map, Option, None, Some, is_some, filter, Result, Ok, Err, IfErr, refl, sym, ap, ◌∙◌, inl, inr, append_assoc}
 use Rattle.std.proofs.lemmas.List.{drop_more, take-append-drop, take_more}
-use Rattle.std.proofs.lemmas.List.Elements.{filter_map-append}
+use Rattle.std.proofs.lemmas.List.Elements.{filter-append, filter_map-append}
 use Rattle.std.specs.List.{filter_map}
 use Rattle.std.specs.Result.{IsErrAnd}
 use Rattle.switch_names.specs.Names.{Name, has}
@@ -88,3 +88,12 @@ module _ (gids : Name → Option ℕ) where
 pub stays_are : (mutable other : Bool) (declared now earlier before : List Name) (name : Name) → mutable ≡ other → has declared name ≡ has now name → has earlier name ≡ has before name →
     undeclared mutable declared earlier name ≡ undeclared other now before name
 stays_are mutable other declared now earlier before name same one two = λ i. same i && not (one i) && not (two i)
+
+-- rows that stay, with those of one row more
+pub staying_next : {Row : Type 0} (stays : Row → Bool) (rows : List Row) (i : ℕ) (row : Row) (first old new : List Row) → i < length rows → row ≡ get_or rows i row
+    → old ≡ first ++ filter stays (take i rows) → new ≡ old ++ filter stays (row ∷ []) → new ≡ first ++ filter stays (take (i + 1) rows)
+staying_next stays rows i row first old new within is before after =
+    after
+    ∙ ap (λ l. l ++ filter stays (row ∷ [])) before
+    ∙ append_assoc first (filter stays (take i rows)) (filter stays (row ∷ []))
+    ∙ ap (λ l. first ++ l) (sym (filter-append stays (take i rows) (row ∷ [])) ∙ ap (filter stays) (ap (λ r. take i rows ++ r ∷ []) is ∙ sym (take_more rows i row within)))

@@ -55,12 +55,23 @@ returns-in_default-clause-bounded g c = λ rows wanted.
     subst (λ (ids : List ℕ). AllByRecursion IsId ids) (sym (returns-in_default-clause-ids g c))
     (give_bounded (row_ids g.R.Named.name_of g.R.Numbered.id_of c.args.table.now) c.args.known.now rows c.in_ok-taken.ensures.are_ids (map g.D.Declaration.asked c.args.accounts.now) _ wanted)
 
+pub returns-in_default-clause-accounts : goal.returns-in_default-clause-accounts
+returns-in_default-clause-accounts g c = c.loop-account.invariant.accounts ∙ ap (λ n. take n c.args.accounts.now) (sym c.loop-account.invariant.size)
+
+pub returns-clause-accounts : goal.returns-clause-accounts
+returns-clause-accounts g c = c.loop-account.invariant.accounts ∙ ap (λ n. take n c.args.accounts.now) (sym c.loop-account.invariant.size)
+
+pub returns-clause-ids : goal.returns-clause-ids
+returns-clause-ids g c =
+    let asked = g.D.Declaration.asked in
+    let start = used_ids (map g.R.Numbered.id_of c.args.table.now) (map asked c.args.accounts.now) in
+    let named = row_ids g.R.Named.name_of g.R.Numbered.id_of c.args.table.now in
+    give_all asked named c.args.known.now c.args.accounts.now c.loop-account.account-index start (given_ids c.loop-account.given.items) (give named c.args.known.now start (map asked c.args.accounts.now))
+    c.loop-account-test.false c.loop-account.invariant.ids
+
 pub returns-clause-bounded : goal.returns-clause-bounded
 returns-clause-bounded g c = λ rows wanted.
     let asked = g.D.Declaration.asked in
     let start = used_ids (map g.R.Numbered.id_of c.args.table.now) (map asked c.args.accounts.now) in
     let named = row_ids g.R.Named.name_of g.R.Numbered.id_of c.args.table.now in
-    subst (λ (ids : List ℕ). AllByRecursion IsId ids)
-    (sym (give_all asked named c.args.known.now c.args.accounts.now c.loop-account.account-index start (given_ids c.loop-account.given.items) (give named c.args.known.now start (map asked c.args.accounts.now))
-    c.loop-account-test.false c.loop-account.invariant.ids))
-    (give_bounded named c.args.known.now rows c.in_ok-taken.ensures.are_ids (map asked c.args.accounts.now) start wanted)
+    subst (λ (ids : List ℕ). AllByRecursion IsId ids) (sym (returns-clause-ids g c)) (give_bounded named c.args.known.now rows c.in_ok-taken.ensures.are_ids (map asked c.args.accounts.now) start wanted)
