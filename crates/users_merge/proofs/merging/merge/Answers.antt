@@ -1,4 +1,4 @@
-use Rattle.std.proofs.Common.{◌≡◌, List, map, sym, ap, subst, ◌∙◌}
+use Rattle.std.proofs.Common.{◌≡◌, ◌++◌, true, false, List, map, option_map, sym, ap, subst, ◌∙◌, inl, inr}
 use Rattle.std.specs.FinMap.{get}
 use Rattle.std.specs.List.{AllByRecursion}
 use Rattle.std.specs.Option.{option_or}
@@ -10,11 +10,14 @@ use Rattle.users_spec.specs.declared.group_spec.GroupSpec.{GroupSpec}
 use Rattle.users_spec.specs.declared.user_spec.UserSpec.{UserSpec}
 use Rattle.users_merge.specs.Account.{group_account, id_of, user_account}
 use Rattle.users_merge.specs.Given.{IsId, given_accounts, given_ids}
+use Rattle.users_merge.specs.Merge.{gid_of, kept_of, user_fault, user_ids}
 use Rattle.users_merge.specs.ShadowRows.{merged_shadow}
 use Rattle.users_merge.specs.Sides.{AreGroups, AreUsers}
 use Rattle.users_merge.specs.Stored.{stored_of}
 use Rattle.users_merge.specs.declared.giving.Given.{Given}
+use Rattle.users_merge.specs.declared.merge_fault.MergeFault.TheVariants.{NoFreeId}
 use Rattle.users_merge.specs.declared.merged.Merged.{Merged}
+use Rattle.users_merge.proofs.CollectedLemmas.{handed}
 use Rattle.users_merge.proofs.SideLemmas.{are_in_order, is_merge, is_sound}
 use Rattle.users_merge.proofs.merging.merge.Goals as goal
 use Rattle.users_merge.proofs.merging.merge.Goals.{In_ok-declared_now}
@@ -75,3 +78,32 @@ pub returns-clause-sound : goal.returns-clause-sound
 returns-clause-sound c =
     is_sound c.args.spec.now c.args.tables.now c.args.remembered.now c.args.declared.now c.in_ok-groups.groups.given.items c.in_ok-users.users.given.items c.into_rows-group.result.items c.into_rows-passwd.result.items
     (groups c) (users c) (answer c) (group_order c) (passwd_order c) (shadow c) c.in_ok-users.ensures.sound c.requires.shadow
+
+pub returns-clause-kept : goal.returns-clause-kept
+returns-clause-kept c =
+    let g = c.in_ok-groups.ensures.ok in
+    let u = c.in_ok-users.ensures.ok in
+    c.in_ok-kept.ensures
+    ∙ (λ i.
+    kept_of false (map group_account (given_accounts (c.as_slice-3.ensures.value i))) (given_ids (c.as_slice-3.ensures.value i))
+    ++ kept_of true (map user_account (given_accounts (c.as_slice-4.ensures.value i))) (given_ids (c.as_slice-4.ensures.value i)))
+    ∙ (λ i. kept_of false (map group_account (g.accounts i)) (g.ids i) ++ kept_of true (map user_account (u.accounts i)) (u.ids i))
+
+pub returns-in_err-groups-clause-fault : goal.returns-in_err-groups-clause-fault
+returns-in_err-groups-clause-fault c =
+    let s = stored_of c.args.tables.now c.args.remembered.now c.args.declared.now in
+    handed _ _ _ c.from_residual.ensures.1
+    (elim c.in_err-groups.ensures.fault [
+      | inl memory ↦ inl memory
+      | inr is ↦ inr (ap (λ o. option_or o (user_fault (gid_of c.args.spec.now s) c.args.spec.now.users (user_ids c.args.spec.now s))) is)
+    ])
+
+pub returns-in_err-users-clause-fault : goal.returns-in_err-users-clause-fault
+returns-in_err-users-clause-fault c =
+    let s = stored_of c.args.tables.now c.args.remembered.now c.args.declared.now in
+    handed _ _ _ c.from_residual-in_err-users.ensures.1
+    (elim c.in_err-users.ensures.fault [
+      | inl memory ↦ inl memory
+      | inr is ↦
+          inr (ap (λ none. option_or (option_map NoFreeId none) (user_fault (gid_of c.args.spec.now s) c.args.spec.now.users (user_ids c.args.spec.now s))) c.in_ok-groups.ensures.ok.fine ∙ is)
+    ])
