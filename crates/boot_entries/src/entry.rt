@@ -6,7 +6,7 @@ ghost use Rattle.boot_entries.specs.Places.{entries_folder, entry_path, loader_p
 
 use host_trait::fixed_path;
 use std::alloc::{AllocError, Global};
-use switch_names::{Bytes, NameFault, Path, SystemName, Text};
+use switch_names::{Bytes, Path, SystemName, Text};
 
 /// The folder of the entries.
 #[tactic(auto, unfolding(crate::specs::Places::entries_folder))]
@@ -30,7 +30,10 @@ pub fn entry_path(alloc: Global, number: u32) -> Result<Path, AllocError>
     ensures { IfOk result (λ path. path ≡ entry_path number) }
 {
     let text = format!(in alloc; "boot/loader/entries/nixos-generation-{number}.conf")?;
-    Path::parse(alloc, text.as_str()).map_err(|_fault: NameFault| AllocError)
+    match Path::parse(alloc, text.as_str()) {
+        Ok(path) => Ok(path),
+        Err(_) => Err(AllocError),
+    }
 }
 
 /// Where a system keeps its version.
@@ -39,10 +42,10 @@ pub fn version_path(alloc: Global, system: &SystemName) -> Result<Path, AllocErr
     ensures { IfOk result (λ path. path ≡ version_path system.now) }
 {
     // The path of a system has 265 bytes at most, so that memory alone can be wanting.
-    system
-        .path()
-        .join(alloc, "nixos-version")
-        .map_err(|_fault: NameFault| AllocError)
+    match system.path().join(alloc, "nixos-version") {
+        Ok(path) => Ok(path),
+        Err(_) => Err(AllocError),
+    }
 }
 
 /// Where a system keeps the parameters of its kernel.
@@ -50,10 +53,10 @@ pub fn version_path(alloc: Global, system: &SystemName) -> Result<Path, AllocErr
 pub fn params_path(alloc: Global, system: &SystemName) -> Result<Path, AllocError>
     ensures { IfOk result (λ path. path ≡ params_path system.now) }
 {
-    system
-        .path()
-        .join(alloc, "kernel-params")
-        .map_err(|_fault: NameFault| AllocError)
+    match system.path().join(alloc, "kernel-params") {
+        Ok(path) => Ok(path),
+        Err(_) => Err(AllocError),
+    }
 }
 
 /// Whether a byte is a line feed.
