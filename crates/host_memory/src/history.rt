@@ -14,7 +14,6 @@ use std::alloc::{AllocError, Global};
 use switch_names::{Path, Text, UnitName};
 
 /// A changing call that has finished, with the leaf, state or text that it replaced.
-#[derive(Drop)]
 pub(crate) enum DoneCall {
     /// A leaf was written at the stage.
     Staged(Option<Leaf>),
@@ -28,6 +27,20 @@ pub(crate) enum DoneCall {
     Halted(UnitName, State),
     /// Other definitions were loaded than these.
     Loaded(Text),
+}
+
+/// One call: a derived drop is proved anew in each function that lets one go.
+impl Drop for DoneCall {
+    fn drop(self) {
+        match self {
+            DoneCall::Staged(_) => {}
+            DoneCall::Renamed(_, _) => {}
+            DoneCall::Removed(_, _) => {}
+            DoneCall::Performed(_, _) => {}
+            DoneCall::Halted(_, _) => {}
+            DoneCall::Loaded(_) => {}
+        }
+    }
 }
 
 /// A world, and the calls that changed it, the oldest first.
