@@ -35,7 +35,12 @@ fn fill<F: Read>(file: &mut F, buffer: &mut [u8]) -> io::Result<usize> {
 
 /// Whether some bytes begin with one of these marks.
 fn has_mark(bytes: &[u8], marks: &[&str]) -> bool {
-    marks.iter().any(|mark| bytes.starts_with(mark.as_bytes()))
+    for mark in marks {
+        if bytes.starts_with(mark.as_bytes()) {
+            return true;
+        }
+    }
+    false
 }
 
 /// Whether a file begins with one of these marks. It is then read from its beginning.

@@ -63,7 +63,12 @@ pub fn fault_of(error: &io::Error) -> HostFault
 
 /// Whether a name of a place is too long to stand anywhere.
 fn has_long_name(place: &str) -> bool {
-    place.split('/').any(|name| name.len() > NAME_MAX)
+    for name in place.split('/') {
+        if name.len() > NAME_MAX {
+            return true;
+        }
+    }
+    false
 }
 
 /// What is found by these metadata. A symbolic link or a special file is foreign.
