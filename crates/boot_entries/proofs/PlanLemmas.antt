@@ -3,11 +3,12 @@ use Rattle.std.proofs.Common.{◌≡◌, ℕ, ◌+◌, ◌<◌, List, [], ◌∷
 use Rattle.std.proofs.lemmas.List.{take_more}
 use Rattle.std.proofs.lemmas.List.Elements.{filter_map-append}
 use Rattle.std.specs.List.{cons_option}
-use Rattle.std.specs.Prelude.{option_to_list}
+use Rattle.std.specs.Prelude.{option_map, option_to_list}
 use Rattle.generations.specs.declared.gens.Gen.{Gen}
 use Rattle.host_trait.specs.World.{Leaves}
 use Rattle.boot_entries.specs.declared.boot_texts.BootFile.{BootFile}
-use Rattle.boot_entries.specs.Texts.{entries_of, entry_if}
+use Rattle.switch_names.specs.Names.{Name}
+use Rattle.boot_entries.specs.Texts.{entries_of, entry_if, entry_of}
 
 one_file : (file : Option BootFile) → option_to_list file ≡ cons_option file []
 one_file None = refl
@@ -21,3 +22,10 @@ entries_more leaves list i gen before after inside is were more =
     ∙ ap (λ (files : List BootFile). entries_of leaves (take i list) ++ files) (one_file (entry_if leaves gen))
     ∙ sym (filter_map-append (entry_if leaves) (take i list) (gen ∷ []))
     ∙ ap (entries_of leaves) (sym (take_more list i gen inside ∙ ap (λ (g : Gen). take i list ++ g ∷ []) (sym is)))
+
+-- the entry of a generation that names a system is the one that there is
+pub one_entry :
+    (leaves : Leaves) (gen : Gen) (system : Name) (entry : BootFile) → gen.target ≡ Some system → entry ≡ entry_of leaves gen.number system →
+    entry ∷ [] ≡ option_to_list (entry_if leaves gen)
+one_entry leaves gen system entry names is =
+    ap (λ (file : BootFile). file ∷ []) is ∙ sym (ap (λ (target : Option Name). option_to_list (option_map (entry_of leaves gen.number) target)) names)
