@@ -1,10 +1,10 @@
-//! Worlds, as lines.
+//! Worlds and faults, as lines.
 use crate::lines::Lines;
 use host_trait::{Act, Leaf, State, World};
 use node_text::write_node;
 use std::alloc::Global;
 use std::test::Fail;
-use switch_names::Path;
+use switch_names::{Path, UnitName};
 
 /// Adds the file of a leaf: its place on a line, and its node's text.
 fn show_leaf(alloc: Global, lines: &mut Lines, at: &Path, leaf: &Leaf) -> Result<(), Fail> {
@@ -75,4 +75,11 @@ pub fn show_journal(lines: &mut Lines, world: &World) {
         lines.add_word(one.loaded.as_str());
         lines.end_line();
     }
+}
+
+/// Shows the unit and the line at which a text is refused.
+pub fn show_fault(lines: &mut Lines, unit: &UnitName, line: u32) {
+    lines.add_word(unit.as_str());
+    lines.add_value(&line);
+    lines.end_line();
 }

@@ -1,6 +1,6 @@
 //! The cases of hosts over folders, and of standard output.
 mod failing;
-pub mod files;
+mod files;
 mod outputs;
 mod starts;
 mod steps;
@@ -13,40 +13,38 @@ use self::troubles::show_troubles;
 use self::works::{show_second_name, show_steps, show_work};
 use std::test::Fail;
 use switch_names::Bytes;
-use world_text::{Lines, text_of};
+use world_text::{Lines, misread, text_of};
 
-/// Shows what a command over a root gives, and answers whether it is one.
+/// Shows what a command over a root gives.
 fn show_root(
     rt: &HostRuntime,
     lines: &mut Lines,
     command: &str,
     root: &str,
     fields: &[Bytes],
-) -> Result<bool, Fail> {
+) -> Result<(), Fail> {
     match (command, fields) {
-        ("open", [unit]) => show_opened(rt, lines, root, text_of(unit)?)?,
-        ("work", steps) => show_work(rt, lines, root, steps)?,
-        ("steps", steps) => show_steps(rt, lines, root, steps)?,
-        ("second name", _) => show_second_name(rt, lines, root, fields)?,
-        _ => return Ok(false),
+        ("open", [unit]) => show_opened(rt, lines, root, unit),
+        ("work", _) => show_work(rt, lines, root, fields),
+        ("steps", _) => show_steps(rt, lines, root, fields),
+        ("second name", _) => show_second_name(rt, lines, root, fields),
+        _ => misread(),
     }
-    Ok(true)
 }
 
-/// Shows what a command of folders and outputs gives, and answers whether it is one.
+/// Shows what a command of folders and outputs gives.
 pub fn show_folder_case(
     rt: &HostRuntime,
     lines: &mut Lines,
     command: &str,
     fields: &[Bytes],
-) -> Result<bool, Fail> {
+) -> Result<(), Fail> {
     match (command, fields) {
-        ("failing calls", _) => show_troubles(rt, lines, fields)?,
-        ("output", [bytes]) => show_output(rt, lines, bytes.as_slice())?,
-        ("interrupted output", [bytes]) => show_interrupted(lines, false, bytes.as_slice())?,
-        ("full output", [bytes]) => show_interrupted(lines, true, bytes.as_slice())?,
-        (_, [root, fields @ ..]) => return show_root(rt, lines, command, text_of(root)?, fields),
-        _ => return Ok(false),
+        ("failing calls", _) => show_troubles(rt, lines, fields),
+        ("output", [bytes]) => show_output(rt, lines, bytes.as_slice()),
+        ("interrupted output", [bytes]) => show_interrupted(lines, false, bytes.as_slice()),
+        ("full output", [bytes]) => show_interrupted(lines, true, bytes.as_slice()),
+        (_, [root, fields @ ..]) => show_root(rt, lines, command, text_of(root)?, fields),
+        _ => misread(),
     }
-    Ok(true)
 }

@@ -1,71 +1,52 @@
-//! All crates from outside, as the cases on standard input try them: their parts, units, what is read of texts
-//! and made of them, whole runs, and hosts over folders.
-//!
-//! Each case that gives something else than it has to is put out by its name, with both, and at the end
-//! how many cases there are.
+//! All crates below the runs from outside, as the cases on standard input try them: their parts, units, what is
+//! read of texts and made of them, and hosts over folders.
 #![tactic(auto)]
 
 mod fields;
 mod folders;
-mod hosts;
 mod outcome;
 mod parts;
-mod runs;
 mod texts;
 mod units;
 mod writing;
 
 use crate::folders::show_folder_case;
 use crate::parts::show_part_case;
-use crate::runs::show_run_case;
 use crate::texts::show_text_case;
 use crate::units::show_unit_case;
 use std::io;
 use std::test::Fail;
 use switch_names::Bytes;
-use world_text::{Case, Lines, Tally, cases_of, misread, text_of};
+use world_text::{Commands, Lines, try_cases};
 
-/// Shows what a command gives, and answers whether there is such a command.
-fn show_command(
-    rt: &HostRuntime,
-    lines: &mut Lines,
-    command: &str,
-    fields: &[Bytes],
-) -> Result<bool, Fail> {
-    Ok(
-        show_part_case(rt.alloc(), lines, command, fields)?
-            || show_unit_case(rt.alloc(), lines, command, fields)?
-            || show_text_case(rt.alloc(), lines, command, fields)?
-            || show_run_case(rt, lines, command, fields)?
-            || show_folder_case(rt, lines, command, fields)?,
-    )
+/// What is tried, with the runtime.
+struct Worlds<'a> {
+    rt: &'a HostRuntime,
 }
 
-/// Shows what a case gives.
-fn show_case(rt: &HostRuntime, lines: &mut Lines, case: &Case) -> Result<(), Fail> {
-    let [command, _, fields @ ..] = case.fields.as_slice() else {
-        return misread();
-    };
-    if show_command(rt, lines, text_of(command)?, fields)? {
-        Ok(())
-    } else {
-        misread()
+impl Drop for Worlds<'_> {
+    fn drop(self) {
+        let Worlds { rt: _ } = self;
     }
 }
 
-/// Tries a case, and counts it.
-fn try_case(rt: &HostRuntime, tally: &mut Tally, case: &Case) -> Result<(), Fail> {
-    let mut lines = Lines::new(rt.alloc());
-    show_case(rt, &mut lines, case)?;
-    tally.count(rt, case, &mut lines)
+impl Commands for Worlds<'_> {
+    fn show(&self, lines: &mut Lines, command: &str, fields: &[Bytes]) -> Result<(), Fail> {
+        let alloc = self.rt.alloc();
+        if let Some(shown) = show_part_case(alloc, lines, command, fields) {
+            return shown;
+        }
+        if let Some(shown) = show_unit_case(alloc, lines, command, fields) {
+            return shown;
+        }
+        if let Some(shown) = show_text_case(alloc, lines, command, fields) {
+            return shown;
+        }
+        show_folder_case(self.rt, lines, command, fields)
+    }
 }
 
 fn main(rt: HostRuntime) -> Result<(), Fail> {
     let input = io::read_to_string(rt.alloc(), rt.reader())?;
-    let cases = cases_of(rt.alloc(), input.as_str())?;
-    let mut tally = Tally::new();
-    for case in cases.as_slice() {
-        try_case(&rt, &mut tally, case)?;
-    }
-    tally.tell(&rt)
+    try_cases(&rt, &Worlds { rt: &rt }, input.as_str())
 }

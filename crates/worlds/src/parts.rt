@@ -11,12 +11,11 @@ mod sinks;
 mod states;
 mod troubles;
 
-use crate::hosts::host_of;
 use host_trait::World;
 use std::alloc::Global;
 use std::test::Fail;
 use switch_names::Bytes;
-use world_text::{Lines, misread};
+use world_text::{Lines, host_of, misread};
 
 /// Shows a case of a host, whose world stands after so many fields.
 fn show_host(
@@ -53,28 +52,28 @@ fn show_world(
     }
 }
 
-/// Shows what a command of a part gives, and answers whether it is one.
+/// Shows what a command of a part gives, where it is one.
 pub fn show_part_case(
     alloc: Global,
     lines: &mut Lines,
     command: &str,
     fields: &[Bytes],
-) -> Result<bool, Fail> {
-    match command {
-        "path" | "system" | "unit" => names::show_name(alloc, lines, command, fields)?,
-        "link" => nodes::show_link(alloc, lines, fields)?,
-        "node" => nodes::show_node(alloc, lines, fields)?,
-        "manager" => managers::show_manager(alloc, lines, fields)?,
+) -> Option<Result<(), Fail>> {
+    let shown = match command {
+        "path" | "system" | "unit" => names::show_name(alloc, lines, command, fields),
+        "link" => nodes::show_link(alloc, lines, fields),
+        "node" => nodes::show_node(alloc, lines, fields),
+        "manager" => managers::show_manager(alloc, lines, fields),
         "states" | "seen" | "put" | "move" | "hand over" => {
-            show_world(alloc, lines, command, fields)?
+            show_world(alloc, lines, command, fields)
         }
-        "act" => show_host(alloc, lines, command, 4, fields)?,
-        "generations" => show_host(alloc, lines, command, 1, fields)?,
-        "number" => found::show_number(alloc, lines, fields)?,
-        "trouble" => troubles::show_trouble(alloc, lines, fields)?,
-        "fallen" => fallen::show_fallen(alloc, lines, fields)?,
-        "sink" => sinks::show_sink(alloc, lines, fields)?,
-        _ => return Ok(false),
-    }
-    Ok(true)
+        "act" => show_host(alloc, lines, command, 4, fields),
+        "generations" => show_host(alloc, lines, command, 1, fields),
+        "number" => found::show_number(alloc, lines, fields),
+        "trouble" => troubles::show_trouble(alloc, lines, fields),
+        "fallen" => fallen::show_fallen(alloc, lines, fields),
+        "sink" => sinks::show_sink(alloc, lines, fields),
+        _ => return None,
+    };
+    Some(shown)
 }

@@ -8,58 +8,55 @@ mod id_maps;
 mod manifests;
 mod merges;
 
-use self::account_specs::show_spec;
+use self::account_specs::{show_account_name, show_spec};
 use self::account_tables::{show_group, show_passwd, show_shadow};
 use self::clean_lists::show_clean;
-use self::fstabs::{show_fstab, show_unit_name, show_units};
+use self::fstabs::{show_fstab, show_mount, show_swap, show_units};
 use self::id_maps::{show_free, show_ids};
 use self::manifests::show_manifest;
 use self::merges::show_merge;
-use crate::writing::show_value;
-use fstab_mounts::{mount_unit, swap_unit};
 use std::alloc::Global;
 use std::test::Fail;
 use switch_names::Bytes;
-use users_spec::is_account_name;
-use world_text::{Lines, text_of};
+use world_text::Lines;
 
-/// Shows what a command of one text gives, and answers whether it is one.
+/// Shows what a command of one text gives, where it is one.
 fn show_reading(
     alloc: Global,
     lines: &mut Lines,
     command: &str,
     text: &Bytes,
-) -> Result<bool, Fail> {
-    match command {
+) -> Option<Result<(), Fail>> {
+    let shown = match command {
         "spec" => show_spec(alloc, lines, text.as_slice()),
-        "passwd" => show_passwd(alloc, lines, text.as_slice())?,
-        "group" => show_group(alloc, lines, text.as_slice())?,
-        "shadow" => show_shadow(alloc, lines, text.as_slice())?,
-        "clean list" => show_clean(alloc, lines, text.as_slice())?,
-        "fstab" => show_fstab(alloc, lines, text.as_slice())?,
-        "fstab units" => show_units(alloc, lines, text.as_slice())?,
-        "account name" => show_value(lines, &is_account_name(text_of(text)?)),
-        "mount name" => show_unit_name(lines, &mount_unit(alloc, text_of(text)?)),
-        "swap name" => show_unit_name(lines, &swap_unit(alloc, text_of(text)?)),
-        _ => return Ok(false),
-    }
-    Ok(true)
+        "passwd" => show_passwd(alloc, lines, text.as_slice()),
+        "group" => show_group(alloc, lines, text.as_slice()),
+        "shadow" => show_shadow(alloc, lines, text.as_slice()),
+        "clean list" => show_clean(alloc, lines, text.as_slice()),
+        "fstab" => show_fstab(alloc, lines, text.as_slice()),
+        "fstab units" => show_units(alloc, lines, text.as_slice()),
+        "account name" => show_account_name(lines, text),
+        "mount name" => show_mount(alloc, lines, text),
+        "swap name" => show_swap(alloc, lines, text),
+        _ => return None,
+    };
+    Some(shown)
 }
 
-/// Shows what a command of texts gives, and answers whether it is one.
+/// Shows what a command of texts gives, where it is one.
 pub fn show_text_case(
     alloc: Global,
     lines: &mut Lines,
     command: &str,
     fields: &[Bytes],
-) -> Result<bool, Fail> {
-    match (command, fields) {
-        ("manifest", _) => show_manifest(alloc, lines, fields)?,
-        ("merge", _) => show_merge(alloc, lines, fields)?,
-        ("id map", [text, steps @ ..]) => show_ids(alloc, lines, text, steps)?,
-        ("free id", [marks, from, to]) => show_free(alloc, lines, marks, from, to)?,
+) -> Option<Result<(), Fail>> {
+    let shown = match (command, fields) {
+        ("manifest", _) => show_manifest(alloc, lines, fields),
+        ("merge", _) => show_merge(alloc, lines, fields),
+        ("id map", [text, steps @ ..]) => show_ids(alloc, lines, text, steps),
+        ("free id", [marks, from, to]) => show_free(alloc, lines, marks, from, to),
         (_, [text]) => return show_reading(alloc, lines, command, text),
-        _ => return Ok(false),
-    }
-    Ok(true)
+        _ => return None,
+    };
+    Some(shown)
 }

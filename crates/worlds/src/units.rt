@@ -5,20 +5,17 @@ mod definitions;
 mod files;
 mod lists;
 mod pulls;
-mod reports;
 
 use self::calls::{show_calls_of, show_owed};
 use self::changes::show_change;
 use self::definitions::show_units;
 use self::files::{show_file, show_file_values, show_sum};
 use self::lists::{show_lists, show_recorded_anew};
-use self::reports::show_switch;
 use host_memory::MemoryHost;
-use host_trait::World;
 use std::alloc::Global;
 use std::test::Fail;
 use switch_names::Bytes;
-use world_text::{Lines, misread, put_places, put_systems, text_of};
+use world_text::{Lines, host_of_systems, misread};
 
 /// Shows what is asked of a host.
 fn show_host(
@@ -32,7 +29,6 @@ fn show_host(
         ("lists", _) => show_lists(alloc, lines, host),
         ("record", _) => show_recorded_anew(alloc, lines, host),
         ("owed", _) => show_owed(alloc, lines, host),
-        ("report", _) => show_switch(alloc, lines, host),
         ("calls", _) => show_calls_of(alloc, lines, host.world().states(), given),
         (_, [units, ..]) => show_units(alloc, lines, command, host, units),
         _ => misread(),
@@ -50,37 +46,31 @@ fn show_systems(
     let Some((_, places)) = given.split_at_checked(count) else {
         return misread();
     };
-    let mut world = World::new(alloc);
-    put_systems(alloc, &mut world)?;
-    put_places(alloc, &mut world, places)?;
-    let mut host = MemoryHost::new(alloc, world);
+    let mut host = host_of_systems(alloc, places)?;
     show_host(alloc, lines, command, &mut host, given)
 }
 
-/// Shows what a command of units gives, and answers whether it is one.
+/// Shows what a command of units gives, where it is one.
 pub fn show_unit_case(
     alloc: Global,
     lines: &mut Lines,
     command: &str,
     given: &[Bytes],
-) -> Result<bool, Fail> {
-    match (command, given) {
-        ("values", [file]) => show_file_values(alloc, lines, file.as_slice())?,
-        ("add", [first, later]) => show_sum(alloc, lines, first.as_slice(), later.as_slice())?,
-        ("start", [file]) => show_file(alloc, lines, file.as_slice(), command, "")?,
-        ("flags" | "sockets" | "assign", [file, asked]) => {
-            show_file(alloc, lines, file.as_slice(), command, text_of(asked)?)?
+) -> Option<Result<(), Fail>> {
+    let shown = match (command, given) {
+        ("values", [file]) => show_file_values(alloc, lines, file.as_slice()),
+        ("add", [first, later]) => show_sum(alloc, lines, first.as_slice(), later.as_slice()),
+        ("start" | "flags" | "sockets" | "assign", [file, asked @ ..]) => {
+            show_file(alloc, lines, file.as_slice(), command, asked)
         }
-        ("compare" | "decide", _) => show_change(alloc, lines, given)?,
-        ("lists" | "record" | "owed" | "report", _) => {
-            show_systems(alloc, lines, command, 0, given)?
-        }
-        ("calls", _) => show_systems(alloc, lines, command, 5, given)?,
-        ("found" | "wanted" | "pull", _) => show_systems(alloc, lines, command, 1, given)?,
+        ("compare" | "decide", _) => show_change(alloc, lines, given),
+        ("lists" | "record" | "owed", _) => show_systems(alloc, lines, command, 0, given),
+        ("calls", _) => show_systems(alloc, lines, command, 5, given),
+        ("found" | "wanted" | "pull", _) => show_systems(alloc, lines, command, 1, given),
         ("found without a system" | "wanted without a system" | "pull without a system", _) => {
-            show_systems(alloc, lines, command, 1, given)?
+            show_systems(alloc, lines, command, 1, given)
         }
-        _ => return Ok(false),
-    }
-    Ok(true)
+        _ => return None,
+    };
+    Some(shown)
 }

@@ -49,9 +49,3 @@ pub fn show_values(lines: &mut Lines, values: &[Text]) {
     }
     lines.end_line();
 }
-
-/// Shows the unit and the line at which a text is refused.
-pub fn show_fault(lines: &mut Lines, unit: &UnitName, line: u32) {
-    lines.add_word(unit.as_str());
-    show_value(lines, &line);
-}

@@ -5,8 +5,8 @@ use host_folder::FolderHost;
 use host_trait::{HostFault, Manager};
 use std::alloc::Global;
 use std::test::Fail;
-use switch_names::UnitName;
-use world_text::Lines;
+use switch_names::{Bytes, UnitName};
+use world_text::{Lines, text_of};
 
 /// Loads definitions, and starts a unit.
 fn load_and_start<M: Manager>(
@@ -39,9 +39,9 @@ pub fn show_opened(
     rt: &HostRuntime,
     lines: &mut Lines,
     root: &str,
-    unit: &str,
+    unit: &Bytes,
 ) -> Result<(), Fail> {
-    let unit = UnitName::parse(rt.alloc(), unit)?;
+    let unit = UnitName::parse(rt.alloc(), text_of(unit)?)?;
     let mut host = FolderHost::open(rt, root)?;
     show_start(rt.alloc(), lines, &mut host, &unit)?;
     show_manager(rt, lines, root)

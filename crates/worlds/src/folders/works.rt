@@ -1,5 +1,5 @@
 //! What steps on a host leave in its folder.
-use super::files::{show_file, show_manager};
+use super::files::show_manager;
 use super::steps::{take, take_all};
 use host_folder::FolderHost;
 use host_trait::Tree;
@@ -7,7 +7,7 @@ use std::alloc::Global;
 use std::fs;
 use std::test::Fail;
 use switch_names::{Bytes, Path};
-use world_text::{Lines, misread, text_of};
+use world_text::{Lines, misread, show_file, text_of};
 
 /// Shows the paths of the leaves below one.
 fn show_paths<T: Tree>(

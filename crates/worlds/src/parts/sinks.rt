@@ -1,13 +1,12 @@
 //! What a sink in memory takes.
 use crate::fields::number_of;
-use crate::hosts::list_of;
 use crate::outcome::show_faults;
 use host_memory::MemorySink;
 use host_trait::Sink;
 use std::alloc::Global;
 use std::test::Fail;
 use switch_names::Bytes;
-use world_text::{Lines, misread, text_of};
+use world_text::{Lines, list_of, misread, text_of};
 
 /// Puts bytes, and shows how that ended, what the sink has, and its faults.
 fn show_put(lines: &mut Lines, sink: &mut MemorySink, bytes: &[u8]) -> Result<(), Fail> {

@@ -6,7 +6,6 @@ ghost use Rattle.host_trait.specs.World.{IsClear, empty_world, is_in_line, stage
 
 use super::nodes::show_leaf;
 use crate::fields::number_of;
-use crate::hosts::list_of;
 use crate::outcome::{show_faults, word_of};
 use crate::writing::show_value;
 use host_memory::MemoryHost;
@@ -14,7 +13,7 @@ use host_trait::{HostFault, Leaf, Tree, World, fixed_path, stage_path};
 use std::alloc::{AllocError, Global};
 use std::test::Fail;
 use switch_names::{Bytes, Path};
-use world_text::{Lines, misread};
+use world_text::{Lines, list_of, misread};
 
 /// Where a leaf is put.
 pub fn place(alloc: Global) -> Result<Path, AllocError>

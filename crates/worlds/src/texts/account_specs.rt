@@ -2,8 +2,10 @@
 //! manual.
 use crate::writing::{show_value, show_words};
 use std::alloc::Global;
-use users_spec::{GroupSpec, Spec, UserSpec};
-use world_text::Lines;
+use std::test::Fail;
+use switch_names::Bytes;
+use users_spec::{GroupSpec, Spec, UserSpec, is_account_name};
+use world_text::{Lines, text_of};
 
 /// Shows a group: its name, its id and its members.
 fn show_group(lines: &mut Lines, group: &GroupSpec) {
@@ -40,9 +42,16 @@ fn show_accounts(lines: &mut Lines, spec: &Spec) {
 }
 
 /// Shows what a specification declares, or its fault.
-pub fn show_spec(alloc: Global, lines: &mut Lines, text: &[u8]) {
+pub fn show_spec(alloc: Global, lines: &mut Lines, text: &[u8]) -> Result<(), Fail> {
     match Spec::read(alloc, text) {
         Ok(spec) => show_accounts(lines, &spec),
         Err(fault) => show_value(lines, &fault),
     }
+    Ok(())
+}
+
+/// Shows whether a text is the name of an account.
+pub fn show_account_name(lines: &mut Lines, text: &Bytes) -> Result<(), Fail> {
+    show_value(lines, &is_account_name(text_of(text)?));
+    Ok(())
 }

@@ -1,13 +1,12 @@
 //! What a system wants below `/etc`, by the rules of the NixOS manual, `environment.etc`.
 use super::account_tables::tables_of;
-use crate::hosts::{host_of, list_of};
 use etc_manifest::{Item, ItemKind, Manifest, ManifestFault, Owners};
 use host_memory::MemoryHost;
 use host_trait::{Leaf, LeafKind};
 use std::alloc::Global;
 use std::test::Fail;
 use switch_names::{Bytes, Path, SystemName};
-use world_text::{Lines, misread, text_of};
+use world_text::{Lines, host_of, list_of, misread, text_of};
 
 /// Shows a file that is copied: its mode, its owners and its text.
 fn show_copy(lines: &mut Lines, leaf: &Leaf) -> Result<(), Fail> {

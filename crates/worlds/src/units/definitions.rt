@@ -1,14 +1,14 @@
 //! Which units a system defines, by the rules of systemd.unit(5), and which each wants.
 use super::pulls::show_pulls;
 use crate::fields::names_of;
-use crate::writing::{show_fault, show_names, show_values};
+use crate::writing::{show_names, show_values};
 use host_memory::MemoryHost;
 use host_trait::States;
 use std::alloc::Global;
 use std::test::Fail;
 use switch_names::{Bytes, Listed, SystemName, UnitName};
 use unit_defs::{Defs, DefsFault};
-use world_text::{Lines, misread};
+use world_text::{Lines, misread, show_fault};
 
 /// Shows the names that are defined, and for each of these units the values of `K` in the section `S`
 /// of its text, or that it has none.

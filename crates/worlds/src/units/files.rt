@@ -3,10 +3,10 @@ use crate::fields::no_memory;
 use crate::writing::{show_names, show_value, show_values};
 use std::alloc::Global;
 use std::test::Fail;
-use switch_names::UnitName;
+use switch_names::{Bytes, UnitName};
 use unit_decide::{may_start, sockets};
 use unit_text::{TextFault, UnitText, parse};
-use world_text::{Lines, misread};
+use world_text::{Lines, misread, text_of};
 
 /// Shows the values of the key `K` in the section `S` of a file's text, or the fault by which it is none.
 pub fn show_file_values(alloc: Global, lines: &mut Lines, file: &[u8]) -> Result<(), Fail> {
@@ -65,15 +65,25 @@ fn show_sockets(alloc: Global, lines: &mut Lines, text: &UnitText, unit: &str) -
     Ok(())
 }
 
+/// What is asked; an empty text where that's nothing.
+fn word_of(asked: &[Bytes]) -> Result<&str, Fail> {
+    match asked {
+        [] => Ok(""),
+        [asked] => text_of(asked),
+        _ => misread(),
+    }
+}
+
 /// Shows what a file says of what is asked.
 pub fn show_file(
     alloc: Global,
     lines: &mut Lines,
     file: &[u8],
     command: &str,
-    asked: &str,
+    asked: &[Bytes],
 ) -> Result<(), Fail> {
     let mut text = parse(alloc, file)?;
+    let asked = word_of(asked)?;
     match command {
         "flags" => show_flags(lines, &text, asked),
         "sockets" => show_sockets(alloc, lines, &text, asked)?,

@@ -1,12 +1,10 @@
 //! The report of a switch from one system to another.
-use crate::writing::show_fault;
 use dry_report::report;
-use host_memory::MemoryHost;
 use std::alloc::Global;
 use std::test::Fail;
 use switch_engine::{Command, Plan, PlanFault, Refusal, plan_all};
-use switch_names::SystemName;
-use world_text::Lines;
+use switch_names::{Bytes, SystemName};
+use world_text::{Lines, host_of_systems, show_fault};
 
 /// Shows the report of a plan.
 fn show_report(alloc: Global, lines: &mut Lines, plan: &Plan) -> Result<(), Fail> {
@@ -15,10 +13,12 @@ fn show_report(alloc: Global, lines: &mut Lines, plan: &Plan) -> Result<(), Fail
     Ok(())
 }
 
-/// Shows the report of a switch to the second system, or the unit and the line by which it is refused.
-pub fn show_switch(alloc: Global, lines: &mut Lines, host: &mut MemoryHost) -> Result<(), Fail> {
+/// Shows the report of a switch to the second system over the world of these places, or the unit and the line by
+/// which it is refused.
+pub fn show_switch(alloc: Global, lines: &mut Lines, places: &[Bytes]) -> Result<(), Fail> {
+    let mut host = host_of_systems(alloc, places)?;
     let command = Command::DryActivate(SystemName::parse(alloc, "nix/store/b-sys")?);
-    match plan_all(alloc, host, &command) {
+    match plan_all(alloc, &mut host, &command) {
         Ok(plan) => show_report(alloc, lines, &plan),
         Err(PlanFault::Refused(Refusal::UnitText { unit, line })) => {
             show_fault(lines, &unit, line);

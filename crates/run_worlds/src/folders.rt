@@ -1,11 +1,11 @@
 //! Runs over a root folder, and all that its files say then.
 use super::ends::show_end;
-use crate::folders::files::show_file;
 use host_folder::FolderHost;
 use std::fs;
 use std::fs::DirEntry;
 use std::test::Fail;
-use world_text::Lines;
+use switch_names::Bytes;
+use world_text::{Lines, show_file, text_of};
 
 /// Adds what an entry of a folder names to the folders or the files.
 fn push_entry(
@@ -65,11 +65,12 @@ fn files_below(rt: &HostRuntime, root: &str) -> Result<Vec<String>, Fail> {
 pub fn show_folder(
     rt: &HostRuntime,
     lines: &mut Lines,
-    root: &str,
-    words: &str,
+    root: &Bytes,
+    words: &Bytes,
 ) -> Result<(), Fail> {
+    let root = text_of(root)?;
     let mut host = FolderHost::open(rt, root)?;
-    show_end(rt.alloc(), lines, &mut host, "-", words)?;
+    show_end(rt.alloc(), lines, &mut host, "-", text_of(words)?)?;
     for place in &files_below(rt, root)? {
         show_file(rt, lines, place.as_str())?;
     }

@@ -1,12 +1,11 @@
 //! Runs whose calls fail or are cut, and the same runs made again.
 use super::ends::{show_outcome, sink_of, status_of};
 use super::statuses::{show_all_but_the_journal, show_status};
-use crate::hosts::{host_of, list_of};
 use host_memory::MemoryHost;
 use std::alloc::{AllocError, Global};
 use std::test::Fail;
 use switch_names::Bytes;
-use world_text::Lines;
+use world_text::{Lines, host_of, list_of, text_of};
 
 /// Shows the status of a run of these words.
 fn show_status_of(
@@ -89,8 +88,11 @@ fn add_other(lines: &mut Lines, last: &Lines, next: &Lines, number: u64) {
 pub fn show_troubles(
     alloc: Global,
     lines: &mut Lines,
-    (kind, words, places): (&str, &str, &[Bytes]),
+    kind: &str,
+    words: &Bytes,
+    places: &[Bytes],
 ) -> Result<(), Fail> {
+    let words = text_of(words)?;
     let mut last = Lines::new(alloc);
     for number in 0..u64::MAX {
         let mut next = Lines::new(alloc);

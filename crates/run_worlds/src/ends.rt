@@ -1,14 +1,13 @@
 //! Runs over a host, and the whole worlds that they leave.
 use super::changes::show_changes;
 use super::statuses::{show_after, show_status, whole_world};
-use crate::hosts::{host_of, list_of};
 use host_memory::{MemoryHost, MemorySink};
 use host_trait::Manager;
 use std::alloc::{AllocError, Global};
 use std::test::Fail;
 use switch_names::{Bytes, Text};
 use switch_run::{Status, run};
-use world_text::Lines;
+use world_text::{Lines, host_of, list_of, text_of};
 
 /// The words of a command; `-` is none.
 fn words_of(alloc: Global, line: &str) -> Result<Vec<Text>, AllocError> {
@@ -74,24 +73,24 @@ pub fn show_outcome(
 pub fn show_run(
     alloc: Global,
     lines: &mut Lines,
-    put: &str,
-    words: &str,
+    put: &Bytes,
+    words: &Bytes,
     places: &[Bytes],
 ) -> Result<(), Fail> {
     let mut host = host_of(alloc, places)?;
-    show_outcome(alloc, lines, &mut host, put, words)
+    show_outcome(alloc, lines, &mut host, text_of(put)?, text_of(words)?)
 }
 
 /// Shows how a run over the world of these places ends, and what is other in the world then.
 pub fn show_changing_run(
     alloc: Global,
     lines: &mut Lines,
-    put: &str,
-    words: &str,
+    put: &Bytes,
+    words: &Bytes,
     places: &[Bytes],
 ) -> Result<(), Fail> {
     let before = host_of(alloc, places)?;
     let mut host = host_of(alloc, places)?;
-    show_end(alloc, lines, &mut host, put, words)?;
+    show_end(alloc, lines, &mut host, text_of(put)?, text_of(words)?)?;
     show_changes(alloc, lines, before.world(), host.world())
 }

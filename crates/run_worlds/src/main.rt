@@ -1,0 +1,55 @@
+//! Whole runs, and the reports of plans, as the cases on standard input try them: over worlds in memory and in
+//! folders.
+#![tactic(auto)]
+
+mod changes;
+mod ends;
+mod folders;
+mod reports;
+mod statuses;
+mod troubles;
+
+use self::ends::{show_changing_run, show_run};
+use self::folders::show_folder;
+use self::reports::show_switch;
+use self::statuses::show_fault_statuses;
+use self::troubles::show_troubles;
+use std::io;
+use std::test::Fail;
+use switch_names::Bytes;
+use world_text::{Commands, Lines, misread, try_cases};
+
+/// What is tried, with the runtime.
+struct Runs<'a> {
+    rt: &'a HostRuntime,
+}
+
+impl Drop for Runs<'_> {
+    fn drop(self) {
+        let Runs { rt: _ } = self;
+    }
+}
+
+impl Commands for Runs<'_> {
+    fn show(&self, lines: &mut Lines, command: &str, fields: &[Bytes]) -> Result<(), Fail> {
+        let alloc = self.rt.alloc();
+        match (command, fields) {
+            ("run", [put, words, places @ ..]) => show_run(alloc, lines, put, words, places),
+            ("change", [put, words, places @ ..]) => {
+                show_changing_run(alloc, lines, put, words, places)
+            }
+            ("fail" | "again" | "cut", [words, places @ ..]) => {
+                show_troubles(alloc, lines, command, words, places)
+            }
+            ("folder", [root, words]) => show_folder(self.rt, lines, root, words),
+            ("faults", _) => show_fault_statuses(alloc, lines),
+            ("report", places) => show_switch(alloc, lines, places),
+            _ => misread(),
+        }
+    }
+}
+
+fn main(rt: HostRuntime) -> Result<(), Fail> {
+    let input = io::read_to_string(rt.alloc(), rt.reader())?;
+    try_cases(&rt, &Runs { rt: &rt }, input.as_str())
+}
