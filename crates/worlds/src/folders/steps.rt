@@ -23,18 +23,51 @@ fn put<R: Files + AllocGlobal + Clone + Drop>(
     host.rename_stage(alloc, at)
 }
 
+/// Puts the leaf of a node's text at a path.
+fn put_at<R: Files + AllocGlobal + Clone + Drop>(
+    alloc: Global,
+    host: &mut FolderHost<R>,
+    at: &str,
+    text: &Bytes,
+) -> Result<Result<(), HostFault>, Fail> {
+    let leaf = read_node(alloc, text.as_slice())?;
+    let at = Path::parse(alloc, at)?;
+    Ok(put(alloc, host, &leaf, &at))
+}
+
+/// Writes the leaf of a node's text to the stage.
+fn stage<R: Files + AllocGlobal + Clone + Drop>(
+    alloc: Global,
+    host: &mut FolderHost<R>,
+    text: &Bytes,
+) -> Result<Result<(), HostFault>, Fail> {
+    let leaf = read_node(alloc, text.as_slice())?;
+    Ok(host.write_stage(alloc, &leaf))
+}
+
+/// Removes the leaf at a path.
+fn remove<R: Files + AllocGlobal + Clone + Drop>(
+    alloc: Global,
+    host: &mut FolderHost<R>,
+    at: &Bytes,
+) -> Result<Result<(), HostFault>, Fail> {
+    let at = Path::parse(alloc, text_of(at)?)?;
+    Ok(host.remove(alloc, &at))
+}
+
 /// Does the act of a word to a unit.
 fn act<R: Files + AllocGlobal + Clone + Drop>(
     alloc: Global,
     host: &mut FolderHost<R>,
     word: &str,
-    unit: &UnitName,
+    unit: &Bytes,
 ) -> Result<Result<(), HostFault>, Fail> {
+    let unit = UnitName::parse(alloc, text_of(unit)?)?;
     match word {
-        "start" => Ok(host.start(alloc, unit)),
-        "stop" => Ok(host.stop(alloc, unit)),
-        "restart" => Ok(host.restart(alloc, unit)),
-        "reload" => Ok(host.reload(alloc, unit)),
+        "start" => Ok(host.start(alloc, &unit)),
+        "stop" => Ok(host.stop(alloc, &unit)),
+        "restart" => Ok(host.restart(alloc, &unit)),
+        "reload" => Ok(host.reload(alloc, &unit)),
         _ => misread(),
     }
 }
@@ -48,10 +81,10 @@ fn take_other<R: Files + AllocGlobal + Clone + Drop>(
     given: &Bytes,
 ) -> Result<Result<(), HostFault>, Fail> {
     match word {
-        "stage" => Ok(host.write_stage(alloc, &read_node(alloc, given.as_slice())?)),
-        "remove" => Ok(host.remove(alloc, &Path::parse(alloc, text_of(given)?)?)),
+        "stage" => stage(alloc, host, given),
+        "remove" => remove(alloc, host, given),
         "load" => Ok(host.daemon_reload(alloc)),
-        _ => act(alloc, host, word, &UnitName::parse(alloc, text_of(given)?)?),
+        _ => act(alloc, host, word, given),
     }
 }
 
@@ -66,10 +99,7 @@ pub fn take<R: Files + AllocGlobal + Clone + Drop>(
     };
     let word = text_of(word)?;
     match word.strip_prefix("tree/") {
-        Some(at) => {
-            let leaf = read_node(alloc, given.as_slice())?;
-            Ok(put(alloc, host, &leaf, &Path::parse(alloc, at)?))
-        }
+        Some(at) => put_at(alloc, host, at, given),
         None => take_other(alloc, host, word, given),
     }
 }

@@ -1,5 +1,5 @@
 use Rattle.worlds.proofs.Silence.{silent_told}
-use Rattle.worlds.proofs.folders.steps.take_other.Goals as goal
+use Rattle.worlds.proofs.folders.steps.stage.Goals as goal
 
 pub write_stage-requires : goal.write_stage-requires
 write_stage-requires g c = silent_told _ _
