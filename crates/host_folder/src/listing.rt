@@ -1,6 +1,6 @@
 //! The leaves below a folder.
 use crate::folders::Folders;
-use host_files::{Entries, FolderId, Found, foreign, kind_of_entry, place_in, push_entries};
+use host_files::{Entries, FolderId, Found, foreign, kind_of_entry, push_entries};
 use host_trait::stage_path;
 use std::alloc::{AllocError, Global};
 use std::fs::DirEntry;
@@ -10,8 +10,7 @@ use switch_names::{Listed, NameFault, Path};
 
 /// The path of a name in a folder of the tree. A name that is none of a path is a fault.
 fn path_in(alloc: Global, folder: &Path, name: &str) -> io::Result<Path> {
-    let path = place_in(alloc, folder.as_str(), name)?;
-    match Path::parse(alloc, path.as_str()) {
+    match folder.join(alloc, name) {
         Ok(path) => Ok(path),
         Err(NameFault::Memory) => Err(io::Error::from(AllocError)),
         Err(_) => Err(foreign()),
