@@ -21,3 +21,7 @@ module _ {T : Type 0} where
 
   pub entry_no_host : (place : List ℕ) → IsErrOf {T = T} (Err (Entry place)) (Host Device) → ⊥
   entry_no_host place is = cc
+
+  -- and nothing is, where all went well
+  pub fine_no_host : (given : T) → IsErrOf (Ok given) (Host Device) → ⊥
+  fine_no_host given is = cc

@@ -1,5 +1,5 @@
 -- Items that are gathered up to the first fault.
-use Rattle.std.proofs.Common.{◌≡◌, ◌+◌, ◌<◌, ℕ, suc, List, [], ◌∷◌, ◌++◌, length, get_or, drop, map, Result, Ok, Err, refl, sym, ap, ◌∙◌, append_assoc, arith}
+use Rattle.std.proofs.Common.{◌≡◌, ◌+◌, ◌<◌, ℕ, suc, Bool, true, false, cond, List, [], ◌∷◌, ◌++◌, length, get_or, drop, filter, map, Result, Ok, Err, refl, sym, ap, ◌∙◌, append_assoc, arith}
 use Rattle.std.proofs.Math.Seq.{drop-cons}
 use Rattle.etc_manifest.specs.Manifest.{gathered, prefixed}
 
@@ -37,12 +37,22 @@ module _ {X T E : Type 0} (f : X → Result T E) where
       let next : suc i ≡ i + 1 = omega arith in
       drop-cons xs i x within ∙ ap (λ y. y ∷ drop (suc i) xs) (sym is) ∙ ap (λ n. x ∷ drop n xs) next
 
-  -- the next is gathered after those before it
-  pub gathered_more : (xs : List X) (i : ℕ) (x : X) (y : T) (before now : List T) → i < length xs → x ≡ get_or xs i x → now ≡ before ++ y ∷ [] → f x ≡ Ok y →
-      gathered (map f xs) ≡ prefixed before (gathered (map f (drop i xs))) → gathered (map f xs) ≡ prefixed now (gathered (map f (drop (i + 1) xs)))
-  gathered_more xs i x y before now within is pushed fine so_far =
-      so_far
-      ∙ ap (λ zs. prefixed before (gathered (map f zs))) (left_with xs i x within is)
-      ∙ ap (prefixed before) (gathered_ok x (drop (i + 1) xs) y fine)
-      ∙ prefixed_twice before (y ∷ []) (gathered (map f (drop (i + 1) xs)))
-      ∙ ap (λ zs. prefixed zs (gathered (map f (drop (i + 1) xs)))) (sym pushed)
+  module _ (p : X → Bool) (xs : List X) (i : ℕ) (x : X) (within : i < length xs) (is : x ≡ get_or xs i x) where
+    -- what is left to gather, by whether the next is gathered too
+    left_by : (b : Bool) → p x ≡ b → filter p (drop i xs) ≡ cond b (x ∷ filter p (drop (i + 1) xs)) (filter p (drop (i + 1) xs))
+    left_by b passes = ap (filter p) (left_with xs i x within is) ∙ ap (λ c. cond c (x ∷ filter p (drop (i + 1) xs)) (filter p (drop (i + 1) xs))) passes
+
+    -- the next is gathered after those before it
+    pub gathered_more : (y : T) (before now : List T) → p x ≡ true → now ≡ before ++ y ∷ [] → f x ≡ Ok y →
+        gathered (map f (filter p xs)) ≡ prefixed before (gathered (map f (filter p (drop i xs)))) → gathered (map f (filter p xs)) ≡ prefixed now (gathered (map f (filter p (drop (i + 1) xs))))
+    gathered_more y before now passes pushed fine so_far =
+        so_far
+        ∙ ap (λ zs. prefixed before (gathered (map f zs))) (left_by true passes)
+        ∙ ap (prefixed before) (gathered_ok x (filter p (drop (i + 1) xs)) y fine)
+        ∙ prefixed_twice before (y ∷ []) (gathered (map f (filter p (drop (i + 1) xs))))
+        ∙ ap (λ zs. prefixed zs (gathered (map f (filter p (drop (i + 1) xs))))) (sym pushed)
+
+    -- or passed over
+    pub gathered_same : (before : List T) → p x ≡ false →
+        gathered (map f (filter p xs)) ≡ prefixed before (gathered (map f (filter p (drop i xs)))) → gathered (map f (filter p xs)) ≡ prefixed before (gathered (map f (filter p (drop (i + 1) xs))))
+    gathered_same before fails so_far = so_far ∙ ap (λ zs. prefixed before (gathered (map f zs))) (left_by false fails)

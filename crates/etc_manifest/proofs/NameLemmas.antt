@@ -1,25 +1,28 @@
 -- Names in byte order.
-use Rattle.std.proofs.Common.{◌≡◌, ◌⊎◌, ℕ, zero, suc, ◌+◌, ◌<◌, ◌||◌, ◌&&◌, Bool, true, false, cond, List, [], ◌∷◌, ◌++◌, length, get_or, take, drop, map, codes, nat_eq, Option, None, Some, Result, Ok, Err, refl, sym, ap, subst, ◌∙◌, inl, inr, arith}
-use Rattle.std.specs.BTreeSet.{insert_key}
-use Rattle.std.specs.List.{AllByRecursion, cons_option, filter, filter_map, starts_with}
+use Rattle.std.proofs.Common.{◌≡◌, ◌⊎◌, ℕ, zero, suc, ◌+◌, ◌-◌, ◌<◌, ◌≤◌, ◌||◌, ◌&&◌, Bool, true, false, cond, List, [], ◌∷◌, ◌++◌, length, get_or, take, drop, map, Bor, codes, nat_eq, Option, None, Some, IfSome, Result, Ok, Err, refl, sym, ap, subst, ◌∙◌, inl, inr, arith}
+use Rattle.std.specs.FinMap.{nat_cmp-IsAntisymmetric}
+use Rattle.std.specs.List.{AllByRecursion, cons_option, filter, filter_map, slice_get, starts_with}
+use Rattle.std.specs.Slice.{IsItemAt}
 use Rattle.std.specs.List.Sorted.{IsBinarySearchResult, IsSearchInRange, IsStrictlySortedBy}
-use Rattle.std.specs.Ordering.{is_eq, match_ordering, nat_cmp, ordering_reverse, ordering_then}
-use Rattle.std.specs.Result.{is_ok}
-use Rattle.std.specs.declared.cmp.Ordering.TheVariants.{Less, Equal}
+use Rattle.std.specs.Ordering.{is_eq, nat_cmp, ordering_reverse, ordering_then}
+use Rattle.std.specs.Result.{is_ok, result_err}
+use Rattle.std.specs.declared.cmp.Ordering.{Ordering}
+use Rattle.std.specs.declared.cmp.Ordering.TheVariants.{Less, Equal, Greater}
 use Rattle.std.proofs.lemmas.Bool.{both_ways}
 use Rattle.std.proofs.lemmas.Bool.Decides.{Decides-eqb}
 use Rattle.std.proofs.lemmas.Cmp.{nat_cmp_total, tied_itself}
 use Rattle.std.proofs.Math.Seq.{drop-cons}
-use Rattle.std.proofs.lemmas.List.{append-nil, drop_at, take-append-drop, take_more}
+use Rattle.std.proofs.lemmas.List.{append-nil, drop_all, drop_at, take-append-drop, take_all, take_more}
 use Rattle.std.proofs.lemmas.List.Elements.{filter_map-append}
 use Rattle.std.proofs.lemmas.List.Folds.{list_any-append}
+use Rattle.std.proofs.lemmas.Option.{slice_get_past, slice_get_read}
 use Rattle.std.proofs.lemmas.Slice.Eq.{starts_is}
 use Rattle.switch_names.specs.Names.{has, is_name}
 use Rattle.switch_names.proofs.Names.{name_turned}
 use Rattle.host_trait.specs.Bytes.{bytes_cmp}
-use Rattle.host_trait.proofs.Orders.{AreBelow, missing_name, sorted_below}
+use Rattle.host_trait.proofs.Orders.{AreAbove, AreBelow, missing_name, sorted_below, sorted_insert}
 use Rattle.host_trait.proofs.Places.{bytes_exact, bytes_total, same_or_other}
-use Rattle.etc_manifest.specs.Place.{after_front, first_name, is_reserved, reserved_names, with_name}
+use Rattle.etc_manifest.specs.Place.{after_front, first_name, is_reserved, reserved_names}
 
 pub name_itself : (a : List ℕ) → is_name a a ≡ true
 name_itself a = ap is_eq (tied_itself bytes_total a)
@@ -152,23 +155,16 @@ module _ (front : List ℕ) where
       by (Some n) is rest =
           (λ i. ap is_eq (sym (front_same front name n) ∙ ap (bytes_cmp (front ++ name)) (sym (front_is front p n is))) i || rest i)
 
--- ---- a set of names that come in order
-
-pub insert_last : (keys : List (List ℕ)) (key : List ℕ) → AreBelow keys key → insert_key bytes_cmp keys key ≡ keys ++ key ∷ []
-insert_last [] key below = refl
-insert_last (k ∷ keys) key below =
-    ap (λ o. match_ordering o (key ∷ k ∷ keys) (k ∷ keys) (k ∷ insert_key bytes_cmp keys key)) (bytes_total.antisymm key k ∙ ap ordering_reverse below.0)
-    ∙ ap (λ ks. k ∷ ks) (insert_last keys key below.1)
+-- ---- names that are added in order
 
 -- one name more, of paths in order
-pub one_after : (front : List ℕ) (before : List (List ℕ)) (path : List ℕ) (after : List (List ℕ)) (name : List ℕ) →
+one_after : (front : List ℕ) (before : List (List ℕ)) (path : List ℕ) (after : List (List ℕ)) (name : List ℕ) →
     IsStrictlySortedBy bytes_cmp (before ++ path ∷ after) → Some name ≡ after_front front path →
-    insert_key bytes_cmp (filter_map (after_front front) before) name ≡ filter_map (after_front front) (before ++ path ∷ [])
+    AreBelow (filter_map (after_front front) before) name × (filter_map (after_front front) (before ++ path ∷ []) ≡ filter_map (after_front front) before ++ name ∷ [])
 one_after front before path after name sorted is =
     let all : IsStrictlySortedBy bytes_cmp (filter_map (after_front front) before ++ name ∷ filter_map (after_front front) after) =
     subst (IsStrictlySortedBy bytes_cmp) (parts after) (sorted_after front (before ++ path ∷ after) sorted) in
-    insert_last (filter_map (after_front front) before) name (sorted_below (filter_map (after_front front) before) name (filter_map (after_front front) after) all)
-    ∙ sym (parts [])
+    (sorted_below (filter_map (after_front front) before) name (filter_map (after_front front) after) all, parts [])
   where
     parts : (rest : List (List ℕ)) → filter_map (after_front front) (before ++ path ∷ rest) ≡ filter_map (after_front front) before ++ name ∷ filter_map (after_front front) rest
     parts rest =
@@ -193,16 +189,18 @@ module _ (front : List ℕ) (paths : List (List ℕ)) (i : ℕ) (path : List ℕ
   taken : take (i + 1) paths ≡ take i paths ++ path ∷ []
   taken = take_more paths i path within ∙ ap (λ p. take i paths ++ p ∷ []) (sym is)
 
-  -- the name of one path more, where it has the front
-  pub names_more : (name : Option (List ℕ)) (old new : List (List ℕ)) → name ≡ after_front front path → new ≡ with_name name old → IsStrictlySortedBy bytes_cmp paths →
-      old ≡ filter_map (after_front front) (take i paths) → new ≡ filter_map (after_front front) (take (i + 1) paths)
-  names_more None old new named added sorted so_far =
-      added ∙ so_far ∙ sym (none_after front (take i paths) path named) ∙ ap (filter_map (after_front front)) (sym taken)
-  names_more (Some name) old new named added sorted so_far =
-      added
-      ∙ ap (λ names. insert_key bytes_cmp names name) so_far
-      ∙ one_after front (take i paths) path (drop (i + 1) paths) name (subst (IsStrictlySortedBy bytes_cmp) split sorted) named
-      ∙ ap (filter_map (after_front front)) (sym taken)
+  -- the name of one path more comes last
+  pub next_after : (name : List ℕ) (old : List (List ℕ)) → Some name ≡ after_front front path → IsStrictlySortedBy bytes_cmp paths → old ≡ filter_map (after_front front) (take i paths) →
+      AreBelow old name × (old ++ name ∷ [] ≡ filter_map (after_front front) (take (i + 1) paths))
+  next_after name old named sorted so_far =
+      let both = one_after front (take i paths) path (drop (i + 1) paths) name (subst (IsStrictlySortedBy bytes_cmp) split sorted) named in (
+        subst (λ names. AreBelow names name) (sym so_far) both.0,
+        ap (λ names. names ++ name ∷ []) so_far ∙ sym both.1 ∙ ap (filter_map (after_front front)) (sym taken),
+      )
+
+  -- a path without the front leaves the names as they are
+  pub same_after : (old : List (List ℕ)) → None ≡ after_front front path → old ≡ filter_map (after_front front) (take i paths) → old ≡ filter_map (after_front front) (take (i + 1) paths)
+  same_after old named so_far = so_far ∙ sym (none_after front (take i paths) path named) ∙ ap (filter_map (after_front front)) (sym taken)
 
 -- ---- a search among names in order
 
@@ -231,6 +229,129 @@ searched names name (Err at) sorted within found =
     let cut = missing_name (λ n. n) names name (Err at) (subst (IsStrictlySortedBy bytes_cmp) (sym (map_self names)) sorted) within found in
     sym (ap (λ ns. has ns name) (sym (take-append-drop at names)) ∙ list_any-append (is_name name) (take at names) (drop at names)
     ∙ (λ i. below_lack name (take at names) cut.1 i || above_lack name (drop at names) cut.2 i))
+
+-- what holds of all names holds of the one at a place
+all_at : (P : List ℕ → Type 0) (names : List (List ℕ)) (at : ℕ) (name : List ℕ) → AllByRecursion P names → slice_get names at ≡ Some name → P name
+all_at P [] at name all there = absurd (cc)
+all_at P (n ∷ names) zero name all there = let same : n ≡ name = cc in subst P same all.0
+all_at P (n ∷ names) (suc at) name all there = all_at P names at name all.1 there
+
+-- ---- where a name belongs among others
+
+-- the place is between those below the name and those above it
+abbrev pub AreAround : List (List ℕ) → List ℕ → ℕ → Type 0
+AreAround names name at = (at ≤ length names) × AreBelow (take at names) name × AreAbove (drop at names) name
+
+below_past : (names : List (List ℕ)) (last name : List ℕ) → IsStrictlySortedBy bytes_cmp names → slice_get names (length names - 1) ≡ Some last → bytes_cmp last name ≡ Less → AreBelow names name
+unfolding IsStrictlySortedBy
+below_past [] last name sorted there less = absurd (cc)
+below_past (n ∷ []) last name sorted there less = let same : n ≡ last = cc in (subst (λ k. bytes_cmp k name ≡ Less) (sym same) less, tt)
+below_past (n ∷ m ∷ names) last name sorted there less =
+    let at : length (n ∷ m ∷ names) - 1 ≡ suc (length (m ∷ names) - 1) = omega arith in
+    let rest = below_past (m ∷ names) last name sorted.1 (sym (ap (slice_get (n ∷ m ∷ names)) at) ∙ there) less in
+    (bytes_total.trans n m name sorted.0.0 rest.0, rest)
+
+-- what is above the last name comes last
+pub last_around : (names : List (List ℕ)) (last name : List ℕ) → IsStrictlySortedBy bytes_cmp names → slice_get names (length names - 1) ≡ Some last → bytes_cmp last name ≡ Less → AreAround names name (length names)
+last_around names last name sorted there less = (
+  omega arith,
+  subst (λ ns. AreBelow ns name) (sym (take_all (length names) names (omega arith))) (below_past names last name sorted there less),
+  subst (λ ns. AreAbove ns name) (sym (drop_all (length names) names (omega arith))) tt,
+)
+
+-- a search that finds no name ends where it belongs
+pub cut_around : (names : List (List ℕ)) (name : List ℕ) (r : Result ℕ ℕ) → IsStrictlySortedBy bytes_cmp names → IsSearchInRange r (length names) →
+    IsBinarySearchResult (λ other. bytes_cmp other name) names r → IfSome (result_err r) (AreAround names name)
+cut_around names name (Ok at) sorted within found = tt
+cut_around names name (Err at) sorted within found = missing_name (λ n. n) names name (Err at) (subst (IsStrictlySortedBy bytes_cmp) (sym (map_self names)) sorted) within found
+
+-- a name comes not last where the last isn't below it
+pub not_last : {X : Type 0} (names : List (List ℕ)) (last name : List ℕ) → slice_get names (length names - 1) ≡ Some last → (bytes_cmp last name ≡ Less → ⊥) → AreBelow names name → X
+not_last names last name there other below = absurd (other (all_at (λ k. bytes_cmp k name ≡ Less) names (length names - 1) last below there))
+
+-- a name is put where it belongs
+pub put_sorted : (names new : List (List ℕ)) (name : List ℕ) (at : ℕ) → IsStrictlySortedBy bytes_cmp names → AreAround names name at → new ≡ take at names ++ name ∷ drop at names → IsStrictlySortedBy bytes_cmp new
+put_sorted names new name at sorted around put =
+    subst (IsStrictlySortedBy bytes_cmp) (sym put)
+    (sorted_insert (take at names) name (drop at names) (subst (IsStrictlySortedBy bytes_cmp) (sym (take-append-drop at names)) sorted) around.1 around.2)
+
+pub put_last : (names new : List (List ℕ)) (name : List ℕ) (at : ℕ) → Some at ≡ Some (length names) → new ≡ take at names ++ name ∷ drop at names → new ≡ names ++ name ∷ []
+put_last names new name at last put =
+    let past : at ≡ length names = cc in
+    put ∙ (λ i. take_all at names (omega (arith, past)) i ++ name ∷ drop_all at names (omega (arith, past)) i)
+
+-- ---- names that begin with another
+
+begins_there : (front rest : List ℕ) → starts_with nat_eq (front ++ rest) front ≡ true
+begins_there front rest = (starts_is Decides-eqb (front ++ rest) front (starts_with nat_eq (front ++ rest) front) refl).1 rest refl
+
+between_step : (x y : ℕ) (front a rest : List ℕ) (o : Ordering) → nat_cmp x y ≡ o → (bytes_cmp front a ≡ Less → bytes_cmp a (front ++ rest) ≡ Less → (more : List ℕ) × (a ≡ front ++ more)) →
+    ordering_then o (bytes_cmp front a) ≡ Less → ordering_then (nat_cmp y x) (bytes_cmp a (front ++ rest)) ≡ Less → (more : List ℕ) × (y ∷ a ≡ x ∷ front ++ more)
+between_step x y front a rest Less is further low high =
+    let greater : nat_cmp y x ≡ Greater = nat_cmp_total.antisymm y x ∙ ap ordering_reverse is in
+    absurd (let wrong : Greater ≡ Less = sym (ap (λ o. ordering_then o (bytes_cmp a (front ++ rest))) greater) ∙ high in cc)
+between_step x y front a rest Greater is further low high = absurd (cc)
+between_step x y front a rest Equal is further low high =
+    let same : x ≡ y = nat_cmp-IsAntisymmetric x y is in
+    let tied : nat_cmp y x ≡ Equal = nat_cmp_total.antisymm y x ∙ ap ordering_reverse is in
+    let more = further low (sym (ap (λ o. ordering_then o (bytes_cmp a (front ++ rest))) tied) ∙ high) in
+    (more.0, (λ i. sym same i ∷ more.1 i))
+
+-- what stands between a name and one that begins with it begins with it too
+between : (front a rest : List ℕ) → bytes_cmp front a ≡ Less → bytes_cmp a (front ++ rest) ≡ Less → (more : List ℕ) × (a ≡ front ++ more)
+between [] a rest low high = (a, refl)
+between (x ∷ front) [] rest low high = absurd (cc)
+between (x ∷ front) (y ∷ a) rest low high = between_step x y front a rest (nat_cmp x y) refl (between front a rest) low high
+
+longer_above : (name end : List ℕ) → 0 < length end → bytes_cmp name (name ++ end) ≡ Less
+longer_above [] [] more = absurd (omega arith)
+longer_above [] (x ∷ end) more = refl
+longer_above (x ∷ name) end more = ap (λ o. ordering_then o (bytes_cmp name (name ++ end))) (tied_itself nat_cmp_total x) ∙ longer_above name end more
+
+lower_all : (low name : List ℕ) (names : List (List ℕ)) → bytes_cmp low name ≡ Less → AreAbove names name → AreAbove names low
+lower_all low name [] less above = tt
+lower_all low name (n ∷ names) less above = (bytes_total.trans low name n less above.0, lower_all low name names less above.1)
+
+-- where the next name doesn't begin with a name, none after it does
+none_next : (names : List (List ℕ)) (name end : List ℕ) → IsStrictlySortedBy bytes_cmp names → AreAbove names name → IfSome (slice_get names 0) (λ next. starts_with nat_eq next name ≡ false) → has names (name ++ end) ≡ false
+unfolding IsStrictlySortedBy
+none_next [] name end sorted above next = refl
+none_next (n ∷ names) name end sorted above next = by (bytes_cmp (name ++ end) n) refl
+  where
+    no_more : (more : List ℕ) → n ≡ name ++ more → ⊥
+    no_more more same = both_ways _ next (ap (λ k. starts_with nat_eq k name) same ∙ begins_there name more)
+
+    by : (o : Ordering) → bytes_cmp (name ++ end) n ≡ o → has (n ∷ names) (name ++ end) ≡ false
+    by Less is = above_lack (name ++ end) (n ∷ names) (is, lower_all (name ++ end) n names is sorted.0)
+    by Equal is = absurd (no_more end (sym (bytes_exact (name ++ end) n is)))
+    by Greater is = absurd (let more = between name n end above.0 (bytes_total.antisymm n (name ++ end) ∙ ap ordering_reverse is) in no_more more.0 more.1)
+
+lacks_longer : (names : List (List ℕ)) (at : ℕ) (name end : List ℕ) → IsStrictlySortedBy bytes_cmp names → slice_get names at ≡ Some name →
+    IfSome (slice_get names (suc at)) (λ next. starts_with nat_eq next name ≡ false) → 0 < length end → has names (name ++ end) ≡ false
+unfolding IsStrictlySortedBy
+lacks_longer [] at name end sorted there next more = refl
+lacks_longer (n ∷ names) zero name end sorted there next more =
+    let same : n ≡ name = cc in
+    let less = subst (λ k. bytes_cmp k (name ++ end) ≡ Less) (sym same) (longer_above name end more) in
+    ap (λ b. b || has names (name ++ end)) (name_turned (name ++ end) n ∙ less_is_other n (name ++ end) less)
+    ∙ none_next names name end sorted.1 (subst (AreAbove names) same sorted.0) next
+lacks_longer (n ∷ names) (suc at) name end sorted there next more =
+    let less = bytes_total.trans n name (name ++ end) (all_at (λ k. bytes_cmp n k ≡ Less) names at name sorted.0 there) (longer_above name end more) in
+    ap (λ b. b || has names (name ++ end)) (name_turned (name ++ end) n ∙ less_is_other n (name ++ end) less)
+    ∙ lacks_longer names at name end sorted.1 there next more
+
+-- where the name that is lent after one doesn't begin with it, none does
+pub none_longer : (names : List (List ℕ)) (at : ℕ) (name : List ℕ) (lent : Option (Bor (List ℕ))) → IsStrictlySortedBy bytes_cmp names → slice_get names at ≡ Some name → IsItemAt names (at + 1) lent →
+    IfSome lent (λ next. starts_with nat_eq next.now name ≡ false) → (end : List ℕ) → 0 < length end → has names (name ++ end) ≡ false
+none_longer names at name lent sorted there is next = λ end more. lacks_longer names at name end sorted there (by lent is next) more
+  where
+    after : suc at ≡ at + 1
+    after = omega arith
+
+    by : (lent : Option (Bor (List ℕ))) → IsItemAt names (at + 1) lent → IfSome lent (λ next. starts_with nat_eq next.now name ≡ false) → IfSome (slice_get names (suc at)) (λ next. starts_with nat_eq next name ≡ false)
+    by None is next = subst (λ o. IfSome o (λ q. starts_with nat_eq q name ≡ false)) (sym (ap (slice_get names) after ∙ slice_get_past names (at + 1) is.3)) tt
+    by (Some lent) is next =
+        subst (λ o. IfSome o (λ q. starts_with nat_eq q name ≡ false)) (sym (ap (slice_get names) after ∙ slice_get_read names (length names) (at + 1) lent.now refl is.3.0 is.1)) next
 
 -- a name that is no other
 pub other_name : (a b : List ℕ) → (a ≡ b → ⊥) → is_name a b ≡ false

@@ -1,7 +1,8 @@
 -- What is read of each entry is what the system wants.
-use Rattle.std.proofs.Common.{◌≡◌, ℕ, ◌+◌, ◌<◌, ◌++◌, Bool, false, List, [], ◌∷◌, length, get_or, take, codes, map, Option, Some, option_and_then, Result, sym, ap, subst, ◌∙◌}
+use Rattle.std.proofs.Common.{◌≡◌, ℕ, ◌+◌, ◌<◌, ◌++◌, Bool, true, false, cond, List, [], ◌∷◌, length, get_or, take, codes, filter, map, Option, Some, option_and_then, Result, sym, ap, subst, ◌∙◌}
 use Rattle.std.specs.List.{AllByRecursion}
-use Rattle.std.proofs.lemmas.List.{map-append, take_more}
+use Rattle.std.proofs.lemmas.List.{append-nil, map-append}
+use Rattle.std.proofs.lemmas.List.Elements.{filter_more}
 use Rattle.switch_names.specs.Names.{Name, has}
 use Rattle.switch_names.specs.SystemName.{IsSystemPath}
 use Rattle.host_trait.specs.World.{Leaves}
@@ -25,10 +26,10 @@ module _ (has_name : Name → Bool) (leaves : Leaves) (folder : List ℕ) (owner
       subst (IsAnswer r) (ap (kind_with has_name leaves folder owners name) is ∙ ap (kind_by has_name leaves folder owners name) says) answer
 
 -- the entries of all names are what the system wants
-pub all_read : (leaves : Leaves) (system folder : List ℕ) (owners : OwnerIds) (names entries : List (List ℕ)) (r : Result (List Item) ManifestFault) → IsSystemPath system →
-    folder ≡ etc_folder system → names ≡ leaf_names leaves folder → entries ≡ entry_names (has names) names →
-    IsAnswer r (gathered (map (item_of (has names) leaves folder owners) entries)) → IsAnswer r (manifest_of leaves system owners)
-all_read leaves system folder owners names entries r named is_folder are_names are_entries answer = subst (IsAnswer r) same answer
+pub all_read : (leaves : Leaves) (system folder : List ℕ) (owners : OwnerIds) (names : List (List ℕ)) (r : Result (List Item) ManifestFault) → IsSystemPath system →
+    folder ≡ etc_folder system → names ≡ leaf_names leaves folder →
+    IsAnswer r (gathered (map (item_of (has names) leaves folder owners) (entry_names (has names) names))) → IsAnswer r (manifest_of leaves system owners)
+all_read leaves system folder owners names r named is_folder are_names answer = subst (IsAnswer r) same answer
   where
     names_are : names ≡ leaf_names leaves (etc_folder system)
     names_are = are_names ∙ ap (leaf_names leaves) is_folder
@@ -36,28 +37,37 @@ all_read leaves system folder owners names entries r named is_folder are_names a
     has_same : (name : List ℕ) → has names name ≡ has_leaf leaves (etc_folder system) name
     has_same name = ap (λ ns. has ns name) names_are ∙ has_leaf_name leaves system named name
 
-    same : gathered (map (item_of (has names) leaves folder owners) entries) ≡ manifest_of leaves system owners
+    same : gathered (map (item_of (has names) leaves folder owners) (entry_names (has names) names)) ≡ manifest_of leaves system owners
     same =
-        ap (λ es. gathered (map (item_of (has names) leaves folder owners) es)) are_entries
-        ∙ ap (λ f. gathered (map (item_of (has names) leaves f owners) (entry_names (has names) names))) is_folder
+        ap (λ f. gathered (map (item_of (has names) leaves f owners) (entry_names (has names) names))) is_folder
         ∙ (λ i. gathered (map (item_of (λ name. has_same name i) leaves (etc_folder system) owners) (entry_names (λ name. has_same name i) (names_are i))))
 
+module _ (p : List ℕ → Bool) (names : List (List ℕ)) (i : ℕ) (name : List ℕ) (within : i < length names) (is : name ≡ get_or names i name) where
+  kept_by : (b : Bool) → p name ≡ b → filter p (take (i + 1) names) ≡ filter p (take i names) ++ cond b (name ∷ []) []
+  kept_by b passes =
+      filter_more p names i name within
+      ∙ ap (λ n. filter p (take i names) ++ cond (p n) (n ∷ []) []) (sym is)
+      ∙ ap (λ c. filter p (take i names) ++ cond c (name ∷ []) []) passes
+
+  -- one name more is an entry
+  pub kept_more : p name ≡ true → filter p (take (i + 1) names) ≡ filter p (take i names) ++ name ∷ []
+  kept_more passes = kept_by true passes
+
+  -- or none
+  pub kept_same : p name ≡ false → filter p (take (i + 1) names) ≡ filter p (take i names)
+  kept_same fails = kept_by false fails ∙ append-nil (filter p (take i names))
+
 -- one place more of the entries
-pub place_more : (names : List (List ℕ)) (i : ℕ) (name : List ℕ) (item : Item) (before now : List Item) → i < length names → name ≡ get_or names i name → item.place ≡ name →
-    now ≡ before ++ item ∷ [] → places before ≡ take i names → places now ≡ take (i + 1) names
-place_more names i name item before now within is placed pushed so_far =
-    ap places pushed
-    ∙ map-append (λ (one : Item). one.place) before (item ∷ [])
-    ∙ (λ k. so_far k ++ (placed ∙ is) k ∷ [])
-    ∙ sym (take_more names i name within)
+pub place_more : (entries more : List (List ℕ)) (name : List ℕ) (item : Item) (before now : List Item) → more ≡ entries ++ name ∷ [] → item.place ≡ name → now ≡ before ++ item ∷ [] →
+    places before ≡ entries → places now ≡ more
+place_more entries more name item before now are placed pushed so_far =
+    ap places pushed ∙ map-append (λ (one : Item). one.place) before (item ∷ []) ∙ (λ k. so_far k ++ placed k ∷ []) ∙ sym are
 
 all_push : (P : List ℕ → Type 0) (names : List (List ℕ)) (name : List ℕ) → AllByRecursion P names → P name → AllByRecursion P (names ++ name ∷ [])
 all_push P [] name all one = (one, tt)
 all_push P (n ∷ names) name all one = (all.0, all_push P names name all.1 one)
 
 -- one entry more isn't reserved
-pub free_more : (names : List (List ℕ)) (i : ℕ) (name : List ℕ) → i < length names → name ≡ get_or names i name → is_reserved name ≡ false →
-    AllByRecursion (λ n. is_reserved n ≡ false) (take i names) → AllByRecursion (λ n. is_reserved n ≡ false) (take (i + 1) names)
-free_more names i name within is free so_far =
-    subst (AllByRecursion (λ n. is_reserved n ≡ false)) (sym (take_more names i name within ∙ ap (λ n. take i names ++ n ∷ []) (sym is)))
-    (all_push (λ n. is_reserved n ≡ false) (take i names) name so_far free)
+pub free_more : (entries more : List (List ℕ)) (name : List ℕ) → more ≡ entries ++ name ∷ [] → is_reserved name ≡ false →
+    AllByRecursion (λ n. is_reserved n ≡ false) entries → AllByRecursion (λ n. is_reserved n ≡ false) more
+free_more entries more name are free so_far = subst (AllByRecursion (λ n. is_reserved n ≡ false)) (sym are) (all_push (λ n. is_reserved n ≡ false) entries name so_far free)

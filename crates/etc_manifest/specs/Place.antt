@@ -1,10 +1,8 @@
 -- Places below /etc: NixOS manual, `environment.etc`.
 use Rattle.std.specs.Prelude.{ℕ, ◌==◌, Bool, List, [], ◌∷◌, ◌++◌, length, drop, codes, nat_eq, Option, None, Some, if◌then◌else◌}
-use Rattle.std.specs.BTreeSet.{insert_key}
 use Rattle.std.specs.List.{starts_with, before_first}
 use Rattle.switch_names.specs.Names.{Name, has}
 use Rattle.switch_names.specs.Path.{slash}
-use Rattle.host_trait.specs.Bytes.{bytes_cmp}
 
 -- where a system keeps what it wants below /etc
 unfoldable pub etc_folder : List ℕ → List ℕ
@@ -17,11 +15,6 @@ path_in folder name = folder ++ slash ∷ name
 -- what a text has after a front
 abbrev pub after_front : List ℕ → List ℕ → Option (List ℕ)
 after_front front text = if starts_with nat_eq text front then Some (drop (length front) text) else None
-
--- a name goes to others at its place in their order, where there is one
-abbrev pub with_name : Option Name → List Name → List Name
-with_name None names = names
-with_name (Some name) names = insert_key bytes_cmp names name
 
 abbrev pub is_slash : ℕ → Bool
 is_slash byte = byte == slash

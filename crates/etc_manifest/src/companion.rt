@@ -5,11 +5,10 @@ ghost use Rattle.std.specs.Option.{option_copied};
 ghost use Rattle.switch_names.specs.Names.{has};
 ghost use Rattle.host_trait.specs.Bytes.{bytes_cmp};
 ghost use Rattle.etc_manifest.specs.Companion.{before_end, has_mode, is_before, is_companion};
-ghost use Rattle.etc_manifest.specs.Entries.{entry_names};
 
 use crate::names::{has_name, with_ending};
 use std::alloc::{AllocError, Global};
-use switch_names::{Listed, Path};
+use switch_names::Path;
 
 /// What a text has before an ending.
 fn before_end<'a>(text: &'a str, ending: &str) -> Option<&'a str>
@@ -53,7 +52,7 @@ fn is_owner(alloc: Global, names: &[Path], name: &str, ending: &str) -> Result<b
 }
 
 /// Whether a name is a companion of another.
-fn is_companion(alloc: Global, names: &[Path], name: &str) -> Result<bool, AllocError>
+pub fn is_companion(alloc: Global, names: &[Path], name: &str) -> Result<bool, AllocError>
     requires { IsStrictlySortedBy bytes_cmp names.now }
     ensures { IfOk result (λ answer. answer ≡ is_companion (has names.now) name.now) }
 {
@@ -61,19 +60,4 @@ fn is_companion(alloc: Global, names: &[Path], name: &str) -> Result<bool, Alloc
         return Ok(true);
     }
     is_owner(alloc, names, name, ".gid")
-}
-
-/// The names that are no companions of others, in their order.
-pub fn entry_names(alloc: Global, names: &[Path]) -> Result<Listed<Path>, AllocError>
-    requires { IsStrictlySortedBy bytes_cmp names.now }
-    ensures entries { IfOk result (λ entries. entries ≡ entry_names (has names.now) names.now) }
-    ensures sorted { IfOk result (λ entries. IsStrictlySortedBy bytes_cmp entries) }
-{
-    let mut entries = Listed::new(alloc);
-    for name in names {
-        if !is_companion(alloc, names, name.as_str())? {
-            entries.push(name.copy(alloc)?)?;
-        }
-    }
-    Ok(entries)
 }

@@ -1,5 +1,5 @@
 //! Reads the entries of a system's etc.
-ghost use Rattle.std.specs.Prelude.{◌≡◌, ◌≤◌, ℕ, false, Some, IfOk, OnOk, IsErrOf, map, option_and_then};
+ghost use Rattle.std.specs.Prelude.{◌≡◌, ◌≤◌, ℕ, false, Some, IfOk, OnOk, IsErrOf, map, option_and_then, slice_get};
 ghost use Rattle.std.specs.FinMap.{get};
 ghost use Rattle.std.specs.List.{AllByRecursion};
 ghost use Rattle.std.specs.List.Sorted.{IsStrictlySortedBy};
@@ -10,15 +10,17 @@ ghost use Rattle.host_trait.specs.Host.{Told};
 ghost use Rattle.host_trait.specs.Reading.{IsReadingOf};
 ghost use Rattle.etc_manifest.specs.declared.manifest_fault.ManifestFault.TheVariants.{Host};
 ghost use Rattle.etc_manifest.specs.declared.mode.Mode.TheVariants.{Bits};
-ghost use Rattle.etc_manifest.specs.Entries.{IsAnswer, item_of};
+ghost use Rattle.etc_manifest.specs.Entries.{IsAnswer, entry_names, item_of};
 ghost use Rattle.etc_manifest.specs.Companion.{parts_of};
 ghost use Rattle.etc_manifest.specs.Kind.{copied_kind, direct_kind, kind_of, kind_with, mode_of, owned_kind, target_of};
 ghost use Rattle.etc_manifest.specs.Manifest.{gathered, places};
 ghost use Rattle.etc_manifest.specs.Place.{is_reserved, path_in};
 
+use crate::companion::is_companion;
 use crate::item::{Item, ItemKind};
 use crate::manifest_fault::ManifestFault;
 use crate::mode::{Mode, read_mode};
+use crate::names::has_longer;
 use crate::owners::Owners;
 use crate::place::is_reserved;
 use crate::reading::{Parts, companion, read_parts, read_target};
@@ -144,19 +146,24 @@ fn read_with<T: Tree>(
     }
 }
 
-/// Reads how an entry is placed.
+/// Reads how an entry is placed, which stands at this place among the names.
 fn read_kind<T: Tree>(
     alloc: Global,
     host: &mut T,
     folder: &Path,
     names: &[Path],
     owners: &Owners,
+    at: usize,
     name: &Path,
 ) -> Result<ItemKind, ManifestFault>
-    requires { IsStrictlySortedBy bytes_cmp names.now }
+    requires sorted { IsStrictlySortedBy bytes_cmp names.now }
+    requires there { slice_get names.now at ≡ Some name.now }
     ensures kind { Told (T.host host.old) (λ w. IsAnswer result (kind_of (has names.now) w.leaves folder.now owners.now name.now)) }
     ensures reads { IsReadingOf (T.host host.old) (T.host host.new) (IsErrOf result (Host Device)) }
 {
+    if !has_longer(names, at, name) {
+        return Ok(ItemKind::Linked);
+    }
     let Some(text) = companion(alloc, host, folder, names, name, ".mode")? else {
         return Ok(ItemKind::Linked);
     };
@@ -164,16 +171,18 @@ fn read_kind<T: Tree>(
     read_with(alloc, host, folder, names, owners, name, mode)
 }
 
-/// Reads an entry.
+/// Reads an entry, which stands at this place among the names.
 fn read_item<T: Tree>(
     alloc: Global,
     host: &mut T,
     folder: &Path,
     names: &[Path],
     owners: &Owners,
+    at: usize,
     name: &Path,
 ) -> Result<Item, ManifestFault>
-    requires { IsStrictlySortedBy bytes_cmp names.now }
+    requires sorted { IsStrictlySortedBy bytes_cmp names.now }
+    requires there { slice_get names.now at ≡ Some name.now }
     ensures item { Told (T.host host.old) (λ w. IsAnswer result (item_of (has names.now) w.leaves folder.now owners.now name.now)) }
     ensures place { IfOk result (λ item. item.place ≡ name.now) }
     ensures free { OnOk result (is_reserved name.now ≡ false) }
@@ -182,31 +191,34 @@ fn read_item<T: Tree>(
     if is_reserved(name) {
         return Err(ManifestFault::Reserved(name.copy(alloc)?));
     }
-    let kind = read_kind(alloc, host, folder, names, owners, name)?;
+    let kind = read_kind(alloc, host, folder, names, owners, at, name)?;
     Ok(Item {
         place: name.copy(alloc)?,
         kind,
     })
 }
 
-/// Reads entries in order, up to the first that is refused.
+/// Reads the entries among names in order, up to the first that is refused.
 pub fn read_items<T: Tree>(
     alloc: Global,
     host: &mut T,
     folder: &Path,
     names: &[Path],
     owners: &Owners,
-    entries: &[Path],
 ) -> Result<Listed<Item>, ManifestFault>
     requires { IsStrictlySortedBy bytes_cmp names.now }
-    ensures items { Told (T.host host.old) (λ w. IsAnswer result (gathered (map (item_of (has names.now) w.leaves folder.now owners.now) entries.now))) }
-    ensures places { IfOk result (λ items. places items ≡ entries.now) }
-    ensures free { OnOk result (AllByRecursion (λ name. is_reserved name ≡ false) entries.now) }
+    ensures items { Told (T.host host.old) (λ w. IsAnswer result (gathered (map (item_of (has names.now) w.leaves folder.now owners.now) (entry_names (has names.now) names.now)))) }
+    ensures places { IfOk result (λ items. places items ≡ entry_names (has names.now) names.now) }
+    ensures free { OnOk result (AllByRecursion (λ name. is_reserved name ≡ false) (entry_names (has names.now) names.now)) }
     ensures reads { IsReadingOf (T.host host.old) (T.host host.new) (IsErrOf result (Host Device)) }
 {
     let mut items = Listed::new(alloc);
-    for name in entries {
-        items.push(read_item(alloc, host, folder, names, owners, name)?)?;
+    for at in 0..names.len() {
+        let name = &names[at];
+        if is_companion(alloc, names, name.as_str())? {
+            continue;
+        }
+        items.push(read_item(alloc, host, folder, names, owners, at, name)?)?;
     }
     Ok(items)
 }

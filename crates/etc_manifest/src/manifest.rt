@@ -7,7 +7,6 @@ ghost use Rattle.etc_manifest.specs.declared.manifest_fault.ManifestFault.TheVar
 ghost use Rattle.etc_manifest.specs.Entries.{IsAnswer, manifest_of};
 ghost use Rattle.etc_manifest.specs.Manifest.{AreApart, IsManifest, places};
 
-use crate::companion::entry_names;
 use crate::entry::read_items;
 use crate::item::Item;
 use crate::manifest_fault::ManifestFault;
@@ -58,10 +57,8 @@ fn read_entries<T: Tree>(
     ensures reads { IsReadingOf (T.host host.old) (T.host host.new) (IsErrOf result (Host Device)) }
 {
     let folder = etc_folder(alloc, system)?;
-    let listed = read_names(alloc, host, &folder)?;
-    let names = listed.as_slice();
-    let entries = entry_names(alloc, names)?;
-    read_items(alloc, host, &folder, names, owners, entries.as_slice())
+    let names = read_names(alloc, host, &folder)?;
+    read_items(alloc, host, &folder, names.as_slice(), owners)
 }
 
 impl Manifest {

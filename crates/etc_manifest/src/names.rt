@@ -1,14 +1,15 @@
 //! The names of the leaves below a folder.
-ghost use Rattle.std.specs.Prelude.{◌≡◌, ◌++◌, IfOk, OnOk, string_bytes};
-ghost use Rattle.std.specs.List.{filter_map};
+ghost use Rattle.std.specs.Prelude.{◌≡◌, ◌<◌, ◌≤◌, ◌++◌, ◌∷◌, [], ℕ, false, List, length, take, drop, Some, IfOk, IfSome, OnOk, slice_get, string_bytes};
+ghost use Rattle.std.specs.List.{AllByRecursion, filter_map};
 ghost use Rattle.std.specs.List.Sorted.{IsStrictlySortedBy};
+ghost use Rattle.std.specs.declared.cmp.Ordering.TheVariants.{Less};
 ghost use Rattle.switch_names.specs.Names.{has};
 ghost use Rattle.host_trait.specs.Bytes.{bytes_cmp};
-ghost use Rattle.etc_manifest.specs.Place.{after_front, with_name};
+ghost use Rattle.etc_manifest.specs.Place.{after_front};
 
 use crate::place::after_front;
 use std::alloc::{AllocError, Global};
-use std::collections::BTreeSet;
+use std::cmp::Ordering;
 use switch_names::{Listed, NameFault, Path};
 
 /// What follows a front in a path, where the path has that front.
@@ -25,27 +26,34 @@ fn name_after(alloc: Global, front: &str, path: &Path) -> Result<Option<Path>, A
     }
 }
 
-/// The names of a set, in byte order.
-fn listed(alloc: Global, set: BTreeSet<Path>) -> Result<Listed<Path>, AllocError>
-    ensures names { IfOk result (λ names. names ≡ set.keys) }
-    ensures sorted { IsStrictlySortedBy bytes_cmp set.keys }
+/// Where a name belongs among others in byte order, unless it is there.
+fn place_of(names: &[Path], name: &Path) -> Option<usize>
+    requires { IsStrictlySortedBy bytes_cmp names.now }
+    ensures place { IfSome result (λ at. (at ≤ length names.now)
+        × AllByRecursion (λ other. bytes_cmp other name.now ≡ Less) (take at names.now)
+        × AllByRecursion (λ other. bytes_cmp name.now other ≡ Less) (drop at names.now)) }
+    ensures last { AllByRecursion (λ other. bytes_cmp other name.now ≡ Less) names.now → result ≡ Some (length names.now) }
 {
-    let mut names = Listed::new(alloc);
-    for name in set {
-        names.push(name)?;
+    let Some(last) = names.last() else {
+        return Some(0);
+    };
+    // A host lists in byte order, so that each name comes last.
+    match last.cmp(name) {
+        Ordering::Less => Some(names.len()),
+        _ => names.binary_search(name).err(),
     }
-    Ok(names)
 }
 
-/// Adds a name to a set, where there is one.
-fn add_name(names: &mut BTreeSet<Path>, name: Option<Path>) -> Result<(), AllocError>
-    ensures { OnOk result (names.new.keys ≡ with_name name names.old.keys) }
+/// Adds a name to others in byte order, unless it is there.
+fn add_name(names: &mut Listed<Path>, name: Path) -> Result<(), AllocError>
+    requires { IsStrictlySortedBy bytes_cmp names.old }
+    ensures sorted { OnOk result (IsStrictlySortedBy bytes_cmp names.new) }
+    ensures last { OnOk result (AllByRecursion (λ other. bytes_cmp other name ≡ Less) names.old → names.new ≡ names.old ++ name ∷ []) }
 {
-    let Some(name) = name else {
-        return Ok(());
-    };
-    names.insert(name)?;
-    Ok(())
+    match place_of(names.as_slice(), &name) {
+        Some(at) => names.insert(at, name),
+        None => Ok(()),
+    }
 }
 
 /// What follows a front in each path that has it, in byte order: also where the paths aren't.
@@ -53,12 +61,14 @@ pub fn names_after(alloc: Global, front: &str, paths: &[Path]) -> Result<Listed<
     ensures sorted { IfOk result (λ names. IsStrictlySortedBy bytes_cmp names) }
     ensures names { IfOk result (λ names. IsStrictlySortedBy bytes_cmp paths.now → names ≡ filter_map (after_front front.now) paths.now) }
 {
-    let mut names = BTreeSet::new(alloc);
+    let mut names = Listed::new(alloc);
     for path in paths {
-        let name = name_after(alloc, front, path)?;
+        let Some(name) = name_after(alloc, front, path)? else {
+            continue;
+        };
         add_name(&mut names, name)?;
     }
-    listed(alloc, names)
+    Ok(names)
 }
 
 /// Whether a name is among names in byte order.
@@ -69,6 +79,22 @@ pub fn has_name(names: &[Path], name: &str) -> bool
     names
         .binary_search_by(|other| other.as_str().cmp(name))
         .is_ok()
+}
+
+/// Whether a longer name begins with the one at this place, of names in byte order.
+pub fn has_longer(names: &[Path], at: usize, name: &Path) -> bool
+    requires sorted { IsStrictlySortedBy bytes_cmp names.now }
+    requires there { slice_get names.now at ≡ Some name.now }
+    ensures { result ≡ false → (end : List ℕ) → 0 < length end → has names.now (name.now ++ end) ≡ false }
+{
+    // What begins with a name comes next after it.
+    match names.get(at + 1) {
+        Some(next) => next
+            .as_str()
+            .as_bytes()
+            .starts_with(name.as_str().as_bytes()),
+        None => false,
+    }
 }
 
 /// A text with an ending.

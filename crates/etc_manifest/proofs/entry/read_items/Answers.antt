@@ -1,40 +1,49 @@
-use Rattle.std.proofs.Common.{ap}
+use Rattle.std.proofs.Common.{◌+◌, length, not, take, refl, ap, sym, ◌∙◌}
+use Rattle.std.proofs.lemmas.Option.{slice_get_read}
 use Rattle.switch_names.specs.Names.{has}
 use Rattle.host_trait.proofs.Moments.{told_before}
 use Rattle.host_trait.proofs.Readings.{nothing_read_of, reads_of, reads_then}
-use Rattle.etc_manifest.specs.Entries.{item_of}
+use Rattle.etc_manifest.specs.Companion.{is_companion}
+use Rattle.etc_manifest.specs.Entries.{entry_names, item_of}
 use Rattle.etc_manifest.specs.Manifest.{places}
 use Rattle.etc_manifest.proofs.AnswerLemmas.{fault_handed, no_host}
 use Rattle.etc_manifest.proofs.GatherLemmas.{gathered_begins, gathered_more}
-use Rattle.etc_manifest.proofs.ReadLemmas.{free_more, place_more}
+use Rattle.etc_manifest.proofs.ReadLemmas.{free_more, kept_more, place_more}
 use Rattle.etc_manifest.proofs.entry.read_items.Goals as goal
 
-pub loop-name-init : goal.loop-name-init
-loop-name-init g c = record {
-  items = record { has = λ w is. gathered_begins (item_of (has c.args.names.now) w.leaves c.args.folder.now c.args.owners.now) c.args.entries.now c.new-items.result c.new-items.ensures };
+pub loop-at-init : goal.loop-at-init
+loop-at-init g c = record {
+  items = record { has = λ w is. gathered_begins (item_of (has c.args.names.now) w.leaves c.args.folder.now c.args.owners.now) (entry_names (has c.args.names.now) c.args.names.now) c.new-items.result c.new-items.ensures };
   placed = ap places c.new-items.ensures;
   free = tt;
   reads = nothing_read_of ⊥ (λ none. none);
 }
 
-pub loop-name-preserved : goal.loop-name-preserved
-loop-name-preserved g c =
-    let read = told_before c.loop-name.invariant.reads.moments c.in_ok-read_item.ensures.item in
+pub read_item-requires-clause-there : goal.read_item-requires-clause-there
+read_item-requires-clause-there g c = slice_get_read c.args.names.now (length c.args.names.now) c.loop-at.at c.index-names-at.result refl c.loop-at-test.true c.index-names-at.is
+
+pub loop-at-preserved : goal.loop-at-preserved
+loop-at-preserved g c =
+    let names = c.args.names.now in
+    let name = c.index-names-at.result in
+    let entry = ap not (ap (is_companion (has names)) (sym c.as_str.ensures.text) ∙ sym c.in_ok-is_companion.ensures ∙ c.if-branch.false) in
+    let more = kept_more (λ one. not (is_companion (has names) one)) names c.loop-at.at name c.loop-at-test.true c.index-names-at.is entry in
+    let read = told_before c.loop-at.invariant.reads.moments c.in_ok-read_item.ensures.item in
     record {
       items = record {
         has = λ w is.
-            gathered_more (item_of (has c.args.names.now) w.leaves c.args.folder.now c.args.owners.now) c.args.entries.now c.loop-name.name-index c.name-item.result c.in_ok-read_item.field-0
-            c.loop-name.items c.push.new.self c.loop-name-test.true c.name-item.is c.in_ok-push.ensures.ok (read.has w is) (c.loop-name.invariant.items.has w is);
+            gathered_more (item_of (has names) w.leaves c.args.folder.now c.args.owners.now) (λ one. not (is_companion (has names) one)) names c.loop-at.at name c.loop-at-test.true
+            c.index-names-at.is c.in_ok-read_item.field-0 c.loop-at.items c.push.new.self entry c.in_ok-push.ensures.ok (read.has w is) (c.loop-at.invariant.items.has w is);
       };
       placed =
-          place_more c.args.entries.now c.loop-name.name-index c.name-item.result c.in_ok-read_item.field-0 c.loop-name.items c.push.new.self c.loop-name-test.true c.name-item.is
-          c.in_ok-read_item.ensures.place c.in_ok-push.ensures.ok c.loop-name.invariant.placed;
-      free = free_more c.args.entries.now c.loop-name.name-index c.name-item.result c.loop-name-test.true c.name-item.is c.in_ok-read_item.ensures.free c.loop-name.invariant.free;
-      reads = reads_of (reads_then c.loop-name.invariant.reads c.read_item.ensures.reads) ⊥ (λ none. absurd none);
+          place_more (entry_names (has names) (take c.loop-at.at names)) (entry_names (has names) (take (c.loop-at.at + 1) names)) name c.in_ok-read_item.field-0 c.loop-at.items c.push.new.self
+          more c.in_ok-read_item.ensures.place c.in_ok-push.ensures.ok c.loop-at.invariant.placed;
+      free = free_more (entry_names (has names) (take c.loop-at.at names)) (entry_names (has names) (take (c.loop-at.at + 1) names)) name more c.in_ok-read_item.ensures.free c.loop-at.invariant.free;
+      reads = reads_of (reads_then c.loop-at.invariant.reads c.read_item.ensures.reads) ⊥ (λ none. absurd none);
     }
 
 pub returns-in_err-read_item-clause-reads : goal.returns-in_err-read_item-clause-reads
-returns-in_err-read_item-clause-reads g c = reads_of (reads_then c.loop-name.invariant.reads c.in_err-read_item.ensures.reads) _ (fault_handed _ _ c.from_residual.ensures.1)
+returns-in_err-read_item-clause-reads g c = reads_of (reads_then c.loop-at.invariant.reads c.in_err-read_item.ensures.reads) _ (fault_handed _ _ c.from_residual-in_err-read_item.ensures.1)
 
 pub returns-in_err-push-clause-reads : goal.returns-in_err-push-clause-reads
-returns-in_err-push-clause-reads g c = reads_of (reads_then c.loop-name.invariant.reads c.read_item.ensures.reads) _ (λ fault. absurd (no_host _ c.from_residual-in_err-push.ensures.1 fault))
+returns-in_err-push-clause-reads g c = reads_of (reads_then c.loop-at.invariant.reads c.read_item.ensures.reads) _ (λ fault. absurd (no_host _ c.from_residual-in_err-push.ensures.1 fault))

@@ -1,6 +1,7 @@
 use Rattle.std.proofs.Common.{sym, ◌∙◌}
 use Rattle.switch_names.specs.Names.{has}
-use Rattle.host_trait.proofs.Readings.{read_of, reads_then, told_read}
+use Rattle.host_trait.proofs.Readings.{nothing_read_of, read_of, reads_then, told_read}
+use Rattle.etc_manifest.proofs.AnswerLemmas.{fine_no_host}
 use Rattle.etc_manifest.proofs.ReadLemmas.{kind_read}
 use Rattle.etc_manifest.proofs.entry.read_kind.Goals as goal
 
@@ -15,3 +16,6 @@ returns-clause-kind g c =
 
 pub returns-clause-reads : goal.returns-clause-reads
 returns-clause-reads g c = reads_then (read_of c.companion.ensures.reads ⊥ (λ none. absurd none)) c.read_with.ensures.reads
+
+pub returns-then-not-has_longer-clause-reads : goal.returns-then-not-has_longer-clause-reads
+returns-then-not-has_longer-clause-reads g c = nothing_read_of _ (fine_no_host _)

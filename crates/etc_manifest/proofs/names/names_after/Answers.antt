@@ -1,7 +1,27 @@
-use Rattle.etc_manifest.proofs.NameLemmas.{names_more}
+use Rattle.std.proofs.Common.{sym, subst, ◌∙◌}
+use Rattle.std.specs.List.Sorted.{IsStrictlySortedBy}
+use Rattle.host_trait.specs.Bytes.{bytes_cmp}
+use Rattle.host_trait.proofs.Orders.{none_sorted}
+use Rattle.etc_manifest.proofs.NameLemmas.{next_after, same_after}
 use Rattle.etc_manifest.proofs.names.names_after.Goals as goal
 
+pub loop-path-init : goal.loop-path-init
+loop-path-init c = record { sorted = subst (IsStrictlySortedBy bytes_cmp) (sym c.new-names.ensures) none_sorted; names = λ sorted. c.new-names.ensures }
+
+pub loop-path-preserved-in_default : goal.loop-path-preserved-in_default
+loop-path-preserved-in_default c = record {
+  sorted = c.loop-path.invariant.sorted;
+  names = λ sorted.
+      same_after c.args.front.now c.args.paths.now c.loop-path.path-index c.path-item.result c.loop-path-test.true c.path-item.is c.loop-path.names
+      (sym c.in_default.is ∙ c.in_ok-name.ensures) (c.loop-path.invariant.names sorted);
+}
+
 pub loop-path-preserved : goal.loop-path-preserved
-loop-path-preserved c = λ sorted.
-    names_more c.args.front.now c.args.paths.now c.loop-path.path-index c.path-item.result c.loop-path-test.true c.path-item.is c.in_ok-name.name c.loop-path.names.keys c.add_name.new.names.keys
-    c.in_ok-name.ensures c.in_ok-add_name.ensures sorted (c.loop-path.invariant sorted)
+loop-path-preserved c = record {
+  sorted = c.in_ok-add_name.ensures.sorted;
+  names = λ sorted.
+      let next =
+      next_after c.args.front.now c.args.paths.now c.loop-path.path-index c.path-item.result c.loop-path-test.true c.path-item.is c.in-Some.name c.loop-path.names
+      (sym c.in-Some.is ∙ c.in_ok-name.ensures) sorted (c.loop-path.invariant.names sorted) in
+      c.in_ok-add_name.ensures.last next.0 ∙ next.1;
+}

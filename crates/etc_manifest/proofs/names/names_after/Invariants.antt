@@ -5,6 +5,9 @@ use Rattle.host_trait.specs.Bytes.{bytes_cmp}
 use Rattle.etc_manifest.specs.Place.{after_front}
 use Rattle.etc_manifest.proofs.names.names_after.Given as goal
 
--- where the paths are in order, the set has the names of the paths so far
+-- the names are in order, and where the paths are, they are those of the paths so far
 abbrev pub invariant-loop-path : goal.invariant-loop-path
-invariant-loop-path l = IsStrictlySortedBy bytes_cmp l.paths → l.names.keys ≡ filter_map (after_front l.front) (take l.path-index l.paths)
+invariant-loop-path l = record {
+  sorted : IsStrictlySortedBy bytes_cmp l.names;
+  names : IsStrictlySortedBy bytes_cmp l.paths → l.names ≡ filter_map (after_front l.front) (take l.path-index l.paths);
+}
