@@ -1,18 +1,19 @@
 -- Paths below one another, as texts that are cut at a slash.
-use Rattle.std.proofs.Common.{suc, ◌≡◌, ◌⊎◌, ℕ, ◌<◌, ◌&&◌, ◌||◌, ◌==◌, Bool, true, false, nat_lt, nat_eq, slice_index, List, [], ◌∷◌, ◌++◌, length, take, drop, Some, arith, refl, sym, ap, ◌∙◌, inl, inr, ⊎_elim, lit<, length-append, append_assoc}
+use Rattle.std.proofs.Common.{suc, ◌≡◌, ◌⊎◌, ℕ, ◌<◌, ◌&&◌, ◌||◌, ◌==◌, ◌+◌, Bool, true, false, cond, nat_lt, nat_eq, slice_index, List, [], ◌∷◌, ◌++◌, length, take, drop, Bor, Option, None, Some, IfSome, MatchOption, option_copied, ◌≢◌, arith, refl, sym, ap, ◌∙◌, inl, inr, ⊎_elim, lit<, length-append, append_assoc}
 use Rattle.std.proofs.Math.Seq.{drop-cons, get_or-append_seam}
 use Rattle.std.proofs.lemmas.Bool.{cases_Bool, both_ways, and_parts}
 use Rattle.std.proofs.lemmas.Bool.Decides.{Decides-eqb}
 use Rattle.std.proofs.lemmas.List.Folds.{list_any-append}
 use Rattle.std.proofs.lemmas.Slice.Eq.{starts_is}
 use Rattle.std.proofs.lemmas.Bool.{ne_eqb}
-use Rattle.std.proofs.lemmas.List.{get_or_default, take-append-drop}
+use Rattle.std.proofs.lemmas.List.{drop_at, get_or_default, take-append-drop}
 use Rattle.std.proofs.lemmas.List.Folds.{list_any_none}
 use Rattle.std.proofs.lemmas.Str.Pattern.{NoCharPasses-char, drop_at_char}
 use Rattle.std.specs.List.{list_any, starts_with}
 use Rattle.std.specs.Str.{NoCharPasses}
 use Rattle.std.specs.Str.Pattern.{RFindsChar}
-use Rattle.switch_names.specs.Path.{IsParentOf, is_below, slash}
+use Rattle.switch_names.specs.Path.{IsParentOf, is_below, name_below, slash}
+use Rattle.switch_names.proofs.Joined.{drop_joined}
 
 abbrev is_slash : ℕ → Bool
 is_slash byte = byte == slash
@@ -109,3 +110,28 @@ cut_at_last text front i j last is =
     front_is_parent text front (drop j text)
     (sym (take-append-drop i text) ∙ ap (λ rest. take i text ++ rest) (drop_at_char slash text i j last.1 (lit< tt)) ∙ ap (λ t. t ++ slash ∷ drop j text) (sym is))
     (no_slash (drop j text) last.0)
+
+-- ---- what stands below another text
+
+-- what follows the slash at which a text is cut
+pub name_below-cut : (text other name : List ℕ) → text ≡ other ++ slash ∷ name → Some name ≡ name_below other text
+name_below-cut text other name is =
+    sym (
+    ap (λ b. cond b (Some (drop (length other + 1) text)) None) (ap (λ t. is_below t other) is ∙ below_front other name)
+    ∙ ap Some (ap (drop (length other + 1)) is ∙ drop_joined other name))
+
+-- a text that isn't cut so lies not below the other
+pub name_below-uncut : (text other : List ℕ) → ((name : List ℕ) → text ≡ other ++ slash ∷ name → ⊥) → None ≡ name_below other text
+name_below-uncut text other uncut = elim (cases_Bool (is_below text other)) [
+  | inl is ↦ let cut = rest_below text other is in absurd (uncut cut.0 cut.1)
+  | inr is ↦ sym (ap (λ b. cond b (Some (drop (length other + 1) text)) None) is)
+]
+
+-- of a text that begins with another, what follows the slash after that
+pub below_stripped : (text other rest : List ℕ) (name : Option (Bor (List ℕ))) → starts_with nat_eq text other ≡ true → rest ≡ drop (length other) text →
+    MatchOption name ((more : List ℕ) → rest ≢ slash ∷ more) (λ name. rest ≡ slash ∷ name.now) → (option_copied name ≡ name_below other text) × IfSome name (λ name. text ≡ other ++ slash ∷ name.now)
+below_stripped text other rest None begins left uncut =
+    (name_below-uncut text other (λ name cut. uncut name (left ∙ ap (drop (length other)) cut ∙ drop_at other (slash ∷ name) (length other) refl)), tt)
+below_stripped text other rest (Some name) begins left cut =
+    let whole = (starts_is Decides-eqb text other (starts_with nat_eq text other) refl).0 begins ∙ ap (λ r. other ++ r) (sym left ∙ cut) in
+    (name_below-cut text other name.now whole, whole)

@@ -1,5 +1,5 @@
 -- Paths of leaves: path_resolution(7), "Step 2: walk along the path", and pathname limits of limits.h(0p).
-use Rattle.std.specs.Prelude.{◌≡◌, ◌⊎◌, ℕ, ◌&&◌, ◌||◌, ◌==◌, Bool, true, false, List, [], ◌∷◌, length, nat_lt, position, Option, None, Some, option_map, slice_index, nat_eq, if◌then◌else◌}
+use Rattle.std.specs.Prelude.{◌≡◌, ◌⊎◌, ℕ, ◌+◌, ◌&&◌, ◌||◌, ◌==◌, Bool, true, false, List, [], ◌∷◌, length, drop, nat_lt, position, Option, None, Some, option_map, slice_index, nat_eq, if◌then◌else◌}
 use Rattle.std.specs.Option.{option_or}
 use Rattle.std.specs.List.{slice_split, list_any, starts_with}
 use Rattle.switch_names.specs.declared.name_fault.NameFault.{NameFault}
@@ -32,6 +32,13 @@ path_fault text =
     else if nat_lt 4096 (length text) then Some Long
     else option_or (option_map Byte (position is_no_path_byte text)) (if list_any is_dots (names_of text) then Some Dot else None)
 
+-- what keeps a text from being a path, or from ending one that has so many bytes before it: those of a path and a slash
+abbrev pub fault_after : ℕ → List ℕ → Option NameFault
+fault_after before text =
+    if list_any is_empty_name (names_of text) then Some Empty
+    else if nat_lt 4096 (before + length text) then Some Long
+    else option_or (option_map (λ at. Byte (before + at)) (position is_no_path_byte text)) (if list_any is_dots (names_of text) then Some Dot else None)
+
 -- a path is names joined by slashes, none empty or of dots alone, in at most 4,096 bytes
 abbrev pub IsPath : List ℕ → Type 0
 IsPath text = path_fault text ≡ None
@@ -40,6 +47,10 @@ IsPath text = path_fault text ≡ None
 abbrev pub is_below : List ℕ → List ℕ → Bool
 is_below path other =
     nat_lt (length other) (length path) && (starts_with nat_eq path other && slice_index path (length other) == slash)
+
+-- what a path has after another and a slash, where it lies below that one
+abbrev pub name_below : List ℕ → List ℕ → Option (List ℕ)
+name_below other path = if is_below path other then Some (drop (length other + 1) path) else None
 
 -- the path without its last name: the path lies below it, and so lies it below all else that the path does
 pub record IsParentOf (path parent : List ℕ) : Type 0 where

@@ -1,7 +1,8 @@
 //! Paths of leaves below a root folder.
-ghost use Rattle.std.specs.Prelude.{◌≡◌, ℕ, ◌++◌, ◌∷◌, List, false, IfOk, OnOk, IfSome, IsNone, position};
-ghost use Rattle.std.specs.List.{list_any};
-ghost use Rattle.switch_names.specs.Path.{IsPath, path_fault, names_of, is_no_path_byte, is_empty_name, is_dots, is_below, slash, IsParentOf};
+ghost use Rattle.std.specs.Prelude.{◌≡◌, ℕ, ◌+◌, ◌<◌, ◌^◌, ◌++◌, ◌∷◌, List, true, false, length, drop, nat_eq, IfOk, OnOk, IfSome, IsNone, MatchOption, position};
+ghost use Rattle.std.specs.List.{list_any, starts_with};
+ghost use Rattle.std.specs.Option.{option_copied};
+ghost use Rattle.switch_names.specs.Path.{IsPath, path_fault, fault_after, name_below, names_of, is_no_path_byte, is_empty_name, is_dots, is_below, slash, IsParentOf};
 ghost use Rattle.switch_names.specs.NameFault.{IsRefusedBy};
 
 use crate::name_fault::NameFault;
@@ -47,13 +48,6 @@ fn is_no_path_byte(byte: u8) -> bool
     byte == 0 || byte == b'\n'
 }
 
-/// Whether a name of the text is empty.
-fn has_empty_name(text: &str) -> bool
-    ensures { result ≡ list_any is_empty_name (names_of text.now) }
-{
-    text.split('/').any(|name| name.is_empty())
-}
-
 /// Whether a name is one or two dots.
 pub(crate) fn is_dots(name: &[u8]) -> bool
     ensures { result ≡ is_dots name.now }
@@ -65,35 +59,77 @@ pub(crate) fn is_dots(name: &[u8]) -> bool
     }
 }
 
-/// Whether a name of the text is one or two dots.
-fn has_dots(text: &str) -> bool
-    ensures { result ≡ list_any is_dots (names_of text.now) }
+/// Whether a name of the text is empty, and whether one is one or two dots.
+fn wrong_names(text: &str) -> (bool, bool)
+    ensures empty { result.0 ≡ list_any is_empty_name (names_of text.now) }
+    ensures dots { result.1 ≡ list_any is_dots (names_of text.now) }
 {
-    text.split('/').any(|name| is_dots(name.as_bytes()))
+    let mut has_empty = false;
+    let mut has_dots = false;
+    for name in text.split('/') {
+        has_empty |= name.is_empty();
+        has_dots |= is_dots(name.as_bytes());
+    }
+    (has_empty, has_dots)
 }
 
 /// The place of the first byte that stands in no path.
 fn first_no_path_byte(bytes: &[u8]) -> Option<usize>
     ensures { result ≡ position is_no_path_byte bytes.now }
 {
-    bytes.iter().position(|byte| is_no_path_byte(*byte))
+    for at in 0..bytes.len() {
+        if is_no_path_byte(bytes[at]) {
+            return Some(at);
+        }
+    }
+    None
+}
+
+/// What keeps a text from being a path, or from ending one that has so many bytes before it.
+fn fault_after(before: usize, text: &str) -> Option<NameFault>
+    requires { before + length text.now < 2 ^ 64 }
+    ensures { result ≡ fault_after before text.now }
+{
+    let (has_empty, has_dots) = wrong_names(text);
+    if has_empty {
+        Some(NameFault::Empty)
+    } else if before + text.len() > PATH_MAX {
+        Some(NameFault::Long)
+    } else if let Some(at) = first_no_path_byte(text.as_bytes()) {
+        Some(NameFault::Byte(before + at))
+    } else if has_dots {
+        Some(NameFault::Dot)
+    } else {
+        None
+    }
 }
 
 /// What keeps a text from being a path.
 fn fault_of(text: &str) -> Option<NameFault>
     ensures { result ≡ path_fault text.now }
 {
-    if has_empty_name(text) {
-        Some(NameFault::Empty)
-    } else if text.len() > PATH_MAX {
-        Some(NameFault::Long)
-    } else if let Some(at) = first_no_path_byte(text.as_bytes()) {
-        Some(NameFault::Byte(at))
-    } else if has_dots(text) {
-        Some(NameFault::Dot)
-    } else {
-        None
-    }
+    fault_after(0, text)
+}
+
+/// What keeps a path, a slash and a text from being a path.
+fn fault_below(folder: &str, more: &str) -> Option<NameFault>
+    requires { IsPath folder.now }
+    ensures { result ≡ path_fault (folder.now ++ slash ∷ more.now) }
+{
+    fault_after(folder.len() + 1, more)
+}
+
+/// A text, a slash and another.
+fn joined(alloc: Global, folder: &str, more: &str) -> Result<Text, AllocError>
+    ensures { IfOk result (λ text. text ≡ folder.now ++ slash ∷ more.now) }
+{
+    // Room for the whole at once.
+    let len = folder.len().saturating_add(more.len()).saturating_add(1);
+    let mut text = String::with_capacity(alloc, len)?;
+    text.push_str(folder)?;
+    text.push('/')?;
+    text.push_str(more)?;
+    Ok(Text::from_string(text))
 }
 
 impl Path {
@@ -132,10 +168,12 @@ impl Path {
         ensures is_path { OnOk result (IsPath (self.now ++ slash ∷ more.now)) }
         ensures fault { IsRefusedBy result (path_fault (self.now ++ slash ∷ more.now)) }
     {
-        let mut text = String::from_str(alloc, self.as_str())?;
-        text.push('/')?;
-        text.push_str(more)?;
-        Path::parse(alloc, text.as_str())
+        if let Some(fault) = fault_below(self.as_str(), more) {
+            return Err(fault);
+        }
+        Ok(Path {
+            text: joined(alloc, self.as_str(), more)?,
+        })
     }
 
     /// The path, lent.
@@ -161,11 +199,17 @@ impl Path {
         let Some(front) = front_of(self.as_str()) else {
             return Ok(None);
         };
-        // The first names of a path are a path, so that memory alone can be wanting.
-        match Path::parse(alloc, front) {
-            Ok(path) => Ok(Some(path)),
-            Err(_) => Err(AllocError),
-        }
+        Ok(Some(Path::of_checked(alloc, front)?))
+    }
+
+    /// What this path has after another and a slash, where it lies below that one.
+    pub fn name_below(&self, alloc: Global, other: &Path) -> Result<Option<Path>, AllocError>
+        ensures { IfOk result (λ name. name ≡ name_below other.now self.now) }
+    {
+        let Some(name) = text_below(self.as_str(), other.as_str()) else {
+            return Ok(None);
+        };
+        Ok(Some(Path::of_checked(alloc, name)?))
     }
 
     /// An equal path.
@@ -183,6 +227,26 @@ fn is_text_below(text: &[u8], other: &[u8]) -> bool
     ensures { result ≡ is_below text.now other.now }
 {
     other.len() < text.len() && text.starts_with(other) && text[other.len()] == b'/'
+}
+
+/// What follows a prefix.
+pub(crate) fn after_prefix<'a>(text: &'a str, prefix: &str) -> Option<&'a str>
+    ensures { MatchOption result
+        (starts_with nat_eq text.now prefix.now ≡ false)
+        (λ rest. (starts_with nat_eq text.now prefix.now ≡ true) × (rest.now ≡ drop (length prefix.now) text.now)) }
+{
+    text.strip_prefix(prefix)
+}
+
+/// What a text has after another and a slash.
+fn text_below<'a>(text: &'a str, other: &str) -> Option<&'a str>
+    ensures name { option_copied result ≡ name_below other.now text.now }
+    ensures cut { IfSome result (λ name. text.now ≡ other.now ++ slash ∷ name.now) }
+{
+    let Some(rest) = after_prefix(text, other) else {
+        return None;
+    };
+    rest.strip_prefix('/')
 }
 
 /// What a text has before its last slash.

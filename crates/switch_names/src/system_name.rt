@@ -1,12 +1,11 @@
 //! The name of a built system in the store.
-ghost use Rattle.std.specs.Prelude.{◌≡◌, ◌+◌, ◌<◌, ◌^◌, ◌∷◌, true, false, length, drop, nat_eq, position, None, Some, IfOk, OnOk, MatchOption};
-ghost use Rattle.std.specs.List.{starts_with};
+ghost use Rattle.std.specs.Prelude.{◌≡◌, ◌+◌, ◌<◌, ◌^◌, ◌∷◌, length, position, None, IfOk, OnOk};
 ghost use Rattle.switch_names.specs.NameFault.{IsRefusedBy};
 ghost use Rattle.switch_names.specs.Path.{IsPath, slash};
 ghost use Rattle.switch_names.specs.SystemName.{NamesSystem, is_no_store_byte, store_name_fault, system_fault, system_path};
 
 use crate::name_fault::NameFault;
-use crate::path::{Path, is_dots};
+use crate::path::{Path, after_prefix, is_dots};
 use crate::text::Text;
 use std::alloc::{AllocError, Global};
 use std::cmp::Ordering;
@@ -58,15 +57,6 @@ fn with_slash(alloc: Global, text: &str) -> Result<Text, AllocError>
     let mut made = String::from_str(alloc, "/")?;
     made.push_str(text)?;
     Ok(Text::from_string(made))
-}
-
-/// What follows a prefix.
-fn after_prefix<'a>(text: &'a str, prefix: &str) -> Option<&'a str>
-    ensures { MatchOption result
-        (starts_with nat_eq text.now prefix.now ≡ false)
-        (λ rest. (starts_with nat_eq text.now prefix.now ≡ true) × (rest.now ≡ drop (length prefix.now) text.now)) }
-{
-    text.strip_prefix(prefix)
 }
 
 /// Whether a byte stands in no name of the store.

@@ -1,14 +1,6 @@
-use Rattle.std.proofs.Common.{rules}
+use Rattle.std.proofs.Common.{◌∙◌}
+use Rattle.switch_names.proofs.Joined.{fault_alone}
 use Rattle.switch_names.proofs.path.fault_of.Goals as goal
 
-pub returns-then-text-gt-PATH_MAX : goal.returns-then-text-gt-PATH_MAX
-returns-then-text-gt-PATH_MAX c = search rules
-
-pub returns-in-Some : goal.returns-in-Some
-returns-in-Some c = search rules
-
-pub returns-then-has_dots : goal.returns-then-has_dots
-returns-then-has_dots c = search rules
-
-pub returns-else-has_dots : goal.returns-else-has_dots
-returns-else-has_dots c = search rules
+pub returns : goal.returns
+returns c = c.fault_after.ensures ∙ fault_alone c.args.text.now

@@ -2,7 +2,7 @@ use Rattle.std.proofs.Common.{◌≡◌, ℕ, ◌+◌, true, false, List, length
 use Rattle.std.specs.List.{starts_with}
 use Rattle.std.specs.Str.Pattern.{FindsTextPrefix}
 use Rattle.std.proofs.lemmas.Str.Pattern.{starts_text}
-use Rattle.switch_names.proofs.system_name.after_prefix.Goals as goal
+use Rattle.switch_names.proofs.path.after_prefix.Goals as goal
 
 stripped : (prefix text : List ℕ) (rest : Option (Bor (List ℕ))) → MatchOption rest (FindsTextPrefix prefix text None) (λ x. (n : ℕ) × FindsTextPrefix prefix text (Some n) × (x.now ≡ drop n text) × (length x.now + n ≡ length text)) → MatchOption rest (starts_with nat_eq text prefix ≡ false) (λ x. (starts_with nat_eq text prefix ≡ true) × (x.now ≡ drop (length prefix) text))
 stripped prefix text None is = sym (starts_text false prefix text is)
