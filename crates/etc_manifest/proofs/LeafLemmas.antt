@@ -77,8 +77,7 @@ module _ (leaves : Leaves) (system : List ℕ) where
       ∙ ap (λ b. b && not (is_companion (has_leaf leaves (etc_folder system)) name)) (has_leaf_name is name)
 
 -- what follows the folder in the listed paths are the names
-pub names_read : (leaves : Leaves) (folder front : List ℕ) (paths names : List (List ℕ)) → front ≡ path_in folder [] → paths ≡ listed folder leaves →
-    (IsStrictlySortedBy bytes_cmp paths → names ≡ filter_map (after_front front) paths) → names ≡ leaf_names leaves folder
-names_read leaves folder front paths names is_front are read =
-    read (subst (IsStrictlySortedBy bytes_cmp) (sym are) (paths_sorted leaves folder))
-    ∙ (λ i. filter_map (after_front (is_front i)) (are i))
+pub names_read : (leaves : Leaves) (folder : List ℕ) (paths names : List (List ℕ)) → paths ≡ listed folder leaves →
+    (IsStrictlySortedBy bytes_cmp paths → names ≡ filter_map (after_front (path_in folder [])) paths) → names ≡ leaf_names leaves folder
+names_read leaves folder paths names are read =
+    read (subst (IsStrictlySortedBy bytes_cmp) (sym are) (paths_sorted leaves folder)) ∙ ap (filter_map (after_front (path_in folder []))) are

@@ -1,5 +1,5 @@
 -- Names in byte order.
-use Rattle.std.proofs.Common.{◌≡◌, ◌⊎◌, ℕ, zero, suc, ◌+◌, ◌-◌, ◌<◌, ◌≤◌, ◌||◌, ◌&&◌, Bool, true, false, cond, List, [], ◌∷◌, ◌++◌, length, get_or, take, drop, map, Bor, codes, nat_eq, Option, None, Some, IfSome, Result, Ok, Err, refl, sym, ap, subst, ◌∙◌, inl, inr, arith}
+use Rattle.std.proofs.Common.{◌≡◌, ◌⊎◌, ℕ, zero, suc, ◌+◌, ◌-◌, ◌<◌, ◌≤◌, ◌||◌, ◌&&◌, Bool, true, false, cond, List, [], ◌∷◌, ◌++◌, length, get_or, take, drop, map, Bor, codes, nat_eq, Option, None, Some, IfSome, Result, Ok, Err, refl, sym, ap, subst, ◌∙◌, inl, inr, arith, append_assoc}
 use Rattle.std.specs.FinMap.{nat_cmp-IsAntisymmetric}
 use Rattle.std.specs.List.{AllByRecursion, cons_option, filter, filter_map, slice_get, starts_with}
 use Rattle.std.specs.Slice.{IsItemAt}
@@ -18,11 +18,13 @@ use Rattle.std.proofs.lemmas.List.Folds.{list_any-append}
 use Rattle.std.proofs.lemmas.Option.{slice_get_past, slice_get_read}
 use Rattle.std.proofs.lemmas.Slice.Eq.{starts_is}
 use Rattle.switch_names.specs.Names.{has, is_name}
+use Rattle.switch_names.specs.Path.{name_below, slash}
+use Rattle.switch_names.proofs.Below.{name_below-cut, name_below-uncut}
 use Rattle.switch_names.proofs.Names.{name_turned}
 use Rattle.host_trait.specs.Bytes.{bytes_cmp}
 use Rattle.host_trait.proofs.Orders.{AreAbove, AreBelow, missing_name, sorted_below, sorted_insert}
 use Rattle.host_trait.proofs.Places.{bytes_exact, bytes_total, same_or_other}
-use Rattle.etc_manifest.specs.Place.{after_front, first_name, is_reserved, reserved_names}
+use Rattle.etc_manifest.specs.Place.{after_front, first_name, is_reserved, path_in, reserved_names}
 
 pub name_itself : (a : List ℕ) → is_name a a ≡ true
 name_itself a = ap is_eq (tied_itself bytes_total a)
@@ -105,6 +107,16 @@ pub front_there : (front rest : List ℕ) → after_front front (front ++ rest) 
 front_there front rest =
     ap (λ b. cond b (Some (drop (length front) (front ++ rest))) None) ((starts_is Decides-eqb (front ++ rest) front (starts_with nat_eq (front ++ rest) front) refl).1 rest refl)
     ∙ ap (λ r. Some r) (drop_at front rest (length front) refl)
+
+-- what a path has after a folder and a slash is what follows these two
+pub below_is_after : (folder path : List ℕ) → name_below folder path ≡ after_front (path_in folder []) path
+below_is_after folder path = by (after_front (path_in folder []) path) refl
+  where
+    by : (o : Option (List ℕ)) → after_front (path_in folder []) path ≡ o → name_below folder path ≡ o
+    by None is =
+        sym (name_below-uncut path folder (λ name cut.
+        let there = sym is ∙ ap (after_front (path_in folder [])) (cut ∙ sym (append_assoc folder (slash ∷ []) name)) ∙ front_there (path_in folder []) name in absurd (cc)))
+    by (Some name) is = sym (name_below-cut path folder name (front_is (path_in folder []) path name is ∙ append_assoc folder (slash ∷ []) name))
 
 -- a front that two names share is passed over
 front_same : (front a b : List ℕ) → bytes_cmp (front ++ a) (front ++ b) ≡ bytes_cmp a b

@@ -5,26 +5,11 @@ ghost use Rattle.std.specs.List.Sorted.{IsStrictlySortedBy};
 ghost use Rattle.std.specs.declared.cmp.Ordering.TheVariants.{Less};
 ghost use Rattle.switch_names.specs.Names.{has};
 ghost use Rattle.host_trait.specs.Bytes.{bytes_cmp};
-ghost use Rattle.etc_manifest.specs.Place.{after_front};
+ghost use Rattle.etc_manifest.specs.Place.{after_front, path_in};
 
-use crate::place::after_front;
 use std::alloc::{AllocError, Global};
 use std::cmp::Ordering;
-use switch_names::{Listed, NameFault, Path};
-
-/// What follows a front in a path, where the path has that front.
-fn name_after(alloc: Global, front: &str, path: &Path) -> Result<Option<Path>, AllocError>
-    ensures { IfOk result (λ name. name ≡ after_front front.now path.now) }
-{
-    let Some(name) = after_front(path.as_str(), front) else {
-        return Ok(None);
-    };
-    // What follows a folder and a slash in a path is a path, so that memory alone can be wanting.
-    match Path::parse(alloc, name) {
-        Ok(name) => Ok(Some(name)),
-        Err(_fault) => Err(AllocError),
-    }
-}
+use switch_names::{Listed, Path};
 
 /// Where a name belongs among others in byte order, unless it is there.
 fn place_of(names: &[Path], name: &Path) -> Option<usize>
@@ -56,14 +41,14 @@ fn add_name(names: &mut Listed<Path>, name: Path) -> Result<(), AllocError>
     }
 }
 
-/// What follows a front in each path that has it, in byte order: also where the paths aren't.
-pub fn names_after(alloc: Global, front: &str, paths: &[Path]) -> Result<Listed<Path>, AllocError>
+/// What each path below a folder has after it, in byte order: also where the paths aren't.
+pub fn names_after(alloc: Global, folder: &Path, paths: &[Path]) -> Result<Listed<Path>, AllocError>
     ensures sorted { IfOk result (λ names. IsStrictlySortedBy bytes_cmp names) }
-    ensures names { IfOk result (λ names. IsStrictlySortedBy bytes_cmp paths.now → names ≡ filter_map (after_front front.now) paths.now) }
+    ensures names { IfOk result (λ names. IsStrictlySortedBy bytes_cmp paths.now → names ≡ filter_map (after_front (path_in folder.now [])) paths.now) }
 {
     let mut names = Listed::new(alloc);
     for path in paths {
-        let Some(name) = name_after(alloc, front, path)? else {
+        let Some(name) = path.name_below(alloc, folder)? else {
             continue;
         };
         add_name(&mut names, name)?;

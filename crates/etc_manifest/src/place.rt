@@ -5,7 +5,7 @@ ghost use Rattle.switch_names.specs.SystemName.{IsSystemPath};
 ghost use Rattle.etc_manifest.specs.Place.{after_front, etc_folder, first_name, is_reserved};
 
 use std::alloc::{AllocError, Global};
-use switch_names::{NameFault, Path, SystemName};
+use switch_names::{Path, SystemName};
 
 /// What stands before the first slash of a name.
 fn first_name(name: &str) -> &str
@@ -43,10 +43,10 @@ pub fn etc_folder(alloc: Global, system: &SystemName) -> Result<Path, AllocError
     ensures named { IsSystemPath system.now }
 {
     // The path of a system has 265 bytes at most, so that memory alone can be wanting.
-    system
-        .path()
-        .join(alloc, "etc")
-        .map_err(|_fault: NameFault| AllocError)
+    match system.path().join(alloc, "etc") {
+        Ok(folder) => Ok(folder),
+        Err(_) => Err(AllocError),
+    }
 }
 
 /// What a text has after a front.

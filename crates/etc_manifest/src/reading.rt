@@ -14,7 +14,7 @@ ghost use Rattle.etc_manifest.specs.Place.{path_in};
 use crate::names::{has_name, names_after, with_ending};
 use host_trait::{HostFault, Leaf, LeafKind, Tree, content};
 use std::alloc::{AllocError, Global};
-use switch_names::{Bytes, Listed, NameFault, Path, Text};
+use switch_names::{Bytes, Listed, Path, Text};
 
 /// The names of the leaves below a folder, in byte order.
 pub fn read_names<T: Tree>(
@@ -26,9 +26,8 @@ pub fn read_names<T: Tree>(
     ensures names { IfOk result (λ names. Told (T.host host.old) (λ w. names ≡ leaf_names w.leaves folder.now)) }
     ensures reads { IsReading (T.host host.old) (T.host host.new) result }
 {
-    let front = with_ending(alloc, folder.as_str(), "/")?;
     let paths = host.list(alloc, folder)?;
-    Ok(names_after(alloc, front.as_str(), paths.as_slice())?)
+    Ok(names_after(alloc, folder, paths.as_slice())?)
 }
 
 /// The path of what has a name below a folder.
@@ -36,9 +35,10 @@ fn path_in(alloc: Global, folder: &Path, name: &str) -> Result<Path, AllocError>
     ensures { IfOk result (λ path. path ≡ path_in folder.now name.now) }
 {
     // The name follows the folder in a path, so that memory alone can be wanting.
-    folder
-        .join(alloc, name)
-        .map_err(|_fault: NameFault| AllocError)
+    match folder.join(alloc, name) {
+        Ok(path) => Ok(path),
+        Err(_) => Err(AllocError),
+    }
 }
 
 /// The path of the companion of an entry, where a leaf stands there.

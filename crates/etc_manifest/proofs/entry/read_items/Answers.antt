@@ -1,4 +1,5 @@
-use Rattle.std.proofs.Common.{◌+◌, length, not, take, refl, ap, sym, ◌∙◌}
+use Rattle.std.proofs.Common.{◌≡◌, ◌+◌, false, length, not, take, refl, ap, sym, subst, ◌∙◌}
+use Rattle.std.specs.List.{AllByRecursion}
 use Rattle.std.proofs.lemmas.Option.{slice_get_read}
 use Rattle.switch_names.specs.Names.{has}
 use Rattle.host_trait.proofs.Moments.{told_before}
@@ -6,9 +7,10 @@ use Rattle.host_trait.proofs.Readings.{nothing_read_of, reads_of, reads_then}
 use Rattle.etc_manifest.specs.Companion.{is_companion}
 use Rattle.etc_manifest.specs.Entries.{entry_names, item_of}
 use Rattle.etc_manifest.specs.Manifest.{places}
+use Rattle.etc_manifest.specs.Place.{is_reserved}
 use Rattle.etc_manifest.proofs.AnswerLemmas.{fault_handed, no_host}
-use Rattle.etc_manifest.proofs.GatherLemmas.{gathered_begins, gathered_more}
-use Rattle.etc_manifest.proofs.ReadLemmas.{free_more, kept_more, place_more}
+use Rattle.etc_manifest.proofs.GatherLemmas.{gathered_begins, gathered_more, gathered_same}
+use Rattle.etc_manifest.proofs.ReadLemmas.{free_more, kept_more, kept_same, place_more}
 use Rattle.etc_manifest.proofs.entry.read_items.Goals as goal
 
 pub loop-at-init : goal.loop-at-init
@@ -21,6 +23,23 @@ loop-at-init g c = record {
 
 pub read_item-requires-clause-there : goal.read_item-requires-clause-there
 read_item-requires-clause-there g c = slice_get_read c.args.names.now (length c.args.names.now) c.loop-at.at c.index-names-at.result refl c.loop-at-test.true c.index-names-at.is
+
+pub loop-at-preserved-then-branch : goal.loop-at-preserved-then-branch
+loop-at-preserved-then-branch g c =
+    let names = c.args.names.now in
+    let name = c.index-names-at.result in
+    let other = ap not (ap (is_companion (has names)) (sym c.as_str.ensures.text) ∙ sym c.in_ok-is_companion.ensures ∙ c.if-branch.true) in
+    let same = kept_same (λ one. not (is_companion (has names) one)) names c.loop-at.at name c.loop-at-test.true c.index-names-at.is other in
+    record {
+      items = record {
+        has = λ w is.
+            gathered_same (item_of (has names) w.leaves c.args.folder.now c.args.owners.now) (λ one. not (is_companion (has names) one)) names c.loop-at.at name c.loop-at-test.true
+            c.index-names-at.is c.loop-at.items other (c.loop-at.invariant.items.has w is);
+      };
+      placed = c.loop-at.invariant.placed ∙ sym same;
+      free = subst (AllByRecursion (λ one. is_reserved one ≡ false)) (sym same) c.loop-at.invariant.free;
+      reads = c.loop-at.invariant.reads;
+    }
 
 pub loop-at-preserved : goal.loop-at-preserved
 loop-at-preserved g c =
