@@ -6,10 +6,14 @@ use Rattle.std.proofs.lemmas.List.{append-nil}
 use Rattle.std.proofs.lemmas.List.Concat.{flat_map-append}
 use Rattle.switch_names.specs.UnitName.{template_of}
 use Rattle.unit_defs.specs.declared.reading.found.Found.{Found}
+use Rattle.unit_defs.specs.declared.reading.found.UnitFiles.{UnitFiles}
 use Rattle.unit_defs.specs.declared.part.Part.{Part}
+use Rattle.unit_defs.specs.declared.unit.Unit.{Unit}
 use Rattle.unit_defs.specs.Files.{base_of}
-use Rattle.unit_defs.specs.Found.{drop_ins_in, file_in, file_part_in}
-use Rattle.unit_defs.specs.Part.{added, first_fault, merged}
+use Rattle.unit_defs.specs.Found.{drop_ins_in, file_in, files_in, in_name_order, own_part_in, unit_of}
+use Rattle.unit_defs.specs.Part.{added, first_fault, line_part, merged}
+use Rattle.unit_defs.specs.UnitFiles.{base_from, ordered_drop_ins, part_from}
+use Rattle.unit_defs.proofs.DropInLemmas.{none_ordered}
 
 or_assoc : {X : Type 0} (a b c : Option X) → option_or (option_or a b) c ≡ option_or a (option_or b c)
 or_assoc None b c = refl
@@ -44,30 +48,49 @@ added_twice base xs ys =
     let fault = or_assoc base.fault (first_fault xs) (first_fault ys) ∙ ap (option_or base.fault) (sym (first_fault-append xs ys)) in
     λ i. record { text = text i; fault = fault i }
 
--- what the files of a unit say, made from the file on which they are based
-module _ (found : Found) (unit : List ℕ) where
-  abbrev part_by : Option (List ℕ) → Option Part → Option Part
-  part_by template base = option_map merged (option_map (λ file. file ∷ option_map_or (drop_ins_in found) template [] ++ drop_ins_in found unit) base)
+-- what a unit has of its own, by what was found of it, and by the drop-ins and the file of its template
+abbrev pub part_by : Option UnitFiles → List Part → Option Part → Option Part
+part_by files inherited template =
+    option_or (option_map merged (option_map (λ file. file ∷ inherited ++ in_name_order (option_map_or (λ (f : UnitFiles). f.drop_ins.entries) files []))
+    (base_of (option_and_then (λ (f : UnitFiles). f.file) files) (in_name_order (option_map_or (λ (f : UnitFiles). f.drop_ins.entries) files [])) template)))
+    (option_map line_part (option_and_then (λ (f : UnitFiles). f.line) files))
 
-  pub file_part_made : (template : Option (List ℕ)) (base part : Part) → template ≡ template_of unit →
-      Some base ≡ base_of (file_in found unit) (drop_ins_in found unit) (option_and_then (file_in found) template) →
-      part ≡ added (added base (option_map_or (drop_ins_in found) template [])) (drop_ins_in found unit) → Some part ≡ file_part_in found unit
-  file_part_made template base part named is made =
-      ap (λ p. Some p) (made ∙ added_twice base (option_map_or (drop_ins_in found) template []) (drop_ins_in found unit))
-      ∙ ap (part_by template) is
-      ∙ ap (λ t. part_by t (base_of (file_in found unit) (drop_ins_in found unit) (option_and_then (file_in found) t))) named
+-- ---- the same by what was found of the template
 
-  pub file_part_none : (template : Option (List ℕ)) → template ≡ template_of unit →
-      None ≡ base_of (file_in found unit) (drop_ins_in found unit) (option_and_then (file_in found) template) → None ≡ file_part_in found unit
-  file_part_none template named is =
-      ap (part_by template) is
-      ∙ ap (λ t. part_by t (base_of (file_in found unit) (drop_ins_in found unit) (option_and_then (file_in found) t))) named
+all_added : (base : Option Part) (xs ys : List Part) → option_map (λ file. added (added file xs) ys) base ≡ option_map merged (option_map (λ file. file ∷ xs ++ ys) base)
+all_added None xs ys = refl
+all_added (Some base) xs ys = ap (λ p. Some p) (added_twice base xs ys)
 
-  -- the same by the steps in which it is made
-  pub file_part_steps : (template first second : Option (List ℕ)) (base copied one part : Part) → template ≡ template_of unit → first ≡ template → second ≡ template →
-      Some base ≡ base_of (file_in found unit) (drop_ins_in found unit) (option_and_then (file_in found) first) →
-      copied ≡ base → one ≡ added copied (option_map_or (drop_ins_in found) second []) → part ≡ added one (drop_ins_in found unit) → Some part ≡ file_part_in found unit
-  file_part_steps template first second base copied one part named is_first is_second is same inherited own =
-      file_part_made template base part named
-      (is ∙ ap (λ t. base_of (file_in found unit) (drop_ins_in found unit) (option_and_then (file_in found) t)) is_first)
-      (own ∙ ap (λ p. added p (drop_ins_in found unit)) (inherited ∙ ap (λ p. added p (option_map_or (drop_ins_in found) second [])) same ∙ ap (λ t. added base (option_map_or (drop_ins_in found) t [])) is_second))
+part_from_both : (own : UnitFiles) (template : Option UnitFiles) →
+    part_from own template ≡ part_by (Some own) (option_map_or ordered_drop_ins template []) (option_and_then (λ (f : UnitFiles). f.file) template)
+part_from_both own template = ap (λ p. option_or p (option_map line_part own.line)) (all_added (base_from own template) (option_map_or ordered_drop_ins template []) (ordered_drop_ins own))
+
+module _ (found : Found) where
+  template_file : (template : Option (List ℕ)) → option_and_then (λ (f : UnitFiles). f.file) (option_and_then (files_in found) template) ≡ option_and_then (file_in found) template
+  template_file None = refl
+  template_file (Some template) = refl
+
+  template_drop_ins : (template : Option (List ℕ)) → option_map_or ordered_drop_ins (option_and_then (files_in found) template) [] ≡ option_map_or (drop_ins_in found) template []
+  template_drop_ins None = refl
+  template_drop_ins (Some template) = by (files_in found template)
+    where
+      by : (files : Option UnitFiles) → option_map_or ordered_drop_ins files [] ≡ in_name_order (option_map_or (λ (f : UnitFiles). f.drop_ins.entries) files [])
+      by None = none_ordered
+      by (Some files) = refl
+
+  part_found : (name : List ℕ) (own : UnitFiles) (template : Option UnitFiles) → files_in found name ≡ Some own → template ≡ option_and_then (files_in found) (template_of name) →
+      part_from own template ≡ own_part_in found name
+  part_found name own template is_own is_template =
+      ap (part_from own) is_template
+      ∙ part_from_both own (option_and_then (files_in found) (template_of name))
+      ∙ ap (λ ds. part_by (Some own) ds (option_and_then (λ (f : UnitFiles). f.file) (option_and_then (files_in found) (template_of name)))) (template_drop_ins (template_of name))
+      ∙ ap (part_by (Some own) (option_map_or (drop_ins_in found) (template_of name) [])) (template_file (template_of name))
+      ∙ ap (λ files. part_by files (option_map_or (drop_ins_in found) (template_of name) []) (option_and_then (file_in found) (template_of name))) (sym is_own)
+
+  -- a unit is made of what was found of it and of its template
+  pub unit_made : (name : List ℕ) (own : UnitFiles) (template : Option UnitFiles) (unit : Unit) → files_in found name ≡ Some own → template ≡ option_and_then (files_in found) (template_of name) →
+      unit.name ≡ name → unit.part ≡ part_from own template → unit.wants ≡ own.wants → unit ≡ unit_of found name
+  unit_made name own template unit is_own is_template is_name is_part are_wants =
+      let part = is_part ∙ part_found name own template is_own is_template in
+      let wants = are_wants ∙ ap (λ files. option_map_or (λ (f : UnitFiles). f.wants) files []) (sym is_own) in
+      λ i. record { name = is_name i; part = part i; wants = wants i }

@@ -26,6 +26,7 @@ use Rattle.switch_names.specs.Names.{has, is_name}
 use Rattle.unit_defs.specs.Units.{own_part}
 use Rattle.unit_defs.proofs.DropInLemmas.{none_ordered}
 use Rattle.unit_defs.proofs.NameLemmas.{name_exact}
+use Rattle.unit_defs.proofs.PartLemmas.{part_by}
 
 -- ---- the template of a unit is a unit
 
@@ -80,12 +81,6 @@ has_key (e ∷ es) name = ap (λ b. is_name name e.0 || b) (has_key es name) ∙
     by : (b : Bool) (o : Option _) → (b || is_some o) ≡ is_some (cond b (Some e.1) o)
     by true o = refl
     by false o = refl
-
-abbrev part_by : Option UnitFiles → List Part → Option Part → Option Part
-part_by files inherited template =
-    option_or (option_map merged (option_map (λ file. file ∷ inherited ++ in_name_order (option_map_or (λ (f : UnitFiles). f.drop_ins.entries) files []))
-    (base_of (option_and_then (λ (f : UnitFiles). f.file) files) (in_name_order (option_map_or (λ (f : UnitFiles). f.drop_ins.entries) files [])) template)))
-    (option_map line_part (option_and_then (λ (f : UnitFiles). f.line) files))
 
 part_only : (files : Option UnitFiles) (inherited : List Part) (template : Option Part) → cond (is_some files) (part_by files inherited template) None ≡ part_by files inherited template
 part_only (Some files) inherited template = refl

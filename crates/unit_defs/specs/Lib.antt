@@ -5,4 +5,5 @@ pub mod Fstab
 pub mod Part
 pub mod Place
 pub mod Pull
+pub mod UnitFiles
 pub mod Units

@@ -4,8 +4,9 @@ ghost use Rattle.std.specs.BTreeMap.{get};
 ghost use Rattle.std.specs.Option.{option_copied, option_or};
 ghost use Rattle.host_trait.specs.World.{bytes_cmp};
 ghost use Rattle.unit_defs.specs.declared.place.Place.TheVariants.{File, DropIn, Want};
-ghost use Rattle.unit_defs.specs.Found.{Joins, Takes, drop_in_in, drop_ins_in, file_in, files_in, in_name_order, line_in, wants_in};
+ghost use Rattle.unit_defs.specs.Found.{Joins, Takes, files_in};
 ghost use Rattle.unit_defs.specs.Part.{added};
+ghost use Rattle.unit_defs.specs.UnitFiles.{ordered_drop_ins};
 ghost use Rattle.switch_names.specs.Names.{is_name};
 ghost use Rattle.unit_defs.specs.declared.part.Part.{Part};
 
@@ -54,6 +55,23 @@ impl UnitFiles {
             wants: Listed::new(alloc),
         }
     }
+
+    /// Whether the unit has drop-ins.
+    pub fn has_drop_ins(&self) -> bool
+        ensures { result ≡ not (length (ordered_drop_ins self.now) == 0) }
+    {
+        !self.drop_ins.is_empty()
+    }
+
+    /// Applies the drop-ins in the order of their names.
+    pub fn add_drop_ins(&self, alloc: Global, part: &mut Part) -> Result<(), AllocError>
+        ensures { OnOk result (part.new ≡ added part.old (ordered_drop_ins self.now)) }
+    {
+        for drop_in in self.drop_ins.values() {
+            part.add(alloc, drop_in)?;
+        }
+        Ok(())
+    }
 }
 
 /// What is found of units by their names.
@@ -78,28 +96,6 @@ impl Found {
         }
     }
 
-    /// Takes what is found of a unit out.
-    fn take(&mut self, alloc: Global, unit: &UnitName) -> UnitFiles
-        ensures file { result.file ≡ file_in self.old unit.now }
-        ensures drop_in { (name : List ℕ) → get bytes_cmp result.drop_ins name ≡ drop_in_in self.old unit.now name }
-        ensures line { result.line ≡ line_in self.old unit.now }
-        ensures wants { result.wants ≡ wants_in self.old unit.now }
-        ensures others { (other : List ℕ) → files_in self.new other ≡ (if is_name unit.now other then None else files_in self.old other) }
-    {
-        match self.units.remove(unit) {
-            Some(files) => files,
-            None => UnitFiles::new(alloc),
-        }
-    }
-
-    /// Puts what is found of a unit.
-    fn put(&mut self, unit: UnitName, files: UnitFiles) -> Result<(), AllocError>
-        ensures { OnOk result ((other : List ℕ) → files_in self.new other ≡ (if is_name unit other then Some files else files_in self.old other)) }
-    {
-        self.units.insert(unit, files)?;
-        Ok(())
-    }
-
     /// A unit's file is found, where the leaf has content.
     pub fn add_file(
         &mut self,
@@ -109,9 +105,9 @@ impl Found {
     ) -> Result<(), AllocError>
         ensures { OnOk result (Takes (Some (File unit)) part self.old self.new) }
     {
-        let mut files = self.take(alloc, &unit);
+        let files = self.units.entry(unit)?.or_insert(UnitFiles::new(alloc));
         files.file = part;
-        self.put(unit, files)
+        Ok(())
     }
 
     /// A drop-in of a unit is found, where the leaf has content.
@@ -127,9 +123,8 @@ impl Found {
         let Some(part) = part else {
             return Ok(());
         };
-        let mut files = self.take(alloc, &unit);
-        insert_new(&mut files.drop_ins, name, part)?;
-        self.put(unit, files)
+        let files = self.units.entry(unit)?.or_insert(UnitFiles::new(alloc));
+        insert_new(&mut files.drop_ins, name, part)
     }
 
     /// A unit is found that another one wants.
@@ -141,9 +136,8 @@ impl Found {
     ) -> Result<(), AllocError>
         ensures { OnOk result ((part : Option Part) → Takes (Some (Want unit name)) part self.old self.new) }
     {
-        let mut files = self.take(alloc, &unit);
-        files.wants.push(name)?;
-        self.put(unit, files)
+        let files = self.units.entry(unit)?.or_insert(UnitFiles::new(alloc));
+        files.wants.push(name)
     }
 
     /// A line of an fstab is found that defines a unit. Of two lines the first stands.
@@ -155,66 +149,17 @@ impl Found {
     ) -> Result<(), AllocError>
         ensures { OnOk result (Joins (λ other. if is_name unit other then Some text else None) (λ other. []) self.old self.new) }
     {
-        let mut files = self.take(alloc, &unit);
+        let files = self.units.entry(unit)?.or_insert(UnitFiles::new(alloc));
         let first = files.line.take().unwrap_or(text);
         files.line = Some(first);
-        self.put(unit, files)
+        Ok(())
     }
 
     /// What is found of a unit.
-    fn files(&self, unit: &UnitName) -> Option<&UnitFiles>
+    pub fn files(&self, unit: &UnitName) -> Option<&UnitFiles>
         ensures { option_copied result ≡ files_in self.now unit.now }
     {
         self.units.get(unit)
-    }
-
-    /// The file of a unit.
-    pub fn file(&self, unit: &UnitName) -> Option<&Part>
-        ensures { option_copied result ≡ file_in self.now unit.now }
-    {
-        self.files(unit)?.file.as_ref()
-    }
-
-    /// The text of a unit's line in the fstab.
-    pub fn line(&self, unit: &UnitName) -> Option<&UnitText>
-        ensures { option_copied result ≡ line_in self.now unit.now }
-    {
-        self.files(unit)?.line.as_ref()
-    }
-
-    /// The names in a unit's folders of units that it wants, and those that the fstab makes it want.
-    pub fn wants(&self, unit: &UnitName) -> &[UnitName]
-        ensures { result.now ≡ wants_in self.now unit.now }
-    {
-        match self.files(unit) {
-            Some(files) => files.wants.as_slice(),
-            None => &[],
-        }
-    }
-
-    /// Whether a unit has drop-ins.
-    pub fn has_drop_ins(&self, unit: &UnitName) -> bool
-        ensures { result ≡ not (length (drop_ins_in self.now unit.now) == 0) }
-    {
-        match self.files(unit) {
-            Some(files) => !files.drop_ins.is_empty(),
-            None => false,
-        }
-    }
-
-    /// Applies the drop-ins of a unit in the order of their names.
-    pub fn add_drop_ins(
-        &self,
-        alloc: Global,
-        unit: &UnitName,
-        part: &mut Part,
-    ) -> Result<(), AllocError>
-        ensures { OnOk result (part.new ≡ added part.old (drop_ins_in self.now unit.now)) }
-    {
-        match self.files(unit) {
-            Some(files) => add_parts(alloc, &files.drop_ins, part),
-            None => Ok(()),
-        }
     }
 }
 
@@ -222,22 +167,6 @@ impl Found {
 fn insert_new(drop_ins: &mut BTreeMap<Text, Part>, name: Text, part: Part) -> Result<(), AllocError>
     ensures { OnOk result ((other : List ℕ) → get bytes_cmp drop_ins.new other ≡ option_or (get bytes_cmp drop_ins.old other) (if is_name name other then Some part else None)) }
 {
-    if !drop_ins.contains_key(&name) {
-        drop_ins.insert(name, part)?;
-    }
-    Ok(())
-}
-
-/// Applies drop-ins in the order of their names.
-fn add_parts(
-    alloc: Global,
-    drop_ins: &BTreeMap<Text, Part>,
-    part: &mut Part,
-) -> Result<(), AllocError>
-    ensures { OnOk result (part.new ≡ added part.old (in_name_order drop_ins.now.entries)) }
-{
-    for drop_in in drop_ins.values() {
-        part.add(alloc, drop_in)?;
-    }
+    drop_ins.entry(name)?.or_insert(part);
     Ok(())
 }

@@ -1,73 +1,69 @@
 //! Makes the units of a system of what was found.
-ghost use Rattle.std.specs.Prelude.{◌≡◌, [], IfOk, OnOk, map, option_map, option_and_then};
+ghost use Rattle.std.specs.Prelude.{◌≡◌, IfOk, OnOk, Some, map, option_map, option_and_then};
 ghost use Rattle.std.specs.BTreeMap.{keys};
 ghost use Rattle.std.specs.List.Sorted.{IsStrictlySortedBy};
-ghost use Rattle.std.specs.Option.{option_copied, option_map_or};
+ghost use Rattle.std.specs.Option.{option_copied};
 ghost use Rattle.switch_names.specs.UnitName.{template_of};
 ghost use Rattle.host_trait.specs.World.{bytes_cmp};
-ghost use Rattle.unit_defs.specs.Files.{base_of};
-ghost use Rattle.unit_defs.specs.Found.{drop_ins_in, file_in, file_part_in, line_in, own_part_in, unit_of};
-ghost use Rattle.unit_defs.specs.Part.{added, line_part};
+ghost use Rattle.unit_defs.specs.Found.{files_in, unit_of};
+ghost use Rattle.unit_defs.specs.Part.{line_part};
+ghost use Rattle.unit_defs.specs.UnitFiles.{base_from, part_from, with_drop_ins};
 
-use super::found::Found;
+use super::found::{Found, UnitFiles};
 use crate::part::Part;
 use crate::unit::Unit;
 use std::alloc::{AllocError, Global};
 use switch_names::{Listed, UnitName};
 
 /// The file on which the text of a unit is based.
-fn base<'a>(found: &'a Found, unit: &UnitName, template: Option<&UnitName>) -> Option<&'a Part>
-    ensures { option_copied result ≡ base_of (file_in found.now unit.now) (drop_ins_in found.now unit.now)
-        (option_and_then (file_in found.now) (option_copied template.entry)) }
+fn base<'a>(own: &'a UnitFiles, template: Option<&'a UnitFiles>) -> Option<&'a Part>
+    ensures { option_copied result ≡ base_from own.now (option_copied template.entry) }
 {
-    if let Some(file) = found.file(unit) {
+    if let Some(file) = &own.file {
         return Some(file);
     }
-    if !found.has_drop_ins(unit) {
+    if !own.has_drop_ins() {
         return None;
     }
-    found.file(template?)
+    template?.file.as_ref()
 }
 
 /// Applies the drop-ins of a unit, after those of its template.
 fn add_both(
     alloc: Global,
-    found: &Found,
-    unit: &UnitName,
-    template: Option<&UnitName>,
+    own: &UnitFiles,
+    template: Option<&UnitFiles>,
     part: &mut Part,
 ) -> Result<(), AllocError>
-    ensures { OnOk result (part.new ≡ added (added part.old (option_map_or (drop_ins_in found.now) (option_copied template.entry) [])) (drop_ins_in found.now unit.now)) }
+    ensures { OnOk result (part.new ≡ with_drop_ins own.now (option_copied template.entry) part.old) }
 {
     if let Some(template) = template {
-        found.add_drop_ins(alloc, template, part)?;
+        template.add_drop_ins(alloc, part)?;
     }
-    found.add_drop_ins(alloc, unit, part)
+    own.add_drop_ins(alloc, part)
 }
 
-/// What the files of a unit say, which has this template.
+/// What the files of a unit say.
 fn file_part(
     alloc: Global,
-    found: &Found,
-    unit: &UnitName,
-    template: Option<&UnitName>,
+    own: &UnitFiles,
+    template: Option<&UnitFiles>,
 ) -> Result<Option<Part>, AllocError>
-    requires { option_copied template ≡ template_of unit.now }
-    ensures { IfOk result (λ part. part ≡ file_part_in found.now unit.now) }
+    ensures { IfOk result (λ part. part ≡ option_map (with_drop_ins own.now (option_copied template.entry)) (base_from own.now (option_copied template.entry))) }
 {
-    let Some(base) = base(found, unit, template) else {
+    let Some(base) = base(own, template) else {
         return Ok(None);
     };
     let mut part = base.copy(alloc)?;
-    add_both(alloc, found, unit, template, &mut part)?;
+    add_both(alloc, own, template, &mut part)?;
     Ok(Some(part))
 }
 
 /// What the line of a unit in the fstab says.
-fn line_part(alloc: Global, found: &Found, unit: &UnitName) -> Result<Option<Part>, AllocError>
-    ensures { IfOk result (λ part. part ≡ option_map line_part (line_in found.now unit.now)) }
+fn line_part(alloc: Global, own: &UnitFiles) -> Result<Option<Part>, AllocError>
+    ensures { IfOk result (λ part. part ≡ option_map line_part own.now.line) }
 {
-    match found.line(unit) {
+    match &own.line {
         Some(line) => Ok(Some(Part {
             text: line.copy(alloc)?,
             fault: None,
@@ -77,14 +73,17 @@ fn line_part(alloc: Global, found: &Found, unit: &UnitName) -> Result<Option<Par
 }
 
 /// What the files of a unit say, or else its line in the fstab.
-fn own_part(alloc: Global, found: &Found, unit: &UnitName) -> Result<Option<Part>, AllocError>
-    ensures { IfOk result (λ part. part ≡ own_part_in found.now unit.now) }
+fn own_part(
+    alloc: Global,
+    own: &UnitFiles,
+    template: Option<&UnitFiles>,
+) -> Result<Option<Part>, AllocError>
+    ensures { IfOk result (λ part. part ≡ part_from own.now (option_copied template.entry)) }
 {
-    let template = unit.template(alloc)?;
-    if let Some(part) = file_part(alloc, found, unit, template.as_ref())? {
+    if let Some(part) = file_part(alloc, own, template)? {
         return Ok(Some(part));
     }
-    line_part(alloc, found, unit)
+    line_part(alloc, own)
 }
 
 /// Copies of names.
@@ -98,14 +97,35 @@ fn copies(alloc: Global, names: &[UnitName]) -> Result<Listed<UnitName>, AllocEr
     Ok(copied)
 }
 
-/// What was found of a unit.
-fn unit_of(alloc: Global, found: &Found, name: &UnitName) -> Result<Unit, AllocError>
+/// What was found of the template of a unit.
+fn template_files<'a>(
+    alloc: Global,
+    found: &'a Found,
+    name: &UnitName,
+) -> Result<Option<&'a UnitFiles>, AllocError>
+    ensures { IfOk result (λ files. option_copied files ≡ option_and_then (files_in found.now) (template_of name.now)) }
+{
+    match name.template(alloc)? {
+        Some(template) => Ok(found.files(&template)),
+        None => Ok(None),
+    }
+}
+
+/// A unit, of which this was found.
+fn unit_of(
+    alloc: Global,
+    found: &Found,
+    name: &UnitName,
+    own: &UnitFiles,
+) -> Result<Unit, AllocError>
+    requires { files_in found.now name.now ≡ Some own.now }
     ensures { IfOk result (λ unit. unit ≡ unit_of found.now name.now) }
 {
+    let template = template_files(alloc, found, name)?;
     Ok(Unit {
         name: name.copy(alloc)?,
-        part: own_part(alloc, found, name)?,
-        wants: copies(alloc, found.wants(name))?,
+        part: own_part(alloc, own, template)?,
+        wants: copies(alloc, own.wants.as_slice())?,
     })
 }
 
@@ -115,8 +135,8 @@ pub fn units_of(alloc: Global, found: &Found) -> Result<Listed<Unit>, AllocError
     ensures ordered { IsStrictlySortedBy bytes_cmp (keys found.now.units) }
 {
     let mut units = Listed::new(alloc);
-    for name in found.units.keys() {
-        units.push(unit_of(alloc, found, name)?)?;
+    for (name, own) in &found.units {
+        units.push(unit_of(alloc, found, name, own)?)?;
     }
     Ok(units)
 }

@@ -1,15 +1,17 @@
-use Rattle.std.proofs.Common.{None, Some, cond, subst, sym, ap, ◌∙◌}
-use Rattle.std.specs.Option.{option_or}
+use Rattle.std.proofs.Common.{ap, refl, rules, ◌∙◌}
+use Rattle.std.specs.Option.{unwrap_or}
 use Rattle.std.proofs.lemmas.Result.{on_ok_weaker}
-use Rattle.unit_defs.specs.declared.place.Place.TheVariants.{DropIn}
-use Rattle.unit_defs.specs.Found.{Takes}
-use Rattle.switch_names.specs.Names.{is_name}
+use Rattle.unit_defs.specs.declared.reading.found.UnitFiles.{UnitFiles}
 use Rattle.unit_defs.proofs.FoundLemmas.{takes_drop_in}
 use Rattle.unit_defs.proofs.reading.found.Found.add_drop_in.Goals as goal
 
 pub returns : goal.returns
-returns c = on_ok_weaker c.put.result (λ others.
-    subst (λ part. Takes (Some (DropIn c.args.unit c.args.name)) part c.args.self.now c.put.new.self) (sym c.in-Some.is)
-    (takes_drop_in c.args.self.now c.take-files.new.self c.put.new.self c.args.unit (record { file = c.take-files.result.file; drop_ins = c.insert_new.new.drop_ins; line = c.take-files.result.line; wants = c.take-files.result.wants })
-    c.take-files.ensures.others others c.args.name c.in-Some.part c.take-files.ensures.file
-    (λ other. c.in_ok-insert_new.ensures other ∙ ap (λ o. option_or o (cond (is_name c.args.name other) (Some c.in-Some.part) None)) (c.take-files.ensures.drop_in other)) c.take-files.ensures.line c.take-files.ensures.wants)) c.put.ensures
+returns c =
+    let was = c.or_insert-files.result.now in
+    let files : UnitFiles = record { file = was.file; drop_ins = c.insert_new.new.drop_ins; line = was.line; wants = was.wants } in
+    let puts = (c.in_ok-self.ensures.update.0 files).0 in
+    on_ok_weaker c.insert_new.result (λ drops.
+    takes_drop_in c.args.self.now c.args.unit was c.new.result
+    (c.or_insert-files.ensures.value ∙ ap (λ found. unwrap_or found c.new.result) c.in_ok-self.ensures.value)
+    c.new.ensures.file c.new.ensures.drop_ins c.new.ensures.line c.new.ensures.wants
+    _ c.args.name c.args.part c.in-Some.part files c.in-Some.is (λ other. search (rules, puts other)) refl refl refl drops) c.insert_new.ensures

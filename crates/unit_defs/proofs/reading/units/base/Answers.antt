@@ -1,5 +1,0 @@
-use Rattle.std.proofs.Common.{rules}
-use Rattle.unit_defs.proofs.reading.units.base.Goals as goal
-
-pub returns : goal.returns
-returns c = search rules
