@@ -2,10 +2,12 @@ pub mod ApplyLemmas
 pub mod ClearLemmas
 pub mod EntryLemmas
 pub mod EtcLemmas
+pub mod FinishLemmas
 pub mod LineLemmas
 pub mod PartLemmas
 pub mod PlaceLemmas
 pub mod PlanLemmas
+pub mod PrepareLemmas
 pub mod RemovalLemmas
 pub mod StageLemmas
 pub mod StepLemmas

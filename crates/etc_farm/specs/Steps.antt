@@ -1,20 +1,27 @@
 -- What each step of putting a farm needs and leaves: setup-etc.pl of nixpkgs.
-use Rattle.std.specs.Prelude.{◌≡◌, ◌≢◌, ◌&&◌, not, true, false, List, map, filter, None, Some}
+use Rattle.std.specs.Prelude.{◌≡◌, ◌≢◌, ◌&&◌, ◌∷◌, [], ℕ, not, true, false, List, map, filter, None, Some}
 use Rattle.std.specs.FinMap.{get}
 use Rattle.std.specs.List.Sorted.{IsStrictlySortedBy}
 use Rattle.switch_names.specs.Names.{Name, has}
+use Rattle.host_trait.specs.declared.leaf.LeafKind.{LeafKind}
+use Rattle.host_trait.specs.declared.leaf.LeafKind.TheVariants.{Link}
 use Rattle.host_trait.specs.World.{Leaves, WorldState, bytes_cmp, stage}
-use Rattle.tree_put.specs.Sequence.{without_places}
+use Rattle.tree_put.specs.declared.leaf_put.LeafPut.{LeafPut}
+use Rattle.tree_put.specs.Sequence.{put_at, without_places}
 use Rattle.tree_put.specs.WrittenPlace.{in_the_way}
+use Rattle.switch_parts.specs.Part.{IsAtEnd}
 use Rattle.etc_manifest.specs.declared.item.Item.{Item}
 use Rattle.etc_manifest.specs.declared.item.ItemKind.{ItemKind}
 use Rattle.etc_manifest.specs.Manifest.{AreApart, IsManifest, entry, places}
 use Rattle.etc_manifest.specs.Place.{is_reserved}
-use Rattle.etc_clean.specs.CleanList.{clean_of}
-use Rattle.etc_clean.specs.Etc.{leaf_of, static_name}
+use Rattle.etc_clean.specs.declared.sorting.Sorted.{Sorted}
+use Rattle.etc_clean.specs.CleanList.{clean_leaf, clean_name, clean_names, clean_of, clean_text}
+use Rattle.etc_clean.specs.Etc.{Farm, leaf_of, static_name}
 use Rattle.etc_clean.specs.Farm.{at, is_blocked, is_entry, is_foreign, is_gone, is_made, placed}
+use Rattle.etc_clean.specs.Keeps.{IsFirstList}
 use Rattle.etc_clean.specs.Names.{place}
-use Rattle.etc_farm.specs.FarmPart.{KeepsFarm, fixed_places, owns_farm}
+use Rattle.etc_farm.specs.declared.prepared.Prepared.{Prepared}
+use Rattle.etc_farm.specs.FarmPart.{CanApply, KeepsFarm, farm_part, fixed_places, owns_farm}
 
 -- each moment keeps what a farm looks at, and nothing changes but its places and the stage
 pub record IsFarmMoment (items : List Item) (w m : WorldState) : Type 0 where
@@ -67,3 +74,32 @@ pub record CanPutEntries (items : List Item) (blocked : List Name) (w : WorldSta
   pub blocked_are : (q : Name) → is_entry items q ≡ true → has blocked q ≡ is_blocked items w.leaves q
   pub none_gone : IsNoneGone items w.leaves
   pub listed : AllListed items w.leaves
+
+-- a leaf is the clean list of the copied and direct entries but for these, and is read as it was written
+pub record IsPlacedList (items : List Item) (blocked : List Name) (list : LeafKind) : Type 0 where
+  pub leaf : list ≡ clean_leaf (placed_but blocked items)
+  pub read_back : clean_names (clean_text (placed_but blocked items)) ≡ placed_but blocked items
+
+-- the entries may be put, and then the last clean list
+pub record CanFinish (items : List Item) (blocked : List Name) (list : LeafKind) (w : WorldState) : Type 0 where
+  pub entries : CanPutEntries items blocked w
+  pub last : IsPlacedList items blocked list
+
+-- a farm with these entries is at its end, by the link that stood at `static`
+abbrev pub IsFinished : List Item → WorldState → WorldState → Type 0
+IsFinished items w m =
+    (target : List ℕ) → at w.leaves static_name ≡ Some (Link target) → IsAtEnd (farm_part (record { items = items; target = target })) w m
+
+-- what is put first: a clean list of these names, and the link at `static`
+abbrev pub first_puts : List Name → List ℕ → List LeafPut
+first_puts names target = put_at (place clean_name) (clean_leaf names) ∷ put_at (place static_name) (Link target) ∷ []
+
+-- what is put and removed for a farm beside its entries, wherever the farm can be put
+pub record IsPrepared (farm : Farm) (found : Sorted) (prepared : Prepared) : Type 0 where
+  pub manifest : IsManifest farm.items
+  pub names : List Name
+  pub first : prepared.first ≡ first_puts names farm.target
+  pub starts : (w : WorldState) → CanApply farm found w → IsFirstList farm.items w.leaves names
+  pub gone : prepared.gone ≡ map place found.gone
+  pub last_at : prepared.last.at ≡ place clean_name
+  pub last : (w : WorldState) → CanApply farm found w → IsPlacedList farm.items found.blocked prepared.last.leaf

@@ -1,29 +1,40 @@
 //! Puts a farm of links and copies below `/etc`.
-ghost use Rattle.std.specs.Prelude.{◌≡◌, IfOk, OnOk};
-ghost use Rattle.host_trait.specs.declared.leaf.LeafKind.TheVariants.{Link};
+ghost use Rattle.std.specs.Prelude.{◌≡◌, OnOk};
 ghost use Rattle.host_trait.specs.Host.{Told, Leads, Passes, HasCause};
 ghost use Rattle.switch_parts.specs.Part.{IsAtEnd, IsMomentOf};
-ghost use Rattle.etc_farm.specs.FarmPart.{CanApply, farm_of, farm_part, static_target};
+ghost use Rattle.etc_clean.specs.CleanList.{clean_name};
+ghost use Rattle.etc_clean.specs.Names.{place};
+ghost use Rattle.etc_farm.specs.FarmPart.{CanApply, farm_of, farm_part};
+ghost use Rattle.etc_farm.specs.Steps.{CanFinish, IsFarmMoment, IsFinished};
 
-use crate::entries::{link_leaf, put_entries, put_name};
-use crate::lists::{joined, list_leaf, placed_names};
-use crate::places::{clean_name, static_name};
-use crate::removal::gone_places;
+use crate::entries::put_entries;
+use crate::prepared::prepare;
 use etc_clean::Sorted;
-use etc_manifest::Manifest;
-use host_trait::{HostFault, Leaf, Tree};
-use std::alloc::{AllocError, Global};
-use switch_names::SystemName;
-use tree_put::drop_all;
+use etc_manifest::{Item, Manifest};
+use host_trait::{HostFault, Tree};
+use std::alloc::Global;
+use switch_names::{Path, SystemName};
+use tree_put::{LeafPut, drop_all, put_all, put_if_other};
 
-/// The link to a system's own etc.
-#[tactic(auto, unfolding(crate::specs::FarmPart::static_target))]
-fn static_leaf(alloc: Global, system: &SystemName) -> Result<Leaf, AllocError>
-    ensures { IfOk result (λ leaf. leaf ≡ Link (static_target system.now)) }
+/// Puts the entries that aren't blocked, and then the last clean list.
+///
+/// A cut leaves the first so many of the entries, or all of them and either clean list.
+fn finish<T: Tree>(
+    alloc: Global,
+    host: &mut T,
+    items: &[Item],
+    blocked: &[Path],
+    list: &LeafPut,
+) -> Result<(), HostFault>
+    requires list { list.now.at ≡ place clean_name }
+    requires can { Told (T.host host.old) (CanFinish items.now blocked.now list.now.leaf) }
+    ensures ok { OnOk result (Leads (T.host host.old) (T.host host.new) (IsFinished items.now)) }
+    ensures moments { Passes (T.host host.old) (T.host host.new) (IsFarmMoment items.now) }
+    ensures cause { HasCause (T.host host.old) (T.host host.new) result }
 {
-    let mut target = system.link_text(alloc)?.into_string();
-    target.push_str("/etc")?;
-    link_leaf(alloc, target.as_str())
+    put_entries(alloc, host, items, blocked)?;
+    put_if_other(alloc, host, &list.at, &list.leaf)?;
+    Ok(())
 }
 
 /// Puts the farm of a system: the first clean list, the link at `static`, the removal of what is
@@ -48,18 +59,8 @@ pub fn apply<T: Tree>(
 {
     let items = manifest.items().as_slice();
     let blocked = sorted.blocked.as_slice();
-    let placed = placed_names(alloc, items, blocked)?;
-    let first = joined(alloc, sorted.clean.as_slice(), placed.as_slice())?;
-    let first_leaf = list_leaf(alloc, &first)?;
-    let last_leaf = list_leaf(alloc, &placed)?;
-    let fixed_link = static_leaf(alloc, system)?;
-    let list_name = clean_name(alloc)?;
-    let link_name = static_name(alloc)?;
-    let gone = gone_places(alloc, sorted.gone.as_slice())?;
-    put_name(alloc, host, &list_name, &first_leaf)?;
-    put_name(alloc, host, &link_name, &fixed_link)?;
-    drop_all(alloc, host, gone.as_slice())?;
-    put_entries(alloc, host, items, blocked)?;
-    put_name(alloc, host, &list_name, &last_leaf)?;
-    Ok(())
+    let prepared = prepare(alloc, system, manifest, sorted)?;
+    put_all(alloc, host, prepared.first.as_slice())?;
+    drop_all(alloc, host, prepared.gone.as_slice())?;
+    finish(alloc, host, items, blocked, &prepared.last)
 }

@@ -8,6 +8,7 @@ mod laws;
 mod lists;
 mod places;
 mod planning;
+mod prepared;
 mod putting;
 mod removal;
 

@@ -4,16 +4,19 @@ ghost use Rattle.std.specs.List.{AllByRecursion};
 ghost use Rattle.std.specs.List.Sorted.{IsStrictlySortedBy};
 ghost use Rattle.switch_names.specs.Names.{Name, has};
 ghost use Rattle.host_trait.specs.World.{bytes_cmp};
+ghost use Rattle.tree_put.specs.Sequence.{put_at};
 ghost use Rattle.etc_manifest.specs.Place.{is_reserved};
-ghost use Rattle.etc_clean.specs.CleanList.{clean_leaf, clean_names, clean_text};
+ghost use Rattle.etc_clean.specs.CleanList.{clean_leaf, clean_name, clean_names, clean_text};
 ghost use Rattle.etc_clean.specs.Farm.{is_made};
+ghost use Rattle.etc_clean.specs.Names.{place};
 ghost use Rattle.etc_farm.specs.Steps.{placed_but};
 
-use etc_clean::{contains, in_order, write_clean};
+use etc_clean::{clean_path, contains, in_order, write_clean};
 use etc_manifest::{Item, ItemKind};
 use host_trait::Leaf;
 use std::alloc::{AllocError, Global};
 use switch_names::{Listed, Path};
+use tree_put::LeafPut;
 
 /// The mode of a clean list's file.
 const CLEAN_MODE: u16 = 0o644;
@@ -87,11 +90,13 @@ pub fn joined(alloc: Global, names: &[Path], more: &[Path]) -> Result<Listed<Pat
     in_order(alloc, all.as_slice())
 }
 
-/// The leaf of a clean list.
-pub fn list_leaf(alloc: Global, names: &Listed<Path>) -> Result<Leaf, AllocError>
-    ensures leaf { IfOk result (λ leaf. leaf ≡ clean_leaf names.now) }
+/// The put of a clean list.
+pub fn list_put(alloc: Global, names: &Listed<Path>) -> Result<LeafPut, AllocError>
+    ensures put { IfOk result (λ put. put ≡ put_at (place clean_name) (clean_leaf names.now)) }
     ensures read_back { AllByRecursion (λ name. is_reserved name ≡ false) names.now → OnOk result (clean_names (clean_text names.now) ≡ names.now) }
 {
     let text = write_clean(alloc, names)?;
-    Ok(Leaf::file(text, CLEAN_MODE, 0, 0))
+    let leaf = Leaf::file(text, CLEAN_MODE, 0, 0);
+    let at = clean_path(alloc)?;
+    Ok(LeafPut { at, leaf })
 }

@@ -1,7 +1,6 @@
 //! The places that a farm always writes.
 ghost use Rattle.std.specs.Prelude.{◌≡◌, IfOk};
 ghost use Rattle.tree_put.specs.WrittenPlace.{AreApartFromStage};
-ghost use Rattle.etc_clean.specs.CleanList.{clean_name};
 ghost use Rattle.etc_clean.specs.Etc.{static_name};
 ghost use Rattle.etc_clean.specs.Names.{place};
 ghost use Rattle.etc_farm.specs.FarmPart.{fixed_places};
@@ -12,25 +11,9 @@ use std::alloc::{AllocError, Global};
 use switch_names::{Listed, Path};
 use tree_put::{WrittenPlace, unread};
 
-/// The name of the link to a system's own etc.
-#[tactic(auto, unfolding(etc_clean::specs::Etc::static_name))]
-pub fn static_name(alloc: Global) -> Result<Path, AllocError>
-    ensures { IfOk result (λ name. name ≡ static_name) }
-{
-    fixed_path(alloc, "static")
-}
-
-/// The name of the clean list.
-#[tactic(auto, unfolding(etc_clean::specs::CleanList::clean_name))]
-pub fn clean_name(alloc: Global) -> Result<Path, AllocError>
-    ensures { IfOk result (λ name. name ≡ clean_name) }
-{
-    fixed_path(alloc, ".clean")
-}
-
 /// The place of the link to a system's own etc.
 #[tactic(auto, unfolding(etc_clean::specs::Names::place, etc_clean::specs::Etc::static_name))]
-fn static_path(alloc: Global) -> Result<Path, AllocError>
+pub fn static_path(alloc: Global) -> Result<Path, AllocError>
     ensures { IfOk result (λ path. path ≡ place static_name) }
 {
     fixed_path(alloc, "etc/static")
