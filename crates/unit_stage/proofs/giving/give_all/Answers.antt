@@ -1,15 +1,33 @@
-use Rattle.std.proofs.Common.{◌≡◌, ◌++◌, sym, ap, subst, ◌∙◌}
+use Rattle.std.proofs.Common.{◌≡◌, ◌++◌, List, sym, ap, subst, ◌∙◌}
 use Rattle.std.proofs.lemmas.Result.{err_from_is_err_and}
+use Rattle.host_trait.specs.Host.{Becomes, HostState, Leads, Passes}
 use Rattle.host_trait.specs.World.{WorldState}
 use Rattle.host_trait.proofs.Causes.{cause_on, cause_then}
 use Rattle.host_trait.proofs.Moments.{goes_on, leads_then, passes_as, told_after, told_as}
 use Rattle.owed_lists.specs.declared.lists.Which.TheVariants.{Starts, Restarts, Reloads}
+use Rattle.owed_plan.specs.declared.duty.Duty.{Duty}
 use Rattle.unit_stage.specs.Acts.{CanPerform}
-use Rattle.unit_stage.specs.Steps.{IsGiveMoment, with_all_given, with_given}
+use Rattle.unit_stage.specs.Steps.{IsGiveMoment, IsListMoment, with_all_given, with_given}
 use Rattle.unit_stage.proofs.CallLemmas.{performed-append}
 use Rattle.unit_stage.proofs.CauseLemmas.{cause_end, handed}
 use Rattle.unit_stage.proofs.StepLemmas.{can_first, can_then, first_given, second_given, third_given}
 use Rattle.unit_stage.proofs.giving.give_all.Goals as goal
+
+-- the reloads, then the restarts, and then the starts
+module _ (reloads restarts starts : List Duty) {a b c : HostState} (first : Passes a b (IsListMoment Reloads reloads)) (reloaded : Becomes a b (with_given Reloads reloads)) (second : Passes b c (IsListMoment Restarts restarts)) where
+  two_way : Passes a c (IsGiveMoment reloads restarts starts)
+  two_way = goes_on first reloaded second (IsGiveMoment reloads restarts starts)
+      (λ w m is moment. first_given reloads restarts starts w m moment) (λ w v m is is_v made moment. second_given reloads restarts starts w v m made moment)
+
+  module _ (restarted : Becomes b c (with_given Restarts restarts)) where
+    two_led : Leads a c (λ w u. u ≡ with_given Restarts restarts (with_given Reloads reloads w))
+    two_led = leads_then reloaded restarted (λ w u. u ≡ with_given Restarts restarts (with_given Reloads reloads w)) (λ w v u is is_v made then. then ∙ ap (with_given Restarts restarts) made)
+
+    three_way : {d : HostState} → Passes c d (IsListMoment Starts starts) → Passes a d (IsGiveMoment reloads restarts starts)
+    three_way third = goes_on two_way two_led third (IsGiveMoment reloads restarts starts) (λ w m is moment. moment) (λ w v m is is_v made moment. third_given reloads restarts starts w v m made moment)
+
+    three_led : {d : HostState} → Becomes c d (with_given Starts starts) → Becomes a d (with_all_given reloads restarts starts)
+    three_led started = leads_then two_led started (λ w u. u ≡ with_all_given reloads restarts starts w) (λ w v u is is_v made then. then ∙ ap (with_given Starts starts) made)
 
 pub give-requires : goal.give-requires
 give-requires g c =
@@ -30,53 +48,31 @@ give-requires-2 g c =
     (can_then reloads restarts w.manager (can_first (reloads ++ restarts) starts w.manager (c.requires.has w is))))
 
 pub returns-in_err-give-2-clause-moments : goal.returns-in_err-give-2-clause-moments
-returns-in_err-give-2-clause-moments g c =
-    let reloads = c.args.reloads.now in let restarts = c.args.restarts.now in let starts = c.args.starts.now in
-    goes_on c.give.ensures.moments c.in_ok-give.ensures.ok c.give-2.ensures.moments (IsGiveMoment reloads restarts starts)
-    (λ w m is moment. first_given reloads restarts starts w m moment) (λ w v m is is_v made moment. second_given reloads restarts starts w v m made moment)
+returns-in_err-give-2-clause-moments g c = two_way c.args.reloads.now c.args.restarts.now c.args.starts.now c.give.ensures.moments c.in_ok-give.ensures.ok c.give-2.ensures.moments
 
 pub give-requires-3 : goal.give-requires-3
 give-requires-3 g c =
     let reloads = c.args.reloads.now in let restarts = c.args.restarts.now in let starts = c.args.starts.now in
-    told_after
-    (goes_on c.give.ensures.moments c.in_ok-give.ensures.ok c.give-2.ensures.moments (IsGiveMoment reloads restarts starts)
-    (λ w m is moment. first_given reloads restarts starts w m moment) (λ w v m is is_v made moment. second_given reloads restarts starts w v m made moment))
-    (leads_then c.in_ok-give.ensures.ok c.in_ok-give-2.ensures.ok (λ w u. u ≡ with_given Restarts restarts (with_given Reloads reloads w))
-    (λ w v u is is_v made then. then ∙ ap (with_given Restarts restarts) made))
+    told_after (two_way reloads restarts starts c.give.ensures.moments c.in_ok-give.ensures.ok c.give-2.ensures.moments)
+    (two_led reloads restarts starts c.give.ensures.moments c.in_ok-give.ensures.ok c.give-2.ensures.moments c.in_ok-give-2.ensures.ok)
     (λ w. CanPerform starts w.manager)
     (λ w v is made. subst (CanPerform starts) (performed-append reloads restarts w.manager ∙ sym (ap (λ (x : WorldState). x.manager) made))
     (can_then (reloads ++ restarts) starts w.manager (c.requires.has w is)))
 
 pub returns-in_err-give-3-clause-moments : goal.returns-in_err-give-3-clause-moments
 returns-in_err-give-3-clause-moments g c =
-    let reloads = c.args.reloads.now in let restarts = c.args.restarts.now in let starts = c.args.starts.now in
-    goes_on
-    (goes_on c.give.ensures.moments c.in_ok-give.ensures.ok c.give-2.ensures.moments (IsGiveMoment reloads restarts starts)
-    (λ w m is moment. first_given reloads restarts starts w m moment) (λ w v m is is_v made moment. second_given reloads restarts starts w v m made moment))
-    (leads_then c.in_ok-give.ensures.ok c.in_ok-give-2.ensures.ok (λ w u. u ≡ with_given Restarts restarts (with_given Reloads reloads w))
-    (λ w v u is is_v made then. then ∙ ap (with_given Restarts restarts) made))
-    c.give-3.ensures.moments (IsGiveMoment reloads restarts starts) (λ w m is moment. moment)
-    (λ w v m is is_v made moment. third_given reloads restarts starts w v m made moment)
+    three_way c.args.reloads.now c.args.restarts.now c.args.starts.now c.give.ensures.moments c.in_ok-give.ensures.ok c.give-2.ensures.moments
+    c.in_ok-give-2.ensures.ok c.give-3.ensures.moments
 
 pub returns-clause-ok : goal.returns-clause-ok
 returns-clause-ok g c =
-    let reloads = c.args.reloads.now in let restarts = c.args.restarts.now in let starts = c.args.starts.now in
-    leads_then
-    (leads_then c.in_ok-give.ensures.ok c.in_ok-give-2.ensures.ok (λ w u. u ≡ with_given Restarts restarts (with_given Reloads reloads w))
-    (λ w v u is is_v made then. then ∙ ap (with_given Restarts restarts) made))
-    c.in_ok-give-3.ensures.ok (λ w u. u ≡ with_all_given reloads restarts starts w)
-    (λ w v u is is_v made then. then ∙ ap (with_given Starts starts) made)
+    three_led c.args.reloads.now c.args.restarts.now c.args.starts.now c.give.ensures.moments c.in_ok-give.ensures.ok c.give-2.ensures.moments
+    c.in_ok-give-2.ensures.ok c.in_ok-give-3.ensures.ok
 
 pub returns-clause-moments : goal.returns-clause-moments
 returns-clause-moments g c =
-    let reloads = c.args.reloads.now in let restarts = c.args.restarts.now in let starts = c.args.starts.now in
-    goes_on
-    (goes_on c.give.ensures.moments c.in_ok-give.ensures.ok c.give-2.ensures.moments (IsGiveMoment reloads restarts starts)
-    (λ w m is moment. first_given reloads restarts starts w m moment) (λ w v m is is_v made moment. second_given reloads restarts starts w v m made moment))
-    (leads_then c.in_ok-give.ensures.ok c.in_ok-give-2.ensures.ok (λ w u. u ≡ with_given Restarts restarts (with_given Reloads reloads w))
-    (λ w v u is is_v made then. then ∙ ap (with_given Restarts restarts) made))
-    c.give-3.ensures.moments (IsGiveMoment reloads restarts starts) (λ w m is moment. moment)
-    (λ w v m is is_v made moment. third_given reloads restarts starts w v m made moment)
+    three_way c.args.reloads.now c.args.restarts.now c.args.starts.now c.give.ensures.moments c.in_ok-give.ensures.ok c.give-2.ensures.moments
+    c.in_ok-give-2.ensures.ok c.give-3.ensures.moments
 
 pub returns-in_err-give-2-clause-cause : goal.returns-in_err-give-2-clause-cause
 returns-in_err-give-2-clause-cause g c =
