@@ -6,7 +6,9 @@ use Rattle.std.specs.Ordering.{is_lt, nat_cmp, ordering_index, ordering_reverse,
 use Rattle.std.specs.Result.{result_ok}
 use Rattle.std.specs.declared.cmp.Ordering.{Ordering}
 use Rattle.std.specs.declared.cmp.Ordering.TheVariants.{Less, Equal, Greater}
+use Rattle.std.proofs.lemmas.List.{get_or_default}
 use Rattle.std.proofs.lemmas.List.Sorted.{searchable_from_sorted}
+use Rattle.std.proofs.lemmas.Option.{slice_get-get_or}
 use Rattle.std.proofs.lemmas.Cmp.{tied_itself}
 use Rattle.host_trait.specs.World.{bytes_cmp}
 use Rattle.host_trait.proofs.Places.{bytes_exact, bytes_total, same_or_other}
@@ -48,6 +50,12 @@ found_at (unit ∷ units) (suc at) name sorted within is =
     let less : bytes_cmp unit.name name ≡ Less = subst (λ n. bytes_cmp unit.name n ≡ Less) same (above_at unit.name units at unit (omega arith) sorted.0) in
     ap (λ b. cond b (Some unit) (unit_in units name)) (name_turned name unit.name ∙ less_is_other unit.name name less)
     ∙ found_at units at name sorted.1 (omega arith) is
+
+-- in order, a unit is the one of its name
+pub stands_in : (units : List Unit) (at : ℕ) (unit : Unit) → AreSorted units → at < length units → unit ≡ get_or units at unit → unit_in units unit.name ≡ Some unit
+stands_in units at unit sorted within is =
+    found_at units at unit.name sorted within (λ d. ap (λ (u : Unit). bytes_cmp u.name unit.name) (get_or_default units at d unit within ∙ sym is) ∙ tied_itself bytes_total unit.name)
+    ∙ slice_get-get_or units at unit within ∙ ap (λ u. Some u) (sym is)
 
 none_at : (units : List Unit) (name : List ℕ) → ((k : ℕ) (d : Unit) → k < length units → bytes_cmp (get_or units k d).name name ≡ Equal → ⊥) → unit_in units name ≡ None
 none_at [] name lacks = refl

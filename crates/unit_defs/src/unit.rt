@@ -1,8 +1,9 @@
 //! The units of a system, each with what its files say.
-ghost use Rattle.std.specs.Prelude.{◌≡◌, option_map};
+ghost use Rattle.std.specs.Prelude.{◌≡◌, IfOk, option_map};
 ghost use Rattle.std.specs.Option.{option_copied};
 
 use crate::part::Part;
+use std::alloc::{AllocError, Global};
 use switch_names::{Listed, UnitName};
 use unit_text::UnitText;
 
@@ -54,4 +55,15 @@ impl Unit {
             None => None,
         }
     }
+}
+
+/// Copies of names.
+pub fn copies(alloc: Global, names: &[UnitName]) -> Result<Listed<UnitName>, AllocError>
+    ensures { IfOk result (λ copied. copied ≡ names.now) }
+{
+    let mut copied = Listed::new(alloc);
+    for name in names {
+        copied.push(name.copy(alloc)?)?;
+    }
+    Ok(copied)
 }

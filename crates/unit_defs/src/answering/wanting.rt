@@ -1,14 +1,14 @@
 //! The units that each unit of a system wants.
-ghost use Rattle.std.specs.Prelude.{◌≡◌, ◌==◌, ◌<◌, [], IfOk, OnOk, map, option_and_then};
+ghost use Rattle.std.specs.Prelude.{◌≡◌, ◌==◌, ◌<◌, [], Some, IfOk, OnOk, map, option_and_then};
 ghost use Rattle.std.specs.List.{flat_map, slice_split};
 ghost use Rattle.std.specs.Option.{option_copied};
 ghost use Rattle.switch_names.specs.UnitName.{template_of};
-ghost use Rattle.unit_defs.specs.Defs.{AddsName, AddsWanted, AreNamesOf, AreSorted, found_in, own_in, wants_for};
+ghost use Rattle.unit_defs.specs.Defs.{AddsName, AddsWanted, AreNamesOf, AreSorted, found_in, own_in, unit_in, wants_for};
 ghost use Rattle.unit_defs.specs.Units.{can_be_wanted, wanted, words_in, words_of};
 
 use super::search::{find_template, find_unit};
 use crate::place::named;
-use crate::unit::{Unit, Wants};
+use crate::unit::{Unit, Wants, copies};
 use host_trait::UnitSet;
 use std::alloc::{AllocError, Global};
 use switch_names::{Listed, Text, UnitName};
@@ -177,15 +177,38 @@ fn wanted(
     set.into_names(alloc)
 }
 
+/// What a unit wants in all, where it wants these units by its own text alone.
+///
+/// Those are all where it has a text of its own, and no names of units that it wants beside.
+fn all_wanted(
+    alloc: Global,
+    units: &[Unit],
+    unit: &Unit,
+    by_text: &[UnitName],
+) -> Result<Listed<UnitName>, AllocError>
+    requires sorted { AreSorted units.now }
+    requires stands { unit_in units.now unit.now.name ≡ Some unit.now }
+    requires by_text { by_text.now ≡ (wants_for units.now unit.now).by_text }
+    ensures { IfOk result (λ list. list ≡ (wants_for units.now unit.now).whole) }
+{
+    let _name = unit.name.as_str();
+    let names = unit.wants.as_slice();
+    if unit.part.is_some() && names.is_empty() {
+        return copies(alloc, by_text);
+    }
+    wanted(alloc, units, names, find_text(units, &unit.name))
+}
+
 /// What a unit wants in all, and what by its own text alone.
 fn wants_for(alloc: Global, units: &[Unit], unit: &Unit) -> Result<Wants, AllocError>
-    requires { AreSorted units.now }
+    requires sorted { AreSorted units.now }
+    requires stands { unit_in units.now unit.now.name ≡ Some unit.now }
     ensures { IfOk result (λ wants. wants ≡ wants_for units.now unit.now) }
 {
-    let text = find_text(units, &unit.name);
+    let by_text = wanted(alloc, units, &[], unit.text())?;
     Ok(Wants {
-        whole: wanted(alloc, units, unit.wants.as_slice(), text)?,
-        by_text: wanted(alloc, units, &[], unit.text())?,
+        whole: all_wanted(alloc, units, unit, by_text.as_slice())?,
+        by_text,
     })
 }
 

@@ -11,7 +11,7 @@ ghost use Rattle.unit_defs.specs.UnitFiles.{base_from, part_from, with_drop_ins}
 
 use super::found::{Found, UnitFiles};
 use crate::part::Part;
-use crate::unit::Unit;
+use crate::unit::{Unit, copies};
 use std::alloc::{AllocError, Global};
 use switch_names::{Listed, UnitName};
 
@@ -84,17 +84,6 @@ fn own_part(
         return Ok(Some(part));
     }
     line_part(alloc, own)
-}
-
-/// Copies of names.
-fn copies(alloc: Global, names: &[UnitName]) -> Result<Listed<UnitName>, AllocError>
-    ensures { IfOk result (λ copied. copied ≡ names.now) }
-{
-    let mut copied = Listed::new(alloc);
-    for name in names {
-        copied.push(name.copy(alloc)?)?;
-    }
-    Ok(copied)
 }
 
 /// What was found of the template of a unit.

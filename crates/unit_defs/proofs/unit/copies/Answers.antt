@@ -1,7 +1,7 @@
 use Rattle.std.proofs.Common.{arith}
 use Rattle.unit_defs.proofs.NameLemmas.{copied_more}
 use Rattle.std.proofs.lemmas.Grind.{common_steps}
-use Rattle.unit_defs.proofs.reading.units.copies.Goals as goal
+use Rattle.unit_defs.proofs.unit.copies.Goals as goal
 
 pub loop-name-preserved : goal.loop-name-preserved
 loop-name-preserved c =
