@@ -1,5 +1,5 @@
 -- The units that a switch leaves failed, in byte order, and the closing text of a command.
-use Rattle.std.proofs.Common.{◌≡◌, ◌&&◌, ◌||◌, T, ℕ, Bool, true, false, cond, List, [], ◌∷◌, Option, None, Some, is_some, filter, map, option_and_then, unwrap_or, refl, sym, ap, subst, ◌∙◌}
+use Rattle.std.proofs.Common.{◌≡◌, ◌&&◌, ◌||◌, T, ℕ, Bool, true, false, cond, List, [], ◌∷◌, Option, None, Some, is_some, filter, map, unwrap_or, refl, sym, ap, subst, ◌∙◌}
 use Rattle.std.specs.Cmp.Lexicographic.{slice_cmp}
 use Rattle.std.specs.FinMap.{entries, entries_sorted, find, get-entries}
 use Rattle.std.specs.FinMap.Entries.{below_all, is_sorted}
@@ -8,7 +8,6 @@ use Rattle.std.specs.List.Sorted.{IsStrictlySortedBy}
 use Rattle.std.specs.Ordering.{is_lt, nat_cmp}
 use Rattle.std.specs.declared.cmp.Ordering.TheVariants.{Less}
 use Rattle.std.proofs.lemmas.Bool.{and_from, and_parts, both_ways}
-use Rattle.unit_defs.specs.Place.{is_unit}
 use Rattle.unit_text.specs.declared.assignment.Assignment.{Assignment}
 use Rattle.std.proofs.Math.Bool.{and-false}
 use Rattle.host_trait.proofs.KeyOrder.{left_of, less_from, right_of}
@@ -22,6 +21,7 @@ use Rattle.owed_plan.specs.declared.owed.Owed.{Owed}
 use Rattle.owed_plan.specs.Owed.{IsOwed, Reloads, Restarts, Starts, Stops}
 use Rattle.owed_plan.specs.Systems.{systems_at}
 use Rattle.owed_lists.proofs.ListLemmas.{one_list, same_lists}
+use Rattle.owed_plan.proofs.SystemLemmas.{none_kept}
 use Rattle.switch_engine.specs.declared.command.Command.{Command}
 use Rattle.switch_engine.specs.declared.plan.Plan.{Plan}
 use Rattle.switch_engine.specs.Commands.{IsBoot, IsQuery, if_so, new_system, row_of, switched_to}
@@ -31,9 +31,8 @@ use Rattle.switch_engine.proofs.CarryLemmas.{changes_on}
 use Rattle.switch_engine.proofs.DefinedLemmas.{defined_same}
 use Rattle.switch_engine.proofs.FailedLemmas.{failed_from}
 use Rattle.switch_names.specs.Names.{IsListOf, Name, has, is_name}
-use Rattle.switch_names.specs.UnitName.{template_of}
 use Rattle.unit_defs.specs.declared.unit.Unit.{Unit}
-use Rattle.unit_defs.specs.Defs.{AreDefsOf, found_in, own_in}
+use Rattle.unit_defs.specs.Defs.{AreDefsOf, found_in}
 use Rattle.unit_defs.proofs.NameLemmas.{above_lack, name_exact}
 use Rattle.unit_stage.specs.declared.unit_plan.UnitPlan.{UnitPlan}
 use Rattle.unit_stage.specs.End.{AreEndStates, state_after}
@@ -182,17 +181,6 @@ units_close system w defs states now are end same = record {
   are_failed = left_failed system w end.0 defs states are (λ unit. ap (λ (s : UnitStates). state_of s unit) same ∙ end.2 unit);
   is_text = refl;
 }
-
-no_text : (o : Option Name) → option_and_then (own_in []) o ≡ None
-no_text None = refl
-no_text (Some name) = refl
-
-none_kept : (unit : Name) → found_in [] unit ≡ None
-none_kept unit = by (is_unit unit) refl
-  where
-    by : (b : Bool) → is_unit unit ≡ b → found_in [] unit ≡ None
-    by true is = rw (is, no_text (template_of unit))
-    by false is = rw is
 
 -- no unit has failed that a system without units defines
 none_failed_of : (one : UnitState) → is_failed_of [] one ≡ false

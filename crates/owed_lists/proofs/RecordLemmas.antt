@@ -1,11 +1,10 @@
 -- What a record leaves, world by world.
-use Rattle.std.proofs.Common.{arith, ◌≡◌, ◌==◌, ℕ, true, false, List, [], ◌∷◌, length, refl, sym, ap, ◌∙◌, inl, inr, ⊎_elim, rules}
-use Rattle.std.specs.FinMap.{remove, gets}
-use Rattle.host_trait.specs.World.{Leaves, WorldState, IsClear, is_in_line, seen, stage, with_leaf, without_leaf}
-use Rattle.host_trait.proofs.Places.{alike}
+use Rattle.std.proofs.Common.{arith, ◌≡◌, ◌==◌, ℕ, true, false, List, [], ◌∷◌, length, refl, sym, ap, ◌∙◌, inl, inr, ⊎_elim}
+use Rattle.host_trait.specs.World.{WorldState, IsClear, is_in_line, seen, stage, with_leaf, without_leaf}
 use Rattle.host_trait.proofs.Seen.{clear_seen, seen_with_leaf, stage_clear_seen}
 use Rattle.host_trait.proofs.Sound.{clear_insert, clear_remove, line_turned}
 use Rattle.tree_put.specs.Put.{AreApart, CanPut, IsOldOrGone, IsOldOrNew}
+use Rattle.tree_put.proofs.SequenceLemmas.{seen_without_leaf}
 use Rattle.owed_lists.specs.declared.lists.Lists.{Lists}
 use Rattle.owed_lists.specs.declared.lists.Which.{Which}
 use Rattle.owed_lists.specs.declared.lists.Which.TheVariants.{Starts, Restarts, Reloads}
@@ -59,16 +58,6 @@ gone_moment at names w m empty moment =
 pub put_moment : (at : List ℕ) (names : List (List ℕ)) (w m : WorldState) → length names == 0 ≡ false → IsOldOrNew at (list_leaf names) w m → IsOldOrList at names w m
 put_moment at names w m some moment =
     ⊎_elim (λ old. inl old) (λ new. inr (new ∙ ap seen (sym (list_put at names w some)))) moment
-
-pub seen_without_leaf : (at : List ℕ) (v w : WorldState) → seen v ≡ seen w → seen (without_leaf at v) ≡ seen (without_leaf at w)
-seen_without_leaf at v w is =
-    let leaves : remove (remove v.leaves at) stage ≡ remove (remove w.leaves at) stage =
-    swap v.leaves ∙ ap (λ (l : Leaves). remove l at) (ap (λ (x : WorldState). x.leaves) is) ∙ sym (swap w.leaves) in
-    let manager = ap (λ (x : WorldState). x.manager) is in
-    λ i. record { leaves = leaves i; manager = manager i }
-  where
-    swap : (l : Leaves) → remove (remove l at) stage ≡ remove (remove l stage) at
-    swap l = alike _ _ (λ q. grind (gets, rules))
 
 -- a list makes of worlds that are equal but for the stage such worlds
 pub seen_with_list : (at : List ℕ) (names : List (List ℕ)) (v w : WorldState) → seen v ≡ seen w → seen (with_list at names v) ≡ seen (with_list at names w)

@@ -69,7 +69,8 @@ no_text : (o : Option Name) → option_and_then (own_in []) o ≡ None
 no_text None = refl
 no_text (Some name) = refl
 
-none_kept : (unit : Name) → found_in [] unit ≡ None
+-- where no unit is kept, none is found
+pub none_kept : (unit : Name) → found_in [] unit ≡ None
 none_kept unit = by (is_unit unit) refl
   where
     by : (b : Bool) → is_unit unit ≡ b → found_in [] unit ≡ None

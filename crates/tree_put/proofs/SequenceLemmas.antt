@@ -134,7 +134,7 @@ module _ (places : List Name) (i : ℕ) (one : Name) (w v : WorldState) (inside 
 pub removing_none : (places : List Name) (w : WorldState) → IsRemoving places w w
 removing_none places w = record { count = 0; some = omega arith; world = refl }
 
-seen_without_leaf : (at : List ℕ) (v w : WorldState) → seen v ≡ seen w → seen (without_leaf at v) ≡ seen (without_leaf at w)
+pub seen_without_leaf : (at : List ℕ) (v w : WorldState) → seen v ≡ seen w → seen (without_leaf at v) ≡ seen (without_leaf at w)
 seen_without_leaf at v w is =
     let leaves : remove (remove v.leaves at) stage ≡ remove (remove w.leaves at) stage =
     swap v.leaves ∙ ap (λ (l : Leaves). remove l at) (ap (λ (x : WorldState). x.leaves) is) ∙ sym (swap w.leaves) in

@@ -14,11 +14,11 @@ use Rattle.owed_lists.specs.declared.lists.Which.{Which}
 use Rattle.owed_lists.specs.declared.lists.Which.TheVariants.{Starts, Restarts, Reloads}
 use Rattle.owed_lists.specs.Lists.{place_of}
 use Rattle.owed_lists.specs.Record.{IsRecordMoment, with_lists}
-use Rattle.owed_lists.proofs.RecordLemmas.{seen_without_leaf}
 use Rattle.owed_plan.specs.declared.duty.Duty.{Duty}
 use Rattle.switch_names.specs.Names.{Name}
 use Rattle.tree_put.specs.Put.{AreApart, IsOldOrGone, IsOldOrNew}
 use Rattle.tree_put.proofs.PutLemmas.{apart_ne}
+use Rattle.tree_put.proofs.SequenceLemmas.{seen_without_leaf}
 use Rattle.unit_stage.specs.Acts.{CanPerform, IsPerforming, performed, with_calls}
 use Rattle.unit_stage.specs.Steps.{CanLoad, IsBringMoment, IsBringStep, IsGiveMoment, IsListMoment, IsLoadMoment, IsStopMoment, IsStopStep, with_all_given, with_brought, with_current, with_given, with_loaded, with_stops}
 use Rattle.unit_stage.specs.System.{current_place, definitions_of, system_leaf}

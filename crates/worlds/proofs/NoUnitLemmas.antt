@@ -1,5 +1,5 @@
 -- Without units nothing is pulled.
-use Rattle.std.proofs.Common.{◌≡◌, Bool, true, false, List, [], Option, None, Some, is_some, option_and_then, refl, sym, ap, subst, ◌∙◌}
+use Rattle.std.proofs.Common.{◌≡◌, true, List, [], Option, is_some, refl, sym, ap, subst, ◌∙◌}
 use Rattle.std.specs.Cmp.Lexicographic.{slice_cmp}
 use Rattle.std.specs.List.Sorted.{IsStrictlySortedBy}
 use Rattle.std.specs.Ordering.{nat_cmp}
@@ -7,27 +7,12 @@ use Rattle.host_trait.specs.declared.unit_state.State.{State}
 use Rattle.owed_lists.specs.declared.lists.Lists.{Lists}
 use Rattle.owed_plan.specs.Pull.{IsRoot, Pulled}
 use Rattle.owed_plan.specs.Systems.{IsDefined, systems_in}
+use Rattle.owed_plan.proofs.SystemLemmas.{none_kept}
 use Rattle.switch_names.specs.Names.{IsListOf, Name, has}
-use Rattle.switch_names.specs.UnitName.{template_of}
+use Rattle.unit_decide.proofs.SocketLemmas.{none_found}
 use Rattle.unit_defs.specs.declared.unit.Unit.{Unit}
-use Rattle.unit_defs.specs.Defs.{found_in, own_in}
-use Rattle.unit_defs.specs.Place.{is_unit}
 use Rattle.unit_defs.specs.Pull.{Reached}
 use Rattle.unit_text.specs.declared.assignment.Assignment.{Assignment}
-
-none_found : (unit : Name) → has [] unit ≡ true → ⊥
-none_found unit found = cc
-
-no_text : (o : Option Name) → option_and_then (own_in []) o ≡ None
-no_text None = refl
-no_text (Some name) = refl
-
-none_kept : (unit : Name) → found_in [] unit ≡ None
-none_kept unit = by (is_unit unit) refl
-  where
-    by : (b : Bool) → is_unit unit ≡ b → found_in [] unit ≡ None
-    by true is = rw (is, no_text (template_of unit))
-    by false is = rw is
 
 none_sorted : IsStrictlySortedBy (slice_cmp nat_cmp) []
 unfolding IsStrictlySortedBy
