@@ -2,17 +2,17 @@
 use Rattle.std.proofs.Common.{◌≡◌, ℕ, ◌≤◌, ◌&&◌, true, false, cond, not, List, [], ◌∷◌, filter, ◌==◌, None, Some, option_map, option_and_then, nat_le, refl, ap, ◌∙◌}
 use Rattle.std.specs.Fmt.{decimal}
 use Rattle.std.specs.List.{count_by, join_with_byte, list_all, list_any}
-use Rattle.std.proofs.lemmas.Bool.{and_parts, and_from, eqb-true, leb-true}
+use Rattle.std.proofs.lemmas.Bool.{and_parts, and_from, eqb-true, leb-true, not-true}
 use Rattle.std.proofs.lemmas.List.Splits.{slice_split_at}
 use Rattle.account_text.specs.declared.group.GroupRow.{GroupRow}
 use Rattle.account_text.specs.declared.passwd.PasswdRow.{PasswdRow}
 use Rattle.account_text.specs.declared.shadow.ShadowRow.{ShadowRow}
-use Rattle.account_text.specs.Field.{fields, id_of, is_colon, is_comma, is_empty, is_line_feed, is_member, is_plain, is_row_name, max_id, members_of}
+use Rattle.switch_names.specs.Texts.{is_empty, is_line_feed}
+use Rattle.account_text.specs.Field.{fields, id_of, is_colon, is_comma, is_member, is_plain, is_row_name, max_id, members_of}
 use Rattle.account_text.specs.Group.{group_row, group_line, is_group_row}
 use Rattle.account_text.specs.Passwd.{passwd_row, passwd_line, is_passwd_row}
 use Rattle.account_text.specs.Shadow.{shadow_row, shadow_line, is_shadow_row}
 use Rattle.account_text.proofs.FieldLemmas.{joined_lacks, none_none, plain_id, split_joined, written_id}
-use Rattle.account_text.proofs.FirstLemmas.{not_true}
 use Rattle.account_text.proofs.RowLemmas.{fields_again, no_feed, passwd_with, shadow_read}
 use Rattle.account_text.proofs.SoundLemmas.{WritesBack}
 
@@ -21,7 +21,7 @@ record IsNamed (name : List ℕ) : Type 0 where
   some : is_empty name ≡ false
 
 named_parts : (name : List ℕ) → is_row_name name ≡ true → IsNamed name
-named_parts name is = let parts = and_parts (is_plain name) (not (is_empty name)) is in record { plain = parts.0; some = not_true _ parts.1 }
+named_parts name is = let parts = and_parts (is_plain name) (not (is_empty name)) is in record { plain = parts.0; some = not-true _ parts.1 }
 
 -- ---- passwd
 
@@ -161,7 +161,7 @@ feedless : (text : List ℕ) → is_plain text ≡ true → not (list_any is_lin
 feedless text plain = (and_parts (not (list_any is_line_feed text)) (not (list_any is_colon text)) plain).0
 
 colonless : (text : List ℕ) → is_plain text ≡ true → list_any is_colon text ≡ false
-colonless text plain = not_true _ (and_parts (not (list_any is_line_feed text)) (not (list_any is_colon text)) plain).1
+colonless text plain = not-true _ (and_parts (not (list_any is_line_feed text)) (not (list_any is_colon text)) plain).1
 
 shadow_fields : (row : ShadowRow) → ShadowParts row → fields (shadow_line row) ≡ row.name ∷ row.password ∷ fields row.rest
 shadow_fields row p =

@@ -6,7 +6,7 @@ use Rattle.std.specs.Fmt.{decimal}
 use Rattle.std.specs.Str.{all_ascii_digits}
 use Rattle.std.specs.Str.Parse.{digits_value, ParsesUnsigned}
 use Rattle.std.proofs.Math.Seq.{take-length}
-use Rattle.std.proofs.lemmas.Bool.{and_parts, and_from, or_parts, or_from, eq-eqb, ne_eqb, ltb-true, lt-ltb, leb-true, le-leb, false_from_ne_true}
+use Rattle.std.proofs.lemmas.Bool.{and_parts, and_from, or_parts, or_from, eq-eqb, ne_eqb, ltb-true, lt-ltb, leb-true, le-leb, false_from_ne_true, not-true}
 use Rattle.std.proofs.lemmas.Fmt.{digits_decimal, digits_value-decimal, decimal_nonempty, length-decimal-le}
 use Rattle.std.proofs.lemmas.List.{append-nil}
 use Rattle.std.proofs.lemmas.Str.Parse.{IsNumeralModel, numerals_by_value, tells_all_ascii_digits, parse_digits}
@@ -14,8 +14,8 @@ use Rattle.std.proofs.lemmas.List.Elements.{All-cons}
 use Rattle.std.proofs.lemmas.List.Folds.{list_any-append}
 use Rattle.std.proofs.lemmas.List.Splits.{slice_split_none, slice_split_at, slice_split_first, length-slice_split}
 use Rattle.std.proofs.lemmas.List.Sums.{fails_before_first}
-use Rattle.account_text.specs.Field.{fields, is_colon, id_of, is_id, is_line_feed, is_plain, max_id}
-use Rattle.account_text.proofs.FirstLemmas.{not_true}
+use Rattle.switch_names.specs.Texts.{is_line_feed}
+use Rattle.account_text.specs.Field.{fields, is_colon, id_of, is_id, is_plain, max_id}
 
 -- ---- cutting
 
@@ -79,20 +79,20 @@ pub split_joined : (c : ℕ) (part : List ℕ) (parts : List (List ℕ)) → lis
     → slice_split (λ b. eqb b c) (join_with_byte c (part ∷ parts)) ≡ part ∷ parts
 split_joined c part [] all =
     let both = and_parts (not (list_any (λ b. eqb b c) part)) true all in
-    slice_split_none (λ b. eqb b c) part (none_none (λ b. eqb b c) part (not_true _ both.0))
+    slice_split_none (λ b. eqb b c) part (none_none (λ b. eqb b c) part (not-true _ both.0))
 split_joined c part (next ∷ parts) all =
     let both = and_parts (not (list_any (λ b. eqb b c) part)) (list_all (λ t. not (list_any (λ b. eqb b c) t)) (next ∷ parts)) all in
-    slice_split_at (λ b. eqb b c) part c (join_with_byte c (next ∷ parts)) (none_none (λ b. eqb b c) part (not_true _ both.0)) (eq-eqb c c refl)
+    slice_split_at (λ b. eqb b c) part c (join_with_byte c (next ∷ parts)) (none_none (λ b. eqb b c) part (not-true _ both.0)) (eq-eqb c c refl)
     ∙ ap (λ ts. part ∷ ts) (split_joined c next parts both.1)
 
 -- what no part has and the byte between isn't, the joined parts lack
 pub joined_lacks : (c : ℕ) (q : ℕ → Bool) (parts : List (List ℕ)) → q c ≡ false → list_all (λ t. not (list_any q t)) parts ≡ true → list_any q (join_with_byte c parts) ≡ false
 joined_lacks c q [] other all = refl
-joined_lacks c q (part ∷ []) other all = not_true _ (and_parts (not (list_any q part)) true all).0
+joined_lacks c q (part ∷ []) other all = not-true _ (and_parts (not (list_any q part)) true all).0
 joined_lacks c q (part ∷ (next ∷ parts)) other all =
     let both = and_parts (not (list_any q part)) (list_all (λ t. not (list_any q t)) (next ∷ parts)) all in
     list_any-append q part (c ∷ join_with_byte c (next ∷ parts))
-    ∙ or_from _ _ (not_true _ both.0) (or_from _ _ other (joined_lacks c q (next ∷ parts) other both.1))
+    ∙ or_from _ _ (not-true _ both.0) (or_from _ _ other (joined_lacks c q (next ∷ parts) other both.1))
 
 -- parts are joined one by one
 pub joined_is : (c : ℕ) (part : List ℕ) (parts : List (List ℕ)) → join_with_byte c (part ∷ parts) ≡ part ++ flat_map (λ next. c ∷ next) parts

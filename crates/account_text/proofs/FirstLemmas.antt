@@ -3,11 +3,12 @@ use Rattle.std.proofs.Common.{◌≡◌, ◌&&◌, ◌||◌, Bool, true, false, 
 use Rattle.std.specs.Cmp.{eq_by_cmp_equiv}
 use Rattle.std.specs.Cmp.Lexicographic.{nat_list_cmp_total}
 use Rattle.std.specs.List.{filter, list_any, list_all}
-use Rattle.std.proofs.lemmas.Bool.{and_parts, and_from, or_parts}
+use Rattle.std.proofs.lemmas.Bool.{and_parts, and_from, or_parts, not-true}
 use Rattle.std.proofs.lemmas.List.{append-nil, map-append}
 use Rattle.std.proofs.lemmas.List.Elements.{filter-append}
 use Rattle.std.proofs.lemmas.List.Folds.{list_any-append}
 use Rattle.std.proofs.lemmas.Map.Views.{any-filter_same}
+use Rattle.std.proofs.Math.Bool.{or-false}
 use Rattle.switch_names.proofs.Names.{name_turned}
 use Rattle.switch_names.specs.Names.{Name, has, is_name}
 use Rattle.account_text.specs.Table.{firsts, are_distinct}
@@ -45,10 +46,6 @@ filter_none t (x ∷ xs) none =
     let parts = or_parts (t x) (list_any t xs) none in
     ap (λ b. cond (not b) (x ∷ filter (λ y. not (t y)) xs) (filter (λ y. not (t y)) xs)) parts.0 ∙ ap (λ ys. x ∷ ys) (filter_none t xs parts.1)
 
-pub not_true : (b : Bool) → not b ≡ true → b ≡ false
-not_true true is = sym is
-not_true false is = refl
-
 -- two equal names are alike to every other
 pub alike : (a b c : Name) → is_name a b ≡ true → is_name a c ≡ is_name b c
 alike a b c is = (eq_by_cmp_equiv nat_list_cmp_total).congr a b c is
@@ -63,11 +60,7 @@ module _ {Row : Type 0} (name_of : Row → Name) where
   has_more rows row name =
       ap (λ (names : List Name). has names name) (map-append name_of rows (row ∷ []))
       ∙ list_any-append (is_name name) (map name_of rows) (name_of row ∷ [])
-      ∙ ap (λ b. has (map name_of rows) name || b) (or_false (is_name name (name_of row)))
-    where
-      or_false : (b : Bool) → (b || false) ≡ b
-      or_false true = refl
-      or_false false = refl
+      ∙ ap (λ b. has (map name_of rows) name || b) (or-false (is_name name (name_of row)))
 
   -- a name among the rows that have another name than the first
   has_others : (first row : Row) (rows : List Row) → has (map name_of (filter (is_other first) rows)) (name_of row) ≡ (is_other first row && has (map name_of rows) (name_of row))
@@ -121,7 +114,7 @@ module _ {Row : Type 0} (name_of : Row → Name) where
       by : (b : Bool) → not (has (map name_of rows) (name_of row)) ≡ true → are_distinct (map name_of (filter p rows)) ≡ true
           → are_distinct (map name_of (cond b (row ∷ filter p rows) (filter p rows))) ≡ true
       by true here rest =
-          let none = none_filter p (λ r. is_name (name_of row) (name_of r)) rows (sym (any_map (is_name (name_of row)) name_of rows) ∙ not_true _ here) in
+          let none = none_filter p (λ r. is_name (name_of row) (name_of r)) rows (sym (any_map (is_name (name_of row)) name_of rows) ∙ not-true _ here) in
           and_from _ _ (ap not (any_map (is_name (name_of row)) name_of (filter p rows) ∙ none)) rest
       by false here rest = rest
 
@@ -139,4 +132,4 @@ module _ {Row : Type 0} (name_of : Row → Name) where
   firsts_distinct (row ∷ rows) is =
       let parts = and_parts (not (has (map name_of rows) (name_of row))) (are_distinct (map name_of rows)) is in
       ap (λ xs. row ∷ filter (is_other row) xs) (firsts_distinct rows parts.1)
-      ∙ ap (λ xs. row ∷ xs) (filter_none (λ r. is_name (name_of row) (name_of r)) rows (sym (any_map (is_name (name_of row)) name_of rows) ∙ not_true _ parts.0))
+      ∙ ap (λ xs. row ∷ xs) (filter_none (λ r. is_name (name_of row) (name_of r)) rows (sym (any_map (is_name (name_of row)) name_of rows) ∙ not-true _ parts.0))

@@ -3,7 +3,7 @@ use Rattle.std.proofs.Common.{◌≡◌, ℕ, ◌+◌, ◌-◌, ◌<◌, ◌||�
 use Rattle.std.specs.List.{cons_option, filter_map, list_any, position, position_or_len}
 use Rattle.std.specs.Str.{IsUtf8, is_utf8}
 use Rattle.std.proofs.Math.Seq.{take-length}
-use Rattle.std.proofs.lemmas.Bool.{false_from_ne_true, lt-ltb, ltb-true, or_parts, or_from}
+use Rattle.std.proofs.lemmas.Bool.{false_from_ne_true, lt-ltb, ltb-true, or_parts, or_from, not-true}
 use Rattle.std.proofs.lemmas.List.{append-nil}
 use Rattle.std.proofs.lemmas.List.Splits.{slice_split_first, slice_split_none}
 use Rattle.std.proofs.lemmas.List.Sums.{position_or_len_is}
@@ -14,9 +14,10 @@ use Rattle.std.proofs.lemmas.List.Folds.{list_any-append}
 use Rattle.std.proofs.lemmas.Str.{IsUtf8-from_is_utf8, is_utf8-from_IsUtf8}
 use Rattle.switch_names.proofs.Names.{name_turned}
 use Rattle.switch_names.specs.Names.{Name, has, is_name}
-use Rattle.account_text.specs.Field.{fields, is_line_feed, lines}
+use Rattle.switch_names.specs.Texts.{is_line_feed}
+use Rattle.account_text.specs.Field.{fields, lines}
 use Rattle.account_text.specs.Table.{row_in, is_wrong, wrong_line}
-use Rattle.account_text.proofs.FirstLemmas.{has_more, not_true}
+use Rattle.account_text.proofs.FirstLemmas.{has_more}
 
 module _ {Row : Type 0} (row_of : List (List ℕ) → Option Row) where
   pub utf8_row : (line text : List ℕ) → text ≡ line → IsUtf8 line → row_of (fields text) ≡ row_in row_of line
@@ -94,7 +95,7 @@ module _ {Row : Type 0} (row_of : List (List ℕ) → Option Row) (text : List �
     before = is.before ++ line ∷ [];
     split = append_assoc is.before (line ∷ []) rest ∙ ap (λ ls. is.before ++ ls) (sym cut) ∙ is.split;
     read = read ∙ ap (λ rs. rs ++ cons_option (row_in row_of line) []) is.read ∙ sym (filter_map-append (row_in row_of) is.before (line ∷ []));
-    fine = list_any-append (is_wrong row_of) is.before (line ∷ []) ∙ or_from _ _ is.fine (or_from _ _ (not_true (is_wrong row_of line) (sym fine)) refl);
+    fine = list_any-append (is_wrong row_of) is.before (line ∷ []) ∙ or_from _ _ is.fine (or_from _ _ (not-true (is_wrong row_of line) (sym fine)) refl);
     counted = let before = is.counted in omega (arith, length-append is.before (line ∷ []));
   }
 

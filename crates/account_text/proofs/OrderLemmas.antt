@@ -8,7 +8,7 @@ use Rattle.std.specs.Ordering.{is_eq, is_lt, ordering_reverse, ordering_then, na
 use Rattle.std.specs.Cmp.Lexicographic.{slice_cmp}
 use Rattle.std.specs.declared.cmp.Ordering.{Ordering}
 use Rattle.std.specs.declared.cmp.Ordering.TheVariants.{Less, Equal, Greater}
-use Rattle.std.proofs.lemmas.Bool.{and_parts, and_from, or_parts, or_from, false≢true}
+use Rattle.std.proofs.lemmas.Bool.{and_parts, and_from, or_parts, or_from, false≢true, not-true}
 use Rattle.std.proofs.lemmas.List.{get_or-map, length-map}
 use Rattle.std.proofs.lemmas.List.Folds.{list_any_at}
 use Rattle.std.proofs.lemmas.List.Sorted.{Contains-permutation, IsPermutation-map, IsPermutation-sym, list_any-IsPermutation}
@@ -17,7 +17,7 @@ use Rattle.switch_names.proofs.Names.{name_turned}
 use Rattle.switch_names.specs.Names.{Name, has, is_name}
 use Rattle.account_text.specs.Order.{by_id, row_named, IsInOrder}
 use Rattle.account_text.specs.Table.{are_distinct, IsSound}
-use Rattle.account_text.proofs.FirstLemmas.{alike, any_map, not_true}
+use Rattle.account_text.proofs.FirstLemmas.{alike, any_map}
 
 pub by_id_total : IsTotalOrder by_id
 by_id_total = then_total (on_total (λ (a : ℕ × Name). a.0) nat_cmp_total) (on_total (λ (a : ℕ × Name). a.1) nat_list_cmp_total)
@@ -37,7 +37,7 @@ unfolding IsDistinct
 distinct_to [] is = tt
 distinct_to (name ∷ names) is =
     let parts = and_parts (not (has names name)) (are_distinct names) is in
-    (apart name names (not_true _ parts.0), distinct_to names parts.1)
+    (apart name names (not-true _ parts.0), distinct_to names parts.1)
 
 pub distinct_from : (names : List Name) → IsDistinct is_name names → are_distinct names ≡ true
 unfolding IsDistinct
@@ -78,7 +78,7 @@ module _ {Row : Type 0} (name_of : Row → Name) (name : Name) where
   only [] row distinct has_row is = absurd (let within = has_row.1 in omega arith)
   only (first ∷ rows) row distinct has_row is =
       let parts = and_parts (not (has (map name_of rows) (name_of first))) (are_distinct (map name_of rows)) distinct in
-      place has_row.0 has_row.1 has_row.2 (not_true _ parts.0) (λ there. only rows row parts.1 there is)
+      place has_row.0 has_row.1 has_row.2 (not-true _ parts.0) (λ there. only rows row parts.1 there is)
     where
       place : (k : ℕ) → k < length (first ∷ rows) → get_or (first ∷ rows) k row ≡ row → has (map name_of rows) (name_of first) ≡ false → (Contains rows row → find named rows ≡ Some row)
           → cond (named first) (Some first) (find named rows) ≡ Some row

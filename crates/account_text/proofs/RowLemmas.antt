@@ -1,17 +1,18 @@
 -- Rows and the fields of their lines.
 use Rattle.std.proofs.Common.{◌≡◌, ℕ, ◌≢◌, ◌≤◌, ◌&&◌, Bool, true, false, cond, not, List, [], ◌∷◌, length, filter, ◌==◌, Option, None, Some, option_map, option_and_then, refl, sym, ap, ◌∙◌, arith}
 use Rattle.std.specs.List.{count_by, join_with_byte, list_all, list_any, slice_split}
-use Rattle.std.proofs.lemmas.Bool.{and_parts, and_from, eqb-true, eq-eqb, ne_eqb}
+use Rattle.std.proofs.lemmas.Bool.{and_parts, and_from, eqb-true, eq-eqb, ne_eqb, not-true}
 use Rattle.std.proofs.lemmas.List.Splits.{join_with_byte-slice_split, length-slice_split}
+use Rattle.std.proofs.lemmas.Option.{same_Some}
 use Rattle.account_text.specs.declared.group.GroupRow.{GroupRow}
 use Rattle.account_text.specs.declared.passwd.PasswdRow.{PasswdRow}
 use Rattle.account_text.specs.declared.shadow.ShadowRow.{ShadowRow}
-use Rattle.account_text.specs.Field.{fields, id_of, is_colon, is_comma, is_empty, is_line_feed, is_member, is_plain, is_row_name, members_of}
+use Rattle.switch_names.specs.Texts.{is_empty, is_line_feed}
+use Rattle.account_text.specs.Field.{fields, id_of, is_colon, is_comma, is_member, is_plain, is_row_name, members_of}
 use Rattle.account_text.specs.Group.{group_row, is_group_row}
 use Rattle.account_text.specs.Passwd.{passwd_row, is_passwd_row}
 use Rattle.account_text.specs.Shadow.{shadow_row, is_shadow_row}
 use Rattle.account_text.proofs.FieldLemmas.{low_id, joined_lacks, parts_lack, parts_uncut, split_joined}
-use Rattle.account_text.proofs.FirstLemmas.{not_true}
 
 -- ---- too few or too many fields
 
@@ -76,9 +77,6 @@ named name plain some = and_from _ _ plain (ap not some)
 abbrev pub passwd_with : List ℕ → List ℕ → ℕ → ℕ → List ℕ → List ℕ → List ℕ → PasswdRow
 passwd_with name password uid gid gecos home shell = record { name = name; password = password; uid = uid; gid = gid; gecos = gecos; home = home; shell = shell }
 
-some_is : {Row : Type 0} (x y : Row) → Some x ≡ Some y → x ≡ y
-some_is x y is = cc
-
 module _ (name password u v gecos home shell : List ℕ) (row : PasswdRow) where
   abbrev read_with : Bool → Option ℕ → Option ℕ → Option PasswdRow
   read_with empty uid gid = cond empty None (option_and_then (λ x. option_map (λ y. passwd_with name password x y gecos home shell) gid) uid)
@@ -96,7 +94,7 @@ module _ (name password u v gecos home shell : List ℕ) (row : PasswdRow) where
       let p5 = and_parts (is_plain gecos) (list_all is_plain (home ∷ shell ∷ [])) p4.1 in
       let p6 = and_parts (is_plain home) (list_all is_plain (shell ∷ [])) p5.1 in
       let p7 = and_parts (is_plain shell) true p6.1 in
-      ap is_passwd_row (sym (some_is (passwd_with name password x y gecos home shell) row same))
+      ap is_passwd_row (sym (same_Some (passwd_with name password x y gecos home shell) row same))
       ∙ and_from _ _ (and_from _ _ (and_from _ _ (and_from _ _ (and_from _ _ (and_from _ _ (named name p1.0 some) p2.0) (low_id u x is_uid)) (low_id v y is_gid)) p5.0) p6.0) p7.0
 
 pub passwd_sound : (parts : List (List ℕ)) (row : PasswdRow) → list_all is_plain parts ≡ true → passwd_row parts ≡ Some row → is_passwd_row row ≡ true
@@ -117,7 +115,7 @@ group_with name password gid members = record { name = name; password = password
 pub plain_members : (field : List ℕ) → is_plain field ≡ true → list_all is_member (members_of field) ≡ true
 plain_members field plain =
     let parts = and_parts (not (list_any is_line_feed field)) (not (list_any is_colon field)) plain in
-    each (slice_split is_comma field) (parts_lack is_comma is_line_feed field (not_true _ parts.0)) (parts_lack is_comma is_colon field (not_true _ parts.1)) (parts_uncut is_comma field)
+    each (slice_split is_comma field) (parts_lack is_comma is_line_feed field (not-true _ parts.0)) (parts_lack is_comma is_colon field (not-true _ parts.1)) (parts_uncut is_comma field)
   where
     each : (ms : List (List ℕ)) → list_all (λ m. not (list_any is_line_feed m)) ms ≡ true → list_all (λ m. not (list_any is_colon m)) ms ≡ true → list_all (λ m. not (list_any is_comma m)) ms ≡ true
         → list_all is_member (filter (λ m. not (is_empty m)) ms) ≡ true
@@ -143,7 +141,7 @@ module _ (name password v members : List ℕ) (row : GroupRow) where
       let p2 = and_parts (is_plain password) (list_all is_plain (v ∷ members ∷ [])) p1.1 in
       let p3 = and_parts (is_plain v) (list_all is_plain (members ∷ [])) p2.1 in
       let p4 = and_parts (is_plain members) true p3.1 in
-      ap is_group_row (sym (some_is (group_with name password y members) row same))
+      ap is_group_row (sym (same_Some (group_with name password y members) row same))
       ∙ and_from _ _ (and_from _ _ (and_from _ _ (named name p1.0 some) p2.0) (low_id v y is_gid)) (plain_members members p4.0)
 
 pub group_sound : (parts : List (List ℕ)) (row : GroupRow) → list_all is_plain parts ≡ true → group_row parts ≡ Some row → is_group_row row ≡ true
@@ -190,7 +188,7 @@ module _ (name password : List ℕ) (rest : List (List ℕ)) (row : ShadowRow) w
   shadow_parts false true some is same plain =
       let p1 = and_parts (is_plain name) (list_all is_plain (password ∷ rest)) plain in
       let p2 = and_parts (is_plain password) (list_all is_plain rest) p1.1 in
-      ap is_shadow_row (sym (some_is (record { name = name; password = password; rest = join_with_byte 58 rest }) row same))
+      ap is_shadow_row (sym (same_Some (record { name = name; password = password; rest = join_with_byte 58 rest }) row same))
       ∙ and_from _ _ (and_from _ _ (and_from _ _ (named name p1.0 some) p2.0) (ap not (no_feed rest p2.1))) (eq-eqb _ 6 (colons_joined rest (lacks rest p2.1) is))
     where
       lacks : (ps : List (List ℕ)) → list_all is_plain ps ≡ true → list_all (λ t. not (list_any is_colon t)) ps ≡ true

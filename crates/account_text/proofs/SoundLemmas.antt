@@ -2,15 +2,17 @@
 use Rattle.std.proofs.Common.{◌≡◌, ℕ, ◌+◌, ◌<◌, ◌&&◌, Bool, true, false, cond, not, List, [], ◌∷◌, ◌++◌, get_or, length, map, min, take, Option, None, Some, option_map, is_none, refl, sym, ap, ◌∙◌, append_assoc, Result, Ok, Err, IfOk, OnOk}
 use Rattle.std.specs.List.{filter_map, cons_option, list_any, list_all, position}
 use Rattle.std.specs.Str.{is_utf8}
-use Rattle.std.proofs.lemmas.Bool.{and_parts, and_from, or_from}
+use Rattle.std.proofs.lemmas.Bool.{and_parts, and_from, or_from, not-true}
 use Rattle.std.proofs.lemmas.List.{append-nil, take_more}
 use Rattle.std.proofs.lemmas.List.Concat.{flat_map-append}
 use Rattle.std.proofs.lemmas.List.Folds.{list_all_more}
 use Rattle.std.proofs.lemmas.List.Splits.{slice_split_at}
+use Rattle.std.proofs.Math.Bool.{and-false}
 use Rattle.switch_names.specs.Names.{Name}
-use Rattle.account_text.specs.Field.{fields, is_colon, is_empty, is_line_feed, is_plain, lines}
+use Rattle.switch_names.specs.Texts.{is_empty, is_line_feed}
+use Rattle.account_text.specs.Field.{fields, is_colon, is_plain, lines}
 use Rattle.account_text.specs.Table.{row_in, rows_of, firsts, is_wrong, are_distinct, table_text, IsTableOf, IsSound}
-use Rattle.account_text.proofs.FirstLemmas.{all_firsts, distinct_firsts, firsts_distinct, not_true}
+use Rattle.account_text.proofs.FirstLemmas.{all_firsts, distinct_firsts, firsts_distinct}
 use Rattle.account_text.proofs.FieldLemmas.{none_none, parts_lack, parts_uncut}
 use Rattle.account_text.proofs.LineLemmas.{no_place}
 
@@ -43,7 +45,7 @@ module _ {Row : Type 0} (row_of : List (List ℕ) → Option Row) (is_sound : Ro
   sound_lines reads [] all = refl
   sound_lines reads (line ∷ ls) all =
       let parts = and_parts (not (list_any is_line_feed line)) (list_all (λ l. not (list_any is_line_feed l)) ls) all in
-      by (row_in row_of line) refl (not_true _ parts.0) (sound_lines reads ls parts.1)
+      by (row_in row_of line) refl (not-true _ parts.0) (sound_lines reads ls parts.1)
     where
       by : (o : Option Row) → row_in row_of line ≡ o → list_any is_line_feed line ≡ false → list_all is_sound (filter_map (row_in row_of) ls) ≡ true → list_all is_sound (cons_option o (filter_map (row_in row_of) ls)) ≡ true
       by None e none rest = rest
@@ -96,11 +98,7 @@ module _ {Row : Type 0} (row_of : List (List ℕ) → Option Row) (is_sound : Ro
     none_wrong (row ∷ rows) all utf8 =
         let sound = and_parts (is_sound row) (list_all is_sound rows) all in
         let good = and_parts (is_utf8 (line_of row)) (list_all (λ r. is_utf8 (line_of r)) rows) utf8 in
-        or_from _ _ (ap (λ o. not (is_empty (line_of row)) && is_none o) (row_again row sound.0 good.0) ∙ and_false (not (is_empty (line_of row)))) (none_wrong rows sound.1 good.1)
-      where
-        and_false : (b : Bool) → (b && false) ≡ false
-        and_false true = refl
-        and_false false = refl
+        or_from _ _ (ap (λ o. not (is_empty (line_of row)) && is_none o) (row_again row sound.0 good.0) ∙ and-false (not (is_empty (line_of row)))) (none_wrong rows sound.1 good.1)
 
     pub written_table : (rows : List Row) → IsSound is_sound name_of rows → list_all (λ row. is_utf8 (line_of row)) rows ≡ true → IsTableOf row_of name_of (table_text line_of rows) rows
     written_table rows sound utf8 = record {

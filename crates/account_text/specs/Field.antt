@@ -3,18 +3,13 @@ use Rattle.std.specs.Prelude.{ℕ, ◌==◌, ◌&&◌, Bool, not, List, length, 
 use Rattle.std.specs.List.{slice_split, list_any}
 use Rattle.std.specs.Str.{all_ascii_digits}
 use Rattle.std.specs.Str.Parse.{digits_value}
-
-abbrev pub is_line_feed : ℕ → Bool
-is_line_feed byte = byte == 10
+use Rattle.switch_names.specs.Texts.{is_empty, is_line_feed}
 
 abbrev pub is_colon : ℕ → Bool
 is_colon byte = byte == 58
 
 abbrev pub is_comma : ℕ → Bool
 is_comma byte = byte == 44
-
-abbrev pub is_empty : List ℕ → Bool
-is_empty text = length text == 0
 
 -- what stands between the line feeds of a table
 abbrev pub lines : List ℕ → List (List ℕ)

@@ -3,7 +3,8 @@ use Rattle.std.specs.Prelude.{ℕ, ◌&&◌, Bool, nat_le, List, [], ◌∷◌, 
 use Rattle.std.specs.List.{join_with_byte, list_all}
 use Rattle.switch_names.specs.Names.{Name}
 use Rattle.account_text.specs.declared.group.GroupRow.{GroupRow}
-use Rattle.account_text.specs.Field.{is_empty, id_of, members_of, is_plain, is_row_name, is_member, max_id}
+use Rattle.switch_names.specs.Texts.{is_empty}
+use Rattle.account_text.specs.Field.{id_of, members_of, is_plain, is_row_name, is_member, max_id}
 use Rattle.account_text.specs.Table.{IsTableOf, IsSound, table_text}
 
 -- the row of four fields, if the first isn't empty and the third is an id

@@ -3,7 +3,8 @@ use Rattle.std.specs.Prelude.{ℕ, ◌==◌, ◌&&◌, Bool, not, List, [], ◌�
 use Rattle.std.specs.List.{join_with_byte, list_any, count_by}
 use Rattle.switch_names.specs.Names.{Name}
 use Rattle.account_text.specs.declared.shadow.ShadowRow.{ShadowRow}
-use Rattle.account_text.specs.Field.{is_empty, is_line_feed, is_colon, is_plain, is_row_name}
+use Rattle.switch_names.specs.Texts.{is_empty, is_line_feed}
+use Rattle.account_text.specs.Field.{is_colon, is_plain, is_row_name}
 use Rattle.account_text.specs.Table.{IsTableOf, IsSound, table_text}
 
 -- the row of nine fields, if the first isn't empty: the last seven stay as they are, with their colons

@@ -3,7 +3,8 @@ use Rattle.std.specs.Prelude.{◌≡◌, ℕ, ◌+◌, ◌&&◌, Bool, true, not
 use Rattle.std.specs.List.{list_all, filter_map, flat_map}
 use Rattle.std.specs.Str.{is_utf8}
 use Rattle.switch_names.specs.Names.{Name, has, is_name}
-use Rattle.account_text.specs.Field.{is_empty, lines, fields}
+use Rattle.switch_names.specs.Texts.{is_empty}
+use Rattle.account_text.specs.Field.{lines, fields}
 
 -- the row that a line is, where its fields are those of one: a line that isn't UTF-8 is no row
 abbrev pub row_in : {Row : Type 0} → (List (List ℕ) → Option Row) → List ℕ → Option Row

@@ -2,7 +2,8 @@
 ghost use Rattle.std.specs.Prelude.{◌≡◌, ◌<◌, ◌≤◌, ◌∷◌, [], length, MatchOption, IfOk, OnOk, ◌++◌, string_bytes, filter, not};
 ghost use Rattle.std.specs.List.{flat_map, join_with_byte};
 ghost use Rattle.std.specs.Str.{all_ascii_digits};
-ghost use Rattle.account_text.specs.Field.{fields, id_of, is_empty, members_of};
+ghost use Rattle.switch_names.specs.Texts.{is_empty};
+ghost use Rattle.account_text.specs.Field.{fields, id_of, members_of};
 
 use std::alloc::{AllocError, Global};
 use switch_names::{Listed, Text};

@@ -3,6 +3,7 @@ use Rattle.std.proofs.Common.{◌≡◌, Result, Ok, Err, IsErrAnd, IsErrOf, ap,
 use Rattle.host_trait.specs.declared.tree.HostFault.TheVariants.{Device, Memory}
 use Rattle.switch_parts.specs.declared.plan_fault.PlanFault.{PlanFault}
 use Rattle.switch_parts.specs.declared.plan_fault.PlanFault.TheVariants.{Host, Refused}
+use Rattle.switch_parts.proofs.Faults.{no_err}
 use Rattle.users_merge.proofs.ExistLemmas.{one_merge, some_merge}
 use Rattle.users_merge.specs.declared.merged.Merged as answered
 use Rattle.users_merge.specs.Merge.{IsMerge, fault, kept, merge_of}
@@ -11,9 +12,6 @@ use Rattle.users_merge.specs.Stored.{Stored, merged_of}
 use Rattle.users_spec.specs.Spec.{Accounts}
 use Rattle.accounts_stage.specs.AccountsPart.{merge_refusal}
 use Rattle.accounts_stage.specs.Answer.{Answers, IsMergedBy}
-
-pub ok_no_err : {X E : Type 0} (x : X) (y : E) → IsErrOf (Ok x) y → ⊥
-ok_no_err x y e = cc
 
 module _ {Y : Type 0} where
   -- a fault that is handed on
@@ -36,5 +34,5 @@ merge_made spec s answer is order keeps = record {
     kept = keeps;
   };
   not_refused = ap (option_and_then merge_refusal) is.fine;
-  refused = λ why e. absurd (ok_no_err answer (Refused why) e);
+  refused = λ why e. absurd (no_err answer (Refused why) e);
 }

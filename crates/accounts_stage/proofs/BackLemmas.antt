@@ -10,12 +10,15 @@ use Rattle.std.specs.Str.{is_utf8}
 use Rattle.host_trait.specs.Bytes.{bytes_cmp}
 use Rattle.host_trait.specs.World.{Leaves, content_of}
 use Rattle.host_trait.proofs.Places.{bytes_total}
+use Rattle.host_trait.proofs.NameOrder.{name_exact}
 use Rattle.switch_names.specs.Names.{Name, is_name}
+use Rattle.switch_names.proofs.Lists.{find_passes}
 use Rattle.account_text.specs.Group.{group_name, group_row}
 use Rattle.account_text.specs.Passwd.{passwd_name, passwd_row}
 use Rattle.account_text.specs.Shadow.{shadow_name, shadow_row}
 use Rattle.account_text.specs.Table.{rows_of}
-use Rattle.id_memory.specs.Ids.{AreIds, Ids}
+use Rattle.host_trait.specs.Ids.{Ids}
+use Rattle.id_memory.specs.Ids.{AreIds}
 use Rattle.users_spec.specs.AccountName.{is_account_name}
 use Rattle.users_spec.specs.GroupSpec.{IsSoundGroup}
 use Rattle.users_spec.specs.UserSpec.{IsSoundUser}
@@ -26,10 +29,9 @@ use Rattle.users_merge.specs.Given.{IsId}
 use Rattle.users_merge.specs.Merge.{IsMerge, fault, group_id, map_at, merge_of, user_id}
 use Rattle.users_merge.specs.Stored.{Stored, table_of}
 use Rattle.users_merge.proofs.ExistLemmas.{some_merge}
-use Rattle.users_merge.proofs.NameLemmas.{name_exact}
 use Rattle.users_merge.proofs.RowSoundLemmas.{named_all}
 use Rattle.users_merge.proofs.SoundLemmas.{all_ordered}
-use Rattle.users_merge.proofs.TableLemmas.{find_passes, in_table}
+use Rattle.users_merge.proofs.TableLemmas.{in_table}
 use Rattle.accounts_stage.specs.Places.{gids_place, group_place, groups_place, passwd_place, shadow_place, spec_path, uids_place, users_place}
 use Rattle.accounts_stage.specs.Standing.{bytes_at, declared_by, is_name_text, stored_in}
 use Rattle.accounts_stage.proofs.IdBackLemmas.{ids_back}

@@ -27,7 +27,8 @@ use Rattle.host_trait.proofs.KeyOrder.{keys_sorted}
 use Rattle.host_trait.proofs.Orders.{sorted_below}
 use Rattle.host_trait.proofs.Places.{alike, bytes_total}
 use Rattle.id_memory.specs.declared.id_row.IdRow.{IdRow}
-use Rattle.id_memory.specs.Ids.{AreIds, Ids, id_max, ids_of, names_of, rows_of}
+use Rattle.host_trait.specs.Ids.{Ids}
+use Rattle.id_memory.specs.Ids.{AreIds, id_max, ids_of, names_of, rows_of}
 use Rattle.id_memory.specs.Json.{ids_read, ids_text, members_of}
 use Rattle.id_memory.proofs.MemberLemmas.{put_last, text_reads}
 use Rattle.switch_names.specs.Names.{Name}

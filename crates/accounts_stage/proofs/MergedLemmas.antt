@@ -7,6 +7,7 @@ use Rattle.std.specs.List.{AllByRecursion, list_all}
 use Rattle.std.specs.Option.{option_or}
 use Rattle.std.specs.Str.{is_utf8}
 use Rattle.switch_names.specs.Names.{Name, has, is_name}
+use Rattle.switch_names.proofs.Lists.{find_passes}
 use Rattle.account_text.specs.declared.group.GroupRow.{GroupRow}
 use Rattle.account_text.specs.declared.passwd.PasswdRow.{PasswdRow}
 use Rattle.account_text.specs.declared.shadow.ShadowRow.{ShadowRow}
@@ -27,13 +28,12 @@ use Rattle.users_merge.specs.Rows.{declared_row, group_row, passwd_row, shadow_r
 use Rattle.users_merge.specs.Stored.{Stored}
 use Rattle.users_merge.specs.declared.declared_names.Declared.{Declared}
 use Rattle.users_merge.specs.declared.remembered.Remembered.{Remembered}
-use Rattle.users_merge.proofs.BoundLemmas.{give_bounded}
-use Rattle.users_merge.proofs.NameLemmas.{name_exact}
+use Rattle.users_merge.proofs.BoundLemmas.{give_bounded, or_bounded}
 use Rattle.users_merge.proofs.SideLemmas.{groups_asked, users_asked}
-use Rattle.users_merge.proofs.TableLemmas.{find_passes}
 use Rattle.accounts_stage.specs.Standing.{is_name_text}
 use Rattle.accounts_stage.proofs.MergedRowLemmas.{IsGoodGroup, IsGoodUser, group_row_good, is_group_spec_text, is_user_spec_text, passwd_row_good, shadow_row_good}
 use Rattle.accounts_stage.proofs.RowTextLemmas.{group_texts, is_group_text, is_passwd_text, is_shadow_text, passwd_texts}
+use Rattle.host_trait.proofs.NameOrder.{name_exact}
 
 -- what is declared is sound, and its texts are UTF-8
 pub record IsGoodSpec (spec : Accounts) : Type 0 where
@@ -55,10 +55,6 @@ pub record IsGoodStored (s : Stored) : Type 0 where
   pub gid_names : list_all is_utf8 (keys s.gids) ≡ true
   pub users : list_all is_name_text s.users ≡ true
   pub groups : list_all is_name_text s.groups ≡ true
-
-or_bounded : (o p : Option ℕ) → IfSome o IsId → IfSome p IsId → IfSome (option_or o p) IsId
-or_bounded None p one other = other
-or_bounded (Some id) p one other = one
 
 id_of_bounded : (accounts : List Account) (ids : List ℕ) (name : Name) → AllByRecursion IsId ids → IfSome (id_of accounts ids name) IsId
 id_of_bounded [] ids name all = tt

@@ -9,7 +9,8 @@ use Rattle.switch_names.specs.Names.{Name}
 use Rattle.account_text.specs.declared.group.GroupRow.{GroupRow}
 use Rattle.account_text.specs.declared.passwd.PasswdRow.{PasswdRow}
 use Rattle.account_text.specs.declared.shadow.ShadowRow.{ShadowRow}
-use Rattle.account_text.specs.Field.{is_colon, is_line_feed, is_member, is_plain, is_row_name, max_id}
+use Rattle.switch_names.specs.Texts.{is_line_feed}
+use Rattle.account_text.specs.Field.{is_colon, is_member, is_plain, is_row_name, max_id}
 use Rattle.account_text.specs.Group.{is_group_row}
 use Rattle.account_text.specs.Shadow.{is_shadow_row}
 use Rattle.account_text.proofs.FirstLemmas.{all_filter}
@@ -23,6 +24,7 @@ use Rattle.users_spec.specs.Spec.{Accounts}
 use Rattle.users_merge.specs.Given.{IsId}
 use Rattle.users_merge.specs.Rows.{declared_row, fixed, group_password, group_row, member_stays, members, old_members, passwd_row, row_password, shadow_rest, shadow_row, stays}
 use Rattle.users_merge.proofs.SoundLemmas.{all_ordered, name_is_member, name_is_row_name, plain_is_plain}
+use Rattle.users_merge.proofs.RowSoundLemmas.{all_names}
 use Rattle.accounts_stage.proofs.RowTextLemmas.{group_texts, is_group_text, is_passwd_text, is_shadow_text, shadow_texts}
 use Rattle.accounts_stage.proofs.TextLemmas.{empty_text, then_text}
 
@@ -67,10 +69,6 @@ stays_good P true true row is = tt
 stays_good P true false row is = is
 
 -- ---- groups
-
-all_names : (p q : Name → Bool) → ((name : Name) → p name ≡ true → q name ≡ true) → (names : List Name) → list_all p names ≡ true → list_all q names ≡ true
-all_names p q more [] all = refl
-all_names p q more (name ∷ names) all = let parts = and_parts (p name) (list_all p names) all in and_from _ _ (more name parts.0) (all_names p q more names parts.1)
 
 -- what is known of an old row of a group
 record GroupParts (row : GroupRow) : Type 0 where

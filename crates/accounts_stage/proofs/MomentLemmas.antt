@@ -10,9 +10,10 @@ use Rattle.account_text.specs.Table.{wrong_line}
 use Rattle.account_text.specs.declared.passwd.PasswdRow.{PasswdRow}
 use Rattle.host_trait.specs.World.{Leaves, WorldState, content_of, seen}
 use Rattle.host_trait.proofs.Seen.{seen_at}
-use Rattle.id_memory.specs.Ids.{Ids}
+use Rattle.host_trait.specs.Ids.{Ids}
 use Rattle.switch_names.specs.Names.{Name}
 use Rattle.switch_names.specs.SystemName.{IsSystemPath}
+use Rattle.switch_names.proofs.Outcomes.{option_or_parts, option_or_nothing}
 use Rattle.switch_parts.specs.declared.refusal.Refusal.{Refusal}
 use Rattle.switch_parts.specs.declared.refusal.MapFile.{MapFile}
 use Rattle.switch_parts.specs.declared.refusal.TableFile.{TableFile}
@@ -50,10 +51,6 @@ use Rattle.accounts_stage.proofs.ReadLemmas.{AreContentsOf, IsReadBack, first_pu
 
 -- ---- what isn't refused
 
-neither : {X : Type 0} (o p : Option X) → option_or o p ≡ None → (o ≡ None) × (p ≡ None)
-neither None p none = (refl, none)
-neither (Some x) p none = absurd (cc)
-
 no_line : (file : TableFile) (line : Option ℕ) → wrong_table file line ≡ None → line ≡ None
 no_line file None none = refl
 no_line file (Some at) none = absurd (cc)
@@ -90,11 +87,11 @@ pub record IsMergeable (spec : Accounts) (leaves : Leaves) : Type 0 where
 
 mergeable : (spec : Accounts) (leaves : Leaves) → refusal_of leaves (Some (Ok spec)) ≡ None → IsMergeable spec leaves
 mergeable spec leaves none =
-    let tables = neither _ _ none in
-    let maps = neither _ _ tables.1 in
-    let group = neither _ _ tables.0 in
-    let others = neither _ _ group.1 in
-    let ids = neither _ _ maps.0 in
+    let tables = option_or_parts _ _ none in
+    let maps = option_or_parts _ _ tables.1 in
+    let group = option_or_parts _ _ tables.0 in
+    let others = option_or_parts _ _ group.1 in
+    let ids = option_or_parts _ _ maps.0 in
     record {
       contents = record {
         group = record { rows = refl; complete = no_line _ _ group.0 };
@@ -107,9 +104,6 @@ mergeable spec leaves none =
       };
       fine = no_fault spec (stored_in leaves) maps.1;
     }
-
-both_none : {X : Type 0} (o p : Option X) → o ≡ None → p ≡ None → option_or o p ≡ None
-both_none {X = X} o p first second = ap (λ (x : Option X). option_or x p) first ∙ second
 
 -- ---- what contents say
 
@@ -127,11 +121,11 @@ module _ (s : Stored) (leaves : Leaves) (are : AreContentsOf s (content_of leave
 
   pub not_refused : (spec : Accounts) → fault spec s ≡ None → refusal_of leaves (Some (Ok spec)) ≡ None
   not_refused spec fine =
-      both_none (table_refusal leaves) _
-      (both_none (wrong_table TableFile.Group (wrong_line group_row (bytes_at leaves group_place))) _ (ap (wrong_table TableFile.Group) are.group.complete)
-      (both_none (wrong_table TableFile.Passwd (wrong_line passwd_row (bytes_at leaves passwd_place))) _ (ap (wrong_table TableFile.Passwd) are.passwd.complete) (ap (wrong_table TableFile.Shadow) are.shadow.complete)))
-      (both_none (maps_refusal (memory_in leaves)) _
-      (both_none (ids_refusal MapFile.Uid (content_of leaves uids_place)) _ (ap (λ (o : Option Ids). cond (is_none o) (Some (Refusal.IdMap MapFile.Uid)) None) are.uids) (ap (λ (o : Option Ids). cond (is_none o) (Some (Refusal.IdMap MapFile.Gid)) None) are.gids))
+      option_or_nothing (table_refusal leaves) _
+      (option_or_nothing (wrong_table TableFile.Group (wrong_line group_row (bytes_at leaves group_place))) _ (ap (wrong_table TableFile.Group) are.group.complete)
+      (option_or_nothing (wrong_table TableFile.Passwd (wrong_line passwd_row (bytes_at leaves passwd_place))) _ (ap (wrong_table TableFile.Passwd) are.passwd.complete) (ap (wrong_table TableFile.Shadow) are.shadow.complete)))
+      (option_or_nothing (maps_refusal (memory_in leaves)) _
+      (option_or_nothing (ids_refusal MapFile.Uid (content_of leaves uids_place)) _ (ap (λ (o : Option Ids). cond (is_none o) (Some (Refusal.IdMap MapFile.Uid)) None) are.uids) (ap (λ (o : Option Ids). cond (is_none o) (Some (Refusal.IdMap MapFile.Gid)) None) are.gids))
       (ap (option_and_then merge_refusal) (ap (fault spec) stored_is ∙ fine)))
 
 -- ---- merges that leave the same

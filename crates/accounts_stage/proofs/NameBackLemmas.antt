@@ -1,12 +1,11 @@
 -- Names are read back where they are written.
 use Rattle.std.proofs.Common.{◌≡◌, ℕ, ◌&&◌, ◌||◌, Bool, true, false, not, cond, List, [], ◌∷◌, ◌++◌, append_assoc, filter, length, take, nat_le, nat_lt, Some, refl, sym, ap, ◌∙◌, arith}
-use Rattle.std.proofs.lemmas.Bool.{and_from, and_parts, false≢true, or_parts}
+use Rattle.std.proofs.lemmas.Bool.{and_from, and_parts, false≢true, or_parts, not-true}
 use Rattle.std.proofs.lemmas.List.Splits.{slice_split_at}
 use Rattle.std.specs.List.{list_all, list_any, slice_split}
 use Rattle.std.specs.Str.{is_utf8}
 use Rattle.switch_names.specs.Names.{Name}
 use Rattle.account_text.proofs.FieldLemmas.{none_none}
-use Rattle.account_text.proofs.FirstLemmas.{not_true}
 use Rattle.users_spec.specs.AccountName.{is_account_name, is_no_name_byte, is_sign}
 use Rattle.users_merge.specs.Stored.{ordered}
 use Rattle.users_merge.proofs.NameOrderLemmas.{is_ordered, ordered_sorted}
@@ -33,7 +32,7 @@ unfolding is_name_text
 name_whole name is =
     let named = and_parts (is_utf8 name) (is_account_name name) is in
     let unsigned = and_parts (nat_lt 0 (length name) && nat_le (length name) 255 && not (list_any is_no_name_byte name)) (not (list_any is_sign (take 1 name))) named.1 in
-    none_between name (not_true _ (and_parts (nat_lt 0 (length name) && nat_le (length name) 255) (not (list_any is_no_name_byte name)) unsigned.0).1)
+    none_between name (not-true _ (and_parts (nat_lt 0 (length name) && nat_le (length name) 255) (not (list_any is_no_name_byte name)) unsigned.0).1)
 
 no_name : is_name_text [] ≡ false
 unfolding is_name_text

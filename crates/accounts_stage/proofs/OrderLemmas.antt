@@ -1,7 +1,8 @@
 -- The rows of a table in order are its rows.
 use Rattle.std.proofs.Common.{◌≡◌, ℕ, Bool, true, false, not, List, [], ◌∷◌, length, map, filter_map, Option, None, Some, IfSome, refl, sym, ap, subst, ◌∙◌, arith}
-use Rattle.std.proofs.lemmas.Bool.{and_from, and_parts, false≢true, or_parts}
+use Rattle.std.proofs.lemmas.Bool.{and_from, and_parts, false≢true, or_parts, not-true}
 use Rattle.std.proofs.lemmas.List.Sorted.{IsPermutation-cons, IsPermutation-map, IsPermutation-middle, IsPermutation-refl, IsPermutation-trans}
+use Rattle.std.proofs.lemmas.List.{nil_from_length}
 use Rattle.std.specs.Cmp.{IsTotalOrder}
 use Rattle.std.specs.FinMap.{empty, entries, entries-insert, from_entries, get, keys, len-empty, len-entries, put, values}
 use Rattle.std.specs.FinMap.Entries.{by_order}
@@ -15,7 +16,6 @@ use Rattle.host_trait.proofs.Places.{alike, bytes_total}
 use Rattle.switch_names.specs.Names.{Name, has, is_name}
 use Rattle.account_text.specs.Order.{by_id, row_named}
 use Rattle.account_text.specs.Table.{are_distinct}
-use Rattle.account_text.proofs.FirstLemmas.{not_true}
 use Rattle.account_text.proofs.OrderLemmas.{all_moved, by_id_total, distinct_moved, same_row}
 use Rattle.users_merge.specs.Order.{in_order}
 use Rattle.users_merge.specs.Stored.{Table, table_of}
@@ -28,15 +28,11 @@ module _ {K X : Type 0} {R : K → K → Ordering} (total : IsTotalOrder R) wher
   abbrev rows_in : List (K × X) → List X
   rows_in es = map (λ (e : K × X). e.1) es
 
-  none_left : (es : List (K × X)) → length es ≡ 0 → es ≡ []
-  none_left [] e = refl
-  none_left (x ∷ es) e = absurd (omega arith)
-
   abbrev nothing : List (K × X)
   nothing = []
 
   no_entries : entries (from_entries {R = R} nothing) ≡ []
-  no_entries = none_left _ (sym (len-entries empty) ∙ len-empty R X)
+  no_entries = nil_from_length _ (sym (len-entries empty) ∙ len-empty R X)
 
   all_put : (p : X → Bool) (k : K) (x : X) (es : List (K × X)) → p x ≡ true → list_all p (rows_in es) ≡ true → list_all p (rows_in (put R k x es)) ≡ true
   all_put p k x [] is all = and_from _ _ is refl
@@ -144,7 +140,7 @@ module _ {Row : Type 0} (key_of : Row → ℕ × Name) where
   are_other [] distinct = tt
   are_other (row ∷ rows) distinct =
       let parts = and_parts (not (has (map name_by rows) (name_by row))) (are_distinct (map name_by rows)) distinct in
-      (other_rows row rows (not_true _ parts.0), are_other rows parts.1)
+      (other_rows row rows (not-true _ parts.0), are_other rows parts.1)
 
   keyed_rows : (rows : List Row) → map (λ (e : (ℕ × Name) × Row). e.1) (map with_key rows) ≡ rows
   keyed_rows [] = refl

@@ -1,7 +1,8 @@
 -- The puts of accounts, one after the other.
 use Rattle.std.proofs.Common.{◌≡◌, ◌&&◌, ◌||◌, not, Bool, true, false, List, [], ◌∷◌, ◌++◌, Option, None, Some, Result, Ok, Err, OnOk, refl, sym, ap, ◌∙◌, inl, inr}
-use Rattle.std.proofs.lemmas.Bool.{and_parts, both_ways, cases_Bool}
+use Rattle.std.proofs.lemmas.Bool.{and_parts, both_ways, cases_Bool, not-true}
 use Rattle.std.proofs.lemmas.Option.{none-some}
+use Rattle.std.proofs.lemmas.Result.{on_ok_weaker}
 use Rattle.std.specs.Cmp.Lexicographic.{same_text}
 use Rattle.std.specs.List.{AllByRecursion, list_all}
 use Rattle.host_trait.specs.World.{IsClear, Leaves, WorldState, is_in_line, is_path, stage}
@@ -46,23 +47,15 @@ all_among test (name ∷ names) all q among = elim (cases_Bool (is_path q name))
   | inr other ↦ all_among test names (and_parts (test name) (list_all test names) all).1 q (sym (ap (λ b. b || is_among names q) other) ∙ among)
 ]
 
-not_true : (b : Bool) → not b ≡ true → b ≡ false
-not_true true is = absurd (both_ways false refl is)
-not_true false is = refl
-
 module _ (p : Name) (own : owns_accounts p ≡ true) where
   parts : (not (is_path p stage) && not (is_in_line p stage) ≡ true) × (not (is_in_line stage p) && list_all (λ q. not (is_in_line p q)) account_names ≡ true)
   parts = and_parts (not (is_path p stage) && not (is_in_line p stage)) (not (is_in_line stage p) && list_all (λ q. not (is_in_line p q)) account_names) (all_among (is_apart account_names) account_names all_apart p own)
 
   pub place_apart : AreApart p stage
-  place_apart = let both = and_parts (not (is_path p stage)) (not (is_in_line p stage)) parts.0 in record { other = not_true _ both.0; line = not_true _ both.1 }
+  place_apart = let both = and_parts (not (is_path p stage)) (not (is_in_line p stage)) parts.0 in record { other = not-true _ both.0; line = not-true _ both.1 }
 
   pub places_apart : (q : Name) → owns_accounts q ≡ true → is_in_line p q ≡ false
-  places_apart q other = not_true _ (all_among (λ q. not (is_in_line p q)) account_names (and_parts (not (is_in_line stage p)) (list_all (λ q. not (is_in_line p q)) account_names) parts.1).1 q other)
-
-pub on_ok_as : {T E P Q : Type 0} (result : Result T E) → (P → Q) → OnOk result P → OnOk result Q
-on_ok_as (Ok x) weaker holds = weaker holds
-on_ok_as (Err e) weaker holds = tt
+  places_apart q other = not-true _ (all_among (λ q. not (is_in_line p q)) account_names (and_parts (not (is_in_line stage p)) (list_all (λ q. not (is_in_line p q)) account_names) parts.1).1 q other)
 
 -- ---- what a plan puts
 

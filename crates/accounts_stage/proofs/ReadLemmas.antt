@@ -13,7 +13,7 @@ use Rattle.account_text.specs.Table.{rows_of, wrong_line}
 use Rattle.host_trait.specs.declared.leaf.LeafKind.{LeafKind}
 use Rattle.host_trait.specs.declared.leaf.LeafKind.TheVariants.{File}
 use Rattle.host_trait.specs.World.{Leaves, WorldState, content_of, is_path, leaf_content, with_leaf}
-use Rattle.id_memory.specs.Ids.{Ids}
+use Rattle.host_trait.specs.Ids.{Ids}
 use Rattle.id_memory.specs.Json.{ids_read, ids_text}
 use Rattle.switch_names.specs.Names.{Name}
 use Rattle.users_merge.specs.Law.{Put, after, after_all, puts}

@@ -3,13 +3,15 @@ use Rattle.std.proofs.Common.{◌≡◌, ℕ, ◌<◌, ◌&&◌, ◌==◌, Bool,
 use Rattle.std.proofs.lemmas.Bool.{and_from, and_parts, eqb-true, leb-true}
 use Rattle.std.proofs.lemmas.Fmt.{IsAscii-decimal}
 use Rattle.std.proofs.lemmas.Str.{IsUtf8-from_ascii, is_utf8-from_IsUtf8}
+use Rattle.std.proofs.lemmas.Option.{same_Some}
 use Rattle.std.specs.List.{cons_option, filter_map, join_with_byte, list_all, slice_split}
 use Rattle.std.specs.Str.{is_utf8}
 use Rattle.switch_names.specs.Names.{Name}
 use Rattle.account_text.specs.declared.group.GroupRow.{GroupRow}
 use Rattle.account_text.specs.declared.passwd.PasswdRow.{PasswdRow}
 use Rattle.account_text.specs.declared.shadow.ShadowRow.{ShadowRow}
-use Rattle.account_text.specs.Field.{fields, id_of, is_colon, is_comma, is_empty, is_member, is_plain, is_row_name, lines, max_id, members_of}
+use Rattle.switch_names.specs.Texts.{is_empty}
+use Rattle.account_text.specs.Field.{fields, id_of, is_colon, is_comma, is_member, is_plain, is_row_name, lines, max_id, members_of}
 use Rattle.account_text.specs.Group.{group_line, group_name, group_row, is_group_row}
 use Rattle.account_text.specs.Passwd.{is_passwd_row, passwd_line, passwd_name, passwd_row}
 use Rattle.account_text.specs.Shadow.{is_shadow_row, shadow_line, shadow_name, shadow_row}
@@ -113,9 +115,6 @@ module _ {Row : Type 0} (row_of : List (List ℕ) → Option Row) (name_of : Row
 
 -- ---- groups
 
-same_row : {Row : Type 0} (x y : Row) → Some x ≡ Some y → x ≡ y
-same_row x y is = cc
-
 group_reads : (parts : List (List ℕ)) (row : GroupRow) → list_all is_utf8 parts ≡ true → group_row parts ≡ Some row → list_all is_utf8 (group_texts row) ≡ true
 group_reads [] row all is = absurd (cc)
 group_reads (name ∷ []) row all is = absurd (cc)
@@ -135,7 +134,7 @@ group_reads (name ∷ password ∷ gid ∷ members ∷ []) row all is = by (is_e
     by : (b : Bool) (o : Option ℕ) → cond b None (option_map (λ gid. record { name = name; password = password; gid = gid; members = members_of members }) o) ≡ Some row → list_all is_utf8 (group_texts row) ≡ true
     by true o is = absurd (cc)
     by false None is = absurd (cc)
-    by false (Some id) is = subst (λ (r : GroupRow). list_all is_utf8 (group_texts r) ≡ true) (same_row (record { name = name; password = password; gid = id; members = members_of members }) row is) texts
+    by false (Some id) is = subst (λ (r : GroupRow). list_all is_utf8 (group_texts r) ≡ true) (same_Some (record { name = name; password = password; gid = id; members = members_of members }) row is) texts
 
 passwd_reads : (parts : List (List ℕ)) (row : PasswdRow) → list_all is_utf8 parts ≡ true → passwd_row parts ≡ Some row → list_all is_utf8 (passwd_texts row) ≡ true
 passwd_reads [] row all is = absurd (cc)
@@ -161,7 +160,7 @@ passwd_reads (name ∷ password ∷ uid ∷ gid ∷ gecos ∷ home ∷ shell ∷
     by true o p is = absurd (cc)
     by false None p is = absurd (cc)
     by false (Some x) None is = absurd (cc)
-    by false (Some x) (Some y) is = subst (λ (r : PasswdRow). list_all is_utf8 (passwd_texts r) ≡ true) (same_row (record { name = name; password = password; uid = x; gid = y; gecos = gecos; home = home; shell = shell }) row is) texts
+    by false (Some x) (Some y) is = subst (λ (r : PasswdRow). list_all is_utf8 (passwd_texts r) ≡ true) (same_Some (record { name = name; password = password; uid = x; gid = y; gecos = gecos; home = home; shell = shell }) row is) texts
 
 shadow_reads : (parts : List (List ℕ)) (row : ShadowRow) → list_all is_utf8 parts ≡ true → shadow_row parts ≡ Some row → list_all is_utf8 (shadow_texts row) ≡ true
 shadow_reads [] row all is = absurd (cc)
@@ -173,7 +172,7 @@ shadow_reads (name ∷ password ∷ rest) row all is = by (not (is_empty name) &
     by true is =
         let first = and_parts (is_utf8 name) (list_all is_utf8 (password ∷ rest)) all in
         let second = and_parts (is_utf8 password) (list_all is_utf8 rest) first.1 in
-        subst (λ (r : ShadowRow). list_all is_utf8 (shadow_texts r) ≡ true) (same_row (record { name = name; password = password; rest = join_with_byte 58 rest }) row is)
+        subst (λ (r : ShadowRow). list_all is_utf8 (shadow_texts r) ≡ true) (same_Some (record { name = name; password = password; rest = join_with_byte 58 rest }) row is)
         (and_from _ _ first.0 (and_from _ _ second.0 (and_from _ _ (join_texts 58 (omega arith) rest second.1) refl)))
 
 pub read_groups : (text : List ℕ) → list_all is_group_text (rows_of group_row group_name text) ≡ true

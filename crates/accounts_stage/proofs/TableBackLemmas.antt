@@ -6,7 +6,9 @@ use Rattle.std.specs.List.{cons_option, filter_map, list_all}
 use Rattle.std.specs.Str.{is_utf8}
 use Rattle.host_trait.specs.Bytes.{bytes_cmp}
 use Rattle.host_trait.proofs.Places.{alike}
+use Rattle.host_trait.proofs.NameOrder.{name_exact}
 use Rattle.switch_names.specs.Names.{Name, is_name}
+use Rattle.switch_names.proofs.Lists.{find_passes}
 use Rattle.account_text.specs.declared.group.GroupRow.{GroupRow}
 use Rattle.account_text.specs.declared.passwd.PasswdRow.{PasswdRow}
 use Rattle.account_text.specs.declared.shadow.ShadowRow.{ShadowRow}
@@ -22,9 +24,8 @@ use Rattle.users_merge.specs.Merge.{IsMerge, group_at, map_at, merge_of, passwd_
 use Rattle.users_merge.specs.Order.{group_rows, in_order, passwd_rows, shadow_rows}
 use Rattle.users_merge.specs.Rows as rows
 use Rattle.users_merge.specs.Stored.{Stored, Table, table_of}
-use Rattle.users_merge.proofs.NameLemmas.{name_exact}
 use Rattle.users_merge.proofs.ShadowLemmas.{made_distinct, made_found}
-use Rattle.users_merge.proofs.TableLemmas.{find_passes, in_table}
+use Rattle.users_merge.proofs.TableLemmas.{in_table}
 use Rattle.accounts_stage.proofs.MergedLemmas.{IsGoodSpec, IsGoodStored, group_good, group_named, passwd_good, passwd_named, shadow_good, shadow_named}
 use Rattle.accounts_stage.proofs.OrderLemmas.{all_in_order, all_made, distinct_in_order, named_in_order, table_in_order}
 use Rattle.accounts_stage.proofs.ReadLemmas.{IsGroupTable, IsPasswdTable, IsShadowTable}

@@ -10,7 +10,7 @@ use Rattle.account_text.specs.Passwd.{passwd_name, passwd_row}
 use Rattle.account_text.specs.Shadow.{shadow_name, shadow_row}
 use Rattle.account_text.specs.Table.{rows_of}
 use Rattle.host_trait.specs.World.{Leaves, content_of}
-use Rattle.id_memory.specs.Ids.{Ids}
+use Rattle.host_trait.specs.Ids.{Ids}
 use Rattle.id_memory.specs.Json.{ids_read}
 use Rattle.switch_names.specs.Names.{Name}
 use Rattle.users_merge.specs.declared.declared_names.Declared.{Declared}

@@ -8,7 +8,8 @@ use Rattle.account_text.specs.declared.tables.Tables.{Tables}
 use Rattle.account_text.specs.Group.{group_name}
 use Rattle.account_text.specs.Order.{row_named}
 use Rattle.account_text.specs.Passwd.{passwd_name}
-use Rattle.etc_manifest.specs.Owners.{AreIdsOf, AreOwnersOf, Ids, OwnerIds}
+use Rattle.host_trait.specs.Ids.{Ids}
+use Rattle.etc_manifest.specs.Owners.{AreIdsOf, AreOwnersOf, OwnerIds}
 use Rattle.switch_names.specs.Names.{Name, is_name}
 use Rattle.activation_stage.specs.Owners.{ids_named, owners_in}
 

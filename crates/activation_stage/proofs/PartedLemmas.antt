@@ -20,6 +20,7 @@ use Rattle.etc_farm.specs.EtcPart.{etc_part}
 use Rattle.etc_farm.specs.FarmPart.{owns_farm, reads_farm}
 use Rattle.etc_farm.proofs.LineLemmas.{free_line}
 use Rattle.etc_farm.proofs.PlaceLemmas.{owned_read, place_of_owned}
+use Rattle.etc_farm.proofs.StoreLemmas.{place_not_stored}
 use Rattle.accounts_stage.specs.AccountsPart.{accounts_part, reads_accounts}
 use Rattle.accounts_stage.specs.Places.{account_names, account_places, gids_place, group_place, groups_place, memory_places, owns_accounts, passwd_place, shadow_place, table_places, uids_place, users_place}
 
@@ -47,10 +48,6 @@ not_account at own = elim (cases_Bool (owns_accounts at)) [
   | inl account ↦ absurd (both_ways _ (accounts_unread at account) (owned_read at own))
   | inr other ↦ other
 ]
-
-not_stored : (q : Name) → is_in_store (place q) ≡ false
-unfolding is_in_store place
-not_stored q = refl
 
 -- a table is in line with none of the farm's names
 static_line : AllByRecursion (λ name. is_in_line (place static_name) (place name) ≡ false) (codes "group" ∷ codes "passwd" ∷ codes "shadow" ∷ [])
@@ -113,7 +110,7 @@ pub farm_unread : (at : Name) → owns_farm at ≡ true → reads_accounts at �
 farm_unread at own =
     let named = place_of_owned at own in
     none_of_three (owns_accounts at) (is_in_store at) (is_near account_places at) (not_account at own)
-    (subst (λ p. is_in_store p ≡ false) (sym named.0) (not_stored (name_of at)))
+    (subst (λ p. is_in_store p ≡ false) (sym named.0) (place_not_stored (name_of at)))
     (subst (λ p. is_near account_places p ≡ false) (sym named.0) (not_near (name_of at) named.1))
 
 -- the two parts are parted

@@ -5,7 +5,8 @@ use Rattle.account_text.specs.declared.tables.Tables.{Tables}
 use Rattle.account_text.specs.Group.{group_name}
 use Rattle.account_text.specs.Passwd.{passwd_name}
 use Rattle.accounts_stage.specs.AccountsPart.{tables_after}
-use Rattle.etc_manifest.specs.Owners.{Ids, OwnerIds}
+use Rattle.host_trait.specs.Ids.{Ids}
+use Rattle.etc_manifest.specs.Owners.{OwnerIds}
 use Rattle.host_trait.specs.World.{Leaves}
 use Rattle.switch_names.specs.Names.{Name}
 

@@ -14,6 +14,7 @@ use Rattle.host_trait.specs.World.{Leaves, WorldState, bytes_cmp, is_listed, is_
 use Rattle.host_trait.proofs.Places.{same_or_other}
 use Rattle.host_trait.proofs.Seen.{seen_at}
 use Rattle.switch_names.specs.Names.{Name}
+use Rattle.switch_names.proofs.Outcomes.{none_there}
 use Rattle.switch_parts.specs.Part.{IsOnly}
 use Rattle.tree_put.proofs.LeftLemmas.{gone_at, left_at, left_by, left_elsewhere}
 use Rattle.tree_put.proofs.SequenceLemmas.{all_take, places_manager, puts_manager}
@@ -68,10 +69,6 @@ elsewhere q (file ∷ files) none places = (other_of q file.at none places.0, el
 
 -- ---- what goes
 
-no_some : {X : Type 0} (o : Option X) → is_some o ≡ false → o ≡ None
-no_some None is = refl
-no_some (Some x) is = absurd (both_ways _ refl (sym is))
-
 -- a test of a path that holds of one equal to it
 same_test : (test : Name → Bool) (q k : Name) → eqb q k ≡ true → test k ≡ test q
 same_test test q k is = elim (same_or_other q k) [
@@ -115,7 +112,7 @@ module _ (gens : Gens) (texts : BootTexts) (w : WorldState) (are : AreEntries te
   others_stay : (q : Name) → owns_boot q ≡ false → list_any (eqb q) texts.gone ≡ false
   others_stay q none =
       ap (λ (names : List Name). list_any (eqb q) names) (ap (λ (t : BootTexts). t.gone) planned)
-      ∙ none_gone w.leaves gens.list q (no_some (numbered q) (or_parts (is_path q loader_path) (is_some (numbered q)) none).1)
+      ∙ none_gone w.leaves gens.list q (none_there (numbered q) (or_parts (is_path q loader_path) (is_some (numbered q)) none).1)
 
   pub only_moment : (m : WorldState) → IsBootMoment texts w m → IsOnly (boot_part gens) w m
   only_moment m moment = ⊎_elim

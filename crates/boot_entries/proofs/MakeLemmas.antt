@@ -13,6 +13,7 @@ use Rattle.host_trait.specs.declared.tree.HostFault.TheVariants.{Device, Memory}
 use Rattle.host_trait.specs.World.{Leaves, WorldState, seen}
 use Rattle.switch_names.specs.Names.{Name}
 use Rattle.switch_parts.proofs.Parts.{second_free}
+use Rattle.switch_parts.proofs.Faults.{refused_is, refused_no_device, memory_no_device}
 use Rattle.switch_parts.specs.declared.plan_fault.PlanFault.{PlanFault}
 use Rattle.switch_parts.specs.declared.plan_fault.PlanFault.TheVariants.{Host, Refused}
 use Rattle.switch_parts.specs.declared.refusal.Refusal.{Refusal}
@@ -99,12 +100,3 @@ module _ (system : Name) (leaves : Leaves) (gens : Gens) (is : IsGensOf leaves g
       number = number_of_world leaves gens system number is some;
       menu = planned ∙ ap (λ (gs : Gens). menu_of gs leaves) same;
     }
-
-pub refused_as : {T : Type 0} (one why : Refusal) → IsErrOf {T = T} (Err (Refused one)) (Refused why) → one ≡ why
-refused_as one why e = cc
-
-pub refused_no_device : {T : Type 0} (why : Refusal) → IsErrOf {T = T} (Err (Refused why)) (Host Device) → ⊥
-refused_no_device why e = cc
-
-pub memory_no_device : {T : Type 0} (r : Result T PlanFault) (x : PlanFault) → r ≡ Err x → x ≡ Host Memory → IsErrOf r (Host Device) → ⊥
-memory_no_device r x is memory e = cc

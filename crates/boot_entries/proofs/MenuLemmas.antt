@@ -1,7 +1,7 @@
 -- What a firmware finds in the boot menu at any moment.
 use Rattle.std.proofs.Common.{◌≡◌, ◌⊎◌, ℕ, ◌<◌, ◌^◌, ◌&&◌, not, true, false, cond, List, [], ◌∷◌, ◌++◌, length, take, Option, None, Some, IfSome, IsSome, is_some, option_and_then, option_map, refl, sym, ap, subst, ◌∙◌, inl, inr, ⊎_elim, arith, map}
 use Rattle.std.proofs.lemmas.List.{take_all}
-use Rattle.std.proofs.lemmas.Option.{none-some}
+use Rattle.std.proofs.lemmas.Option.{none-some, same_Some}
 use Rattle.std.specs.FinMap.{get}
 use Rattle.std.specs.List.{AllByRecursion, list_any}
 use Rattle.std.specs.Option.{option_map_or, option_or}
@@ -48,7 +48,7 @@ use Rattle.boot_entries.specs.BootDefault.{boot_default_in, boot_default_part, m
 use Rattle.boot_entries.specs.BootDefault.IsMakingDefault.{Listing, Setting}
 use Rattle.boot_entries.proofs.GensLemmas.{gens_after_law}
 use Rattle.boot_entries.proofs.PartLemmas.{part_law}
-use Rattle.boot_entries.proofs.ListedLemmas.{IsFileOf, IsListedEntry, files_listed, left_is, not_gone, one_some, same_path, take_one, take_parts}
+use Rattle.boot_entries.proofs.ListedLemmas.{IsFileOf, IsListedEntry, files_listed, left_is, not_gone, same_path, take_one, take_parts}
 
 -- a generation that stands has a number that an entry can have
 small_of : (leaves : Leaves) (n : ℕ) → IsSome (generation_at leaves n) → n < 2 ^ 32
@@ -153,7 +153,7 @@ module _ (gens : Gens) (is : IsBootGens gens) (first : Leaves) (u : WorldState) 
         let left = not_gone (list_any (eqb (entry_path n)) (take j texts.gone)) (left_files put (entry_path n) (get first (entry_path n))) leaf (sym (stands_at (entry_path n) (inr (n, small, refl))) ∙ stands) in
         ⊎_elim
         (λ kept. inl (sym kept ∙ left))
-        (λ made. inr (entry_is n leaf (subst (IsListedEntry first gens.list n) (one_some made.0 leaf (sym made.1 ∙ left)) made.2)))
+        (λ made. inr (entry_is n leaf (subst (IsListedEntry first gens.list n) (same_Some made.0 leaf (sym made.1 ∙ left)) made.2)))
         (entry_left n small)
 
     entries_kept : (n : ℕ) (system : Name) → generation_at m.leaves n ≡ Some (Some system) → IsSome (get first (entry_path n)) → IsSome (get m.leaves (entry_path n))
@@ -286,7 +286,7 @@ module _ (system : Name) (named : IsSystemPath system) (w : WorldState) (gens : 
     whole_at n leaf (Some s) at stands = record {
       system = s;
       stands = generation_kept u.leaves v.leaves (profile_kept system gens u v end_is.1) n ∙ sym (stand.exact n) ∙ system_listed gens.list n s at;
-      text = sym (one_some (boot_leaf (entry_of w.leaves n s).bytes) leaf stands);
+      text = sym (same_Some (boot_leaf (entry_of w.leaves n s).bytes) leaf stands);
     }
 
     menu_whole : IsMenuWhole w.leaves v.leaves

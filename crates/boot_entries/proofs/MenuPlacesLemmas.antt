@@ -16,6 +16,7 @@ use Rattle.host_trait.specs.World.{bytes_cmp, is_in_line, stage}
 use Rattle.host_trait.proofs.KeyOrder.{keys_sorted}
 use Rattle.host_trait.proofs.Places.{bytes_total, same_or_other}
 use Rattle.host_trait.proofs.UnitSets.{has_added}
+use Rattle.host_trait.proofs.NameOrder.{all_named}
 use Rattle.switch_names.specs.Names.{Name, has, is_name}
 use Rattle.tree_put.specs.declared.written_place.WrittenPlace.{WrittenPlace}
 use Rattle.tree_put.specs.WrittenPlace.{AreApartFromStage, written}
@@ -96,13 +97,6 @@ each_of P (name ∷ names) all q is = elim (same_or_other q name) [
   | inr other ↦ each_of P names all.1 q (sym (ap (λ b. b || has names q) other) ∙ is)
 ]
 
-pub all_of : (P : Name → Type 0) (names : List Name) → ((q : Name) → has names q ≡ true → P q) → AllByRecursion P names
-all_of P [] each = tt
-all_of P (name ∷ names) each = (
-  each name (or_left (is_name name name) (has names name) (ap is_eq (tied_itself bytes_total name))),
-  all_of P names (λ q is. each q (or_right (is_name q name) (has names q) is)),
-)
-
 place_under : (list : List Gen) → AllByRecursion (λ at. is_in_line stage at ≡ false) (filter_map place_if list)
 place_under [] = tt
 place_under (gen ∷ list) = by gen.target (place_under list)
@@ -118,5 +112,5 @@ with_loader (name ∷ names) all = (all.0, with_loader names all.1)
 
 -- the stage is apart from the places of each menu
 pub menu_apart : (list : List Gen) → AreApartFromStage (menu_places list)
-menu_apart list = with_loader (entry_places list) (all_of (λ at. is_in_line stage at ≡ false) (entry_places list)
+menu_apart list = with_loader (entry_places list) (all_named (λ at. is_in_line stage at ≡ false) (entry_places list)
     (λ q is. each_of (λ at. is_in_line stage at ≡ false) (filter_map place_if list) (place_under list) q (sym (entry_places_have list q) ∙ is)))

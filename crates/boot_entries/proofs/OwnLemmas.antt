@@ -1,6 +1,6 @@
 -- What making the boot menu looks at, and what is read of the store.
 use Rattle.std.proofs.Common.{◌≡◌, ◌≢◌, ◌⊎◌, ℕ, ◌<◌, ◌^◌, ◌||◌, Bool, true, false, ◌++◌, codes, drop, None, is_some, refl, sym, ap, subst, ◌∙◌, inl, inr, ⊎_elim}
-use Rattle.std.proofs.lemmas.Bool.{both_ways, or_left, or_right}
+use Rattle.std.proofs.lemmas.Bool.{both_ways, or_left, or_right, or_cases}
 use Rattle.std.specs.Cmp.Lexicographic.{nat_list_eq_equiv}
 use Rattle.switch_names.specs.Names.{Name}
 use Rattle.switch_names.specs.Path.{is_below}
@@ -45,10 +45,6 @@ loader_line_read q is = last_read q (or_left (is_in_line q loader_path) (is_in_l
 pub stage_line_read : (q : Name) → is_in_line q stage ≡ true → reads_boot q ≡ true
 stage_line_read q is = last_read q (or_right (is_in_line q loader_path) (is_in_line q stage) is)
 
-either : (a b : Bool) → a || b ≡ true → (a ≡ true) ⊎ (b ≡ true)
-either true b is = inl refl
-either false b is = inr is
-
 below_below : (q at folder : Name) → is_below q at ≡ true → is_below at folder ≡ true → is_below q folder ≡ true
 below_below q at folder first second = below_both q at folder first second
 
@@ -61,7 +57,7 @@ entry_line_read n small q line =
     (λ same. folder_read q (subst (λ x. is_path x entries_folder ≡ true) (sym same) (nat_list_eq_equiv.refl entries_folder)))
     (λ higher. line_read q (or_right (is_below q entries_folder) (is_below entries_folder q) higher))
     (parent.above q above))
-    (either (is_below q (entry_path n)) (is_below (entry_path n) q) line)
+    (or_cases (is_below q (entry_path n)) (is_below (entry_path n) q) line)
 
 stage_other : (n : ℕ) → stage ≢ entry_path n
 unfolding stage entry_path

@@ -10,6 +10,7 @@ use Rattle.generations.specs.declared.gens.Gens.{Gens}
 use Rattle.generations.specs.Places.{is_number}
 use Rattle.host_trait.specs.World.{IsClear, Leaves, WorldState, is_in_line, is_path, seen, stage}
 use Rattle.host_trait.proofs.Seen.{clear_seen, seen_at, stage_clear_seen}
+use Rattle.host_trait.proofs.NameOrder.{all_named}
 use Rattle.switch_names.specs.Names.{Name}
 use Rattle.switch_names.specs.SystemName.{IsSystemPath}
 use Rattle.switch_parts.specs.Leaves.{EndsSame}
@@ -36,7 +37,7 @@ use Rattle.boot_entries.specs.Texts.{boot_file, entry_of, menu_of}
 use Rattle.boot_entries.proofs.AtEndLemmas.{entries_elsewhere, last_file, loader_unnumbered}
 use Rattle.tree_put.proofs.LeftLemmas.{gone_at, left_at}
 use Rattle.boot_entries.proofs.EndLemmas.{AreOthers, any_take, at_places, boot_owned, eqb, left_others, none_gone, only_moment}
-use Rattle.boot_entries.proofs.MenuPlacesLemmas.{all_of, each_of, entry_places_have}
+use Rattle.boot_entries.proofs.MenuPlacesLemmas.{each_of, entry_places_have}
 use Rattle.boot_entries.proofs.OwnLemmas.{entry_line_read, loader_line_read, owned_read, params_stored, stage_line_read, stage_unread, store_read, store_unowned, version_stored}
 use Rattle.boot_entries.proofs.PutLemmas.{AreBootPlaces, both_all, files_clear, files_stage, place_apart, putting_world, stage_apart}
 use Rattle.tree_put.proofs.SequenceLemmas.{all_take, removed_clear}
@@ -52,7 +53,7 @@ place_among (gen ∷ list) numbers = by gen.target (place_among list numbers.1)
     by (Some system) rest = ((gen.number, below_bound gen.number numbers.0, refl), rest)
 
 entry_places_are : (list : List Gen) → AllByRecursion (λ (gen : Gen). is_number gen.number ≡ true) list → AllByRecursion IsEntryPlace (entry_places list)
-entry_places_are list numbers = all_of IsEntryPlace (entry_places list)
+entry_places_are list numbers = all_named IsEntryPlace (entry_places list)
     (λ q is. each_of IsEntryPlace (filter_map place_if list) (place_among list numbers) q (sym (entry_places_have list q) ∙ is))
 
 -- a place of the menu, or the stage

@@ -1,13 +1,13 @@
 -- Files of the boot menu are put one after another, and what goes is removed so.
 use Rattle.std.proofs.Common.{◌≡◌, ◌⊎◌, ℕ, zero, suc, ◌<◌, ◌^◌, true, false, List, [], ◌∷◌, ◌++◌, codes, map, take, refl, sym, ap, subst, ◌∙◌, inl, inr, ⊎_elim, arith}
-use Rattle.std.proofs.lemmas.Bool.{both_ways, cases_Bool}
+use Rattle.std.proofs.lemmas.Bool.{both_ways, cases_Bool, or_from}
 use Rattle.std.specs.FinMap.{get, remove, gets}
 use Rattle.std.specs.Fmt.{decimal}
 use Rattle.std.specs.List.{AllByRecursion, list_any}
 use Rattle.switch_names.proofs.Below.{front_is_parent}
 use Rattle.switch_names.specs.Names.{Name}
 use Rattle.switch_names.specs.Path.{IsParentOf, is_below}
-use Rattle.switch_parts.proofs.LeafLemmas.{both_false, not_below, not_line}
+use Rattle.switch_parts.proofs.LeafLemmas.{not_below, not_line}
 use Rattle.host_trait.specs.World.{IsClear, WorldState, is_in_line, is_path, seen, stage}
 use Rattle.tree_put.specs.Put.{AreApart}
 use Rattle.tree_put.specs.declared.leaf_put.LeafPut.{LeafPut}
@@ -46,7 +46,7 @@ entry_below m n small = elim (cases_Bool (is_below (entry_path m) (entry_path n)
 ]
 
 entry_entry : (m n : ℕ) → m < 2 ^ 32 → n < 2 ^ 32 → is_in_line (entry_path m) (entry_path n) ≡ false
-entry_entry m n small_m small_n = both_false _ _ (entry_below m n small_m) (entry_below n m small_n)
+entry_entry m n small_m small_n = or_from _ _ (entry_below m n small_m) (entry_below n m small_n)
 
 entry_loader : (n : ℕ) → is_in_line (entry_path n) loader_path ≡ false
 unfolding entry_path loader_path

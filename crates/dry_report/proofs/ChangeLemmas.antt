@@ -1,11 +1,11 @@
 -- Names that others lack.
 use Rattle.std.proofs.Common.{◌≡◌, ◌||◌, ◌&&◌, Bool, true, false, not, List, filter, inl, inr, refl, sym, ap, ◌∙◌}
 use Rattle.std.proofs.lemmas.Bool.{cases_Bool}
+use Rattle.std.proofs.Math.Bool.{or-false}
 use Rattle.switch_names.specs.Names.{Name, has, is_name}
-use Rattle.users_merge.proofs.NameLemmas.{name_exact}
 use Rattle.users_merge.proofs.NameOrderLemmas.{is_ordered}
-use Rattle.users_merge.proofs.OrderedLemmas.{has-filter}
 use Rattle.host_trait.specs.Bytes.{bytes_cmp}
+use Rattle.host_trait.proofs.NameOrder.{has_filter, name_exact}
 use Rattle.std.specs.List.Sorted.{IsStrictlySortedBy}
 use Rattle.dry_report.specs.Lines.{lacking}
 
@@ -27,14 +27,10 @@ is_lacking others name other absent = elim (cases_Bool (is_name other name)) [
 pub are_lacking : (list names others : List Name) → IsStrictlySortedBy bytes_cmp list → ((name : Name) → has list name ≡ (has names name && not (has others name))) → list ≡ lacking names others
 unfolding lacking
 are_lacking list names others sorted are =
-    is_ordered list (filter (λ name. not (has others name)) names) sorted (λ name. are name ∙ turned (has names name) (not (has others name)) ∙ sym (has-filter (λ other. not (has others other)) names name))
+    is_ordered list (filter (λ name. not (has others name)) names) sorted (λ name. are name ∙ turned (has names name) (not (has others name)) ∙ sym (has_filter (λ other. not (has others other)) names name))
   where
     turned : (a b : Bool) → (a && b) ≡ (b && a)
     turned true true = refl
     turned true false = refl
     turned false true = refl
     turned false false = refl
-
-pub or_false : (a : Bool) → (a || false) ≡ a
-or_false true = refl
-or_false false = refl

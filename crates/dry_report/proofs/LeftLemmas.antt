@@ -33,7 +33,7 @@ use Rattle.switch_engine.proofs.FailedLemmas.{failed_from}
 use Rattle.switch_names.specs.Names.{IsListOf, Name, has, is_name}
 use Rattle.unit_defs.specs.declared.unit.Unit.{Unit}
 use Rattle.unit_defs.specs.Defs.{AreDefsOf, found_in}
-use Rattle.unit_defs.proofs.NameLemmas.{above_lack, name_exact}
+use Rattle.host_trait.proofs.NameOrder.{name_exact, above_lack}
 use Rattle.unit_stage.specs.declared.unit_plan.UnitPlan.{UnitPlan}
 use Rattle.unit_stage.specs.End.{AreEndStates, state_after}
 use Rattle.unit_stage.specs.Plan.{IsOwedBy}

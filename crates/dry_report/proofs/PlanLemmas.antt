@@ -3,12 +3,14 @@ use Rattle.std.proofs.Common.{◌≡◌, ◌++◌, ◌∷◌, ◌||◌, ℕ, Boo
 use Rattle.std.specs.List.{flat_map}
 use Rattle.std.proofs.lemmas.List.{append-nil}
 use Rattle.std.proofs.lemmas.Option.{none-some}
+use Rattle.std.proofs.lemmas.Bool.{or_right}
 use Rattle.host_trait.proofs.Moments.{none_or_some}
 use Rattle.account_text.specs.declared.group.GroupRow.{GroupRow}
 use Rattle.account_text.specs.declared.passwd.PasswdRow.{PasswdRow}
 use Rattle.account_text.specs.Group.{group_name}
 use Rattle.account_text.specs.Passwd.{passwd_name}
 use Rattle.host_trait.proofs.Orders.{none_sorted}
+use Rattle.host_trait.proofs.NameOrder.{name_itself}
 use Rattle.account_text.specs.declared.tables.Tables.{Tables}
 use Rattle.accounts_stage.specs.declared.accounts_plan.AccountsPlan.{AccountsPlan}
 use Rattle.accounts_stage.specs.AccountsPart.{merged_by, tables_by}
@@ -21,7 +23,6 @@ use Rattle.etc_farm.specs.EtcPart.{items_in}
 use Rattle.etc_manifest.specs.Entries.{manifest_of}
 use Rattle.host_trait.specs.World.{Leaves}
 use Rattle.switch_names.specs.Names.{Name, has, is_name}
-use Rattle.users_merge.proofs.NameLemmas.{name_itself}
 use Rattle.users_merge.proofs.NameOrderLemmas.{is_ordered}
 use Rattle.users_merge.specs.declared.merged.Merged as answered
 use Rattle.users_merge.specs.Merge.{merge_of}
@@ -34,15 +35,11 @@ use Rattle.dry_report.specs.Activation.{IsActivationReport, account_lines, kept_
 
 -- ---- no name is lacking among itself
 
-on_right : (a b : Bool) → b ≡ true → (a || b) ≡ true
-on_right true b is = refl
-on_right false b is = is
-
 none_left : (names others : List Name) → ((name : Name) → has names name ≡ true → has others name ≡ true) → filter (λ name. not (has others name)) names ≡ []
 none_left [] others there = refl
 none_left (name ∷ rest) others there =
     ap (λ b. if not b then name ∷ filter (λ one. not (has others one)) rest else filter (λ one. not (has others one)) rest) (there name (ap (λ b. b || has rest name) (name_itself name)))
-    ∙ none_left rest others (λ one has_it. there one (on_right (is_name one name) (has rest one) has_it))
+    ∙ none_left rest others (λ one has_it. there one (or_right (is_name one name) (has rest one) has_it))
 
 pub none_lacking : (names : List Name) → lacking names names ≡ []
 unfolding lacking

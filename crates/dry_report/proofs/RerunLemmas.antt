@@ -16,6 +16,7 @@ use Rattle.generations.proofs.Numbers.{below_bound}
 use Rattle.generations.proofs.ProfileApart.{owned_other, profile_owned, stage_not_owned}
 use Rattle.generations.proofs.ProfilePlaces.{number_of_free}
 use Rattle.generations.proofs.SetLaws.{number_is}
+use Rattle.generations.proofs.NamesLaws.{link_text}
 use Rattle.host_trait.specs.declared.leaf.LeafKind.TheVariants.{Link}
 use Rattle.host_trait.specs.declared.manager_state.ManagerState.{ManagerState}
 use Rattle.host_trait.specs.World.{Leaves, WorldState, seen, stage}
@@ -47,9 +48,6 @@ set_free command leaves none =
 profile_end : (system : Name) (owners : OwnerIds) (gens : Gens) (leaves : Leaves) → final_leaf (parts false true system owners gens) leaves profile ≡ Some (Link (link_name (number_after leaves system)))
 unfolding profile
 profile_end system owners gens leaves = refl
-
-same_name : (one other : List ℕ) → Some (Link one) ≡ Some (Link other) → one ≡ other
-same_name one other is = cc
 
 module _ (command : Command) (on : (row_of command).changes ≡ true) (off : (row_of command).switches ≡ false) where
   abbrev sets : Bool
@@ -83,7 +81,7 @@ module _ (command : Command) (on : (row_of command).changes ≡ true) (off : (ro
       -- it is the same where the command is underway, since the same end is
       same_number : number_after m.leaves (new_system command m.leaves) ≡ number_after w.leaves system
       same_number = one_link _ _ (small_number m.leaves underway.not_refused) (small_number w.leaves not_refused)
-          (same_name _ _ (sym (final_link m.leaves) ∙ same_final ∙ final_link w.leaves))
+          (link_text _ _ (sym (final_link m.leaves) ∙ same_final ∙ final_link w.leaves))
 
   number_same : (w m : WorldState) → refusal command w.leaves ≡ None → IsUnderway w command m → (end : WorldState) → IsFinalOf command w end →
       number_if sets (new_system command m.leaves) m.leaves ≡ number_if sets (new_system command w.leaves) w.leaves

@@ -7,6 +7,7 @@ use Rattle.host_trait.specs.declared.entry.Act.{Act}
 use Rattle.host_trait.specs.declared.entry.Act.TheVariants.{Stop, Reload, Restart, Start}
 use Rattle.host_trait.specs.States.{state_of}
 use Rattle.host_trait.specs.World.{Leaves, WorldState}
+use Rattle.host_trait.specs.Words.{act_word}
 use Rattle.owed_lists.specs.declared.lists.Lists.{Lists}
 use Rattle.owed_plan.specs.declared.duty.Duty.{Duty}
 use Rattle.owed_plan.specs.declared.owed.Owed.{Owed}
@@ -28,13 +29,6 @@ line word rest = word ++ (32 ∷ (rest ++ 10 ∷ []))
 abbrev pub system_text : Option Name → List ℕ
 system_text None = codes "none"
 system_text (Some system) = system
-
--- the word for a call on a unit
-abbrev pub act_word : Act → List ℕ
-act_word Stop = codes "stop"
-act_word Reload = codes "reload"
-act_word Restart = codes "restart"
-act_word Start = codes "start"
 
 -- the line of a call
 abbrev pub duty_line : Duty → List ℕ

@@ -10,7 +10,7 @@ ghost use Rattle.switch_engine.specs.Plan.{IsPlanOf};
 ghost use Rattle.switch_names.specs.Names.{Name};
 ghost use Rattle.unit_stage.specs.Owes.{is_stop};
 ghost use Rattle.dry_report.specs.Activation.{IsActivationReport};
-ghost use Rattle.dry_report.specs.Report.{IsReport, act_word, generation_line, line, number_of, other_lines, profile_report, report_front, report_of, stop_lines, system_text};
+ghost use Rattle.dry_report.specs.Report.{IsReport, generation_line, line, number_of, other_lines, profile_report, report_front, report_of, stop_lines, system_text};
 
 use crate::activation::write_activation;
 use activation_stage::ActivationPlan;
@@ -19,18 +19,6 @@ use owed_plan::Duty;
 use std::alloc::{AllocError, Global};
 use switch_engine::Plan;
 use switch_names::{Bytes, SystemName, UnitName};
-
-/// The word for a call on a unit.
-fn act_word(act: Act) -> &'static str
-    ensures { result.now ≡ act_word act }
-{
-    match act {
-        Act::Stop => "stop",
-        Act::Reload => "reload",
-        Act::Restart => "restart",
-        Act::Start => "start",
-    }
-}
 
 /// Whether a call stops a unit.
 fn is_stop(act: Act) -> bool
@@ -55,7 +43,7 @@ fn write_stop(out: &mut Vec<u8>, duty: &Duty) -> Result<(), AllocError>
     ensures { OnOk result (out.new.items ≡ out.old.items ++ stop_lines (duty.now ∷ [])) }
 {
     if is_stop(duty.act) {
-        write_line(out, act_word(duty.act), duty.unit.as_str())?;
+        write_line(out, duty.act.word(), duty.unit.as_str())?;
     }
     Ok(())
 }
@@ -65,7 +53,7 @@ fn write_other(out: &mut Vec<u8>, duty: &Duty) -> Result<(), AllocError>
     ensures { OnOk result (out.new.items ≡ out.old.items ++ other_lines (duty.now ∷ [])) }
 {
     if !is_stop(duty.act) {
-        write_line(out, act_word(duty.act), duty.unit.as_str())?;
+        write_line(out, duty.act.word(), duty.unit.as_str())?;
     }
     Ok(())
 }

@@ -9,18 +9,17 @@ use Rattle.std.proofs.lemmas.List.{append_assoc, take_more}
 use Rattle.std.proofs.lemmas.List.Elements.{All-weaker}
 use Rattle.std.proofs.lemmas.List.Splits.{slice_split_at}
 use Rattle.std.proofs.lemmas.Str.{IsUtf8-from_is_utf8, is_utf8-from_IsUtf8}
+use Rattle.std.proofs.Math.Bool.{and-false}
 use Rattle.switch_names.specs.declared.name_fault.NameFault.{NameFault}
 use Rattle.switch_names.specs.declared.name_fault.NameFault.TheVariants.{Byte, Dot}
 use Rattle.switch_names.specs.Names.{Name}
-use Rattle.switch_names.specs.Path.{is_dots, is_empty_name, is_no_path_byte, names_of, path_fault}
+use Rattle.switch_names.specs.Path.{is_dots, is_no_path_byte, names_of, path_fault}
+use Rattle.switch_names.specs.Texts.{is_empty, is_line_feed}
 use Rattle.switch_names.proofs.Faultless.{HasNone-from_sought, no_place}
 use Rattle.switch_names.proofs.Positions.{All-from_no_position}
+use Rattle.switch_names.proofs.Outcomes.{none_from_test}
 use Rattle.etc_manifest.specs.Place.{is_reserved}
 use Rattle.etc_clean.specs.CleanList.{AreCleanNames, ReadBackLaw, clean_text, is_clean_name, is_path_text}
-
-pub none_from_test : {T : Type 0} (o : Option T) → is_none o ≡ true → o ≡ None
-none_from_test None is = refl
-none_from_test (Some x) is = absurd (cc)
 
 -- bytes that aren't UTF-8 are no path
 pub no_path : (line : List ℕ) → ¬ IsUtf8 line → is_path_text line ≡ false
@@ -44,9 +43,6 @@ module _ (line text : List ℕ) where
 
 -- ---- what is written is read
 
-abbrev is_line_feed : ℕ → Bool
-is_line_feed byte = byte == 10
-
 no_line : (byte : ℕ) → is_no_path_byte byte ≡ false → is_line_feed byte ≡ false
 no_line byte passes =
     false_from_ne_true (is_line_feed byte)
@@ -61,7 +57,7 @@ clean_bytes : (name : Name) → is_clean_name name ≡ true → Rattle.std.proof
 clean_bytes name is =
     All-from_no_position is_no_path_byte name
     (no_place Byte (position is_no_path_byte name)
-    (HasNone-from_sought (list_any is_empty_name (names_of name)) (nat_lt 4096 (length name)) (option_map Byte (position is_no_path_byte name)) (list_any is_dots (names_of name)) Dot (path_of_clean name is)).no_byte)
+    (HasNone-from_sought (list_any is_empty (names_of name)) (nat_lt 4096 (length name)) (option_map Byte (position is_no_path_byte name)) (list_any is_dots (names_of name)) Dot (path_of_clean name is)).no_byte)
 
 -- the lines of a list are its names, and then nothing
 split_list : (name : Name) (names : List Name) → is_clean_name name ≡ true → slice_split is_line_feed (clean_text (name ∷ names)) ≡ name ∷ slice_split is_line_feed (clean_text names)
@@ -69,13 +65,9 @@ split_list name names is =
     ap (slice_split is_line_feed) (append_assoc name (10 ∷ []) (clean_text names))
     ∙ slice_split_at is_line_feed name 10 (clean_text names) (All-weaker (λ byte. is_no_path_byte byte ≡ false) (λ byte. is_line_feed byte ≡ false) no_line name (clean_bytes name is)) refl
 
-and_false : (b : Bool) → b && false ≡ false
-and_false true = refl
-and_false false = refl
-
 blank_line : is_clean_name [] ≡ false
 unfolding is_path_text
-blank_line = ap (λ b. b && not (is_reserved [])) (and_false (is_utf8 []))
+blank_line = ap (λ b. b && not (is_reserved [])) (and-false (is_utf8 []))
 
 named : (name : Name) (names : List Name) → is_clean_name name ≡ true → filter is_clean_name (name ∷ names) ≡ name ∷ filter is_clean_name names
 named name names is = ap (λ b. cond b (name ∷ filter is_clean_name names) (filter is_clean_name names)) is

@@ -1,18 +1,20 @@
 -- What is foreign, what is blocked and what is placed.
 use Rattle.std.proofs.Common.{◌≡◌, ◌&&◌, ◌||◌, not, Bool, true, false, cond, List, [], ◌∷◌, map, filter, Option, None, Some, is_some, option_map, refl, sym, ap, ◌∙◌, inl, inr}
-use Rattle.std.proofs.lemmas.Bool.{and_parts, both_ways, cases_Bool, or_right}
+use Rattle.std.proofs.lemmas.Bool.{and_parts, both_ways, cases_Bool, or_right, and_from}
 use Rattle.std.proofs.lemmas.List.Elements.{filter_agree}
 use Rattle.std.specs.List.{find}
+use Rattle.std.specs.Cmp.{both_ways as same_test}
 use Rattle.switch_names.specs.Names.{Name, has, is_name}
 use Rattle.host_trait.specs.declared.leaf.LeafKind.{LeafKind}
 use Rattle.host_trait.specs.World.{Leaves, is_in_line}
+use Rattle.host_trait.proofs.NameOrder.{passes_among}
 use Rattle.etc_manifest.specs.declared.item.Item.{Item}
 use Rattle.etc_manifest.specs.Manifest.{entry, places}
 use Rattle.etc_manifest.specs.Place.{is_reserved}
 use Rattle.etc_clean.specs.Names.{etc_names}
 use Rattle.etc_clean.specs.CleanList.{clean_of}
 use Rattle.etc_clean.specs.Farm.{at, is_blocked, is_entry, is_farm_link, is_foreign, is_gone, is_made, is_ours, is_stray, placed}
-use Rattle.etc_clean.proofs.NameLemmas.{has_etc_name, passes_among, same_test, some_passes}
+use Rattle.etc_clean.proofs.NameLemmas.{has_etc_name, some_passes}
 
 -- ---- the tests of a stray leaf, as tests alone
 
@@ -57,9 +59,6 @@ relisted true false false false false none = refl
 relisted true false true link old none = refl
 relisted true true known link old none = refl
 relisted false reserved known link old none = refl
-
-both_pass : (a b : Bool) → a ≡ true → b ≡ true → a && b ≡ true
-both_pass a b first second = ap (λ x. x && b) first ∙ second
 
 module _ (items : List Item) where
   pub foreign_parts : (leaves : Leaves) (q : Name) → is_foreign items leaves q ≡ true → (is_some (at leaves q) ≡ true) × (is_reserved q ≡ false) × (is_entry items q ≡ false)
@@ -113,7 +112,7 @@ module _ (items : List Item) where
   blocked_to leaves x p foreign line =
       passes_among (λ p. is_foreign items leaves p && is_in_line p x) (etc_names leaves) p
       (has_etc_name leaves p ∙ (foreign_parts leaves p foreign).0)
-      (both_pass (is_foreign items leaves p) (is_in_line p x) foreign line)
+      (and_from (is_foreign items leaves p) (is_in_line p x) foreign line)
 
   -- what is blocked and what is placed follow from what is foreign
   module _ (w m : Leaves) (foreign : (q : Name) → is_foreign items m q ≡ is_foreign items w q) where

@@ -7,8 +7,10 @@ use Rattle.std.proofs.lemmas.List.Kept.{IsStrictlySortedBy-filter}
 use Rattle.std.specs.FinMap.{get}
 use Rattle.std.specs.List.{list_any}
 use Rattle.std.specs.List.Sorted.{IsStrictlySortedBy}
+use Rattle.std.specs.Cmp.{both_ways as same_test}
 use Rattle.switch_names.specs.Names.{IsListOf, Name, has}
 use Rattle.host_trait.specs.World.{Leaves, bytes_cmp, is_in_line}
+use Rattle.host_trait.proofs.NameOrder.{has_filter}
 use Rattle.etc_manifest.specs.declared.item.Item.{Item}
 use Rattle.etc_manifest.specs.Manifest.{places}
 use Rattle.etc_manifest.specs.Place.{is_reserved}
@@ -18,8 +20,8 @@ use Rattle.etc_clean.specs.Farm.{at, is_blocked, is_entry, is_farm_link, is_fore
 use Rattle.etc_clean.specs.Found.{AreFound, TakesPath, is_foreign_by, is_free, is_gone_by}
 use Rattle.etc_clean.specs.Names.{etc_names, is_in_etc, name_of, names_below}
 use Rattle.etc_clean.specs.Obsolete.{IsSortedOf}
-use Rattle.etc_clean.proofs.ListLemmas.{any_among, any_filter, etc_names_sorted, has_filter, names_append}
-use Rattle.etc_clean.proofs.NameLemmas.{has_etc_name, in_etc, same_test}
+use Rattle.etc_clean.proofs.ListLemmas.{any_among, any_filter, etc_names_sorted, names_append}
+use Rattle.etc_clean.proofs.NameLemmas.{has_etc_name, in_etc}
 
 module _ (items : List Item) (clean : List Name) (leaves : Leaves) where
   -- no name of a path is taken

@@ -1,6 +1,7 @@
 -- A farm's end stays the same while the farm is put.
 use Rattle.std.proofs.Common.{◌≡◌, ◌≢◌, ℕ, ◌||◌, not, Bool, true, false, cond, List, ◌++◌, drop, length, codes, Option, None, Some, is_some, refl, sym, ap, subst, ◌∙◌, inl, inr, rules}
 use Rattle.std.proofs.lemmas.Bool.{both_ways}
+use Rattle.std.proofs.Math.Bool.{or-false}
 use Rattle.std.specs.FinMap.{get, gets, insert, remove}
 use Rattle.std.specs.Ordering.{eq_by_cmp}
 use Rattle.switch_names.specs.Names.{Name, has, is_name}
@@ -9,6 +10,7 @@ use Rattle.host_trait.specs.declared.leaf.LeafKind.TheVariants.{Link}
 use Rattle.host_trait.specs.World.{Leaves, bytes_cmp, leaf_content, store_place}
 use Rattle.host_trait.proofs.Places.{at_same, itself, same_or_other}
 use Rattle.host_trait.proofs.Sound.{get_other}
+use Rattle.host_trait.proofs.Seen.{get_removed_other, get_removed_here}
 use Rattle.tree_put.proofs.StoreLemmas.{content_kept, store_place_begins}
 use Rattle.etc_manifest.specs.declared.item.Item.{Item}
 use Rattle.etc_manifest.specs.declared.item.ItemKind.{ItemKind}
@@ -111,14 +113,8 @@ module _ (w m : Leaves) (x : Name) (same : (p : List ℕ) → eq_by_cmp bytes_cm
 pub inserted : (w : Leaves) (x : Name) (leaf : LeafKind) → IsAllBut x w (insert w (place x) leaf)
 inserted w x leaf = all_but w (insert w (place x) leaf) x (λ p other. get_other w (place x) p leaf other)
 
-pub removed_other : (m : Leaves) (k p : List ℕ) → eq_by_cmp bytes_cmp p k ≡ false → get (remove m k) p ≡ get m p
-removed_other m k p other = grind (gets, rules)
-
 pub removed : (w : Leaves) (x : Name) → IsAllBut x w (remove w (place x))
-removed w x = all_but w (remove w (place x)) x (λ p other. removed_other w (place x) p other)
-
-pub removed_here : (m : Leaves) (k : List ℕ) → get (remove m k) k ≡ None
-removed_here m k = grind (gets, rules)
+removed w x = all_but w (remove w (place x)) x (λ p other. get_removed_other w (place x) p other)
 
 pub other_name : (p q : Name) → eq_by_cmp bytes_cmp p q ≡ false → p ≢ q
 other_name p q other same = both_ways _ other (subst (λ y. eq_by_cmp bytes_cmp p y ≡ true) same (itself p))
@@ -159,7 +155,7 @@ pub removal_law : RemovalLaw
 removal_law items w x free new foreign =
     beside_foreign items w (remove w (place x)) x (removed w x)
     (not_reserved_other x clean_name free clean_reserved) foreign
-    (absent_not_foreign items (remove w (place x)) x (removed_here w (place x)))
+    (absent_not_foreign items (remove w (place x)) x (get_removed_here w (place x)))
     (λ q known is same. both_ways _ new (ap (is_entry items) (sym same) ∙ known))
 
 pub put_law : PutLaw
@@ -204,14 +200,10 @@ module _ (items : List Item) (w : Leaves) (names : List Name) (free : AreFree it
   read_so : (q : Name) → has (clean_of put_list) q ≡ has (clean_names (clean_text names)) q
   read_so q = ap (λ (ns : List Name). has ns q) (listed_there w names)
 
-or_false : (a : Bool) → a || false ≡ a
-or_false true = refl
-or_false false = refl
-
 pub first_list_law : FirstListLaw
 first_list_law items w names free first =
     list_law items w names free (λ q r k leaf. foreign_same items w (insert w (place clean_name) (clean_leaf names)) q leaf
-    (read_so items w names free q ∙ first q ∙ ap (λ b. has (clean_of w) q || b) (not_placed items w q k) ∙ or_false (has (clean_of w) q)))
+    (read_so items w names free q ∙ first q ∙ ap (λ b. has (clean_of w) q || b) (not_placed items w q k) ∙ or-false (has (clean_of w) q)))
 
 pub last_list_law : LastListLaw
 last_list_law items w names free last =

@@ -1,9 +1,10 @@
 -- Lists of names that are filtered, and names below etc in their order.
 use Rattle.std.proofs.Common.{◌≡◌, ℕ, ◌&&◌, ◌||◌, not, Bool, true, false, cond, List, [], ◌∷◌, ◌++◌, ◌+◌, ◌<◌, length, get_or, take, map, codes, refl, sym, ap, subst, ◌∙◌, inl, inr}
-use Rattle.std.proofs.lemmas.Bool.{both_ways}
+use Rattle.std.proofs.lemmas.Bool.{both_ways, or_right}
 use Rattle.std.proofs.lemmas.List.{map-append, take_more}
 use Rattle.std.proofs.lemmas.List.Elements.{filter-append}
 use Rattle.std.proofs.lemmas.List.Folds.{list_any-append}
+use Rattle.std.proofs.Math.Bool.{and-false, or-false}
 use Rattle.std.specs.FinMap.{keys}
 use Rattle.std.specs.List.{filter, list_any}
 use Rattle.std.specs.List.Sorted.{IsStrictlySortedBy}
@@ -16,34 +17,16 @@ use Rattle.host_trait.proofs.KeyOrder.{keys_sorted}
 use Rattle.host_trait.proofs.Orders.{AreAbove}
 use Rattle.host_trait.proofs.Places.{itself, same_or_other}
 use Rattle.host_trait.proofs.UnitSets.{has_added}
+use Rattle.host_trait.proofs.NameOrder.{has_filter}
+use Rattle.host_trait.proofs.Listings.{listed_by}
 use Rattle.etc_clean.specs.Names.{etc_folder, etc_names, is_in_etc, name_of, names_below, place}
 use Rattle.etc_clean.proofs.NameLemmas.{in_etc, place_cmp}
-
-and_false : (b : Bool) → b && false ≡ false
-and_false true = refl
-and_false false = refl
 
 -- ---- filters
 
 module _ (p : Name → Bool) (k : Name) (ks : List Name) where
   filtered : (b : Bool) → p k ≡ b → filter p (k ∷ ks) ≡ cond b (k ∷ filter p ks) (filter p ks)
   filtered b is = ap (λ b. cond b (k ∷ filter p ks) (filter p ks)) is
-
-has_here : (p : Name → Bool) (k : Name) (ks : List Name) (b : Bool) → p k ≡ b → has (filter p ks) k ≡ (p k && has ks k) → has (filter p (k ∷ ks)) k ≡ (p k && (is_name k k || has ks k))
-has_here p k ks true is rest = ap (λ (names : List Name). has names k) (filtered p k ks true is) ∙ ap (λ b. b || has (filter p ks) k) (itself k) ∙ sym (ap (λ b. b && (is_name k k || has ks k)) is ∙ ap (λ b. b || has ks k) (itself k))
-has_here p k ks false is rest = ap (λ (names : List Name). has names k) (filtered p k ks false is) ∙ rest ∙ ap (λ b. b && has ks k) is ∙ sym (ap (λ b. b && (is_name k k || has ks k)) is)
-
-has_there : (p : Name → Bool) (k : Name) (ks : List Name) (q : Name) (b : Bool) → p k ≡ b → is_name q k ≡ false → has (filter p (k ∷ ks)) q ≡ has (filter p ks) q
-has_there p k ks q true is other = ap (λ (names : List Name). has names q) (filtered p k ks true is) ∙ ap (λ b. b || has (filter p ks) q) other
-has_there p k ks q false is other = ap (λ (names : List Name). has names q) (filtered p k ks false is)
-
--- a name is among those that pass a test where it passes and is there
-pub has_filter : (p : Name → Bool) (ks : List Name) (q : Name) → has (filter p ks) q ≡ (p q && has ks q)
-has_filter p [] q = sym (and_false (p q))
-has_filter p (k ∷ ks) q = elim (same_or_other q k) [
-  | inl same ↦ subst (λ x. has (filter p (k ∷ ks)) x ≡ (p x && (is_name x k || has ks x))) (sym same) (has_here p k ks (p k) refl (has_filter p ks k))
-  | inr other ↦ has_there p k ks q (p k) refl other ∙ has_filter p ks q ∙ sym (ap (λ b. p q && (b || has ks q)) other)
-]
 
 -- a test of those that pass another
 pub any_filter : (test p : Name → Bool) (ks : List Name) → list_any test (filter p ks) ≡ list_any (λ k. p k && test k) ks
@@ -54,25 +37,18 @@ any_filter test p (k ∷ ks) = by (p k) refl (any_filter test p ks)
     by true is rest = ap (list_any test) (filtered p k ks true is) ∙ ap (λ b. test k || b) rest ∙ sym (ap (λ b. (b && test k) || list_any (λ k. p k && test k) ks) is)
     by false is rest = ap (list_any test) (filtered p k ks false is) ∙ rest ∙ sym (ap (λ b. (b && test k) || list_any (λ k. p k && test k) ks) is)
 
-or_either : (a b : Bool) → a || true ≡ true
-or_either true b = refl
-or_either false b = refl
-
-later : (a b : Bool) → b ≡ true → a || b ≡ true
-later a b is = ap (λ x. a || x) is ∙ or_either a b
-
 -- two tests that agree at each name of a list
 pub any_among : (p t : Name → Bool) (ks : List Name) → ((k : Name) → has ks k ≡ true → p k ≡ t k) → list_any p ks ≡ list_any t ks
 any_among p t [] agree = refl
 any_among p t (k ∷ ks) agree =
     ap (λ b. b || list_any p ks) (agree k (ap (λ b. b || has ks k) (itself k)))
-    ∙ ap (λ b. t k || b) (any_among p t ks (λ q is. agree q (later (is_name q k) (has ks q) is)))
+    ∙ ap (λ b. t k || b) (any_among p t ks (λ q is. agree q (or_right (is_name q k) (has ks q) is)))
 
 pub none_among : (p : Name → Bool) (ks : List Name) → ((k : Name) → has ks k ≡ true → p k ≡ false) → list_any p ks ≡ false
 none_among p [] lacks = refl
 none_among p (k ∷ ks) lacks =
     ap (λ b. b || list_any p ks) (lacks k (ap (λ b. b || has ks k) (itself k)))
-    ∙ none_among p ks (λ q is. lacks q (later (is_name q k) (has ks q) is))
+    ∙ none_among p ks (λ q is. lacks q (or_right (is_name q k) (has ks q) is))
 
 -- a filter by what another lets through as well
 filter_twice : (p t : List ℕ → Bool) (ks : List (List ℕ)) → ((k : List ℕ) → p k ≡ true → t k ≡ true) → filter p (filter t ks) ≡ filter p ks
@@ -117,32 +93,24 @@ sorted_names (k ∷ ks) sorted = sorted_step k ks (is_in_etc k) refl sorted.0 (s
 pub etc_names_sorted : (leaves : Leaves) → IsStrictlySortedBy bytes_cmp (etc_names leaves)
 etc_names_sorted leaves = sorted_names (keys leaves) (keys_sorted leaves)
 
+pub place_not_stage : (q : Name) → is_path (place q) stage ≡ false
+unfolding place stage
+place_not_stage q = refl
+
 place_below : (q : Name) → is_below (place q) etc_folder ≡ true
 unfolding place etc_folder
 place_below q = below_front (codes "etc") q
 
-place_not_stage : (q : Name) → is_path (place q) stage ≡ false
-unfolding place stage
-place_not_stage q = refl
-
-is_listed_by : (a b c : Bool) → b ≡ true → c ≡ false → ((a || b) && not c) ≡ true
-is_listed_by true b c second third = ap not third
-is_listed_by false b c second third = ap (λ x. x && not c) second ∙ ap not third
-
 etc_listed : (k : List ℕ) → is_in_etc k ≡ true → is_listed etc_folder k ≡ true
 etc_listed k inside =
     subst (λ p. is_listed etc_folder p ≡ true) (sym (in_etc k inside))
-    (is_listed_by (is_path (place (name_of k)) etc_folder) (is_below (place (name_of k)) etc_folder) (is_path (place (name_of k)) stage) (place_below (name_of k)) (place_not_stage (name_of k)))
+    (listed_by (is_path (place (name_of k)) etc_folder) (is_below (place (name_of k)) etc_folder) (is_path (place (name_of k)) stage) (place_below (name_of k)) (place_not_stage (name_of k)))
 
 -- the list of the folder has all names below etc
 pub listed_names : (leaves : Leaves) → names_below (listed etc_folder leaves) ≡ etc_names leaves
 listed_names leaves = ap (map name_of) (filter_twice is_in_etc (is_listed etc_folder) (keys leaves) etc_listed)
 
 -- ---- sets of names
-
-or_false : (a : Bool) → a || false ≡ a
-or_false true = refl
-or_false false = refl
 
 -- a name is added to the set of the names so far
 pub set_next : (names : List Name) (i : ℕ) (name key : Name) (old new : List Name) (q : Name) → i < length names → name ≡ get_or names i name → key ≡ name →
@@ -153,4 +121,4 @@ set_next names i name key old new q inside is same before updated =
     ∙ ap (λ k. has (take i names) q || is_name q k) same
     ∙ sym (ap (λ (ns : List Name). has ns q) (take_more names i name inside ∙ ap (λ k. take i names ++ k ∷ []) (sym is))
     ∙ list_any-append (is_name q) (take i names) (name ∷ [])
-    ∙ ap (λ b. has (take i names) q || b) (or_false (is_name q name)))
+    ∙ ap (λ b. has (take i names) q || b) (or-false (is_name q name)))

@@ -10,16 +10,12 @@ use Rattle.switch_names.specs.Names.{Name, has, is_name}
 use Rattle.host_trait.specs.World.{Leaves, bytes_cmp}
 use Rattle.host_trait.proofs.Places.{same_or_other}
 use Rattle.host_trait.proofs.Seen.{other_of}
+use Rattle.host_trait.proofs.NameOrder.{passes_among}
 use Rattle.etc_manifest.specs.Place.{is_reserved, reserved_names}
 use Rattle.etc_clean.specs.Names.{etc_names, is_in_etc, name_of, names_below, place}
 use Rattle.etc_clean.specs.CleanList.{clean_name}
 use Rattle.etc_clean.specs.Etc.{static_name}
 use Rattle.etc_clean.specs.Farm.{at}
-
-pub same_test : (a b : Bool) → (a ≡ true → b ≡ true) → (b ≡ true → a ≡ true) → a ≡ b
-same_test true b to from = sym (to refl)
-same_test false true to from = from refl
-same_test false false to from = refl
 
 -- a place in etc is that of its name
 pub in_etc : (k : List ℕ) → is_in_etc k ≡ true → k ≡ place (name_of k)
@@ -54,14 +50,6 @@ clean_reserved = refl
 -- what is reserved is another name than what isn't
 pub not_reserved_other : (p q : Name) → is_reserved p ≡ false → is_reserved q ≡ true → p ≢ q
 not_reserved_other p q free reserved same = both_ways _ free (ap is_reserved same ∙ reserved)
-
--- a name in a list that passes a test
-pub passes_among : (test : Name → Bool) (ks : List Name) (p : Name) → has ks p ≡ true → test p ≡ true → list_any test ks ≡ true
-passes_among test [] p is passes = absurd (both_ways false refl is)
-passes_among test (k ∷ ks) p is passes = elim (same_or_other p k) [
-  | inl same ↦ or_left (test k) (list_any test ks) (subst (λ x. test x ≡ true) same passes)
-  | inr other ↦ or_right (test k) (list_any test ks) (passes_among test ks p (sym (ap (λ b. b || has ks p) other) ∙ is) passes)
-]
 
 pub some_passes : (test : Name → Bool) (ks : List Name) → list_any test ks ≡ true → (p : Name) × (test p ≡ true)
 some_passes test [] is = absurd (both_ways false refl is)

@@ -16,6 +16,7 @@ use Rattle.std.specs.Option.{option_copied}
 use Rattle.std.specs.Result.{is_ok}
 use Rattle.std.specs.declared.cmp.Ordering.{Ordering}
 use Rattle.std.specs.declared.cmp.Ordering.TheVariants.{Less, Equal, Greater}
+use Rattle.std.specs.Cmp.{both_ways as same_test}
 use Rattle.switch_names.specs.Names.{Name, has, is_name}
 use Rattle.switch_names.specs.Path.{IsParentOf, is_below, slash}
 use Rattle.switch_names.proofs.Below.{below_front, rest_below}
@@ -23,9 +24,9 @@ use Rattle.host_trait.specs.World.{bytes_cmp}
 use Rattle.host_trait.proofs.Orders.{AreAbove, AreBelow, found_name, missing_name}
 use Rattle.host_trait.proofs.Places.{bytes_total, itself}
 use Rattle.host_trait.proofs.Seen.{other_of}
+use Rattle.host_trait.proofs.NameOrder.{passes_among, less_not_equal}
 use Rattle.tree_put.proofs.BlockedLemmas.{IsLeft, above_is_left}
 use Rattle.etc_clean.proofs.ListLemmas.{none_among}
-use Rattle.etc_clean.proofs.NameLemmas.{passes_among, same_test}
 
 -- ---- a name among others
 
@@ -35,14 +36,11 @@ has_at [] (suc at) name is = absurd (cc)
 has_at (k ∷ ks) zero name is = or_left (is_name name k) (has ks name) (let same : k ≡ name = cc in subst (λ x. is_name name x ≡ true) (sym same) (itself name))
 has_at (k ∷ ks) (suc at) name is = or_right (is_name name k) (has ks name) (has_at ks at name is)
 
-less_not_same : (r : Ordering) → r ≡ Less → r ≡ Equal → ⊥
-less_not_same r less equal = absurd (cc)
-
 pub lower_other : (k name : Name) → bytes_cmp k name ≡ Less → is_name name k ≡ false
-lower_other k name less = other_of name k (λ same. less_not_same (bytes_cmp k k) (subst (λ x. bytes_cmp k x ≡ Less) same less) (tied_itself bytes_total k))
+lower_other k name less = other_of name k (λ same. less_not_equal (bytes_cmp k k) (subst (λ x. bytes_cmp k x ≡ Less) same less) (tied_itself bytes_total k))
 
 higher_other : (k name : Name) → bytes_cmp name k ≡ Less → is_name name k ≡ false
-higher_other k name less = other_of name k (λ same. less_not_same (bytes_cmp name name) (subst (λ x. bytes_cmp name x ≡ Less) (sym same) less) (tied_itself bytes_total name))
+higher_other k name less = other_of name k (λ same. less_not_equal (bytes_cmp name name) (subst (λ x. bytes_cmp name x ≡ Less) (sym same) less) (tied_itself bytes_total name))
 
 module _ {X : Type 0} (key : X → Name) where
   none_above : (xs : List X) (name : Name) → AllByRecursion (λ x. bytes_cmp name (key x) ≡ Less) xs → has (map key xs) name ≡ false

@@ -7,7 +7,7 @@ use Rattle.switch_names.specs.Path.{is_below}
 use Rattle.host_trait.specs.declared.leaf.LeafKind.{LeafKind}
 use Rattle.host_trait.specs.World.{IsClear, Leaves, is_in_line}
 use Rattle.host_trait.proofs.Places.{same_or_other}
-use Rattle.host_trait.proofs.Seen.{other_of}
+use Rattle.host_trait.proofs.Seen.{other_of, get_removed_here}
 use Rattle.etc_manifest.specs.declared.item.Item.{Item}
 use Rattle.etc_manifest.specs.Manifest.{AreApart, places}
 use Rattle.etc_manifest.specs.Place.{is_reserved}
@@ -17,7 +17,7 @@ use Rattle.etc_clean.specs.Farm.{at, is_blocked, is_entry, is_farm_link, is_gone
 use Rattle.etc_clean.specs.Keeps.{AreFree, IsFirstList, IsLastList}
 use Rattle.etc_clean.specs.Names.{etc_folder, name_of, place}
 use Rattle.etc_clean.proofs.FarmLemmas.{blocked_to, none_at_known, none_at_none, none_at_reserved, not_placed}
-use Rattle.etc_clean.proofs.KeepsLemmas.{IsAllBut, inserted, listed_there, other_name, removed, removed_here, static_not_clean}
+use Rattle.etc_clean.proofs.KeepsLemmas.{IsAllBut, inserted, listed_there, other_name, removed, static_not_clean}
 use Rattle.etc_clean.proofs.NameLemmas.{clean_reserved, in_etc, not_reserved_other, static_reserved}
 use Rattle.etc_farm.specs.Steps.{AreGone, IsNoneGone}
 use Rattle.etc_farm.proofs.LineLemmas.{line_in_etc, line_place, line_reserved}
@@ -90,7 +90,7 @@ module _ (items : List Item) where
   -- what is removed is gone no more
   pub gone_removed : (w : Leaves) (x : Name) (names : List Name) → x ≢ clean_name → AreGone items (x ∷ names) w → AreGone items names (remove w (place x))
   gone_removed w x names ne are q gone =
-      let before = gone_beside w (remove w (place x)) x (removed w x) ne (absent_not_gone (remove w (place x)) x (removed_here w (place x))) q gone in
+      let before = gone_beside w (remove w (place x)) x (removed w x) ne (absent_not_gone (remove w (place x)) x (get_removed_here w (place x))) q gone in
       dropped_first x q names before.1 (are q before.0)
 
   -- nothing is gone once an entry is put

@@ -3,6 +3,7 @@ use Rattle.std.proofs.Common.{◌≡◌, ℕ, zero, suc, ◌+◌, ◌<◌, ◌||
 use Rattle.std.proofs.lemmas.Bool.{both_ways}
 use Rattle.std.proofs.lemmas.List.{map-append, take_more}
 use Rattle.std.proofs.lemmas.List.Folds.{list_any-append}
+use Rattle.std.proofs.Math.Bool.{or-false}
 use Rattle.std.specs.FinMap.{insert}
 use Rattle.std.specs.List.{AllByRecursion, find}
 use Rattle.std.specs.List.Sorted.{IsStrictlySortedBy}
@@ -31,10 +32,6 @@ use Rattle.etc_farm.proofs.ClearLemmas.{entry_clear, gone_put, gone_same, reserv
 use Rattle.etc_farm.proofs.PartLemmas.{frame_alike, static_owned}
 use Rattle.etc_farm.proofs.PlaceLemmas.{not_stage, owned_place, owned_read, way_free}
 use Rattle.etc_farm.proofs.StepLemmas.{farm_with, moment_put, moment_seen, put_entry}
-
-or_false : (a : Bool) → a || false ≡ a
-or_false true = refl
-or_false false = refl
 
 -- ---- items of a manifest
 
@@ -158,7 +155,7 @@ has_next items i item q inside is =
     ap (λ (list : List Item). has (places list) q) (take_more items i item inside ∙ ap (λ k. take i items ++ k ∷ []) (sym is))
     ∙ ap (λ (names : List Name). has names q) (map-append (λ (i : Item). i.place) (take i items) (item ∷ []))
     ∙ list_any-append (is_name q) (places (take i items)) (item.place ∷ [])
-    ∙ ap (λ b. has (places (take i items)) q || b) (or_false (is_name q item.place))
+    ∙ ap (λ b. has (places (take i items)) q || b) (or-false (is_name q item.place))
 
 some_same : (k l : ItemKind) → Some k ≡ Some l → k ≡ l
 some_same k l is = cc

@@ -9,6 +9,7 @@ use Rattle.host_trait.specs.Host.{HostState, Leads, Passes, Told}
 use Rattle.host_trait.specs.World.{WorldState, seen, with_leaf}
 use Rattle.host_trait.proofs.Moments.{goes_on, leads_then, told_as}
 use Rattle.host_trait.proofs.Places.{at_same}
+use Rattle.host_trait.proofs.NameOrder.{name_exact}
 use Rattle.tree_put.specs.declared.leaf_put.LeafPut.{LeafPut}
 use Rattle.tree_put.specs.Put.{CanPut, IsOldOrNew}
 use Rattle.switch_parts.specs.Part.{IsAtEnd}
@@ -29,7 +30,7 @@ use Rattle.etc_farm.proofs.ClearLemmas.{gone_last}
 use Rattle.etc_farm.proofs.EntryLemmas.{at_seen, manifest_free, none_gone_seen}
 use Rattle.etc_farm.proofs.PartLemmas.{clean_owned, static_owned}
 use Rattle.etc_farm.proofs.PlaceLemmas.{place_of_owned}
-use Rattle.etc_farm.proofs.StageLemmas.{can_put_clean, end_from, placed_as, same_from}
+use Rattle.etc_farm.proofs.StageLemmas.{can_put_clean, end_from, placed_as}
 use Rattle.etc_farm.proofs.StepLemmas.{moment_put, moment_seen, moment_then, put_last}
 
 module _ (items : List Item) (blocked : List Name) (v : WorldState) (can : CanPutEntries items blocked v) (read : clean_names (clean_text (placed_but blocked items)) ≡ placed_but blocked items) where
@@ -88,10 +89,10 @@ module _ (items : List Item) (blocked : List Name) (v : WorldState) (can : CanPu
       where
         by : (s c r : Bool) → is_name q static_name ≡ s → is_name q clean_name ≡ c → is_reserved q ≡ r → at m.leaves q ≡ etc (record { items = items; target = target }) m.leaves q
         by true c r is_s is_c is_r =
-            ap (at m.leaves) (same_from q static_name is_s) ∙ beside static_name static_owned static_not_clean ∙ fixed
+            ap (at m.leaves) (name_exact q static_name is_s) ∙ beside static_name static_owned static_not_clean ∙ fixed
             ∙ sym (ap (λ b. cond b (Some (Link target)) (rest q (is_name q clean_name) (is_reserved q))) is_s)
         by false true r is_s is_c is_r =
-            ap (at m.leaves) (same_from q clean_name is_c) ∙ clean_there
+            ap (at m.leaves) (name_exact q clean_name is_c) ∙ clean_there
             ∙ sym (ap (λ b. cond b (Some (Link target)) (rest q (is_name q clean_name) (is_reserved q))) is_s ∙ ap (λ b. rest q b (is_reserved q)) is_c)
         by false false true is_s is_c is_r = absurd (both_ways _ (owned_free (is_name q static_name) (is_name q clean_name) (is_reserved q) is_s is_c own) is_r)
         by false false false is_s is_c is_r =

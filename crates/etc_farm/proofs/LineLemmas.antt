@@ -1,17 +1,19 @@
 -- Names in line with others have the same first name, and what is in line with a place in etc.
 use Rattle.std.proofs.Common.{◌≡◌, ◌⊎◌, ℕ, ◌+◌, ◌||◌, not, Bool, true, false, cond, List, [], ◌∷◌, ◌++◌, get_or, take, refl, sym, ap, subst, ◌∙◌, inl, inr, ⊎_elim, arith}
-use Rattle.std.proofs.lemmas.Bool.{both_ways, cases_Bool}
+use Rattle.std.proofs.lemmas.Bool.{both_ways, cases_Bool, or_cases}
 use Rattle.std.proofs.Math.Numerals.{one-add}
 use Rattle.std.specs.List.{before_first, position_or_len}
+use Rattle.std.specs.Cmp.{both_ways as same_test}
 use Rattle.switch_names.specs.Names.{Name, has}
-use Rattle.switch_names.specs.Path.{is_below, slash}
+use Rattle.switch_names.specs.Path.{is_below, slash, is_slash}
 use Rattle.switch_names.proofs.Below.{below_front, rest_below}
 use Rattle.host_trait.specs.World.{is_in_line}
-use Rattle.etc_manifest.specs.Place.{is_reserved, is_slash, reserved_names}
+use Rattle.etc_manifest.specs.Place.{is_reserved, reserved_names}
 use Rattle.etc_clean.specs.CleanList.{clean_name}
 use Rattle.etc_clean.specs.Etc.{static_name}
 use Rattle.etc_clean.specs.Names.{etc_folder, is_in_etc, name_of, place}
-use Rattle.etc_clean.proofs.NameLemmas.{place_in_etc, same_test}
+use Rattle.etc_clean.proofs.NameLemmas.{place_in_etc}
+use Rattle.etc_farm.proofs.PlaceLemmas.{name_of_place}
 
 -- ---- first names
 
@@ -31,23 +33,15 @@ below_reserved p q line =
     let cut = rest_below p q line in
     ap is_reserved cut.1 ∙ ap (λ (first : Name). has reserved_names first) (first_kept q cut.0)
 
-either : (a b : Bool) → a || b ≡ true → (a ≡ true) ⊎ (b ≡ true)
-either true b is = inl refl
-either false b is = inr is
-
 -- names in line are both reserved or neither is
 pub line_reserved : (p q : Name) → is_in_line p q ≡ true → is_reserved p ≡ is_reserved q
-line_reserved p q line = ⊎_elim (below_reserved p q) (λ above. sym (below_reserved q p above)) (either (is_below p q) (is_below q p) line)
+line_reserved p q line = ⊎_elim (below_reserved p q) (λ above. sym (below_reserved q p above)) (or_cases (is_below p q) (is_below q p) line)
 
 -- ---- places in etc
 
 place_longer : (q rest : List ℕ) → place q ++ slash ∷ rest ≡ place (q ++ slash ∷ rest)
 unfolding place
 place_longer q rest = refl
-
-name_of_place : (q : Name) → name_of (place q) ≡ q
-unfolding name_of place
-name_of_place q = refl
 
 pub below_place : (p q : Name) → is_below (place p) (place q) ≡ is_below p q
 below_place p q = same_test (is_below (place p) (place q)) (is_below p q)
@@ -130,4 +124,4 @@ pub line_in_etc : (q : Name) (k : List ℕ) → is_in_line k (place q) ≡ true 
 line_in_etc q k line = ⊎_elim
     (λ below. inr (below_in_etc q k below))
     (λ above. let cut = rest_below (place q) k above in above_place q k cut.0 cut.1)
-    (either (is_below k (place q)) (is_below (place q) k) line)
+    (or_cases (is_below k (place q)) (is_below (place q) k) line)

@@ -1,6 +1,6 @@
 -- The places of a farm, and what could be in their way.
 use Rattle.std.proofs.Common.{◌≡◌, ◌≢◌, ◌&&◌, ◌||◌, Bool, true, false, cond, List, [], ◌∷◌, None, Some, option_map, refl, ap, subst, ◌∙◌}
-use Rattle.std.proofs.lemmas.Bool.{and_parts, both_ways, or_left, or_parts, or_right}
+use Rattle.std.proofs.lemmas.Bool.{and_parts, both_ways, or_left, or_parts, or_right, and_from, or_from}
 use Rattle.std.specs.List.{find}
 use Rattle.switch_names.specs.Names.{Name}
 use Rattle.host_trait.specs.World.{IsClear, Leaves, is_in_line, is_path, stage}
@@ -15,6 +15,7 @@ use Rattle.etc_clean.specs.CleanList.{clean_name}
 use Rattle.etc_clean.specs.Etc.{is_owned, static_name}
 use Rattle.etc_clean.specs.Names.{is_in_etc, name_of, place}
 use Rattle.etc_clean.proofs.NameLemmas.{in_etc, place_in_etc}
+use Rattle.etc_clean.proofs.ListLemmas.{place_not_stage}
 use Rattle.switch_parts.specs.Store.{is_in_store}
 use Rattle.switch_parts.proofs.StoreLemmas.{stage_unstored}
 use Rattle.etc_farm.specs.FarmPart.{fixed_places, owns_farm, reads_farm}
@@ -23,12 +24,9 @@ pub name_of_place : (q : Name) → name_of (place q) ≡ q
 unfolding name_of place
 name_of_place q = refl
 
-both_pass : (a b : Bool) → a ≡ true → b ≡ true → a && b ≡ true
-both_pass a b first second = ap (λ x. x && b) first ∙ second
-
 -- the places of the names that are owned are
 pub owned_place : (q : Name) → is_owned q ≡ true → owns_farm (place q) ≡ true
-owned_place q own = both_pass (is_in_etc (place q)) (is_owned (name_of (place q))) (place_in_etc q) (ap is_owned (name_of_place q) ∙ own)
+owned_place q own = and_from (is_in_etc (place q)) (is_owned (name_of (place q))) (place_in_etc q) (ap is_owned (name_of_place q) ∙ own)
 
 pub place_of_owned : (path : Name) → owns_farm path ≡ true → (path ≡ place (name_of path)) × (is_owned (name_of path) ≡ true)
 place_of_owned path own = let parts = and_parts (is_in_etc path) (is_owned (name_of path)) own in (in_etc path parts.0, parts.1)
@@ -75,12 +73,8 @@ begins_apart : (q : Name) → BeginApart (place q) stage
 unfolding place stage
 begins_apart q = record { first = refl; second = refl }
 
-other_path : (q : Name) → is_path (place q) stage ≡ false
-unfolding place stage
-other_path q = refl
-
 pub place_apart : (q : Name) → AreApart (place q) stage
-place_apart q = record { other = other_path q; line = not_line (place q) stage (begins_apart q) }
+place_apart q = record { other = place_not_stage q; line = not_line (place q) stage (begins_apart q) }
 
 -- ---- what is in the way of the fixed places
 
@@ -102,9 +96,6 @@ module _ (leaves : Leaves) (p : WrittenPlace) (ps : List WrittenPlace) where
   join_way : is_in_the_way leaves p ≡ false → in_the_way ps leaves ≡ None → in_the_way (p ∷ ps) leaves ≡ None
   join_way is none = ap (λ b. option_map (λ (x : WrittenPlace). x.at) (cond b (Some p) (find (is_in_the_way leaves) ps))) is ∙ none
 
-either_none : (a b : Bool) → a ≡ false → b ≡ false → a || b ≡ false
-either_none a b first second = ap (λ x. x || b) first ∙ second
-
 pub way_free : (leaves : Leaves) → in_the_way fixed_places leaves ≡ None → IsWayFree leaves
 way_free leaves none =
     let first = split_way leaves (record { at = place clean_name; is_read = true }) (record { at = place static_name; is_read = false } ∷ record { at = stage; is_read = false } ∷ []) none in
@@ -121,10 +112,10 @@ way_free leaves none =
 pub free_way : (leaves : Leaves) → IsWayFree leaves → in_the_way fixed_places leaves ≡ None
 free_way leaves free =
     join_way leaves (record { at = place clean_name; is_read = true }) (record { at = place static_name; is_read = false } ∷ record { at = stage; is_read = false } ∷ [])
-    (either_none (is_blocked leaves (place clean_name)) (lacks_content leaves (place clean_name)) (free_of_clear leaves (place clean_name) free.clean) free.content)
+    (or_from (is_blocked leaves (place clean_name)) (lacks_content leaves (place clean_name)) (free_of_clear leaves (place clean_name) free.clean) free.content)
     (join_way leaves (record { at = place static_name; is_read = false }) (record { at = stage; is_read = false } ∷ [])
-    (either_none (is_blocked leaves (place static_name)) false (free_of_clear leaves (place static_name) free.fixed_link) refl)
-    (join_way leaves (record { at = stage; is_read = false }) [] (either_none (is_blocked leaves stage) false (free_of_clear leaves stage free.stage) refl) refl))
+    (or_from (is_blocked leaves (place static_name)) false (free_of_clear leaves (place static_name) free.fixed_link) refl)
+    (join_way leaves (record { at = stage; is_read = false }) [] (or_from (is_blocked leaves stage) false (free_of_clear leaves stage free.stage) refl) refl))
 
 pub near_clean : (q : Name) → is_in_line q (place clean_name) ≡ true → is_near fixed_places q ≡ true
 near_clean q line = or_left (is_in_line q (place clean_name)) (is_in_line q (place static_name) || (is_in_line q stage || false)) line

@@ -8,6 +8,7 @@ use Rattle.switch_names.specs.Names.{Name}
 use Rattle.switch_parts.specs.declared.plan_fault.PlanFault.{PlanFault}
 use Rattle.switch_parts.specs.declared.plan_fault.PlanFault.TheVariants.{Host, Refused}
 use Rattle.switch_parts.specs.declared.refusal.Refusal.{Refusal}
+use Rattle.switch_parts.proofs.Faults.{handed}
 use Rattle.etc_manifest.specs.declared.manifest_fault.ManifestFault.{ManifestFault}
 use Rattle.etc_manifest.specs.declared.manifest_fault.ManifestFault as faults
 use Rattle.etc_manifest.specs.Entries.{manifest_of}
@@ -15,22 +16,6 @@ use Rattle.etc_manifest.specs.Owners.{OwnerIds}
 use Rattle.etc_farm.specs.EtcPart.{manifest_refusal, refusal_in}
 
 -- ---- faults that are handed on
-
-pub same_fault : {T E : Type 0} (x y : E) → IsErrOf {T = T} (Err x) y → x ≡ y
-same_fault x y e = cc
-
-pub no_err : {T E : Type 0} (x : T) (y : E) → IsErrOf (Ok x) y → ⊥
-no_err x y e = cc
-
-pub handed : {T U E : Type 0} (r : Result T E) (x f y : E) → r ≡ Err x → x ≡ f → IsErrOf r y → IsErrOf {T = U} (Err f) y
-handed r x f y is from e = ap (λ f. Err f) (sym from ∙ same_fault x y (sym is ∙ e))
-
--- a fault of the host is no refusal
-pub host_no_refusal : {T : Type 0} (r : Result T PlanFault) (x : PlanFault) (f : HostFault) (why : Refusal) → r ≡ Err x → x ≡ Host f → IsErrOf r (Refused why) → ⊥
-host_no_refusal r x f why is from e = cc
-
-pub host_device : {T U : Type 0} (r : Result T PlanFault) (x : PlanFault) (f : HostFault) → r ≡ Err x → x ≡ Host f → IsErrOf r (Host Device) → IsErrOf {T = U} (Err f) Device
-host_device r x f is from e = let same : f ≡ Device = cc in ap (λ f. Err f) same
 
 module _ (host : HostState) (system : Name) (owners : OwnerIds) where
   abbrev Wanted : ManifestFault → Type 0

@@ -1,12 +1,14 @@
 -- A farm in the making, from what is put first to the removals.
 use Rattle.std.proofs.Common.{◌≡◌, ◌⊎◌, ℕ, zero, suc, ◌&&◌, ◌||◌, ◌==◌, not, Bool, true, false, cond, List, [], ◌∷◌, map, filter, take, Option, None, Some, refl, sym, ap, ◌∙◌, inl, inr, ⊎_elim}
-use Rattle.std.proofs.lemmas.Bool.{and_parts, both_ways, or_left, or_right}
+use Rattle.std.proofs.lemmas.Bool.{and_parts, both_ways, or_left, or_right, or_cases, not-true}
 use Rattle.std.specs.List.{AllByRecursion, slice_split}
+use Rattle.std.specs.Cmp.{both_ways as same_test}
 use Rattle.switch_names.specs.Names.{Name, has, is_name}
 use Rattle.host_trait.specs.declared.leaf.LeafKind.TheVariants.{Link}
 use Rattle.host_trait.specs.World.{Leaves, WorldState, content_of, seen, with_leaf}
 use Rattle.host_trait.proofs.Places.{at_same, itself, same_or_other}
 use Rattle.host_trait.proofs.Sound.{not_in_line}
+use Rattle.host_trait.proofs.NameOrder.{has_filter, name_exact}
 use Rattle.tree_put.specs.Put.{CanPut}
 use Rattle.tree_put.specs.Sequence.{ArePutsApart, CanPutAll, IsPutting, with_puts}
 use Rattle.tree_put.specs.WrittenPlace.{in_the_way}
@@ -22,8 +24,6 @@ use Rattle.etc_clean.specs.Keeps.{AreFree, IsFirstList}
 use Rattle.etc_clean.specs.Names.{name_of, place}
 use Rattle.etc_clean.proofs.FarmLemmas.{blocked_kept, placed_kept, placed_known}
 use Rattle.etc_clean.proofs.KeepsLemmas.{end_law, listed_there}
-use Rattle.etc_clean.proofs.ListLemmas.{has_filter}
-use Rattle.etc_clean.proofs.NameLemmas.{same_test}
 use Rattle.etc_farm.specs.FarmPart.{CanApply, farm_part, fixed_places}
 use Rattle.etc_farm.specs.Steps.{AllListed, AreGone, CanPutEntries, IsFarmMoment, IsNoneGone, IsOwn, first_puts, placed_but, without_names}
 use Rattle.etc_farm.proofs.ClearLemmas.{gone_first, gone_static}
@@ -39,12 +39,6 @@ pub record IsBegun (farm : Farm) (names : List Name) (w : WorldState) : Type 0 w
   pub gone : AreGone farm.items names w.leaves
   pub listed : AllListed farm.items w.leaves
   pub fixed_link : at w.leaves static_name ≡ Some (Link farm.target)
-
-pub same_from : (p q : Name) → is_name p q ≡ true → p ≡ q
-same_from p q is = elim (same_or_other p q) [
-  | inl same ↦ same
-  | inr other ↦ absurd (both_ways _ other is)
-]
 
 -- a moment of the farm is one of its part
 pub moment_of : (farm : Farm) (w m : WorldState) → IsFarmMoment farm.items w m → IsMomentOf (farm_part farm) w m
@@ -81,18 +75,6 @@ items_agree p t (item ∷ items) agree =
     ∙ ap (λ (list : List Item). cond (t item) (item ∷ list) list)
     (items_agree p t items (λ other there. agree other (or_right (is_name other.place item.place) (has (places items) other.place) there)))
 
-not_true : (b : Bool) → not b ≡ true → b ≡ false
-not_true true is = absurd (both_ways false refl is)
-not_true false is = refl
-
-either : (a b : Bool) → a || b ≡ true → (a ≡ true) ⊎ (b ≡ true)
-either true b is = inl refl
-either false b is = inr is
-
-later : (a b : Bool) → b ≡ true → a || b ≡ true
-later true b is = refl
-later false b is = is
-
 all_free : (names : List Name) → ((q : Name) → has names q ≡ true → is_reserved q ≡ false) → AllByRecursion (λ name. is_reserved name ≡ false) names
 all_free [] free = tt
 all_free (x ∷ names) free = (free x (or_left (is_name x x) (has names x) (itself x)), all_free names (λ q there. free q (or_right (is_name q x) (has names q) there)))
@@ -100,7 +82,7 @@ all_free (x ∷ names) free = (free x (or_left (is_name x x) (has names x) (itse
 clean_free_of : (content : Option (List ℕ)) (q : Name) → has (names_in content) q ≡ true → is_reserved q ≡ false
 clean_free_of None q there = absurd (both_ways false refl there)
 clean_free_of (Some bytes) q there =
-    not_true (is_reserved q)
+    not-true (is_reserved q)
     (and_parts (is_path_text q) (not (is_reserved q))
     (and_parts (is_clean_name q) (has (slice_split (λ byte. byte == 10) bytes) q) (sym (has_filter is_clean_name (slice_split (λ byte. byte == 10) bytes) q) ∙ there)).0).1
 
@@ -130,7 +112,7 @@ module _ (farm : Farm) (manifest : IsManifest farm.items) (found : Sorted) (w : 
   listed_free q there = ⊎_elim
       (λ clean. clean_free_of (content_of w.leaves (place clean_name)) q ((can.sorted.clean.exact q).0 clean))
       (λ also. free q (placed_known items w.leaves q also))
-      (either (has found.clean q) (has (placed items w.leaves) q) there)
+      (or_cases (has found.clean q) (has (placed items w.leaves) q) there)
 
   module _ (first : List Name) (joined : (q : Name) → has first q ≡ (has found.clean q || has (placed_but found.blocked items) q)) where
     first_has : (q : Name) → has first q ≡ (has found.clean q || has (placed items w.leaves) q)
@@ -183,7 +165,7 @@ module _ (farm : Farm) (manifest : IsManifest farm.items) (found : Sorted) (w : 
     all_listed : AllListed items listed_world.leaves
     all_listed q is =
         let before = ap (λ (names : List Name). has names q) (sym (placed_kept items w.leaves listed_world.leaves listed_moment.keeps.keeps.foreign)) ∙ is in
-        ap (λ (names : List Name). has names q) (listed_there w.leaves first) ∙ starts q ∙ later (has (clean_of w.leaves) q) (has (placed items w.leaves) q) before
+        ap (λ (names : List Name). has names q) (listed_there w.leaves first) ∙ starts q ∙ or_right (has (clean_of w.leaves) q) (has (placed items w.leaves) q) before
 
     pub first_begun : (m : WorldState) → seen m ≡ seen begun_world → IsBegun farm found.gone m
     first_begun m new = record {

@@ -1,13 +1,13 @@
 -- Each step of putting a farm leaves a moment of it.
 use Rattle.std.proofs.Common.{◌≡◌, ◌≢◌, ℕ, ◌&&◌, ◌||◌, Bool, true, false, List, [], Option, is_none, is_some, refl, sym, ap, subst, ◌∙◌, inl, inr, ⊎_elim}
-use Rattle.std.proofs.lemmas.Bool.{both_ways}
+use Rattle.std.proofs.lemmas.Bool.{both_ways, or_right}
 use Rattle.std.specs.FinMap.{get, insert, remove}
 use Rattle.std.specs.Ordering.{eq_by_cmp}
 use Rattle.switch_names.specs.Names.{Name, has}
 use Rattle.host_trait.specs.declared.leaf.LeafKind.{LeafKind}
 use Rattle.host_trait.specs.World.{Leaves, WorldState, bytes_cmp, content_of, is_in_line, leaf_content, seen, stage, with_leaf, without_leaf}
 use Rattle.host_trait.proofs.Places.{at_same, same_or_other}
-use Rattle.host_trait.proofs.Seen.{other_of, seen_at}
+use Rattle.host_trait.proofs.Seen.{other_of, seen_at, get_removed_other}
 use Rattle.host_trait.proofs.Sound.{clear_insert, clear_remove, get_other, not_in_line}
 use Rattle.tree_put.specs.Put.{IsOldOrGone, IsOldOrNew}
 use Rattle.tree_put.specs.WrittenPlace.{lacks_content}
@@ -19,7 +19,7 @@ use Rattle.etc_clean.specs.Keeps.{AreFree, IsFirstList, IsLastList, Keeps}
 use Rattle.etc_clean.specs.Names.{place}
 use Rattle.etc_clean.proofs.FarmLemmas.{placed_known}
 use Rattle.tree_put.proofs.StoreLemmas.{content_kept}
-use Rattle.etc_clean.proofs.KeepsLemmas.{IsAllBut, first_list_law, inserted, last_list_law, listed_there, owned_name, put_law, removal_law, removed, other_name, removed_other, static_law, static_not_clean, store_apart}
+use Rattle.etc_clean.proofs.KeepsLemmas.{IsAllBut, first_list_law, inserted, last_list_law, listed_there, owned_name, put_law, removal_law, removed, other_name, static_law, static_not_clean, store_apart}
 use Rattle.etc_clean.proofs.NameLemmas.{clean_reserved, not_reserved_other, other_place, static_reserved}
 use Rattle.etc_farm.specs.FarmPart.{AreListed, owns_farm}
 use Rattle.etc_farm.specs.Steps.{AllListed, IsFarmMoment, IsOwn}
@@ -100,17 +100,13 @@ way_removed leaves x ne way = record {
   fixed_link = clear_remove leaves (place x) (place static_name) way.fixed_link;
   stage = clear_remove leaves (place x) stage way.stage;
   content =
-      let same = removed_other leaves (place x) (place clean_name) (other_place clean_name x (λ is. ne (sym is))) in
+      let same = get_removed_other leaves (place x) (place clean_name) (other_place clean_name x (λ is. ne (sym is))) in
       same_content leaves (remove leaves (place x)) same
-      (content_kept leaves (remove leaves (place x)) (λ target p is. removed_other leaves (place x) p (store_apart target p x is)) (place clean_name) same)
+      (content_kept leaves (remove leaves (place x)) (λ target p is. get_removed_other leaves (place x) p (store_apart target p x is)) (place clean_name) same)
       ∙ way.content;
 }
 
 -- ---- the steps
-
-later : (a b : Bool) → b ≡ true → a || b ≡ true
-later true b is = refl
-later false b is = is
 
 -- a path that isn't owned is another than an owned place
 not_owned_other : (x : Name) (q : Name) → is_owned x ≡ true → owns_farm q ≡ false → eq_by_cmp bytes_cmp q (place x) ≡ false
@@ -153,7 +149,7 @@ module _ (items : List Item) (free : AreFree items) (w : WorldState) where
           listed = listed_beside items w.leaves (remove w.leaves (place x)) x (removed w.leaves x) not_clean (λ is. absurd (both_ways _ own.new (placed_known items w.leaves x is)));
           free = λ none. free_way (remove w.leaves (place x)) (way_removed w.leaves x not_clean (way_free w.leaves none));
         };
-        leaves = λ q none ne. removed_other w.leaves (place x) q (not_owned_other x q (owned_name x own.free) none);
+        leaves = λ q none ne. get_removed_other w.leaves (place x) q (not_owned_other x q (owned_name x own.free) none);
         manager = refl;
       }
 
@@ -191,7 +187,7 @@ module _ (items : List Item) (free : AreFree items) (w : WorldState) where
   }
 
   pub put_first : (names : List Name) → IsFirstList items w.leaves names → IsFarmMoment items w (with_leaf (place clean_name) (clean_leaf names) w)
-  put_first names first = list_moment names (first_list_law items w.leaves names free first) (λ q is. first q ∙ later (has (clean_of w.leaves) q) (has (placed items w.leaves) q) is)
+  put_first names first = list_moment names (first_list_law items w.leaves names free first) (λ q is. first q ∙ or_right (has (clean_of w.leaves) q) (has (placed items w.leaves) q) is)
 
   pub put_last : (names : List Name) → IsLastList items w.leaves names → IsFarmMoment items w (with_leaf (place clean_name) (clean_leaf names) w)
   put_last names last = list_moment names (last_list_law items w.leaves names free last) (λ q is. last.names_are q ∙ is)

@@ -30,7 +30,7 @@ use Rattle.etc_farm.specs.FarmPart.{owns_farm}
 
 -- ---- no farm writes in the store
 
-place_not_stored : (q : Name) → is_in_store (place q) ≡ false
+pub place_not_stored : (q : Name) → is_in_store (place q) ≡ false
 unfolding is_in_store place
 place_not_stored q = refl
 

@@ -2,7 +2,7 @@
 use Rattle.std.proofs.Common.{◌≡◌, ◌||◌, ℕ, Bool, true, false, List, [], ◌∷◌, map, Result, Ok, Err, IsErrOf, refl, sym, ap, ◌∙◌, inl, inr}
 use Rattle.std.specs.List.Sorted.{IsStrictlySortedBy}
 use Rattle.std.specs.declared.cmp.Ordering.TheVariants.{Less}
-use Rattle.std.proofs.lemmas.Bool.{both_ways}
+use Rattle.std.proofs.lemmas.Bool.{both_ways, or_cases, or_right}
 use Rattle.switch_names.specs.Names.{has, is_name}
 use Rattle.host_trait.specs.World.{Leaves, bytes_cmp}
 use Rattle.etc_manifest.specs.declared.item.Item.{Item}
@@ -12,7 +12,7 @@ use Rattle.etc_manifest.specs.Manifest.{gathered, prefixed}
 use Rattle.etc_manifest.specs.Owners.{OwnerIds}
 use Rattle.etc_manifest.proofs.GatherLemmas.{gathered_err, gathered_ok, prefixed_fault}
 use Rattle.etc_manifest.proofs.LeafLemmas.{entries_sorted}
-use Rattle.etc_manifest.proofs.NameLemmas.{above_all, less_is_other, name_exact, name_itself, not_both_less, or_cases, or_right}
+use Rattle.host_trait.proofs.NameOrder.{above_all, less_is_other, name_exact, name_itself, not_both_less}
 
 err_same : {T : Type 0} (a b : ManifestFault) → IsErrOf {T = T} (Err a) b → a ≡ b
 err_same a b is = cc

@@ -6,6 +6,7 @@ use Rattle.std.specs.List.Sorted.{IsStrictlySortedBy}
 use Rattle.std.proofs.lemmas.List.Kept.{IsStrictlySortedBy-filter}
 use Rattle.std.proofs.lemmas.Map.Views.{any-filter_same}
 use Rattle.std.proofs.lemmas.Slice.Eq.{bytes_eq-Decides}
+use Rattle.std.proofs.lemmas.Bool.{false_from_ne_true}
 use Rattle.switch_names.specs.Names.{has, is_name}
 use Rattle.switch_names.specs.Path.{is_below, slash}
 use Rattle.switch_names.specs.SystemName.{IsSystemPath, store_folder, store_name}
@@ -16,8 +17,11 @@ use Rattle.host_trait.specs.World.{Leaves, is_listed, is_path, listed, stage}
 use Rattle.host_trait.proofs.KeyOrder.{keys_sorted}
 use Rattle.etc_manifest.specs.Companion.{is_companion}
 use Rattle.etc_manifest.specs.Entries.{entries_of, has_leaf, leaf_names}
-use Rattle.etc_manifest.specs.Place.{after_front, etc_folder, path_in}
-use Rattle.etc_manifest.proofs.NameLemmas.{has_after, has_filter, name_exact, sorted_after}
+use Rattle.switch_names.specs.Texts.{after_front}
+use Rattle.etc_manifest.specs.Place.{etc_folder, path_in}
+use Rattle.host_trait.proofs.NameOrder.{name_exact}
+use Rattle.host_trait.proofs.Listings.{is_among as listed_below}
+use Rattle.etc_manifest.proofs.NameLemmas.{has_after, has_filter, sorted_after}
 
 -- the path of a system begins with the store's
 in_store : (system : List ℕ) → IsSystemPath system → system ≡ store_folder ++ store_name system
@@ -31,21 +35,9 @@ unfolding etc_folder stage
 not_stage system rest is same =
     let fifth = ap (λ (p : List ℕ). get_or p 4 0) (ap (λ s. (s ++ codes "/etc") ++ slash ∷ rest) (sym (in_store system is)) ∙ same) in omega arith
 
-false_from : (b : Bool) → (b ≡ true → ⊥) → b ≡ false
-false_from true lacks = absurd (lacks refl)
-false_from false lacks = refl
-
-all_three : (a b c : Bool) → b ≡ true → c ≡ false → ((a || b) && not c) ≡ true
-all_three true b c second third = ap not third
-all_three false b c second third = ap (λ x. x && not c) second ∙ ap not third
-
 -- what stands in a system's etc is listed
 is_among : (system name : List ℕ) → IsSystemPath system → is_listed (etc_folder system) (path_in (etc_folder system) name) ≡ true
-is_among system name is =
-    let path : List ℕ = path_in (etc_folder system) name in
-    all_three (is_path path (etc_folder system)) (is_below path (etc_folder system)) (is_path path stage)
-    (below_front (etc_folder system) name)
-    (false_from _ (λ same. not_stage system name is ((bytes_eq-Decides path stage).0 same)))
+is_among system name is = listed_below (etc_folder system) name (not_stage system name is)
 
 -- the paths of a folder are listed in order
 pub paths_sorted : (leaves : Leaves) (folder : List ℕ) → IsStrictlySortedBy bytes_cmp (listed folder leaves)

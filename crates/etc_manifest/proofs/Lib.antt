@@ -8,5 +8,4 @@ pub mod ModeLemmas
 pub mod NameLemmas
 pub mod OwnerLemmas
 pub mod ReadLemmas
-pub mod TextLemmas
 pub mod WantedLemmas

@@ -8,7 +8,7 @@ use Rattle.std.specs.Ordering.{is_eq, nat_cmp, ordering_reverse, ordering_then}
 use Rattle.std.specs.Result.{is_ok, result_err}
 use Rattle.std.specs.declared.cmp.Ordering.{Ordering}
 use Rattle.std.specs.declared.cmp.Ordering.TheVariants.{Less, Equal, Greater}
-use Rattle.std.proofs.lemmas.Bool.{both_ways}
+use Rattle.std.proofs.lemmas.Bool.{both_ways, or_right, or_cases}
 use Rattle.std.proofs.lemmas.Bool.Decides.{Decides-eqb}
 use Rattle.std.proofs.lemmas.Cmp.{nat_cmp_total, tied_itself}
 use Rattle.std.proofs.Math.Seq.{drop-cons}
@@ -21,44 +21,13 @@ use Rattle.switch_names.specs.Names.{has, is_name}
 use Rattle.switch_names.specs.Path.{name_below, slash}
 use Rattle.switch_names.proofs.Below.{name_below-cut, name_below-uncut}
 use Rattle.switch_names.proofs.Names.{name_turned}
+use Rattle.switch_names.proofs.Cuts.{front_is, front_there}
 use Rattle.host_trait.specs.Bytes.{bytes_cmp}
-use Rattle.host_trait.proofs.Orders.{AreAbove, AreBelow, missing_name, sorted_below, sorted_insert}
+use Rattle.host_trait.proofs.Orders.{AreAbove, AreBelow, missing_name, sorted_below, sorted_insert, all_below}
 use Rattle.host_trait.proofs.Places.{bytes_exact, bytes_total, same_or_other}
-use Rattle.etc_manifest.specs.Place.{after_front, first_name, is_reserved, path_in, reserved_names}
-
-pub name_itself : (a : List ℕ) → is_name a a ≡ true
-name_itself a = ap is_eq (tied_itself bytes_total a)
-
-pub name_exact : (a b : List ℕ) → is_name a b ≡ true → a ≡ b
-name_exact a b is = elim (same_or_other a b) [
-  | inl same ↦ same
-  | inr other ↦ absurd (both_ways _ other is)
-]
-
-pub name_from : (a b : List ℕ) → a ≡ b → is_name a b ≡ true
-name_from a b same = subst (λ c. is_name a c ≡ true) same (name_itself a)
-
--- a name below another is another
-pub less_is_other : (a b : List ℕ) → bytes_cmp a b ≡ Less → is_name a b ≡ false
-less_is_other a b less = ap is_eq less
-
-pub not_both_less : {X : Type 0} (a b : List ℕ) → bytes_cmp a b ≡ Less → bytes_cmp b a ≡ Less → X
-not_both_less a b less more = absurd (both_ways _ (less_is_other a a (bytes_total.trans a b a less more)) (name_itself a))
-
-pub or_right : (a b : Bool) → b ≡ true → (a || b) ≡ true
-or_right true b is = refl
-or_right false b is = is
-
-pub or_cases : (a b : Bool) → (a || b) ≡ true → (a ≡ true) ⊎ (b ≡ true)
-or_cases true b is = inl refl
-or_cases false b is = inr is
-
-pub above_all : (name other : List ℕ) (names : List (List ℕ)) → AllByRecursion (λ b. bytes_cmp name b ≡ Less) names → has names other ≡ true → bytes_cmp name other ≡ Less
-above_all name other [] above there = absurd (cc)
-above_all name other (n ∷ names) above there = elim (or_cases (is_name other n) (has names other) there) [
-  | inl same ↦ subst (λ k. bytes_cmp name k ≡ Less) (sym (name_exact other n same)) above.0
-  | inr rest ↦ above_all name other names above.1 rest
-]
+use Rattle.host_trait.proofs.NameOrder.{name_itself, name_exact, name_from, less_is_other, not_both_less, above_all, above_lack}
+use Rattle.switch_names.specs.Texts.{after_front}
+use Rattle.etc_manifest.specs.Place.{first_name, is_reserved, path_in, reserved_names}
 
 -- ---- a filter of names
 
@@ -93,20 +62,6 @@ has_filter p (n ∷ names) name = by (p n) (is_name name n) refl refl (has_filte
         ∙ sym (ap (λ c. (c || has names name) && p name) same)
 
 -- ---- names after a front
-
-chosen : {X : Type 0} (b : Bool) (x y : X) → cond b (Some x) None ≡ Some y → (b ≡ true) × (x ≡ y)
-chosen true x y is = (refl, cc)
-chosen false x y is = absurd (cc)
-
-pub front_is : (front path rest : List ℕ) → after_front front path ≡ Some rest → path ≡ front ++ rest
-front_is front path rest is =
-    let parts = chosen (starts_with nat_eq path front) (drop (length front) path) rest is in
-    (starts_is Decides-eqb path front (starts_with nat_eq path front) refl).0 parts.0 ∙ ap (λ r. front ++ r) parts.1
-
-pub front_there : (front rest : List ℕ) → after_front front (front ++ rest) ≡ Some rest
-front_there front rest =
-    ap (λ b. cond b (Some (drop (length front) (front ++ rest))) None) ((starts_is Decides-eqb (front ++ rest) front (starts_with nat_eq (front ++ rest) front) refl).1 rest refl)
-    ∙ ap (λ r. Some r) (drop_at front rest (length front) refl)
 
 -- what a path has after a folder and a slash is what follows these two
 pub below_is_after : (folder path : List ℕ) → name_below folder path ≡ after_front (path_in folder []) path
@@ -225,10 +180,6 @@ below_lack : (name : List ℕ) (names : List (List ℕ)) → AllByRecursion (λ 
 below_lack name [] below = refl
 below_lack name (n ∷ names) below = ap (λ b. b || has names name) (name_turned name n ∙ less_is_other n name below.0) ∙ below_lack name names below.1
 
-above_lack : (name : List ℕ) (names : List (List ℕ)) → AllByRecursion (λ b. bytes_cmp name b ≡ Less) names → has names name ≡ false
-above_lack name [] above = refl
-above_lack name (n ∷ names) above = ap (λ b. b || has names name) (less_is_other name n above.0) ∙ above_lack name names above.1
-
 map_self : (names : List (List ℕ)) → map (λ name. name) names ≡ names
 map_self [] = refl
 map_self (n ∷ names) = ap (λ ns. n ∷ ns) (map_self names)
@@ -320,10 +271,6 @@ longer_above [] [] more = absurd (omega arith)
 longer_above [] (x ∷ end) more = refl
 longer_above (x ∷ name) end more = ap (λ o. ordering_then o (bytes_cmp name (name ++ end))) (tied_itself nat_cmp_total x) ∙ longer_above name end more
 
-lower_all : (low name : List ℕ) (names : List (List ℕ)) → bytes_cmp low name ≡ Less → AreAbove names name → AreAbove names low
-lower_all low name [] less above = tt
-lower_all low name (n ∷ names) less above = (bytes_total.trans low name n less above.0, lower_all low name names less above.1)
-
 -- where the next name doesn't begin with a name, none after it does
 none_next : (names : List (List ℕ)) (name end : List ℕ) → IsStrictlySortedBy bytes_cmp names → AreAbove names name → IfSome (slice_get names 0) (λ next. starts_with nat_eq next name ≡ false) → has names (name ++ end) ≡ false
 unfolding IsStrictlySortedBy
@@ -334,7 +281,7 @@ none_next (n ∷ names) name end sorted above next = by (bytes_cmp (name ++ end)
     no_more more same = both_ways _ next (ap (λ k. starts_with nat_eq k name) same ∙ begins_there name more)
 
     by : (o : Ordering) → bytes_cmp (name ++ end) n ≡ o → has (n ∷ names) (name ++ end) ≡ false
-    by Less is = above_lack (name ++ end) (n ∷ names) (is, lower_all (name ++ end) n names is sorted.0)
+    by Less is = above_lack (name ++ end) (n ∷ names) (is, all_below (name ++ end) n names is sorted.0)
     by Equal is = absurd (no_more end (sym (bytes_exact (name ++ end) n is)))
     by Greater is = absurd (let more = between name n end above.0 (bytes_total.antisymm n (name ++ end) ∙ ap ordering_reverse is) in no_more more.0 more.1)
 

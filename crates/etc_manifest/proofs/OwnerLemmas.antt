@@ -14,17 +14,11 @@ use Rattle.switch_names.specs.Names.{Name, is_name}
 use Rattle.host_trait.specs.Bytes.{bytes_cmp}
 use Rattle.host_trait.proofs.Places.{bytes_total, found, given}
 use Rattle.account_text.specs.Order.{row_named}
-use Rattle.etc_manifest.specs.Owners.{AreIdsOf, Ids, ids_in, owner_id, owner_in}
-use Rattle.etc_manifest.specs.Place.{after_front}
-use Rattle.etc_manifest.proofs.NameLemmas.{name_exact}
-
-or_none : {X : Type 0} (o : Option X) → option_or o None ≡ o
-or_none None = refl
-or_none (Some x) = refl
-
-map_or : {X Y : Type 0} (f : X → Y) (a b : Option X) → option_map f (option_or a b) ≡ option_or (option_map f a) (option_map f b)
-map_or f None b = refl
-map_or f (Some x) b = refl
+use Rattle.host_trait.specs.Ids.{Ids}
+use Rattle.etc_manifest.specs.Owners.{AreIdsOf, ids_in, owner_id, owner_in}
+use Rattle.switch_names.specs.Texts.{after_front}
+use Rattle.switch_names.proofs.Outcomes.{option_map_or_other, option_or_none}
+use Rattle.host_trait.proofs.NameOrder.{name_exact}
 
 no_id : (o : Option ℕ) → is_some o ≡ false → o ≡ None
 no_id None is = refl
@@ -43,7 +37,7 @@ id_added old new name added other id copied lacks updated =
     by : (b : Bool) → is_name other name ≡ b → cond b (Some id) (get (ids_in old) other) ≡ option_or (get (ids_in old) other) (cond b (Some id) None)
     by true same =
         sym (ap (λ o. option_or o (Some id)) (ap (get (ids_in old)) (name_exact other name same) ∙ found old.entries name ∙ no_id (lookup (is_at (bytes_cmp name)) old.entries) lacks))
-    by false same = sym (or_none (get (ids_in old) other))
+    by false same = sym (option_or_none (get (ids_in old) other))
 
 -- a name that has an id keeps it
 pub id_kept : (old : BTreeMap (List ℕ) ℕ) (name other : List ℕ) (id : ℕ) → is_some (lookup (is_at (bytes_cmp name)) old.entries) ≡ true →
@@ -56,7 +50,7 @@ id_kept old name other id has = by (is_name other name) refl
 
     by : (b : Bool) → is_name other name ≡ b → get (ids_in old) other ≡ option_or (get (ids_in old) other) (cond b (Some id) None)
     by true same = kept (get (ids_in old) other) (ap is_some (ap (get (ids_in old)) (name_exact other name same) ∙ found old.entries name) ∙ has)
-    by false same = sym (or_none (get (ids_in old) other))
+    by false same = sym (option_or_none (get (ids_in old) other))
 
 module _ {Row : Type 0} (name_of : Row → Name) (number_of : Row → ℕ) where
   one_row : (row : Row) (name : List ℕ) → option_map number_of (find (λ r. is_name name (name_of r)) (row ∷ [])) ≡ cond (is_name name (name_of row)) (Some (number_of row)) None
@@ -73,7 +67,7 @@ module _ {Row : Type 0} (name_of : Row → Name) (number_of : Row → ℕ) where
       added name
       ∙ ap (λ o. option_or o (cond (is_name name (name_of row)) (Some (number_of row)) None)) (so_far name)
       ∙ ap (option_or (option_map number_of (row_named name_of (take i rows) name))) (sym (one_row row name))
-      ∙ sym (map_or number_of (row_named name_of (take i rows) name) (find (λ r. is_name name (name_of r)) (row ∷ [])))
+      ∙ sym (option_map_or_other number_of (row_named name_of (take i rows) name) (find (λ r. is_name name (name_of r)) (row ∷ [])))
       ∙ ap (option_map number_of) (sym (find-append (λ r. is_name name (name_of r)) (take i rows) (row ∷ [])))
       ∙ ap (λ rs. option_map number_of (row_named name_of rs name)) (sym (take_more rows i row within ∙ ap (λ r. take i rows ++ r ∷ []) (sym is)))
 

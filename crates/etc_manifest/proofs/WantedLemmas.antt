@@ -12,7 +12,7 @@ use Rattle.etc_manifest.specs.Manifest.{entry, gathered, places}
 use Rattle.etc_manifest.specs.Owners.{OwnerIds}
 use Rattle.etc_manifest.specs.Place.{etc_folder, is_reserved}
 use Rattle.etc_manifest.proofs.GatherLemmas.{gathered_err, gathered_ok, prefixed_items}
-use Rattle.etc_manifest.proofs.NameLemmas.{name_exact}
+use Rattle.host_trait.proofs.NameOrder.{name_exact}
 
 module _ (leaves : Leaves) (system : List ℕ) (owners : OwnerIds) where
   placed : (name : List ℕ) (item : Item) → item_at leaves system owners name ≡ Ok item → item.place ≡ name

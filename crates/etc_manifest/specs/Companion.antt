@@ -3,13 +3,10 @@ use Rattle.std.specs.Prelude.{ℕ, ◌-◌, ◌&&◌, ◌||◌, Bool, false, Lis
 use Rattle.std.specs.List.{ends_with}
 use Rattle.std.specs.Option.{option_map_or}
 use Rattle.switch_names.specs.Names.{Name}
+use Rattle.switch_names.specs.Texts.{before_end}
 use Rattle.host_trait.specs.World.{Leaves, content_of}
 use Rattle.etc_manifest.specs.declared.reading.Parts.{Parts}
 use Rattle.etc_manifest.specs.Place.{path_in}
-
--- what a text has before an ending
-abbrev pub before_end : List ℕ → List ℕ → Option (List ℕ)
-before_end end text = if ends_with nat_eq text end then Some (take (length text - length end) text) else None
 
 -- whether a name is another with this ending, and that one passes a test
 abbrev pub is_before : List ℕ → (Name → Bool) → Name → Bool

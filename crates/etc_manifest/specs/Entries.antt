@@ -13,7 +13,8 @@ use Rattle.etc_manifest.specs.Companion.{is_companion}
 use Rattle.etc_manifest.specs.Kind.{kind_of}
 use Rattle.etc_manifest.specs.Manifest.{gathered}
 use Rattle.etc_manifest.specs.Owners.{OwnerIds}
-use Rattle.etc_manifest.specs.Place.{after_front, etc_folder, is_reserved, path_in}
+use Rattle.switch_names.specs.Texts.{after_front}
+use Rattle.etc_manifest.specs.Place.{etc_folder, is_reserved, path_in}
 
 -- whether a leaf has this name below a folder
 abbrev pub has_leaf : Leaves → List ℕ → Name → Bool

@@ -7,24 +7,18 @@ use Rattle.std.specs.FinMap as map_of
 use Rattle.std.specs.Str.{is_utf8}
 use Rattle.switch_names.specs.Names.{Name}
 use Rattle.host_trait.specs.Bytes.{bytes_cmp}
+use Rattle.host_trait.specs.Ids.{Ids, ids_code}
 use Rattle.account_text.specs.declared.tables.Tables.{Tables}
 use Rattle.account_text.specs.Field.{id_of}
 use Rattle.account_text.specs.Group.{group_name}
 use Rattle.account_text.specs.Order.{row_named}
 use Rattle.account_text.specs.Passwd.{passwd_name}
-use Rattle.etc_manifest.specs.Place.{after_front}
-
--- ids by the names of accounts
-abbrev pub Ids : Type 0
-Ids = FinMap bytes_cmp ℕ
+use Rattle.switch_names.specs.Texts.{after_front}
 
 -- the users and the groups that a file can be given to
 pub record OwnerIds : Type 0 where
   pub users : Ids
   pub groups : Ids
-
-abbrev pub ids_code : Coded Ids
-ids_code = map_of.code (coded_list coded_ℕ) coded_ℕ
 
 abbrev pub owners_code : Coded OwnerIds
 owners_code = code_by (Ids × Ids) (coded× ids_code ids_code) (λ owners. (owners.users, owners.groups)) (λ parts. record { users = parts.0; groups = parts.1 }) (λ _. refl)

@@ -2,7 +2,7 @@
 use Rattle.std.specs.Prelude.{ℕ, ◌==◌, Bool, List, [], ◌∷◌, ◌++◌, length, drop, codes, nat_eq, Option, None, Some, if◌then◌else◌}
 use Rattle.std.specs.List.{starts_with, before_first}
 use Rattle.switch_names.specs.Names.{Name, has}
-use Rattle.switch_names.specs.Path.{slash}
+use Rattle.switch_names.specs.Path.{slash, is_slash}
 
 -- where a system keeps what it wants below /etc
 unfoldable pub etc_folder : List ℕ → List ℕ
@@ -11,13 +11,6 @@ etc_folder system = system ++ codes "/etc"
 -- the path of what has this name below a folder
 abbrev pub path_in : List ℕ → Name → List ℕ
 path_in folder name = folder ++ slash ∷ name
-
--- what a text has after a front
-abbrev pub after_front : List ℕ → List ℕ → Option (List ℕ)
-after_front front text = if starts_with nat_eq text front then Some (drop (length front) text) else None
-
-abbrev pub is_slash : ℕ → Bool
-is_slash byte = byte == slash
 
 -- what stands before the first slash of a name
 abbrev pub first_name : Name → Name

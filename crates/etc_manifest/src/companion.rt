@@ -4,7 +4,8 @@ ghost use Rattle.std.specs.List.Sorted.{IsStrictlySortedBy};
 ghost use Rattle.std.specs.Option.{option_copied};
 ghost use Rattle.switch_names.specs.Names.{has};
 ghost use Rattle.host_trait.specs.Bytes.{bytes_cmp};
-ghost use Rattle.etc_manifest.specs.Companion.{before_end, has_mode, is_before, is_companion};
+ghost use Rattle.switch_names.specs.Texts.{before_end};
+ghost use Rattle.etc_manifest.specs.Companion.{has_mode, is_before, is_companion};
 
 use crate::names::{has_name, with_ending};
 use std::alloc::{AllocError, Global};

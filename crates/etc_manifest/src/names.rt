@@ -5,7 +5,8 @@ ghost use Rattle.std.specs.List.Sorted.{IsStrictlySortedBy};
 ghost use Rattle.std.specs.declared.cmp.Ordering.TheVariants.{Less};
 ghost use Rattle.switch_names.specs.Names.{has};
 ghost use Rattle.host_trait.specs.Bytes.{bytes_cmp};
-ghost use Rattle.etc_manifest.specs.Place.{after_front, path_in};
+ghost use Rattle.switch_names.specs.Texts.{after_front};
+ghost use Rattle.etc_manifest.specs.Place.{path_in};
 
 use std::alloc::{AllocError, Global};
 use std::cmp::Ordering;

@@ -6,7 +6,7 @@ ghost use Rattle.switch_names.specs.Names.{Name, is_name};
 ghost use Rattle.account_text.specs.Group.{group_name};
 ghost use Rattle.account_text.specs.Passwd.{passwd_name};
 ghost use Rattle.etc_manifest.specs.Owners.{AreIdsOf, AreOwnersOf, ids_in, owner_id, owner_in};
-ghost use Rattle.etc_manifest.specs.Place.{after_front};
+ghost use Rattle.switch_names.specs.Texts.{after_front};
 
 use crate::place::after_front;
 use account_text::{GroupRow, PasswdRow, Tables, read_id};

@@ -2,7 +2,8 @@
 ghost use Rattle.std.specs.Prelude.{◌≡◌, IfOk};
 ghost use Rattle.std.specs.Option.{option_copied};
 ghost use Rattle.switch_names.specs.SystemName.{IsSystemPath};
-ghost use Rattle.etc_manifest.specs.Place.{after_front, etc_folder, first_name, is_reserved};
+ghost use Rattle.switch_names.specs.Texts.{after_front};
+ghost use Rattle.etc_manifest.specs.Place.{etc_folder, first_name, is_reserved};
 
 use std::alloc::{AllocError, Global};
 use switch_names::{Path, SystemName};

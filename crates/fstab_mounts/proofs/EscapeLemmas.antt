@@ -6,33 +6,35 @@ use Rattle.std.proofs.lemmas.List.Concat.{flat_map-append}
 use Rattle.std.proofs.lemmas.List.Elements.{All-from_recursion, filter-append}
 use Rattle.std.specs.Char.{digit_char, is_ascii_alphanumeric}
 use Rattle.std.specs.List.{AllByRecursion, flat_map, onto_first, slice_split}
-use Rattle.switch_names.specs.Path.{is_empty_name, names_of}
+use Rattle.switch_names.specs.Path.{names_of}
 use Rattle.switch_names.specs.UnitKind.{ending_of}
 use Rattle.switch_names.specs.UnitName.{is_no_unit_byte, unit_fault}
 use Rattle.switch_names.specs.declared.name_fault.NameFault.{NameFault}
 use Rattle.switch_names.specs.declared.unit_kind.UnitKind.{UnitKind}
+use Rattle.switch_names.specs.Texts.{is_empty}
 use Rattle.switch_names.proofs.UnitNames.{IsShortName-from_name, IsUnitName-from_stem}
+use Rattle.switch_names.proofs.Lists.{all_join}
 use Rattle.fstab_mounts.specs.Escape.{escaped, escaped_byte, escaped_first, escaped_path, in_digits, is_plain, is_some_name, joined, named, path_names, path_unit, short_name, with_name}
 
 -- ---- names are joined one by one
 
-not_empty : (x : ℕ) (xs : List ℕ) → is_empty_name (x ∷ xs) ≡ false
+not_empty : (x : ℕ) (xs : List ℕ) → is_empty (x ∷ xs) ≡ false
 not_empty x xs = grind (arith, nat_tests)
 
-empty_is : (xs : List ℕ) → is_empty_name xs ≡ true → xs ≡ []
+empty_is : (xs : List ℕ) → is_empty xs ≡ true → xs ≡ []
 empty_is [] e = refl
 empty_is (x ∷ xs) e = absurd (false≢true (sym (not_empty x xs) ∙ e))
 
-byte_some : (byte : ℕ) (dot plain : Bool) (more : List ℕ) → is_empty_name (cond dot (in_digits byte) (cond plain (byte ∷ []) (in_digits byte)) ++ more) ≡ false
+byte_some : (byte : ℕ) (dot plain : Bool) (more : List ℕ) → is_empty (cond dot (in_digits byte) (cond plain (byte ∷ []) (in_digits byte)) ++ more) ≡ false
 byte_some byte true plain more = not_empty 92 (120 ∷ digit_char (byte / 16) ∷ digit_char (byte % 16) ∷ more)
 byte_some byte false true more = not_empty byte more
 byte_some byte false false more = not_empty 92 (120 ∷ digit_char (byte / 16) ∷ digit_char (byte % 16) ∷ more)
 
 -- the names before a further one aren't empty together
-joined_some : (name : List ℕ) (rest : List (List ℕ)) → is_some_name name ≡ true → is_empty_name (joined (name ∷ rest)) ≡ false
+joined_some : (name : List ℕ) (rest : List (List ℕ)) → is_some_name name ≡ true → is_empty (joined (name ∷ rest)) ≡ false
 joined_some [] rest some = absurd (false≢true some)
 joined_some (byte ∷ name) rest some =
-    ap is_empty_name (append_assoc (cond (byte == 46) (in_digits byte) (escaped_byte byte)) (escaped name) (flat_map (λ n. 45 ∷ escaped n) rest))
+    ap is_empty (append_assoc (cond (byte == 46) (in_digits byte) (escaped_byte byte)) (escaped name) (flat_map (λ n. 45 ∷ escaped n) rest))
     ∙ byte_some byte (byte == 46) (is_plain byte) (escaped name ++ flat_map (λ n. 45 ∷ escaped n) rest)
 
 all_some : (xs : List (List ℕ)) → AllByRecursion (λ name. is_some_name name ≡ true) (filter is_some_name xs)
@@ -42,11 +44,11 @@ all_some (x ∷ xs) = elim (is_some_name x) as (λ b. is_some_name x ≡ b → A
   | false ↦ λ e. all_some xs
 ] refl
 
-next_name : (names : List (List ℕ)) (name : List ℕ) → AllByRecursion (λ n. is_some_name n ≡ true) names → is_empty_name name ≡ false →
+next_name : (names : List (List ℕ)) (name : List ℕ) → AllByRecursion (λ n. is_some_name n ≡ true) names → is_empty name ≡ false →
     with_name (joined names) name ≡ joined (names ++ name ∷ [])
 next_name [] name all some = ap (λ b. cond b [] (escaped_first name)) some ∙ sym (append-nil (escaped_first name))
 next_name (first ∷ names) name all some =
-    ap (λ b. cond b (joined (first ∷ names)) (cond (is_empty_name (joined (first ∷ names))) (escaped_first name) (joined (first ∷ names) ++ 45 ∷ escaped name))) some
+    ap (λ b. cond b (joined (first ∷ names)) (cond (is_empty (joined (first ∷ names))) (escaped_first name) (joined (first ∷ names) ++ 45 ∷ escaped name))) some
     ∙ ap (λ b. cond b (escaped_first name) (joined (first ∷ names) ++ 45 ∷ escaped name)) (joined_some first names all.0)
     ∙ append_assoc (escaped_first first) (flat_map (λ n. 45 ∷ escaped n) names) (45 ∷ escaped name)
     ∙ ap (λ l. escaped_first first ++ (flat_map (λ n. 45 ∷ escaped n) names ++ 45 ∷ l)) (sym (append-nil (escaped name)))
@@ -55,21 +57,21 @@ next_name (first ∷ names) name all some =
 -- one more part of a path
 pub part_joins : (parts : List (List ℕ)) (name : List ℕ) → with_name (joined (filter is_some_name parts)) name ≡ joined (filter is_some_name (parts ++ name ∷ []))
 part_joins parts name =
-    elim (is_empty_name name) as (λ b. is_empty_name name ≡ b → with_name (joined (filter is_some_name parts)) name ≡ joined (filter is_some_name parts ++ cond (not b) (name ∷ []) [])) [
-      | true ↦ λ e. ap (λ b. cond b (joined (filter is_some_name parts)) (cond (is_empty_name (joined (filter is_some_name parts))) (escaped_first name) (joined (filter is_some_name parts) ++ 45 ∷ escaped name))) e
+    elim (is_empty name) as (λ b. is_empty name ≡ b → with_name (joined (filter is_some_name parts)) name ≡ joined (filter is_some_name parts ++ cond (not b) (name ∷ []) [])) [
+      | true ↦ λ e. ap (λ b. cond b (joined (filter is_some_name parts)) (cond (is_empty (joined (filter is_some_name parts))) (escaped_first name) (joined (filter is_some_name parts) ++ 45 ∷ escaped name))) e
           ∙ ap joined (sym (append-nil (filter is_some_name parts)))
       | false ↦ λ e. next_name (filter is_some_name parts) name (all_some parts) e
     ] refl
     ∙ ap joined (sym (filter-append is_some_name parts (name ∷ [])))
 
 -- the names of a path, where there are some
-pub path_some : (path text : List ℕ) → text ≡ joined (path_names path) → is_empty_name text ≡ false → text ≡ escaped_path path
-path_some path text is some = is ∙ sym (ap (λ b. cond b (45 ∷ []) (joined (path_names path))) (ap is_empty_name (sym is) ∙ some))
+pub path_some : (path text : List ℕ) → text ≡ joined (path_names path) → is_empty text ≡ false → text ≡ escaped_path path
+path_some path text is some = is ∙ sym (ap (λ b. cond b (45 ∷ []) (joined (path_names path))) (ap is_empty (sym is) ∙ some))
 
 -- and where there are none
-pub path_none : (path text : List ℕ) → text ≡ joined (path_names path) → is_empty_name text ≡ true → text ++ 45 ∷ [] ≡ escaped_path path
+pub path_none : (path text : List ℕ) → text ≡ joined (path_names path) → is_empty text ≡ true → text ++ 45 ∷ [] ≡ escaped_path path
 path_none path text is none =
-    ap (λ t. t ++ 45 ∷ []) (empty_is text none) ∙ sym (ap (λ b. cond b (45 ∷ []) (joined (path_names path))) (ap is_empty_name (sym is) ∙ none))
+    ap (λ t. t ++ 45 ∷ []) (empty_is text none) ∙ sym (ap (λ b. cond b (45 ∷ []) (joined (path_names path))) (ap is_empty (sym is) ∙ none))
 
 -- ---- all bytes stand in names of units
 
@@ -81,10 +83,6 @@ AreBytes text = AllByRecursion IsByte text
 
 abbrev IsSmall : ℕ → Type 0
 IsSmall byte = byte < 256
-
-all_join : {X : Type 0} (P : X → Type 0) (front back : List X) → AllByRecursion P front → AllByRecursion P back → AllByRecursion P (front ++ back)
-all_join P [] back f b = b
-all_join P (x ∷ front) back f b = (f.0, all_join P front back f.1 b)
 
 signs : (a p s q r t u : Bool) → (a || (p || (q || (r || false)))) ≡ true → not (a || (p || (s || (q || (r || (t || (u || false))))))) ≡ false
 signs true p s q r t u h = refl
@@ -163,16 +161,16 @@ filter_small (name ∷ names) all = elim (is_some_name name) as (λ b. AllByRecu
 ]
 
 path_bytes : (path : List ℕ) → AllByRecursion IsSmall path → AreBytes (escaped_path path)
-path_bytes path all = elim (is_empty_name (joined (path_names path))) as (λ b. AreBytes (cond b (45 ∷ []) (joined (path_names path)))) [
+path_bytes path all = elim (is_empty (joined (path_names path))) as (λ b. AreBytes (cond b (45 ∷ []) (joined (path_names path)))) [
   | true ↦ (refl, tt)
   | false ↦ joined_bytes (path_names path) (filter_small (names_of path) (split_small (λ byte. byte == 47) path all))
 ]
 
-some_length : (xs : List ℕ) → is_empty_name xs ≡ false → 0 < length xs
+some_length : (xs : List ℕ) → is_empty xs ≡ false → 0 < length xs
 some_length xs h = grind (arith, nat_tests)
 
 path_length : (path : List ℕ) → 0 < length (escaped_path path)
-path_length path = elim (is_empty_name (joined (path_names path))) as (λ b. is_empty_name (joined (path_names path)) ≡ b → 0 < length (cond b (45 ∷ []) (joined (path_names path)))) [
+path_length path = elim (is_empty (joined (path_names path))) as (λ b. is_empty (joined (path_names path)) ≡ b → 0 < length (cond b (45 ∷ []) (joined (path_names path)))) [
   | true ↦ λ e. omega arith
   | false ↦ λ e. some_length (joined (path_names path)) e
 ] refl

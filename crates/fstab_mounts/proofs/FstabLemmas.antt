@@ -1,6 +1,6 @@
 -- The units of lines, and the first of each name.
 use Rattle.std.proofs.Common.{◌≡◌, ℕ, ◌<◌, ◌||◌, Bool, true, false, not, cond, List, [], ◌∷◌, ◌++◌, length, filter, map, Bor, None, arith, refl, sym, ap, ◌∙◌}
-use Rattle.std.proofs.lemmas.Bool.{false_from_ne_true, false≢true}
+use Rattle.std.proofs.lemmas.Bool.{false_from_ne_true, false≢true, not-true}
 use Rattle.std.proofs.lemmas.List.Elements.{filter-append}
 use Rattle.std.proofs.lemmas.Str.{IsUtf8-from_is_utf8, is_utf8-from_IsUtf8}
 use Rattle.std.specs.Str.{IsUtf8, is_utf8}
@@ -24,10 +24,6 @@ few (a ∷ []) h = refl
 few (a ∷ b ∷ []) h = refl
 few (a ∷ b ∷ d ∷ []) h = refl
 few (a ∷ b ∷ d ∷ e ∷ more) h = absurd (omega arith)
-
-pub not_true : (b : Bool) → not b ≡ true → b ≡ false
-not_true true h = absurd (false≢true h)
-not_true false h = refl
 
 pub not_false : (b : Bool) → not b ≡ false → b ≡ true
 not_false true h = refl

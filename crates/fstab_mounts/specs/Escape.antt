@@ -2,13 +2,14 @@
 use Rattle.std.specs.Prelude.{ℕ, ◌/◌, ◌%◌, ◌||◌, ◌==◌, Bool, not, List, [], ◌∷◌, ◌++◌, length, filter, codes, nat_lt, Option, None, Some, is_none, if◌then◌else◌}
 use Rattle.std.specs.Char.{digit_char, is_ascii_alphanumeric}
 use Rattle.std.specs.List.{flat_map, list_any}
-use Rattle.switch_names.specs.Path.{is_empty_name, names_of}
+use Rattle.switch_names.specs.Path.{names_of}
 use Rattle.switch_names.specs.UnitKind.{ending_of}
 use Rattle.switch_names.specs.UnitName.{unit_fault}
 use Rattle.switch_names.specs.declared.name_fault.NameFault.{NameFault}
 use Rattle.switch_names.specs.declared.name_fault.NameFault.TheVariants.{Long}
 use Rattle.switch_names.specs.declared.unit_kind.UnitKind.{UnitKind}
 use Rattle.switch_names.specs.declared.unit_kind.UnitKind.TheVariants.{Mount, Swap}
+use Rattle.switch_names.specs.Texts.{is_empty}
 
 -- an ASCII letter or digit, or one of three signs
 abbrev pub is_plain : ℕ → Bool
@@ -38,7 +39,7 @@ joined (first ∷ rest) = escaped_first first ++ flat_map (λ name. 45 ∷ escap
 
 -- a name isn't empty
 abbrev pub is_some_name : List ℕ → Bool
-is_some_name name = not (is_empty_name name)
+is_some_name name = not (is_empty name)
 
 -- the names of a path: slashes at its ends, and all but one of several, make no difference
 abbrev pub path_names : List ℕ → List (List ℕ)
@@ -46,7 +47,7 @@ path_names path = filter is_some_name (names_of path)
 
 -- a path as it stands in a unit's name; one without names is `-`
 abbrev pub escaped_path : List ℕ → List ℕ
-escaped_path path = if is_empty_name (joined (path_names path)) then 45 ∷ [] else joined (path_names path)
+escaped_path path = if is_empty (joined (path_names path)) then 45 ∷ [] else joined (path_names path)
 
 -- the name of the unit of a kind that stands for a path
 abbrev pub path_unit : UnitKind → List ℕ → List ℕ
@@ -75,6 +76,6 @@ named text = if is_none (unit_fault text) then Some text else None
 -- the names so far and one more
 abbrev pub with_name : List ℕ → List ℕ → List ℕ
 with_name text name =
-    if is_empty_name name then text
-    else if is_empty_name text then escaped_first name
+    if is_empty name then text
+    else if is_empty text then escaped_first name
     else text ++ 45 ∷ escaped name

@@ -36,7 +36,7 @@ profile_short : length profile ≡ 27
 unfolding profile
 profile_short = refl
 
-link_not_stage : (n : ℕ) → is_path (link_path n) stage ≡ false
+pub link_not_stage : (n : ℕ) → is_path (link_path n) stage ≡ false
 unfolding link_path stage
 link_not_stage n = refl
 

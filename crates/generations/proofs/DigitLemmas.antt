@@ -1,6 +1,6 @@
 -- What texts say of the numbers whose digits stand in them.
 use Rattle.std.proofs.Common.{◌≡◌, ◌≢◌, ℕ, ◌<◌, ◌^◌, ◌+◌, ◌%◌, ◌==◌, ◌||◌, Bool, true, false, List, [], ◌∷◌, ◌++◌, Option, None, Some, Result, Ok, Err, IfOk, MatchOption, Bor, sym, ap, subst, ◌∙◌, arith}
-use Rattle.std.proofs.lemmas.Bool.{both_ways, ne_eqb}
+use Rattle.std.proofs.lemmas.Bool.{both_ways, ne_eqb, or_from}
 use Rattle.std.proofs.lemmas.Fmt.{decimal_by_steps, parse-decimal}
 use Rattle.std.proofs.lemmas.List.{append_cancel_left, append_cancel_right}
 use Rattle.std.proofs.lemmas.List.Folds.{list_any-append}
@@ -12,7 +12,6 @@ use Rattle.std.specs.Str.{bytes_eq}
 use Rattle.std.specs.Str.Parse.{ParsesUnsigned}
 use Rattle.switch_names.specs.Path.{slash}
 use Rattle.generations.specs.Digits.{BearsNumber}
-use Rattle.switch_parts.proofs.LeafLemmas.{both_false}
 
 -- what precedes the end of what follows the front
 pub stands_between : (text front rest end : List ℕ) (middle : Option (Bor (List ℕ))) → text ≡ front ++ rest →
@@ -53,9 +52,9 @@ digit_no_slash n = ne_eqb (48 + n) slash (λ same. absurd (omega arith))
 decimal_no_slash : (n : ℕ) → n < 2 ^ 64 → list_any (λ byte. byte == slash) (decimal n) ≡ false
 decimal_no_slash n small = decimal_by_steps (λ k ds. list_any (λ byte. byte == slash) ds ≡ false)
     (λ k digit. ap (λ b. b || false) (digit_no_slash k))
-    (λ k ds more none. list_any-append (λ byte. byte == slash) ds ((48 + k % 10) ∷ []) ∙ both_false _ _ none (ap (λ b. b || false) (digit_no_slash (k % 10))))
+    (λ k ds more none. list_any-append (λ byte. byte == slash) ds ((48 + k % 10) ∷ []) ∙ or_from _ _ none (ap (λ b. b || false) (digit_no_slash (k % 10))))
     n small
 
 -- nor is there one in a number's digits before an end without one
 pub digits_no_slash : (n : ℕ) (end : List ℕ) → n < 2 ^ 64 → list_any (λ byte. byte == slash) end ≡ false → list_any (λ byte. byte == slash) (decimal n ++ end) ≡ false
-digits_no_slash n end small none = list_any-append (λ byte. byte == slash) (decimal n) end ∙ both_false _ _ (decimal_no_slash n small) none
+digits_no_slash n end small none = list_any-append (λ byte. byte == slash) (decimal n) end ∙ or_from _ _ (decimal_no_slash n small) none

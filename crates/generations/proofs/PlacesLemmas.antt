@@ -3,7 +3,7 @@ use Rattle.std.proofs.Common.{◌≡◌, ◌&&◌, ℕ, Bool, true, false, cond,
 use Rattle.std.proofs.lemmas.Bool.{both_ways, cases_Bool}
 use Rattle.std.specs.Option.{option_to_list}
 use Rattle.host_trait.specs.World.{Leaves, is_in_line, stage}
-use Rattle.host_trait.proofs.Sound.{in_line_either, not_in_line}
+use Rattle.host_trait.proofs.Sound.{in_line_either, not_in_line, line_turned}
 use Rattle.switch_names.specs.Names.{Name}
 use Rattle.tree_put.specs.declared.written_place.WrittenPlace.{WrittenPlace}
 use Rattle.tree_put.specs.WrittenPlace.{AreApartFromStage, written}
@@ -32,20 +32,14 @@ new_link_of_world leaves gens system is =
 pub places_of_world : (leaves : Leaves) (gens : Gens) (system : Name) → IsGensOf leaves gens → places_in gens.list system ≡ profile_places leaves system
 places_of_world leaves gens system is = ap (λ l. written false profile ∷ (l ++ written false stage ∷ [])) (new_link_of_world leaves gens system is)
 
-turned : (p q : Name) → is_in_line p q ≡ false → is_in_line q p ≡ false
-turned p q none = elim (cases_Bool (is_in_line q p)) [
-  | inl is ↦ absurd (both_ways _ none (in_line_either q p is))
-  | inr is ↦ is
-]
-
 with_link : (kept : Bool) (number : Option ℕ) → AreApartFromStage (option_to_list (option_map (written false) (cond kept None (option_map link_path number))) ++ written false stage ∷ [])
 with_link true number = (not_in_line stage, tt)
 with_link false None = (not_in_line stage, tt)
-with_link false (Some n) = (turned (link_path n) stage (link_apart n).line, (not_in_line stage, tt))
+with_link false (Some n) = (line_turned (link_path n) stage (link_apart n).line, (not_in_line stage, tt))
 
 -- the stage is apart from the places of each list
 pub places_apart : (list : List Gen) (system : Name) → AreApartFromStage (places_in list system)
-places_apart list system = (turned profile stage profile_apart.line, with_link (is_highest_of list system) (number_for_in list system))
+places_apart list system = (line_turned profile stage profile_apart.line, with_link (is_highest_of list system) (number_for_in list system))
 
 -- what holds of two lists holds of both together
 pub apart_joined : (places more : List WrittenPlace) → AreApartFromStage places → AreApartFromStage more → AreApartFromStage (places ++ more)

@@ -1,6 +1,6 @@
 -- What the profile's part owns begins as the profile's link does, and is among what it looks at.
 use Rattle.std.proofs.Common.{◌≡◌, ◌≢◌, ◌⊎◌, ℕ, ◌^◌, ◌<◌, Bool, true, false, ◌&&◌, ◌||◌, ◌==◌, nat_eq, nat_lt, slice_index, ◌++◌, codes, drop, length, refl, sym, ap, subst, ◌∙◌, inl, inr, ⊎_elim, arith}
-use Rattle.std.proofs.lemmas.Bool.{and_parts, both_ways, cases_Bool, or_left, or_right}
+use Rattle.std.proofs.lemmas.Bool.{and_parts, both_ways, cases_Bool, or_left, or_right, or_from}
 use Rattle.std.proofs.lemmas.Bool.Decides.{Decides-eqb}
 use Rattle.std.proofs.lemmas.Slice.Eq.{starts_is}
 use Rattle.std.specs.Cmp.Lexicographic.{same_text}
@@ -8,7 +8,7 @@ use Rattle.std.specs.List.{starts_with}
 use Rattle.switch_names.proofs.Below.{below_both, front_is_parent}
 use Rattle.switch_names.specs.Names.{Name}
 use Rattle.switch_names.specs.Path.{IsParentOf, is_below, slash}
-use Rattle.switch_parts.proofs.LeafLemmas.{both_false, BeginApart, not_below, not_line}
+use Rattle.switch_parts.proofs.LeafLemmas.{BeginApart, not_below, not_line}
 use Rattle.host_trait.specs.World.{is_in_line, is_path, stage}
 use Rattle.generations.proofs.DigitLemmas.{digits_no_slash}
 use Rattle.generations.proofs.Numbers.{small_number}
@@ -106,7 +106,7 @@ link_line_read n number q line = line_read (link_path n) (link_parent n (small_n
 
 -- a path that begins apart from the folder of the profiles and from the stage isn't looked at
 pub unread : (q : Name) → is_path q profiles ≡ false → BeginApart q profiles → BeginApart q stage → reads_profile q ≡ false
-unread q other folder staged = both_false _ _ (both_false _ _ other (not_line q profiles folder)) (not_line q stage staged)
+unread q other folder staged = or_from _ _ (or_from _ _ other (not_line q profiles folder)) (not_line q stage staged)
 
 -- nothing below these folders is looked at
 pub store_unread : (rest : Name) → reads_profile (codes "nix/store" ++ rest) ≡ false

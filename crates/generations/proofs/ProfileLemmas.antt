@@ -9,7 +9,7 @@ use Rattle.host_trait.specs.declared.leaf.LeafKind.{LeafKind}
 use Rattle.host_trait.specs.declared.leaf.LeafKind.TheVariants.{Link}
 use Rattle.host_trait.specs.World.{IsClear, WorldState, is_in_line, is_path, seen, stage, with_leaf}
 use Rattle.host_trait.proofs.Seen.{clear_seen, other_of, seen_at}
-use Rattle.host_trait.proofs.Sound.{clear_insert, get_other, in_line_either, not_in_line}
+use Rattle.host_trait.proofs.Sound.{clear_insert, get_other, in_line_either, not_in_line, line_turned}
 use Rattle.tree_put.proofs.LeftLemmas.{leaf_after}
 use Rattle.switch_parts.specs.Part.{IsAtEnd, IsFree, IsMomentOf, IsOnly, IsPart, IsSameFor}
 use Rattle.generations.specs.Places.{generation_at, highest, is_of, link_name, link_path, link_target, number_after, profile, set_end, with_generation, with_profile}
@@ -64,24 +64,18 @@ clear_moment system w m p moment stage_apart link_is_apart profile_is_apart clea
     later)
     moment
 
-turned : (p q : Name) → is_in_line p q ≡ false → is_in_line q p ≡ false
-turned p q none = elim (cases_Bool (is_in_line q p)) [
-  | inl is ↦ absurd (both_ways _ none (in_line_either q p is))
-  | inr is ↦ is
-]
-
 -- what can be set can be set again at each moment
 pub can_again : (system : Name) (w m : WorldState) → CanSet system w → KeepsSet system w m → IsSetMoment system w m → CanSet system m
 can_again system w m can keeps moment =
     let n = number_after w.leaves system in
     record {
       stage = clear_moment system w m stage moment (not_in_line stage) (link_apart n).line profile_apart.line can.stage;
-      profile = clear_moment system w m profile moment (turned profile stage profile_apart.line) (link_profile n).line (not_in_line profile) can.profile;
+      profile = clear_moment system w m profile moment (line_turned profile stage profile_apart.line) (link_profile n).line (not_in_line profile) can.profile;
       link = λ other.
           let same = keeps.only_new other in
           let before : is_of (generation_at w.leaves (highest w.leaves)) system ≡ false = sym (highest_of_same m.leaves w.leaves system (λ k. generation_seen m w k same)) ∙ other in
           subst (λ k. IsClear m.leaves (link_path k)) (sym keeps.number)
-          (clear_seen m w (link_path n) (turned (link_path n) stage (link_apart n).line) same (can.link before));
+          (clear_seen m w (link_path n) (line_turned (link_path n) stage (link_apart n).line) same (can.link before));
     }
 
 -- a set leaves the manager as it is

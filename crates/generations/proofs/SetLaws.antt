@@ -15,7 +15,7 @@ use Rattle.tree_put.proofs.PutLemmas.{apart_ne}
 use Rattle.generations.specs.Places.{generation_at, greatest_below, highest, is_number, is_of, link_name, link_path, link_target, number_after, profile, set_end, target_of, with_generation, with_profile}
 use Rattle.generations.specs.Set.{IsSetMoment}
 use Rattle.generations.proofs.Apart.{link_apart, link_profile, one_link_path}
-use Rattle.generations.proofs.Numbers.{highest_is, highest_same, stands_at_number, below_bound}
+use Rattle.generations.proofs.Numbers.{highest_is, highest_same, stands_at_number, below_bound, small_number}
 use Rattle.generations.proofs.SetLemmas.{kept_generation, new_generation}
 
 stands : (n : ℕ) (o : Option LeafKind) → Option (Option (List ℕ))
@@ -84,9 +84,6 @@ above_highest leaves m above = elim (cases_Bool (is_number m)) [
 itself : (system : List ℕ) → is_of (Some (Some system)) system ≡ true
 itself system = nat_list_eq_equiv.refl system
 
-small : (n : ℕ) → is_number n ≡ true → n < 2 ^ 64
-small n is = let below = below_bound n is in grind arith
-
 -- where the generation's link is new, it is the highest one's, and names the system
 module _ (system : List ℕ) (w : WorldState) where
   abbrev pub u : WorldState
@@ -103,7 +100,7 @@ module _ (system : List ℕ) (w : WorldState) where
   others_there number k ne = elim (cases_Bool (is_number k)) [
     | inl is ↦ generation_of u.leaves w.leaves k
         (get_other w.leaves (link_path (number_after w.leaves system)) (link_path k) (Link (link_target system))
-        (other_of _ _ (λ same. ne (one_link_path k (number_after w.leaves system) (small k is) (small _ number) same))))
+        (other_of _ _ (λ same. ne (one_link_path k (number_after w.leaves system) (small_number k is) (small_number _ number) same))))
     | inr is ↦ ap (λ b. cond b (option_map target_of (get u.leaves (link_path k))) None) is
         ∙ sym (ap (λ b. cond b (option_map target_of (get w.leaves (link_path k))) None) is)
   ]

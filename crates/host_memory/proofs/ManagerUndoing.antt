@@ -3,6 +3,7 @@ use Rattle.std.proofs.Common.{◌≡◌, ℕ, ◌-◌, cond, List, [], ◌∷◌
 use Rattle.std.specs.FinMap.{get}
 use Rattle.std.specs.Ordering.{eq_by_cmp}
 use Rattle.std.proofs.lemmas.List.{length-append, take_at}
+use Rattle.std.proofs.lemmas.Result.{on_ok_weaker}
 use Rattle.host_memory.proofs.Histories.{recorded}
 use Rattle.host_memory.specs.declared.history.DoneCall.TheVariants.{Performed, Halted, Loaded}
 use Rattle.host_memory.specs.declared.history.History.{History}
@@ -37,10 +38,6 @@ shorter items x =
     let size : length (items ++ x ∷ []) - 1 ≡ length items = omega arith in
     ap (λ n. take n (items ++ x ∷ [])) size ∙ take_at items (x ∷ []) (length items) refl
 
-on_ok : {T E P Q : Type 0} (r : Result T E) → (P → Q) → OnOk r P → OnOk r Q
-on_ok (Ok x) f p = f p
-on_ok (Err e) f p = p
-
 on_err : {T E P Q : Type 0} (r : Result T E) → (P → Q) → OnErr r P → OnErr r Q
 on_err (Ok x) f p = p
 on_err (Err e) f p = f p
@@ -55,7 +52,7 @@ module _
     pub stepped :
         (done : ManagerState → ManagerState) → was ≡ old.manager → middle ≡ with_manager empty old → new ≡ with_manager then middle →
         OnOk result (then ≡ done was) → OnOk result (new ≡ with_manager (done old.manager) old)
-    stepped done taken out back is = on_ok result (λ now. stepped_to (done old.manager) taken out back (now ∙ ap done taken)) is
+    stepped done taken out back is = on_ok_weaker result (λ now. stepped_to (done old.manager) taken out back (now ∙ ap done taken)) is
 
     pub not_stepped :
         was ≡ old.manager → middle ≡ with_manager empty old → new ≡ with_manager then middle →

@@ -8,6 +8,7 @@ use Rattle.host_memory.specs.declared.history.DoneCall.TheVariants.{Staged, Rena
 use Rattle.host_memory.specs.declared.history.History.{History}
 use Rattle.host_memory.specs.History.{Makes, with_at, undone}
 use Rattle.host_trait.proofs.Places.{bytes_total, alike, same_or_other, at_same, none_or_present, some_of}
+use Rattle.host_trait.proofs.Seen.{unfolded_move}
 use Rattle.host_trait.specs.Change.{finished, Stage, Rename, Remove}
 use Rattle.host_trait.specs.declared.leaf.LeafKind.{LeafKind}
 use Rattle.host_trait.specs.World.{IsClear, IsInTheWay, Leaves, bytes_cmp, is_in_line, moved, with_moved, with_leaf, without_leaf, stage}
@@ -45,16 +46,13 @@ brought_to m from to leaf was other there is =
 is_there : (m : Leaves) (from to : List ℕ) (leaf : LeafKind) → get (insert (remove m from) to leaf) to ≡ Some leaf
 is_there m from to leaf = at_same (remove m from) to leaf
 
-moved_leaf : (m : Leaves) (from to : List ℕ) (leaf : LeafKind) → get m from ≡ Some leaf → moved m from to ≡ insert (remove m from) to leaf
-moved_leaf m from to leaf is = ap (with_moved m from to) is
-
 moved_back :
     (m : Leaves) (from to : List ℕ) (leaf : LeafKind) (was : Option LeafKind) →
     eq_by_cmp bytes_cmp to from ≡ false → get m from ≡ Some leaf → get m to ≡ was →
     with_at (moved (moved m from to) to from) to was ≡ m
 moved_back m from to leaf was other there is =
-    ap (λ (n : Leaves). with_at (moved n to from) to was) (moved_leaf m from to leaf there)
-    ∙ ap (λ (n : Leaves). with_at n to was) (moved_leaf (insert (remove m from) to leaf) to from leaf (is_there m from to leaf))
+    ap (λ (n : Leaves). with_at (moved n to from) to was) (unfolded_move m from to leaf there)
+    ∙ ap (λ (n : Leaves). with_at n to was) (unfolded_move (insert (remove m from) to leaf) to from leaf (is_there m from to leaf))
     ∙ brought_to m from to leaf was other there is
 
 -- nothing stands in the way of a path that is clear

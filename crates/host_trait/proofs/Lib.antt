@@ -1,6 +1,8 @@
 pub mod Causes
 pub mod KeyOrder
+pub mod Listings
 pub mod Moments
+pub mod NameOrder
 pub mod Orders
 pub mod Places
 pub mod Plain

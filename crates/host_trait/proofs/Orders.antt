@@ -11,6 +11,7 @@ use Rattle.std.proofs.lemmas.List.{length-map}
 use Rattle.std.proofs.lemmas.Option.{slice_get-get_or, slice_get-map}
 use Rattle.host_trait.specs.Bytes.{bytes_cmp}
 use Rattle.host_trait.proofs.Places.{bytes_total, bytes_exact}
+use Rattle.switch_names.proofs.Lists.{all_before, all_from}
 
 abbrev pub AreBelow : List (List ℕ) → List ℕ → Type 0
 AreBelow names name = AllByRecursion (λ other. bytes_cmp other name ≡ Less) names
@@ -21,7 +22,7 @@ AreAbove names name = AllByRecursion (λ other. bytes_cmp name other ≡ Less) n
 pub less_other : (a b : List ℕ) → bytes_cmp a b ≡ Less → a ≢ b
 less_other a b less e = let tied = tied_itself bytes_total b in let same = ap (λ k. bytes_cmp k b) e in cc
 
-all_below : (k name : List ℕ) (names : List (List ℕ)) → bytes_cmp k name ≡ Less → AreAbove names name → AreAbove names k
+pub all_below : (k name : List ℕ) (names : List (List ℕ)) → bytes_cmp k name ≡ Less → AreAbove names name → AreAbove names k
 all_below k name [] less h = tt
 all_below k name (x ∷ names) less h = (bytes_total.trans k name x less h.0, all_below k name names less h.1)
 
@@ -62,17 +63,6 @@ sorted_above (k ∷ front) name back s = sorted_above front name back s.1
 pub none_sorted : IsStrictlySortedBy bytes_cmp []
 unfolding IsStrictlySortedBy
 none_sorted = tt
-
-all_before : {X : Type 0} (P : X → Type 0) (xs : List X) (i : ℕ) → i ≤ length xs → ((k : ℕ) (d : X) → k < i → P (get_or xs k d)) → AllByRecursion P (take i xs)
-all_before P xs zero within h = tt
-all_before P [] (suc i) within h = tt
-all_before P (x ∷ xs) (suc i) within h = (h 0 x (omega arith), all_before P xs i (omega arith) (λ k d lt. h (suc k) d (omega arith)))
-
-all_from : {X : Type 0} (P : X → Type 0) (xs : List X) (i : ℕ) → ((k : ℕ) (d : X) → i ≤ k → k < length xs → P (get_or xs k d)) → AllByRecursion P (drop i xs)
-all_from P [] zero h = tt
-all_from P [] (suc i) h = tt
-all_from P (x ∷ xs) zero h = (h 0 x (omega arith) (omega arith), all_from P xs zero (λ k d low lt. h (suc k) d (omega arith) (omega arith)))
-all_from P (x ∷ xs) (suc i) h = all_from P xs i (λ k d low lt. h (suc k) d (omega arith) (omega arith))
 
 get_or_map : {X Y : Type 0} (key : X → Y) (xs : List X) (k : ℕ) (d : X) → get_or (map key xs) k (key d) ≡ key (get_or xs k d)
 get_or_map key [] k d = refl

@@ -1,5 +1,5 @@
 -- Worlds that are equal but for the stage.
-use Rattle.std.proofs.Common.{◌≡◌, ◌≢◌, ℕ, true, false, List, Some, sym, ap, subst, ◌∙◌, inl, inr, rules}
+use Rattle.std.proofs.Common.{◌≡◌, ◌≢◌, ℕ, true, false, List, Some, sym, ap, subst, ◌∙◌, inl, inr, rules, None}
 use Rattle.std.proofs.lemmas.Bool.{both_ways}
 use Rattle.std.specs.FinMap.{get, insert, remove, get_tied, gets}
 use Rattle.std.specs.Ordering.{eq_by_cmp}
@@ -14,8 +14,11 @@ world_of m n w is = ap (λ (l : Leaves). record w { leaves = l }) is
 leaves_of_world : (v w : WorldState) → v ≡ w → v.leaves ≡ w.leaves
 leaves_of_world v w is = ap (λ (x : WorldState). x.leaves) is
 
-get_removed_other : (m : Leaves) (k q : List ℕ) → eq_by_cmp bytes_cmp q k ≡ false → get (remove m k) q ≡ get m q
+pub get_removed_other : (m : Leaves) (k q : List ℕ) → eq_by_cmp bytes_cmp q k ≡ false → get (remove m k) q ≡ get m q
 get_removed_other m k q other = grind (gets, rules)
+
+pub get_removed_here : (m : Leaves) (k : List ℕ) → get (remove m k) k ≡ None
+get_removed_here m k = grind (gets, rules)
 
 pub other_of : (p q : List ℕ) → p ≢ q → eq_by_cmp bytes_cmp p q ≡ false
 other_of p q ne = elim (same_or_other p q) [ inl same ↦ absurd (ne same) | inr other ↦ other ]
@@ -40,7 +43,7 @@ stage_clear_seen v w is clear q line = seen_at v w is q (line_not_same q stage l
 pub seen_staged : (leaf : LeafKind) (w : WorldState) → seen (with_leaf stage leaf w) ≡ seen w
 seen_staged leaf w = world_of _ _ w (alike _ _ (λ q. grind (gets, rules)))
 
-unfolded_move : (m : Leaves) (from to : List ℕ) (leaf : LeafKind) → get m from ≡ Some leaf → moved m from to ≡ insert (remove m from) to leaf
+pub unfolded_move : (m : Leaves) (from to : List ℕ) (leaf : LeafKind) → get m from ≡ Some leaf → moved m from to ≡ insert (remove m from) to leaf
 unfolded_move m from to leaf is = ap (with_moved m from to) is
 
 at_stage : (m : Leaves) (k : List ℕ) (leaf : LeafKind) → get (insert m k leaf) k ≡ Some leaf

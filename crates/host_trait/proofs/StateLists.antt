@@ -12,6 +12,7 @@ use Rattle.std.specs.Map.{lookup, keys_of}
 use Rattle.std.specs.Ordering.{eq_by_cmp}
 use Rattle.std.specs.declared.cmp.Ordering.TheVariants.{Less}
 use Rattle.switch_names.specs.UnitName.{IsUnitName}
+use Rattle.switch_names.proofs.Lists.{all_join, all_front, all_back}
 use Rattle.host_trait.specs.Bytes.{bytes_cmp}
 use Rattle.host_trait.specs.declared.unit_state.State.{State}
 use Rattle.host_trait.specs.declared.unit_state.State.TheVariants.{Active, Inactive, Failed}
@@ -70,18 +71,6 @@ pub none_is_sorted : IsSortedList []
 none_is_sorted = record { sorted = none_sorted; names = tt; others = tt }
 
 -- ---- a list round one of its units
-
-all_join : {X : Type 0} (P : X → Type 0) (front back : List X) → AllByRecursion P front → AllByRecursion P back → AllByRecursion P (front ++ back)
-all_join P [] back f b = b
-all_join P (x ∷ front) back f b = (f.0, all_join P front back f.1 b)
-
-all_front : {X : Type 0} (P : X → Type 0) (front back : List X) → AllByRecursion P (front ++ back) → AllByRecursion P front
-all_front P [] back h = tt
-all_front P (x ∷ front) back h = (h.0, all_front P front back h.1)
-
-all_back : {X : Type 0} (P : X → Type 0) (front back : List X) → AllByRecursion P (front ++ back) → AllByRecursion P back
-all_back P [] back h = h
-all_back P (x ∷ front) back h = all_back P front back h.1
 
 module _ (x : UnitState) where
   abbrev AreOther : List UnitState → Type 0

@@ -1,6 +1,7 @@
 pub mod Bytes
 pub mod Change
 pub mod Host
+pub mod Ids
 pub mod Leaf
 pub mod LeafMap
 pub mod Manager
@@ -8,4 +9,5 @@ pub mod Plain
 pub mod Reading
 pub mod Sink
 pub mod States
+pub mod Words
 pub mod World

@@ -1,5 +1,6 @@
 //! What a service manager did, and what fails when it starts it.
 ghost use Rattle.std.specs.Prelude.{◌≡◌, IfOk};
+ghost use Rattle.host_trait.specs.Words.{act_word};
 
 use std::alloc::{AllocError, Global};
 use switch_names::{Text, UnitName};
@@ -15,6 +16,20 @@ pub enum Act {
     Restart,
     /// It is started, where it isn't yet.
     Start,
+}
+
+impl Act {
+    /// The word for the act, as `systemctl` takes it.
+    pub fn word(self) -> &'static str
+        ensures { result.now ≡ act_word self }
+    {
+        match self {
+            Act::Stop => "stop",
+            Act::Reload => "reload",
+            Act::Restart => "restart",
+            Act::Start => "start",
+        }
+    }
 }
 
 /// One act in the journal.

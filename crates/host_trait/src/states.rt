@@ -150,6 +150,14 @@ impl States {
         &self.list
     }
 
+    /// Where a unit stands in the list, or else where it would, as a binary search answers.
+    pub fn find(&self, unit: &UnitName) -> Result<usize, usize>
+        ensures found { IfOk result (λ at. slice_get (units_of (listed_states self.now)) at ≡ Some unit.now) }
+        ensures missing { IfErr result (λ at. IsPlaceFor (listed_states self.now) unit.now at) }
+    {
+        find_unit(&self.list, unit)
+    }
+
     /// Changes the state of one unit.
     pub fn set(&mut self, unit: UnitName, state: State) -> Result<(), AllocError>
         ensures ok { OnOk result (self.new ≡ with_state unit state self.old) }

@@ -1,6 +1,7 @@
 //! What a service manager says of a unit.
 ghost use Rattle.std.specs.Prelude.{◌≡◌};
 ghost use Rattle.host_trait.specs.Manager.{is_active};
+ghost use Rattle.host_trait.specs.Words.{state_word};
 
 use switch_names::UnitName;
 
@@ -21,6 +22,17 @@ impl State {
         ensures { result ≡ is_active self }
     {
         matches!(self, State::Active)
+    }
+
+    /// The word for the state, as `systemctl is-active` prints it.
+    pub fn word(self) -> &'static str
+        ensures { result.now ≡ state_word self }
+    {
+        match self {
+            State::Active => "active",
+            State::Inactive => "inactive",
+            State::Failed => "failed",
+        }
     }
 }
 

@@ -17,6 +17,7 @@ use Rattle.host_trait.proofs.Places.{bytes_total, found, given, ordered_entries,
 use Rattle.host_trait.proofs.StateLists.{split_at}
 use Rattle.id_memory.specs.declared.id_row.IdRow.{IdRow}
 use Rattle.id_memory.specs.Ids.{AreIds, IsPlaceFor, IsSortedList, id_max, ids_of, names_of, rows_of}
+use Rattle.switch_names.proofs.Lists.{all_join, all_front, all_back}
 
 abbrev pub pair_of : IdRow → List ℕ × ℕ
 pair_of row = (row.name, row.id)
@@ -52,18 +53,6 @@ pub none_is_sorted : IsSortedList []
 none_is_sorted = record { sorted = none_sorted; bounded = tt }
 
 -- ---- rows round one of them
-
-all_join : {X : Type 0} (P : X → Type 0) (front back : List X) → AllByRecursion P front → AllByRecursion P back → AllByRecursion P (front ++ back)
-all_join P [] back f b = b
-all_join P (x ∷ front) back f b = (f.0, all_join P front back f.1 b)
-
-all_front : {X : Type 0} (P : X → Type 0) (front back : List X) → AllByRecursion P (front ++ back) → AllByRecursion P front
-all_front P [] back h = tt
-all_front P (x ∷ front) back h = (h.0, all_front P front back h.1)
-
-all_back : {X : Type 0} (P : X → Type 0) (front back : List X) → AllByRecursion P (front ++ back) → AllByRecursion P back
-all_back P [] back h = h
-all_back P (x ∷ front) back h = all_back P front back h.1
 
 names_join : (front back : List IdRow) → names_of (front ++ back) ≡ names_of front ++ names_of back
 names_join front back = map-append (λ (row : IdRow). row.name) front back

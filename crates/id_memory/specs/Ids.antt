@@ -8,18 +8,12 @@ use Rattle.std.specs.List.Sorted.{IsStrictlySortedBy}
 use Rattle.std.specs.declared.cmp.Ordering.TheVariants.{Less}
 use Rattle.switch_names.specs.Names.{Name}
 use Rattle.host_trait.specs.Bytes.{bytes_cmp}
+use Rattle.host_trait.specs.Ids.{Ids}
 use Rattle.id_memory.specs.declared.id_row.IdRow.{IdRow}
 
 -- the greatest id: the number after it means none
 abbrev pub id_max : ℕ
 id_max = 4294967294
-
--- the ids of names
-abbrev pub Ids : Type 0
-Ids = FinMap bytes_cmp ℕ
-
-abbrev pub ids_code : Coded Ids
-ids_code = map_of.code (coded_list coded_ℕ) coded_ℕ
 
 -- each number is an id
 abbrev pub AreIds : Ids → Type 0

@@ -29,7 +29,8 @@ impl Drop for IdMap {
 }
 
 impl Model for IdMap {
-    ghost use Rattle.id_memory.specs.Ids.{Ids, IsSortedList, ids_code, ids_of};
+    ghost use Rattle.host_trait.specs.Ids.{Ids, ids_code};
+    ghost use Rattle.id_memory.specs.Ids.{IsSortedList, ids_of};
 
     ghost Value = { Ids };
 

@@ -12,6 +12,7 @@ use Rattle.manager_core.proofs.Counting.{lines_before}
 use Rattle.manager_core.proofs.Growth.{added_lines, begun_lines}
 use Rattle.manager_core.proofs.Order.{front_of, may}
 use Rattle.manager_core.proofs.Splitting.{AreLines, not_empty, one_first}
+use Rattle.switch_names.proofs.Below.{less_from_test}
 
 -- lines that follow those of a state in a longer one make a state with them
 grow : (later state : ManagerState) (front back : List Line) → state_lines later ≡ state_lines state ++ (front ++ back) → AreLines front
@@ -100,9 +101,6 @@ before_fault bytes (suc few) many f g less = elim g.before [
       f.none (subst IsStateText same (first_is_text state few some.1.readable))
 ]
 
-less_by : (one other : ℕ) → nat_lt one other ≡ true → one < other
-less_by one other is = grind arith
-
 same_by : (one other : ℕ) → nat_lt one other ≡ false → nat_lt other one ≡ false → one ≡ other
 same_by one other is not = grind arith
 
@@ -110,9 +108,9 @@ same_by one other is not = grind arith
 pub one_fault : (bytes : List ℕ) (one other : ℕ) → IsFirstFault bytes one → IsFirstFault bytes other → one ≡ other
 one_fault bytes one other f g =
     elim (nat_lt one other) as (λ b. nat_lt one other ≡ b → one ≡ other) [
-      | true ↦ λ e. absurd (before_fault bytes one other f g (less_by one other e))
+      | true ↦ λ e. absurd (before_fault bytes one other f g (less_from_test one other e))
       | false ↦ λ e. elim (nat_lt other one) as (λ b. nat_lt other one ≡ b → one ≡ other) [
-        | true ↦ λ h. absurd (before_fault bytes other one g f (less_by other one h))
+        | true ↦ λ h. absurd (before_fault bytes other one g f (less_from_test other one h))
         | false ↦ λ h. same_by one other e h
       ] refl
     ] refl

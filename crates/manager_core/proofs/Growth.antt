@@ -8,7 +8,7 @@ use Rattle.std.specs.declared.cmp.Ordering.{Ordering}
 use Rattle.std.specs.declared.cmp.Ordering.TheVariants.{Less, Equal, Greater}
 use Rattle.std.specs.FinMap.{empty, entries, entries_sorted, entries-insert, insert, is_sorted, len-empty, len-entries, put}
 use Rattle.std.specs.FinMap.Entries.{by_order}
-use Rattle.std.proofs.lemmas.Bool.{both_ways}
+use Rattle.std.proofs.lemmas.Bool.{both_ways, and_parts}
 use Rattle.host_trait.specs.Bytes.{bytes_cmp}
 use Rattle.host_trait.specs.States.{listed_states, with_state, UnitStates}
 use Rattle.host_trait.specs.declared.manager_state.ManagerState.{ManagerState}
@@ -25,10 +25,6 @@ use Rattle.manager_core.proofs.Order.{both_of, true_is}
 pub no_items : {X : Type 0} (xs : List X) → (length xs == 0) ≡ true → xs ≡ []
 no_items [] e = refl
 no_items (x ∷ xs) e = absurd (let n : false ≡ true = grind arith in cc)
-
-both_are : (a b : Bool) → (a && b) ≡ true → (a ≡ true) × (b ≡ true)
-both_are true b e = (refl, e)
-both_are false b e = absurd (both_ways false refl e)
 
 pub less_is : (o : Ordering) → is_lt o ≡ true → o ≡ Less
 less_is Less e = refl
@@ -77,8 +73,8 @@ no_end (x ∷ xs) = ap (λ ys. x ∷ ys) (no_end xs)
 pub added_lines : (state : ManagerState) (one : Line) → IsLine one → may_stand one state ≡ true → state_lines (added one state) ≡ state_lines state ++ one ∷ []
 added_lines state (line.Loaded text) is may = absurd (both_ways false refl may)
 added_lines state (line.State one) is may =
-    let parts = both_are _ _ may in
-    let more = both_are _ _ parts.1 in
+    let parts = and_parts _ _ may in
+    let more = and_parts _ _ parts.1 in
     let bad = no_items state.bad parts.0 in
     let journal = no_items state.journal more.0 in
     let units = map line.State (listed_states state.states) in

@@ -13,7 +13,8 @@ use Rattle.manager_core.specs.declared.line.Line.TheVariants as line
 use Rattle.manager_core.specs.declared.line.Word.{Word}
 use Rattle.manager_core.specs.declared.line.Word.TheVariants.{Loaded, Active, Failed, Bad, Stop, Reload, Restart, Start}
 use Rattle.manager_core.specs.Reading.{all_words, both, entry_said, line_of, parted, said, state_said, text_of, unit_and_text, unit_of, word_of, word_text}
-use Rattle.manager_core.specs.StateText.{IsLine, IsText, act_word, line_text, state_word}
+use Rattle.host_trait.specs.Words.{act_word, state_word}
+use Rattle.manager_core.specs.StateText.{IsLine, IsText, line_text}
 use Rattle.manager_core.proofs.Names.{HasNo, name_has_no, name_is_read, text_has_no, text_is, text_is_read, unit_is}
 use Rattle.manager_core.proofs.Parts.{parted_joined, parted_parts}
 

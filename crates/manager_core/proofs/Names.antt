@@ -7,7 +7,7 @@ use Rattle.std.proofs.lemmas.Str.{IsUtf8-from_ascii, IsUtf8-from_is_utf8, is_utf
 use Rattle.switch_names.specs.Path.{is_no_path_byte}
 use Rattle.switch_names.specs.UnitName.{IsUnitName, is_no_unit_byte, unit_fault}
 use Rattle.switch_names.proofs.Positions.{All-from_no_position}
-use Rattle.switch_names.proofs.UnitNames.{IsShortName-from_name}
+use Rattle.switch_names.proofs.UnitNames.{IsShortName-from_name, not_utf8, unit_utf8}
 use Rattle.host_trait.specs.Manager.{IsPlain}
 use Rattle.manager_core.specs.Reading.{text_of, unit_of, utf8_of}
 use Rattle.manager_core.specs.StateText.{IsText}
@@ -15,12 +15,6 @@ use Rattle.manager_core.specs.StateText.{IsText}
 -- no byte of these is this one
 abbrev pub HasNo : ℕ → List ℕ → Type 0
 HasNo mark bytes = AllByRecursion (λ byte. (byte == mark) ≡ false) bytes
-
-pub no_utf8 : (bytes : List ℕ) → (IsUtf8 bytes → ⊥) → is_utf8 bytes ≡ false
-no_utf8 bytes none = elim (is_utf8 bytes) as (λ b. is_utf8 bytes ≡ b → b ≡ false) [
-  | true ↦ λ e. absurd (none (IsUtf8-from_is_utf8 bytes e))
-  | false ↦ λ e. refl
-] refl
 
 by_recursion : (P : ℕ → Type 0) (bytes : List ℕ) → All P bytes → AllByRecursion P bytes
 by_recursion P [] h = tt
@@ -30,19 +24,11 @@ all_weaker : {P Q : ℕ → Type 0} → ((byte : ℕ) → P byte → Q byte) →
 all_weaker f [] h = tt
 all_weaker f (byte ∷ bytes) h = (f byte h.0, all_weaker f bytes h.1)
 
-is_low : (byte : ℕ) → is_no_unit_byte byte ≡ false → byte < 128
-is_low byte is = grind arith
-
-all_low : (bytes : List ℕ) → AllByRecursion (λ byte. is_no_unit_byte byte ≡ false) bytes → (i : ℕ) → slice_index bytes i < 128
-all_low [] h i = omega arith
-all_low (byte ∷ bytes) h zero = is_low byte h.0
-all_low (byte ∷ bytes) h (suc i) = all_low bytes h.1 i
-
 unit_bytes : (name : List ℕ) → IsUnitName name → AllByRecursion (λ byte. is_no_unit_byte byte ≡ false) name
 unit_bytes name is = by_recursion _ name (IsShortName-from_name name is).bytes
 
 pub name_utf8 : (name : List ℕ) → IsUnitName name → is_utf8 name ≡ true
-name_utf8 name is = is_utf8-from_IsUtf8 name (IsUtf8-from_ascii name (all_low name (unit_bytes name is)))
+name_utf8 name is = is_utf8-from_IsUtf8 name (unit_utf8 name is)
 
 -- bytes that aren't UTF-8 are no unit's name
 pub no_unit : (bytes : List ℕ) → is_utf8 bytes ≡ false → unit_of bytes ≡ None

@@ -2,6 +2,7 @@
 use Rattle.std.proofs.Common.{◌≡◌, ℕ, ◌+◌, ◌==◌, Bool, true, false, cond, List, [], ◌∷◌, ◌++◌, take, drop, position, Option, None, Some, option_map, suc, refl, sym, ap, ◌∙◌, subst, arith}
 use Rattle.std.proofs.lemmas.Bool.{eqb-true}
 use Rattle.std.proofs.lemmas.Grind.{common_steps}
+use Rattle.std.proofs.lemmas.Option.{same_Some}
 use Rattle.manager_core.specs.Reading.{parted}
 use Rattle.manager_core.proofs.Names.{HasNo}
 
@@ -83,11 +84,8 @@ cut_none mark (byte ∷ bytes) is =
 pub parted_none : (mark : ℕ) (bytes : List ℕ) → parted mark bytes ≡ None → HasNo mark bytes
 parted_none mark bytes is = cut_none mark bytes (sym (parted_is_cut mark bytes) ∙ is)
 
-some_same : {X : Type 0} (x y : X) → Some x ≡ Some y → x ≡ y
-some_same x y e = cc
-
 -- bytes are cut in one way
 pub cut_once : (mark : ℕ) (x xs y ys : List ℕ) → HasNo mark x → HasNo mark y → x ++ mark ∷ xs ≡ y ++ mark ∷ ys → (x ≡ y) × (xs ≡ ys)
 cut_once mark x xs y ys no_x no_y same =
-    let both = some_same (x, xs) (y, ys) (sym (parted_joined mark x xs no_x) ∙ ap (parted mark) same ∙ parted_joined mark y ys no_y) in
+    let both = same_Some (x, xs) (y, ys) (sym (parted_joined mark x xs no_x) ∙ ap (parted mark) same ∙ parted_joined mark y ys no_y) in
     (ap (λ p. p.0) both, ap (λ p. p.1) both)

@@ -6,6 +6,7 @@ use Rattle.std.proofs.lemmas.List.Concat.{flat_map-append}
 use Rattle.manager_core.specs.declared.line.Line.{Line}
 use Rattle.manager_core.specs.StateText.{IsLine, line_text, lines_text}
 use Rattle.manager_core.proofs.Order.{join_all}
+use Rattle.switch_names.proofs.Lists.{all_at}
 
 -- a line more is written, and a line less is left
 pub one_written :
@@ -32,10 +33,6 @@ all_left : {X : Type 0} (P : X → Type 0) (xs : List X) (i : ℕ) → AllByRecu
 all_left P xs zero all = all
 all_left P [] (suc i) all = tt
 all_left P (x ∷ xs) (suc i) all = all_left P xs i all.1
-
--- one of some items that are all so
-pub item_is : {X : Type 0} (P : X → Type 0) (xs : List X) (i : ℕ) (x : X) → i < length xs → x ≡ get_or xs i x → AllByRecursion P xs → P x
-item_is P xs i x inside is all = subst P (sym is) (subst (AllByRecursion P) (drop_more xs i x inside) (all_left P xs i all)).0
 
 -- at the end nothing is left to write
 pub all_written :

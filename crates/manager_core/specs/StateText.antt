@@ -10,21 +10,11 @@ use Rattle.host_trait.specs.declared.entry.Act.TheVariants.{Stop, Reload, Restar
 use Rattle.host_trait.specs.declared.manager_state.ManagerState.{ManagerState}
 use Rattle.host_trait.specs.declared.unit_state.State.{State}
 use Rattle.host_trait.specs.declared.unit_state.State.TheVariants.{Active, Inactive, Failed}
+use Rattle.host_trait.specs.Words.{state_word, act_word}
 use Rattle.manager_core.specs.declared.line.Line.{Line}
 use Rattle.manager_core.specs.declared.line.Line.TheVariants as line
 use Rattle.manager_core.specs.declared.state_fault.StateFault.{StateFault}
 use Rattle.manager_core.specs.declared.state_fault.StateFault.TheVariants as fault
-
-abbrev pub state_word : State → List ℕ
-state_word Active = codes "active"
-state_word Inactive = codes "inactive"
-state_word Failed = codes "failed"
-
-abbrev pub act_word : Act → List ℕ
-act_word Stop = codes "stop"
-act_word Reload = codes "reload"
-act_word Restart = codes "restart"
-act_word Start = codes "start"
 
 -- how a line is spelled, without its line feed
 abbrev pub line_text : Line → List ℕ

@@ -1,12 +1,12 @@
 //! The line of one unit in the text of a manager's state: where it stands, and what it says.
-ghost use Rattle.std.specs.Prelude.{◌≡◌, ◌+◌, ◌≤◌, ◌∷◌, [], ◌++◌, List, Some, drop, length, map, slice_get, take, IfErr, IfOk, IfSome, OnOk};
-ghost use Rattle.host_trait.specs.States.{IsPlaceFor, IsSortedList, listed_states, state_of, units_of};
+ghost use Rattle.std.specs.Prelude.{◌≡◌, ◌+◌, ◌≤◌, ◌∷◌, [], ◌++◌, List, drop, length, map, take, IfOk, IfSome, OnOk};
+ghost use Rattle.host_trait.specs.States.{listed_states, state_of};
 ghost use Rattle.host_trait.specs.declared.unit_state.UnitState.{UnitState};
 ghost use Rattle.manager_core.specs.StateText.{lines_text};
 ghost use Rattle.manager_core.specs.UnitLine.{AreAround, IsLineAt, first_text, unit_text};
 ghost use Rattle.manager_core.specs.declared.line.Line.TheVariants as line;
 
-use crate::writing::{state_word, write_state_of};
+use crate::writing::write_state_of;
 use host_trait::{ManagerState, State, States, UnitState};
 use std::alloc::{AllocError, Global};
 use switch_names::{Text, UnitName};
@@ -25,7 +25,7 @@ fn line_len(one: &UnitState) -> Option<usize>
     one.unit
         .as_str()
         .len()
-        .checked_add(state_word(one.state).len() + " \n".len())
+        .checked_add(one.state.word().len() + " \n".len())
 }
 
 /// How long some bytes are with the lines of these units, where a `usize` counts that.
@@ -39,15 +39,6 @@ fn len_with(before: usize, units: &[UnitState]) -> Option<usize>
     Some(len)
 }
 
-/// Where a unit stands in a list in order, or where it would.
-fn find_unit(units: &[UnitState], unit: &UnitName) -> Result<usize, usize>
-    requires { IsSortedList units.now }
-    ensures found { IfOk result (λ at. slice_get (units_of units.now) at ≡ Some unit.now) }
-    ensures missing { IfErr result (λ at. IsPlaceFor units.now unit.now at) }
-{
-    units.binary_search_by(|other| other.unit.cmp(unit))
-}
-
 /// How many units are listed before one, and how long its line is.
 fn place_of(states: &States, unit: &UnitName) -> Option<(usize, usize)>
     ensures { IfSome result (λ place. (back : List UnitState)
@@ -57,7 +48,7 @@ fn place_of(states: &States, unit: &UnitName) -> Option<(usize, usize)>
 {
     let _name = unit.as_str();
     let units = states.list().as_slice();
-    match find_unit(units, unit) {
+    match states.find(unit) {
         Ok(at) => Some((at, line_len(&units[at])?)),
         Err(at) => Some((at, 0)),
     }

@@ -4,35 +4,12 @@ ghost use Rattle.std.specs.List.{AllByRecursion};
 ghost use Rattle.std.specs.Str.{IsUtf8};
 ghost use Rattle.switch_names.specs.UnitName.{IsUnitName};
 ghost use Rattle.host_trait.specs.Manager.{HasPlainTexts, IsPlain};
-ghost use Rattle.manager_core.specs.StateText.{IsLine, IsReadable, act_word, lines_text, state_text, state_word};
+ghost use Rattle.manager_core.specs.StateText.{IsLine, IsReadable, lines_text, state_text};
 ghost use Rattle.manager_core.specs.declared.line.Line.TheVariants as line;
 
 use host_trait::{Act, Bad, Entry, ManagerState, State, UnitState};
 use std::alloc::{AllocError, Global};
 use switch_names::{Bytes, Text, UnitName};
-
-/// The word for a state.
-pub fn state_word(state: State) -> &'static str
-    ensures { result.now ≡ state_word state }
-{
-    match state {
-        State::Active => "active",
-        State::Inactive => "inactive",
-        State::Failed => "failed",
-    }
-}
-
-/// The word for an act.
-fn act_word(act: Act) -> &'static str
-    ensures { result.now ≡ act_word act }
-{
-    match act {
-        Act::Stop => "stop",
-        Act::Reload => "reload",
-        Act::Restart => "restart",
-        Act::Start => "start",
-    }
-}
 
 /// Writes a word, and behind a blank a unit.
 fn write_unit(out: &mut Vec<u8>, word: &str, unit: &UnitName) -> Result<(), AllocError>
@@ -70,7 +47,7 @@ pub fn write_state_of(out: &mut Vec<u8>, unit: &UnitName, state: State) -> Resul
     ensures text { OnOk result (out.new.items ≡ out.old.items ++ lines_text (line.State (record { unit = unit.now; state = state }) ∷ [])) }
     ensures name { OnOk result (IsUnitName unit.now) }
 {
-    write_unit(out, state_word(state), unit)?;
+    write_unit(out, state.word(), unit)?;
     out.push(b'\n')?;
     Ok(())
 }
@@ -96,7 +73,7 @@ pub fn write_act(
     ensures text { OnOk result (out.new.items ≡ out.old.items ++ lines_text (line.Entry (record { unit = unit.now; act = act; loaded = loaded.now }) ∷ [])) }
     ensures line { OnOk result (IsLine (line.Entry (record { unit = unit.now; act = act; loaded = loaded.now }))) }
 {
-    write_unit(out, act_word(act), unit)?;
+    write_unit(out, act.word(), unit)?;
     write_text(out, loaded)
 }
 

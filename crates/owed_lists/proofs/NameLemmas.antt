@@ -7,26 +7,13 @@ use Rattle.std.proofs.lemmas.Bool.Decides.{nat_tests}
 use Rattle.std.proofs.lemmas.Str.{IsUtf8-from_ascii}
 use Rattle.std.proofs.lemmas.Str.Ascii.{IsAscii-from_all}
 use Rattle.switch_names.specs.declared.name_fault.NameFault.{NameFault}
-use Rattle.switch_names.specs.UnitName.{is_no_unit_byte, unit_fault}
-use Rattle.switch_names.proofs.UnitNames.{IsShortName-from_name}
-use Rattle.owed_lists.specs.Lists.{is_unit}
-
-pub none_from_test : {T : Type 0} (o : Option T) → is_none o ≡ true → o ≡ None
-none_from_test None is = refl
-none_from_test (Some x) is = absurd cc
-
-ascii_byte : (byte : ℕ) → is_no_unit_byte byte ≡ false → byte < 128
-ascii_byte byte is = grind (arith, nat_tests)
-
--- the name of a unit is UTF-8
-unit_utf8 : (line : List ℕ) → is_unit line ≡ true → IsUtf8 line
-unit_utf8 line is =
-    let bytes = (IsShortName-from_name line (none_from_test (unit_fault line) is)).bytes in
-    IsUtf8-from_ascii line (IsAscii-from_all line (λ k d l. ascii_byte _ (bytes k d l)))
+use Rattle.switch_names.specs.UnitName.{is_no_unit_byte, unit_fault, is_unit}
+use Rattle.switch_names.proofs.UnitNames.{unit_utf8}
+use Rattle.switch_names.proofs.Outcomes.{none_from_test}
 
 -- bytes that aren't UTF-8 name no unit
 pub no_unit : (line : List ℕ) → ¬ IsUtf8 line → is_unit line ≡ false
-no_unit line bad = false_from_ne_true (is_unit line) (λ is. bad (unit_utf8 line is))
+no_unit line bad = false_from_ne_true (is_unit line) (λ is. bad (unit_utf8 line (none_from_test (unit_fault line) is)))
 
 module _ (line text : List ℕ) where
   -- a line that is read as a name is that unit's

@@ -9,36 +9,12 @@ use Rattle.std.specs.declared.cmp.Ordering.{Ordering}
 use Rattle.std.specs.declared.cmp.Ordering.TheVariants.{Less, Equal, Greater}
 use Rattle.host_trait.specs.World.{bytes_cmp}
 use Rattle.host_trait.proofs.Places.{bytes_total}
+use Rattle.host_trait.proofs.KeyOrder.{left_of, right_of, less_from, keys_sorted}
 use Rattle.switch_names.specs.Names.{Name, has, is_name}
-
-pub left_of : (a b : Bool) → T (a && b) → T a
-left_of true b both = tt
-left_of false b both = both
-
-pub right_of : (a b : Bool) → T (a && b) → T b
-right_of true b both = both
-right_of false b both = absurd both
-
-pub less_from : (r : Ordering) → T (is_lt r) → r ≡ Less
-less_from Less is = refl
-less_from Equal is = absurd is
-less_from Greater is = absurd is
 
 module _ {X : Type 0} where
   abbrev names_of : List (Name × X) → List Name
   names_of es = map (λ (e : Name × X). e.0) es
-
-  all_below : (name : Name) (es : List (Name × X)) → T (below_all bytes_cmp name es) → AllByRecursion (λ other. bytes_cmp name other ≡ Less) (names_of es)
-  all_below name [] below = tt
-  all_below name (e ∷ es) below = (less_from (bytes_cmp name e.0) (left_of _ _ below), all_below name es (right_of (is_lt (bytes_cmp name e.0)) _ below))
-
-  sorted_names : (es : List (Name × X)) → T (is_sorted bytes_cmp es) → IsStrictlySortedBy bytes_cmp (names_of es)
-  unfolding IsStrictlySortedBy
-  sorted_names [] sorted = tt
-  sorted_names (e ∷ es) sorted = (all_below e.0 es (left_of _ _ sorted), sorted_names es (right_of (below_all bytes_cmp e.0 es) _ sorted))
-
-  pub sorted_keys : (m : FinMap bytes_cmp X) → IsStrictlySortedBy bytes_cmp (keys m)
-  sorted_keys m = sorted_names (entries m) (entries_sorted m)
 
   pub has_key : (m : FinMap bytes_cmp X) (name : Name) → has (keys m) name ≡ is_some (get m name)
   has_key m name = sym (contains_key-keys m name)
@@ -70,7 +46,7 @@ ordered names = keys (set_of names)
 
 pub ordered_sorted : (names : List Name) → IsStrictlySortedBy bytes_cmp (ordered names)
 unfolding ordered
-ordered_sorted names = sorted_keys (set_of names)
+ordered_sorted names = keys_sorted (set_of names)
 
 pub has_ordered : (names : List Name) (name : Name) → has (ordered names) name ≡ has names name
 unfolding ordered

@@ -7,10 +7,10 @@ use Rattle.std.proofs.lemmas.List.Elements.{All-weaker}
 use Rattle.std.proofs.lemmas.List.Splits.{slice_split_at}
 use Rattle.std.specs.List.{AllByRecursion, slice_split}
 use Rattle.host_trait.specs.World.{Leaves, leaf_content}
-use Rattle.owed_lists.specs.Lists.{is_unit, names_in}
+use Rattle.owed_lists.specs.Lists.{names_in}
 use Rattle.owed_lists.specs.Record.{RecordedLaw, leaf_of_list, list_text}
 use Rattle.switch_names.specs.Names.{Name, has}
-use Rattle.switch_names.specs.UnitName.{IsUnitName, is_no_unit_byte}
+use Rattle.switch_names.specs.UnitName.{IsUnitName, is_no_unit_byte, is_unit}
 use Rattle.switch_names.proofs.UnitNames.{IsShortName-from_name}
 use Rattle.switch_names.specs.declared.name_fault.NameFault.{NameFault}
 

@@ -3,7 +3,7 @@ use Rattle.std.specs.Prelude.{◌≡◌, ◌==◌, ℕ, Bool, List, [], codes, f
 use Rattle.std.specs.List.{slice_split}
 use Rattle.std.specs.List.Sorted.{IsStrictlySortedBy}
 use Rattle.switch_names.specs.Names.{has}
-use Rattle.switch_names.specs.UnitName.{unit_fault}
+use Rattle.switch_names.specs.UnitName.{unit_fault, is_unit}
 use Rattle.host_trait.specs.World.{Leaves, bytes_cmp, content_of}
 use Rattle.owed_lists.specs.declared.lists.Lists.{Lists}
 use Rattle.owed_lists.specs.declared.lists.Which.{Which}
@@ -26,10 +26,6 @@ abbrev pub place_of : Which → List ℕ
 place_of Starts = starts_place
 place_of Restarts = restarts_place
 place_of Reloads = reloads_place
-
--- whether a text is the name of a unit
-abbrev pub is_unit : List ℕ → Bool
-is_unit text = is_none (unit_fault text)
 
 -- the unit names among the lines of a content: a content that isn't there has none
 abbrev pub names_in : Option (List ℕ) → List (List ℕ)

@@ -4,7 +4,8 @@ ghost use Rattle.std.specs.List.{slice_split};
 ghost use Rattle.host_trait.specs.Host.{Told};
 ghost use Rattle.host_trait.specs.Reading.{IsReading};
 ghost use Rattle.host_trait.specs.World.{content_of};
-ghost use Rattle.owed_lists.specs.Lists.{AreListsOf, IsListOf, is_unit, place_of};
+ghost use Rattle.switch_names.specs.UnitName.{is_unit};
+ghost use Rattle.owed_lists.specs.Lists.{AreListsOf, IsListOf, place_of};
 
 use crate::lists::{Lists, Which, list_path};
 use host_trait::{HostFault, Tree, UnitSet, content};

@@ -11,18 +11,17 @@ use Rattle.host_trait.specs.declared.unit_state.State.{State}
 use Rattle.host_trait.specs.declared.unit_state.State.TheVariants.{Active, Inactive}
 use Rattle.host_trait.specs.declared.unit_state.UnitState.{UnitState}
 use Rattle.host_trait.specs.Manager.{is_active}
-use Rattle.owed_lists.proofs.OrderLemmas.{left_of, less_from, right_of}
+use Rattle.host_trait.proofs.KeyOrder.{left_of, less_from, right_of}
 use Rattle.owed_plan.specs.Decisions.{Situation, decision_of, decisions_of}
 use Rattle.owed_plan.specs.declared.deciding.UnitDecision.{UnitDecision}
-use Rattle.owed_plan.proofs.CoreLemmas.{active_from_test}
-use Rattle.owed_plan.proofs.NameLemmas.{any_from_has}
 use Rattle.switch_names.specs.Names.{Name, has, is_name}
-use Rattle.unit_defs.proofs.NameLemmas.{less_is_other, name_exact, name_itself}
+use Rattle.host_trait.proofs.NameOrder.{less_is_other, name_exact, name_itself, passes_among}
+use Rattle.host_trait.proofs.StateMaps.{active_from_test}
 
 abbrev pub units_with : List UnitState → List Name
 units_with list = map (λ one. one.unit) (filter (λ one. is_active one.state) list)
 
-abbrev listed : List (Name × State) → List UnitState
+abbrev pub listed : List (Name × State) → List UnitState
 listed es = map (λ e. record { unit = e.0; state = e.1 }) es
 
 chosen : (b : Bool) (one : UnitState) (rest : List UnitState) (unit : Name) → has (map (λ (one : UnitState). one.unit) (cond b (one ∷ rest) rest)) unit ≡ ((b && is_name unit one.unit) || has (map (λ (one : UnitState). one.unit) rest) unit)
@@ -85,4 +84,4 @@ decision_from situation states p found =
 pub decision_to : (situation : Situation) (states : UnitStates) (p : UnitDecision → Bool) (unit : Name) → state_of states unit ≡ Active → p (decision_of situation unit) ≡ true → list_any p (decisions_of situation states) ≡ true
 decision_to situation states p unit active holds =
     any_of p (decision_of situation) (filter (λ one. is_active one.state) (listed_states states))
-    ∙ any_from_has (λ unit. p (decision_of situation unit)) (units_with (listed_states states)) unit (active_listed states unit ∙ ap is_active active) holds
+    ∙ passes_among (λ unit. p (decision_of situation unit)) (units_with (listed_states states)) unit (active_listed states unit ∙ ap is_active active) holds

@@ -5,13 +5,15 @@ use Rattle.host_trait.specs.declared.unit_state.State.{State}
 use Rattle.host_trait.specs.declared.unit_state.State.TheVariants.{Active, Inactive, Failed}
 use Rattle.owed_plan.specs.Law.{IsSound, SameOwed}
 use Rattle.host_trait.specs.Manager.{is_active}
+use Rattle.host_trait.proofs.NameOrder.{passes_among}
+use Rattle.host_trait.proofs.StateMaps.{active_from_test}
 use Rattle.owed_plan.specs.Lists.{is_live, pending}
 use Rattle.owed_lists.specs.declared.lists.Lists.{Lists}
 use Rattle.owed_plan.specs.Owed.{Activates, Decides, Reloads, Restarts, Starts, Stops, has_live}
 use Rattle.owed_plan.specs.Pull.{IsRoot, Running, Pending, Pulled}
 use Rattle.unit_defs.specs.Pull.{FromRoot, FromWant}
 use Rattle.owed_plan.specs.Systems.{Systems, Counts, IsDefined}
-use Rattle.owed_plan.proofs.NameLemmas.{any_from_has, any_more}
+use Rattle.owed_plan.proofs.NameLemmas.{any_more}
 use Rattle.owed_plan.proofs.PartLemmas.{IsPartly}
 use Rattle.switch_names.specs.declared.unit_kind.UnitKind.{UnitKind}
 use Rattle.switch_names.specs.declared.unit_kind.UnitKind.TheVariants.{Service, Socket, Target}
@@ -27,11 +29,6 @@ no_service kind target service = cc
 
 no_socket : (kind : UnitKind) → kind ≡ Target → kind ≡ Socket → ⊥
 no_socket kind target socket = cc
-
-pub active_from_test : (state : State) → is_active state ≡ true → state ≡ Active
-active_from_test Active is = refl
-active_from_test Inactive is = absurd cc
-active_from_test Failed is = absurd cc
 
 -- what a state and the lists give of live sockets and stops
 module _ (systems : Systems) (states : Name → State) (lists : Lists) where
@@ -50,7 +47,7 @@ module _ (systems : Systems) (states : Name → State) (lists : Lists) where
 
   has_live_from : (service socket : Name) → Counts systems service socket → is_live states lists socket ≡ true → has_live systems states lists service ≡ true
   has_live_from service socket counts live =
-      any_from_has (λ other. (systems.facts other).in_new && is_live states lists other) (systems.sockets service) socket counts.0
+      passes_among (λ other. (systems.facts other).in_new && is_live states lists other) (systems.sockets service) socket counts.0
       (and_from (systems.facts socket).in_new (is_live states lists socket) counts.1 live)
 
   pub stops_active : (unit : Name) → Stops systems states lists unit → states unit ≡ Active

@@ -6,6 +6,8 @@ use Rattle.std.proofs.lemmas.List.Kept.{IsStrictlySortedBy-filter}
 use Rattle.host_trait.specs.Manager.{is_active}
 use Rattle.host_trait.specs.States.{UnitStates, listed_states, state_of}
 use Rattle.host_trait.specs.World.{Leaves, bytes_cmp}
+use Rattle.host_trait.proofs.NameOrder.{has_filter}
+use Rattle.host_trait.proofs.StateMaps.{active_from_test}
 use Rattle.owed_lists.specs.declared.lists.Lists.{Lists}
 use Rattle.owed_lists.specs.Lists.{AreListsOf}
 use Rattle.owed_lists.proofs.ListLemmas.{lists_in}
@@ -19,8 +21,6 @@ use Rattle.owed_plan.specs.Owed.{IsPlan}
 use Rattle.owed_plan.specs.Pull.{IsRoot, Running, Pending, Pulled}
 use Rattle.owed_plan.specs.Systems.{Systems, systems_at}
 use Rattle.owed_plan.proofs.ActiveLemmas.{active_listed, units_with}
-use Rattle.owed_plan.proofs.CoreLemmas.{active_from_test}
-use Rattle.owed_plan.proofs.NameLemmas.{has-filter}
 use Rattle.owed_plan.proofs.PlanLemmas.{filter_parts, is_plan, situation_in}
 use Rattle.owed_plan.proofs.ReachLemmas.{reached_list}
 use Rattle.owed_plan.proofs.SystemLemmas.{guarded}
@@ -29,7 +29,7 @@ use Rattle.switch_names.specs.declared.unit_kind.UnitKind.TheVariants.{Target}
 use Rattle.switch_names.specs.Names.{IsListOf, Name, has, is_name}
 use Rattle.unit_decide.specs.Kinds.{is_kind}
 use Rattle.unit_decide.proofs.TableLemmas.{target_from_test}
-use Rattle.unit_defs.specs.Place.{is_unit}
+use Rattle.switch_names.specs.UnitName.{is_unit}
 use Rattle.unit_defs.specs.Units.{wanted_of}
 use Rattle.unit_defs.proofs.FirstFaultLemmas.{has_by_test}
 use Rattle.unit_defs.proofs.NameLemmas.{has-append}
@@ -52,7 +52,7 @@ passing names test = filter test (ordered names)
 all_passing : (names : List Name) (test : Name → Bool) → ((unit : Name) → test unit ≡ true → has names unit ≡ true) → IsListBy (passing names test) test
 all_passing names test among = record {
   sorted = IsStrictlySortedBy-filter bytes_cmp test (ordered names) (ordered_sorted names);
-  exact = λ unit. has-filter test (ordered names) unit ∙ ap (λ b. test unit && b) (has_ordered names unit) ∙ only (test unit) (has names unit) (among unit);
+  exact = λ unit. has_filter test (ordered names) unit ∙ ap (λ b. test unit && b) (has_ordered names unit) ∙ only (test unit) (has names unit) (among unit);
 }
 
 -- ---- the units that a decision names

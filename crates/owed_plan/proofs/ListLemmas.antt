@@ -7,14 +7,14 @@ use Rattle.std.proofs.lemmas.Bool.{and_from, and_parts}
 use Rattle.host_trait.specs.declared.unit_state.State.{State}
 use Rattle.owed_plan.specs.Law.{ListLaw, SameOwed, rest_of}
 use Rattle.host_trait.specs.Manager.{is_active}
+use Rattle.host_trait.proofs.NameOrder.{has_filter}
+use Rattle.host_trait.proofs.StateMaps.{active_from_test}
 use Rattle.owed_lists.specs.declared.lists.Lists.{Lists}
 use Rattle.owed_lists.proofs.ListLemmas.{one_list}
 use Rattle.owed_plan.specs.Owed.{IsOwed, IsPlan, Stops}
 use Rattle.owed_plan.specs.declared.owed.Owed.{Owed}
 use Rattle.switch_names.specs.Names.{IsListOf, Name, has}
 use Rattle.owed_plan.specs.Systems.{Systems}
-use Rattle.owed_plan.proofs.CoreLemmas.{active_from_test}
-use Rattle.owed_plan.proofs.NameLemmas.{has-filter}
 use Rattle.owed_plan.proofs.PrefixLemmas.{law}
 
 pub one_owed : (systems : Systems) (states : Name → State) (lists : Lists) (one other : Owed) → IsPlan systems states lists one → IsPlan systems states lists other → one ≡ other
@@ -40,11 +40,11 @@ part_list test names P Q from to list = record {
   sorted = IsStrictlySortedBy-filter (slice_cmp nat_cmp) test names list.sorted;
   exact = λ unit. (
     λ found.
-        let both = and_parts (test unit) (has names unit) (sym (has-filter test names unit) ∙ found) in
+        let both = and_parts (test unit) (has names unit) (sym (has_filter test names unit) ∙ found) in
         to unit ((list.exact unit).0 both.1) both.0,
     λ holds.
         let parts = from unit holds in
-        has-filter test names unit ∙ and_from (test unit) (has names unit) parts.1 ((list.exact unit).1 parts.0),
+        has_filter test names unit ∙ and_from (test unit) (has names unit) parts.1 ((list.exact unit).1 parts.0),
   );
 }
 

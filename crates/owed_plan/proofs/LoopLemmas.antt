@@ -4,6 +4,7 @@ use Rattle.std.specs.List.{list_any}
 use Rattle.std.proofs.lemmas.List.{append-nil, map-append}
 use Rattle.std.proofs.lemmas.List.Elements.{filter_more}
 use Rattle.std.proofs.lemmas.List.Folds.{list_any_more}
+use Rattle.std.proofs.Math.Bool.{or_assoc, and-false}
 use Rattle.owed_plan.specs.Collected.{is_socketed}
 use Rattle.owed_plan.specs.Systems.{Systems}
 use Rattle.switch_names.specs.Names.{Name, has, is_name}
@@ -45,10 +46,6 @@ module _ {X : Type 0} (p : X → Bool) (xs : List X) (i : ℕ) (x : X) where
   pub none_more : i < length xs → x ≡ get_or xs i x → p x ≡ false → list_any p (take i xs) ≡ false → list_any p (take (i + 1) xs) ≡ false
   none_more inside is fails was = list_any_more p xs i x inside ∙ ap (λ y. list_any p (take i xs) || p y) (sym is) ∙ (λ k. was k || fails k)
 
-or_either : (a b c : Bool) → ((a || b) || c) ≡ (a || (b || c))
-or_either true b c = refl
-or_either false b c = refl
-
 -- an item adds what it gives
 pub given_more :
     {X : Type 0} (p : X → Bool) (xs : List X) (i : ℕ) (x : X) (old new : Bool) → i < length xs → x ≡ get_or xs i x →
@@ -70,18 +67,14 @@ pub added_more :
     has old unit ≡ (has start unit || has (filter p (take i names)) unit) → has new unit ≡ (has old unit || (added && is_name unit name)) →
     has new unit ≡ (has start unit || has (filter p (take (i + 1) names)) unit)
 added_more p names i name start old new added unit inside is passes was grown =
-    grown ∙ (λ k. was k || (passes k && is_name unit name)) ∙ or_either (has start unit) (has (filter p (take i names)) unit) (p name && is_name unit name)
+    grown ∙ (λ k. was k || (passes k && is_name unit name)) ∙ or_assoc (has start unit) (has (filter p (take i names)) unit) (p name && is_name unit name)
     ∙ ap (λ b. has start unit || b)
     (sym (ap (λ (ns : List Name). has ns unit) (with_one p names i name inside is) ∙ has-append (filter p (take i names)) (cond (p name) (name ∷ []) []) unit
     ∙ ap (λ b. has (filter p (take i names)) unit || b) (has_chosen (p name) name unit)))
-
-and_none : (b : Bool) → (b && false) ≡ false
-and_none true = refl
-and_none false = refl
 
 -- a unit of whose sockets none is defined has no socket that is
 pub no_socket : (systems : Systems) (unit : Name) (sockets items : List Name) → items ≡ sockets → sockets ≡ systems.sockets unit → list_any (λ socket. (systems.facts socket).in_new) items ≡ false →
     false ≡ is_socketed systems unit
 no_socket systems unit sockets items same these none =
     sym (ap (λ b. is_kind (systems.facts unit).kind Service && b) (ap (λ (names : List Name). list_any (λ socket. (systems.facts socket).in_new) names) (sym (same ∙ these)) ∙ none)
-    ∙ and_none (is_kind (systems.facts unit).kind Service))
+    ∙ and-false (is_kind (systems.facts unit).kind Service))

@@ -12,16 +12,7 @@ use Rattle.switch_names.specs.declared.unit_kind.UnitKind.{UnitKind}
 use Rattle.switch_names.specs.declared.unit_kind.UnitKind.TheVariants.{Socket}
 use Rattle.switch_names.specs.Names.{Name, has, is_name}
 use Rattle.unit_decide.specs.Kinds.{is_kind}
-use Rattle.unit_defs.proofs.NameLemmas.{name_exact, name_itself}
-
--- a test that holds of a name in the list holds of one in it
-pub any_from_has : (test : Name → Bool) (names : List Name) (unit : Name) → has names unit ≡ true → test unit ≡ true → list_any test names ≡ true
-any_from_has test [] unit found holds = absurd cc
-any_from_has test (name ∷ names) unit found holds =
-    elim (or_cases (is_name unit name) (has names unit) found) [
-      | inl is ↦ or_left (test name) (list_any test names) (ap test (sym (name_exact unit name is)) ∙ holds)
-      | inr more ↦ or_right (test name) (list_any test names) (any_from_has test names unit more holds)
-    ]
+use Rattle.host_trait.proofs.NameOrder.{name_exact, name_itself, passes_among, has_filter}
 
 -- a weaker test holds of one of the names too
 pub any_more : (test weaker : Name → Bool) (names : List Name) → ((unit : Name) → has names unit ≡ true → test unit ≡ true → weaker unit ≡ true) → list_any test names ≡ true → list_any weaker names ≡ true
@@ -41,10 +32,6 @@ has-take (suc count) (name ∷ names) unit found =
       | inl is ↦ or_left (is_name unit name) (has names unit) is
       | inr more ↦ or_right (is_name unit name) (has names unit) (has-take count names unit more)
     ]
-
-pub has-filter : (test : Name → Bool) (names : List Name) (unit : Name) → has (filter test names) unit ≡ (test unit && has names unit)
-has-filter test names unit =
-    any-filter_same (is_at (slice_cmp nat_cmp unit)) test (test unit) (λ other same. ap test (sym (name_exact unit other same))) names
 
 -- a beginning of two lists with a name that isn't in the first has all of the first
 pub take_two : (first more : List Name) (count : ℕ) (unit other : Name) → (has first unit ≡ true → ⊥) → has (take count (first ++ more)) unit ≡ true → has first other ≡ true → has (take count (first ++ more)) other ≡ true
@@ -71,5 +58,5 @@ either false false = refl
 pub has-sockets_first : (kind : Name → UnitKind) (names : List Name) (unit : Name) → has (sockets_first kind names) unit ≡ has names unit
 has-sockets_first kind names unit =
     list_any-append (is_name unit) (filter (λ u. is_kind (kind u) Socket) names) (filter (λ u. not (is_kind (kind u) Socket)) names)
-    ∙ (λ i. has-filter (λ u. is_kind (kind u) Socket) names unit i || has-filter (λ u. not (is_kind (kind u) Socket)) names unit i)
+    ∙ (λ i. has_filter (λ u. is_kind (kind u) Socket) names unit i || has_filter (λ u. not (is_kind (kind u) Socket)) names unit i)
     ∙ either (is_kind (kind unit) Socket) (has names unit)

@@ -15,8 +15,6 @@ use Rattle.owed_plan.specs.Systems.{IsSocketed, Systems}
 use Rattle.owed_plan.specs.declared.owed.Owed.{Owed}
 use Rattle.owed_plan.specs.declared.deciding.UnitDecision.{UnitDecision}
 use Rattle.owed_plan.proofs.ActiveLemmas.{one_of, decision_from, decision_to}
-use Rattle.owed_plan.proofs.CoreLemmas.{active_from_test}
-use Rattle.owed_plan.proofs.NameLemmas.{any_from_has, has-filter}
 use Rattle.switch_names.specs.Names.{IsListOf, Name, has, is_name}
 use Rattle.switch_names.specs.declared.unit_kind.UnitKind.TheVariants.{Service, Target}
 use Rattle.unit_decide.specs.Decision.{decide}
@@ -25,7 +23,8 @@ use Rattle.unit_decide.specs.declared.decision.Decision.{Decision}
 use Rattle.unit_decide.specs.declared.decision.Decision.TheVariants.{Nothing, Reload, Restart, SocketStart, Start, Stop, StopStart}
 use Rattle.unit_decide.specs.declared.facts.Facts.{Facts}
 use Rattle.unit_decide.proofs.TableLemmas.{service_from_test, socket_start_more}
-use Rattle.unit_defs.proofs.NameLemmas.{name_exact, name_itself}
+use Rattle.host_trait.proofs.NameOrder.{name_exact, name_itself, passes_among, has_filter}
+use Rattle.host_trait.proofs.StateMaps.{active_from_test}
 
 -- the systems, the states, and what the lists say
 abbrev pub situation_in : Systems → UnitStates → Lists → Situation
@@ -49,10 +48,10 @@ nothing_from _ is = absurd cc
 
 -- a name is found among those that pass a test
 pub filter_parts : (test : Name → Bool) (names : List Name) (unit : Name) → has (filter test names) unit ≡ true → (test unit ≡ true) × (has names unit ≡ true)
-filter_parts test names unit found = and_parts (test unit) (has names unit) (sym (has-filter test names unit) ∙ found)
+filter_parts test names unit found = and_parts (test unit) (has names unit) (sym (has_filter test names unit) ∙ found)
 
 filter_from : (test : Name → Bool) (names : List Name) (unit : Name) → test unit ≡ true → has names unit ≡ true → has (filter test names) unit ≡ true
-filter_from test names unit passes found = has-filter test names unit ∙ and_from (test unit) (has names unit) passes found
+filter_from test names unit passes found = has_filter test names unit ∙ and_from (test unit) (has names unit) passes found
 
 -- a list by a test is a list of what has P where the test tells that
 list_of : (names : List Name) (test : Name → Bool) (P : Name → Type 0) → IsListBy names test → ((unit : Name) → (test unit ≡ true) ↔ P unit) → IsListOf names P
@@ -76,7 +75,7 @@ module _ (systems : Systems) (states : UnitStates) (lists : Lists) where
         | true ↦ λ is found.
             let parts = filter_parts live_test (systems.sockets unit) socket found in
             let both = and_parts (systems.facts socket).in_new (is_live (state_of states) lists socket) parts.0 in
-            let live : has_live systems (state_of states) lists unit ≡ true = any_from_has live_test (systems.sockets unit) socket parts.1 parts.0 in
+            let live : has_live systems (state_of states) lists unit ≡ true = passes_among live_test (systems.sockets unit) socket parts.1 parts.0 in
             (record { active = active; row = ap (decide (systems.facts unit)) live ∙ socket_start_from _ is }, (parts.1, both.0), both.1)
         | false ↦ λ is found. absurd (both_ways false refl found)
       ] refl found
@@ -188,7 +187,7 @@ module _ (systems : Systems) (states : UnitStates) (lists : Lists) where
   socketed_to : (unit : Name) → IsSocketed systems unit → is_socketed systems unit ≡ true
   socketed_to unit is =
       and_from (is_kind (systems.facts unit).kind Service) (list_any (λ socket. (systems.facts socket).in_new) (systems.sockets unit)) (ap (λ kind. is_kind kind Service) is.0)
-      (any_from_has (λ socket. (systems.facts socket).in_new) (systems.sockets unit) is.1.0 is.1.1.0 is.1.1.1)
+      (passes_among (λ socket. (systems.facts socket).in_new) (systems.sockets unit) is.1.0 is.1.1.0 is.1.1.1)
 
   left_from : (unit : Name) → given (leaves unit) ≡ true → IsLeft systems (state_of states) lists unit
   left_from unit found =

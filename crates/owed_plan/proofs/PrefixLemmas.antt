@@ -3,13 +3,14 @@ use Rattle.std.proofs.Common.{◌≡◌, ◌⊎◌, ℕ, Bool, true, false, not,
 use Rattle.std.proofs.lemmas.Bool.{and_from, and_parts}
 use Rattle.host_trait.specs.declared.unit_state.State.{State}
 use Rattle.host_trait.specs.declared.unit_state.State.TheVariants.{Active, Inactive}
+use Rattle.host_trait.proofs.NameOrder.{has_filter}
 use Rattle.owed_plan.specs.Law.{AreStopped, IsRecorded, Law}
 use Rattle.owed_lists.specs.declared.lists.Lists.{Lists}
 use Rattle.owed_plan.specs.declared.owed.Owed.{Owed}
 use Rattle.owed_plan.specs.Owed.{IsOwed, Reloads, Restarts, Stops, stop_order}
 use Rattle.owed_plan.specs.Systems.{Systems}
 use Rattle.owed_plan.proofs.CoreLemmas.{same_owed}
-use Rattle.owed_plan.proofs.NameLemmas.{has-filter, has-sockets_first, has-take, take_two}
+use Rattle.owed_plan.proofs.NameLemmas.{has-sockets_first, has-take, take_two}
 use Rattle.owed_plan.proofs.PartLemmas.{IsPartly}
 use Rattle.switch_names.specs.declared.unit_kind.UnitKind.{UnitKind}
 use Rattle.switch_names.specs.declared.unit_kind.UnitKind.TheVariants.{Service, Socket}
@@ -35,9 +36,9 @@ sockets_first systems stops count service socket is_service is_socket listed tak
     take_two (filter (λ u. is_kind (systems.facts u).kind Socket) stops) (filter (λ u. not (is_kind (systems.facts u).kind Socket)) stops) count service socket
     (λ first.
     service_no_socket (systems.facts service).kind is_service
-    (and_parts (is_kind (systems.facts service).kind Socket) (has stops service) (sym (has-filter (λ u. is_kind (systems.facts u).kind Socket) stops service) ∙ first)).0)
+    (and_parts (is_kind (systems.facts service).kind Socket) (has stops service) (sym (has_filter (λ u. is_kind (systems.facts u).kind Socket) stops service) ∙ first)).0)
     taken
-    (has-filter (λ u. is_kind (systems.facts u).kind Socket) stops socket
+    (has_filter (λ u. is_kind (systems.facts u).kind Socket) stops socket
     ∙ and_from (is_kind (systems.facts socket).kind Socket) (has stops socket) (ap (λ k. is_kind k Socket) is_socket) listed)
 
 -- a recorded list has the old names or the owed ones

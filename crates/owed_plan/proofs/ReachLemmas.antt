@@ -6,10 +6,9 @@ use Rattle.std.proofs.lemmas.List.Kept.{IsStrictlySortedBy-filter}
 use Rattle.host_trait.specs.World.{bytes_cmp}
 use Rattle.owed_lists.proofs.OrderLemmas.{has_ordered, ordered, ordered_sorted}
 use Rattle.owed_plan.proofs.ActiveLemmas.{one_of}
-use Rattle.owed_plan.proofs.NameLemmas.{any_from_has, has-filter}
 use Rattle.switch_names.specs.Names.{IsListOf, Name, has, is_name}
 use Rattle.unit_defs.specs.Pull.{Reached, FromRoot, FromWant}
-use Rattle.unit_defs.proofs.NameLemmas.{name_exact, name_itself}
+use Rattle.host_trait.proofs.NameOrder.{name_exact, name_itself, passes_among, has_filter}
 
 module _ (wanted : Name → List Name) where
   -- a unit leads to another: it is that one or wants it, or it does so by way of these units
@@ -106,12 +105,12 @@ module _ (wanted : Name → List Name) (IsStart : Name → Type 0) (is_start : N
 
   reached_to : (unit : Name) → Reached wanted IsStart unit → is_reached unit ≡ true
   reached_to unit (FromRoot _ start) =
-      any_from_has (is_led unit) all unit (start_in unit start)
+      passes_among (is_led unit) all unit (start_in unit start)
       (and_from (is_start unit) (leads wanted all unit unit) ((starts unit).1 start) (at_once wanted all unit unit (or_left (is_name unit unit) (has (wanted unit) unit) (name_itself unit))))
   reached_to unit (FromWant _ by reached wants) =
       let one = one_of (is_led by) all (reached_to by reached) in
       let parts = and_parts (is_start one.0) (leads wanted all one.0 by) one.2 in
-      any_from_has (is_led unit) all one.0 one.1
+      passes_among (is_led unit) all one.0 one.1
       (and_from (is_start one.0) (leads wanted all one.0 unit) parts.0
       (joined wanted all by one.0 unit (reached_in by reached) parts.1 (at_once wanted all by unit (or_right (is_name by unit) (has (wanted by) unit) wants))))
 
@@ -122,8 +121,8 @@ module _ (wanted : Name → List Name) (IsStart : Name → Type 0) (is_start : N
     record {
       sorted = IsStrictlySortedBy-filter bytes_cmp is_reached (ordered all) (ordered_sorted all);
       exact = λ unit. (
-        λ found. reached_from unit (and_parts (is_reached unit) (has (ordered all) unit) (sym (has-filter is_reached (ordered all) unit) ∙ found)).0,
-        λ reached. has-filter is_reached (ordered all) unit
+        λ found. reached_from unit (and_parts (is_reached unit) (has (ordered all) unit) (sym (has_filter is_reached (ordered all) unit) ∙ found)).0,
+        λ reached. has_filter is_reached (ordered all) unit
             ∙ and_from (is_reached unit) (has (ordered all) unit) (reached_to unit reached) (has_ordered all unit ∙ reached_in unit reached),
       );
     },

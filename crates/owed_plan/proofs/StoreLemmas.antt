@@ -15,9 +15,10 @@ use Rattle.host_trait.specs.declared.leaf.LeafKind.{LeafKind}
 use Rattle.host_trait.specs.declared.leaf.LeafKind.TheVariants.{File, Link}
 use Rattle.host_trait.specs.World.{Leaves, bytes_cmp, content_of, file_at, file_bytes, is_listed, is_path, leaf_content, stage, store_place}
 use Rattle.host_trait.proofs.Places.{bytes_total}
-use Rattle.owed_lists.proofs.OrderLemmas.{has_key, sorted_keys}
+use Rattle.host_trait.proofs.NameOrder.{has_filter}
+use Rattle.host_trait.proofs.KeyOrder.{keys_sorted}
+use Rattle.owed_lists.proofs.OrderLemmas.{has_key}
 use Rattle.owed_plan.specs.Store.{AreSameInStore, IsInStore, IsOldInStore, SystemsLaw}
-use Rattle.owed_plan.proofs.NameLemmas.{has-filter}
 use Rattle.owed_plan.specs.Systems.{systems_of, text_at}
 use Rattle.switch_names.specs.Names.{Name, has}
 use Rattle.switch_names.specs.Path.{is_below, path_fault}
@@ -91,10 +92,10 @@ module _ (leaves other : Leaves) (same : AreSameInStore leaves other) (system : 
       ]
 
   has_listed : (tree : Leaves) (q : List ℕ) → has (paths_of tree system) q ≡ (is_listed (unit_folder system) q && is_some (get tree q))
-  has_listed tree q = has-filter (is_listed (unit_folder system)) (keys tree) q ∙ ap (λ b. is_listed (unit_folder system) q && b) (has_key tree q)
+  has_listed tree q = has_filter (is_listed (unit_folder system)) (keys tree) q ∙ ap (λ b. is_listed (unit_folder system) q && b) (has_key tree q)
 
   sorted_paths : (tree : Leaves) → IsStrictlySortedBy bytes_cmp (paths_of tree system)
-  sorted_paths tree = IsStrictlySortedBy-filter bytes_cmp (is_listed (unit_folder system)) (keys tree) (sorted_keys tree)
+  sorted_paths tree = IsStrictlySortedBy-filter bytes_cmp (is_listed (unit_folder system)) (keys tree) (keys_sorted tree)
 
   paths_same : paths_of leaves system ≡ paths_of other system
   paths_same =

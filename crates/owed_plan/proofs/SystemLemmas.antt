@@ -2,18 +2,17 @@
 use Rattle.std.proofs.Common.{◌≡◌, ◌&&◌, Bool, true, false, List, [], Option, None, Some, is_some, option_and_then, if◌then◌else◌, refl, ap, ◌∙◌}
 use Rattle.std.specs.Option.{option_map_or}
 use Rattle.host_trait.specs.World.{Leaves}
-use Rattle.owed_lists.proofs.NameLemmas.{none_from_test}
+use Rattle.switch_names.proofs.Outcomes.{none_from_test}
 use Rattle.owed_plan.specs.Law.{IsSound}
 use Rattle.owed_plan.specs.Systems.{AreOldDefs, Texts, systems_at, systems_in, systems_of, text_at}
 use Rattle.switch_names.specs.declared.unit_kind.UnitKind.TheVariants.{Socket}
 use Rattle.switch_names.specs.Names.{Name, has}
-use Rattle.switch_names.specs.UnitName.{IsUnitName, template_of, unit_fault}
+use Rattle.switch_names.specs.UnitName.{IsUnitName, template_of, unit_fault, is_unit}
 use Rattle.unit_decide.specs.Facts.{facts_of, unit_kind}
 use Rattle.unit_decide.specs.Sockets.{sockets_of}
 use Rattle.unit_decide.proofs.SocketLemmas.{none_found, paired_kind}
 use Rattle.unit_defs.specs.declared.unit.Unit.{Unit}
 use Rattle.unit_defs.specs.Defs.{AreDefsOf, found_in, names_in, own_in, wanted_in}
-use Rattle.unit_defs.specs.Place.{is_unit}
 use Rattle.unit_defs.specs.Units.{find_text, own_text, text_of, wanted_of, wants_of}
 use Rattle.unit_defs.proofs.OrderLemmas.{wanted_each}
 use Rattle.unit_text.specs.declared.assignment.Assignment.{Assignment}

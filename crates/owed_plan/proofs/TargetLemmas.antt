@@ -3,12 +3,12 @@ use Rattle.std.proofs.Common.{◌≡◌, ◌↔◌, ◌&&◌, Bool, true, false,
 use Rattle.std.specs.List.{list_any}
 use Rattle.std.proofs.lemmas.Bool.{and_from, and_parts, both_ways, false_from_ne_true, not-true, not_from_false}
 use Rattle.host_trait.specs.declared.unit_state.State.{State}
+use Rattle.host_trait.proofs.NameOrder.{passes_among}
 use Rattle.owed_lists.specs.declared.lists.Lists.{Lists}
 use Rattle.owed_plan.specs.Pull.{Pulled}
 use Rattle.owed_plan.specs.Steady.{IsSteady, IsStoppedForGood, has_for_good, is_steady, is_target}
 use Rattle.owed_plan.specs.Systems.{systems_in}
 use Rattle.owed_plan.proofs.ActiveLemmas.{one_of}
-use Rattle.owed_plan.proofs.NameLemmas.{any_from_has}
 use Rattle.switch_names.specs.Names.{IsListOf, Name, has}
 use Rattle.switch_names.specs.declared.unit_kind.UnitKind.{UnitKind}
 use Rattle.switch_names.specs.declared.unit_kind.UnitKind.TheVariants.{Target}
@@ -21,7 +21,7 @@ use Rattle.unit_defs.specs.Defs.{found_in}
 
 -- a test that finds none among names, and what it tells of a name
 none_from : (test : Name → Bool) (P : Name → Type 0) (names : List Name) → ((unit : Name) → P unit → test unit ≡ true) → list_any test names ≡ false → (unit : Name) → has names unit ≡ true → P unit → ⊥
-none_from test P names tells none unit found holds = both_ways (list_any test names) none (any_from_has test names unit found (tells unit holds))
+none_from test P names tells none unit found holds = both_ways (list_any test names) none (passes_among test names unit found (tells unit holds))
 
 none_to : (test : Name → Bool) (P : Name → Type 0) (names : List Name) → ((unit : Name) → test unit ≡ true → P unit) → ((unit : Name) → has names unit ≡ true → P unit → ⊥) → list_any test names ≡ false
 none_to test P names tells lacks =

@@ -3,21 +3,21 @@ use Rattle.std.proofs.Common.{◌≡◌, ◌++◌, Bool, true, false, List, [], 
 use Rattle.std.specs.Option.{option_or}
 use Rattle.std.proofs.lemmas.Bool.{and_parts, or_cases, or_left, or_right}
 use Rattle.host_trait.specs.World.{Leaves}
-use Rattle.owed_lists.proofs.NameLemmas.{none_from_test}
-use Rattle.owed_plan.proofs.NameLemmas.{has-filter}
+use Rattle.switch_names.proofs.Outcomes.{none_from_test}
 use Rattle.owed_plan.proofs.SystemLemmas.{guarded}
 use Rattle.switch_names.specs.Names.{Name, has, is_name}
-use Rattle.switch_names.specs.UnitName.{IsUnitName, template_of, unit_fault}
+use Rattle.switch_names.specs.UnitName.{IsUnitName, template_of, unit_fault, is_unit}
 use Rattle.unit_decide.proofs.SocketLemmas.{none_found}
 use Rattle.unit_defs.specs.declared.place.Place.{Place}
 use Rattle.unit_defs.specs.declared.place.Place.TheVariants.{File, DropIn, Want}
 use Rattle.unit_defs.specs.Files.{folder_wants, paths_of, want_at}
 use Rattle.unit_defs.specs.Fstab.{fstab_of, names_of, wanted_by_lines}
-use Rattle.unit_defs.specs.Place.{is_unit, place_of}
+use Rattle.unit_defs.specs.Place.{place_of}
 use Rattle.unit_defs.specs.Units.{can_be_wanted, own_text, text_of, units_of, wanted_of, wants_of, words_in}
 use Rattle.unit_defs.proofs.FirstFaultLemmas.{has_by_test, own_there}
 use Rattle.unit_defs.proofs.FstabLemmas.{wanted_named}
-use Rattle.unit_defs.proofs.NameLemmas.{has-append, name_exact}
+use Rattle.host_trait.proofs.NameOrder.{name_exact, has_filter}
+use Rattle.unit_defs.proofs.NameLemmas.{has-append}
 use Rattle.unit_defs.proofs.OrderLemmas.{has_in_order}
 use Rattle.unit_defs.proofs.UnitLemmas.{template_named}
 use Rattle.unit_text.specs.declared.assignment.Assignment.{Assignment}
@@ -103,7 +103,7 @@ module _ (leaves : Leaves) (system : Name) where
   pub wanted_among : (unit name : Name) → has (wanted_of leaves system unit) name ≡ true → has all_wanted name ≡ true
   wanted_among unit name found =
       let names = wants_of leaves system unit ++ words_in (text_of leaves system unit) in
-      let listed = (and_parts (can_be_wanted own name) (has names name) (sym (has-filter (can_be_wanted own) names name) ∙ sym (has_in_order (filter (can_be_wanted own) names) name) ∙ found)).1 in
+      let listed = (and_parts (can_be_wanted own name) (has names name) (sym (has_filter (can_be_wanted own) names name) ∙ sym (has_in_order (filter (can_be_wanted own) names) name) ∙ found)).1 in
       has-append (in_folders ++ in_fstab) in_texts name
       ∙ elim (or_cases (has (wants_of leaves system unit) name) (has (words_in (text_of leaves system unit)) name) (sym (has-append (wants_of leaves system unit) (words_in (text_of leaves system unit)) name) ∙ listed)) [
         | inl named ↦ or_left (has (in_folders ++ in_fstab) name) (has in_texts name) (named_found unit name named)

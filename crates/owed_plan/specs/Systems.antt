@@ -9,7 +9,7 @@ use Rattle.unit_decide.specs.Facts.{facts_of}
 use Rattle.unit_decide.specs.Sockets.{sockets_of}
 use Rattle.unit_defs.specs.declared.unit.Unit.{Unit}
 use Rattle.unit_defs.specs.Defs.{AreDefsOf, found_in, wanted_in}
-use Rattle.unit_defs.specs.Place.{is_unit}
+use Rattle.switch_names.specs.UnitName.{is_unit}
 use Rattle.unit_defs.specs.Units.{text_of, wanted_of}
 use Rattle.unit_text.specs.declared.assignment.Assignment.{Assignment}
 

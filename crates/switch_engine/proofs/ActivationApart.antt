@@ -1,6 +1,6 @@
 -- What an activation owns and looks at, the units' part and the profile's neither look at nor own.
 use Rattle.std.proofs.Common.{◌≡◌, Bool, true, false, ◌||◌, ◌++◌, codes, Some, refl, sym, ap, subst, ◌∙◌, inl, inr}
-use Rattle.std.proofs.lemmas.Bool.{both_ways, cases_Bool}
+use Rattle.std.proofs.lemmas.Bool.{both_ways, cases_Bool, or_from}
 use Rattle.std.specs.List.{AllByRecursion}
 use Rattle.accounts_stage.specs.AccountsPart.{reads_accounts}
 use Rattle.accounts_stage.specs.Places.{account_names, account_places, gids_place, group_place, groups_place, memory_places, owns_accounts, passwd_place, shadow_place, table_places, uids_place, users_place}
@@ -14,7 +14,6 @@ use Rattle.etc_farm.proofs.PlaceLemmas.{place_of_owned}
 use Rattle.etc_manifest.specs.Owners.{OwnerIds}
 use Rattle.generations.specs.Places.{profiles}
 use Rattle.generations.specs.ProfilePart.{owns_profile, reads_profile}
-use Rattle.switch_parts.proofs.LeafLemmas.{both_false}
 use Rattle.generations.proofs.ProfileApart.{etc_unread, owned_fails}
 use Rattle.host_trait.specs.Change.{definitions_place}
 use Rattle.host_trait.specs.declared.leaf.LeafKind.TheVariants.{Link}
@@ -52,8 +51,8 @@ unread_accounts = (refl, (refl, (refl, (refl, (refl, (refl, (refl, tt)))))))
 unread_etc : (q : Name) → reads_units (place q) ≡ false
 unfolding place stage current_place reloads_place restarts_place starts_place
 unread_etc q =
-    both_false _ _
-    (both_false _ _ refl (none_near (codes "etc/" ++ q) unit_places
+    or_from _ _
+    (or_from _ _ refl (none_near (codes "etc/" ++ q) unit_places
     (record { first = refl; second = refl }, (record { first = refl; second = refl }, (record { first = refl; second = refl }, (record { first = refl; second = refl }, (record { first = refl; second = refl }, tt)))))))
     (not_below (codes "etc/" ++ q) (codes "nix/store") refl)
 
@@ -98,16 +97,16 @@ units_farm = (refl, (refl, (refl, (refl, tt))))
 
 activation_unread : (q : Name) → owns_units q ≡ true → reads_accounts q || reads_farm q ≡ false
 activation_unread q own =
-    both_false _ _ (each_among (λ x. reads_accounts x ≡ false) owned_places units_accounts q own) (each_among (λ x. reads_farm x ≡ false) owned_places units_farm q own)
+    or_from _ _ (each_among (λ x. reads_accounts x ≡ false) owned_places units_accounts q own) (each_among (λ x. reads_farm x ≡ false) owned_places units_farm q own)
 
 -- a path that begins as the profile does
-abbrev profile_path : Name → Name
+abbrev pub profile_path : Name → Name
 profile_path rest = codes "nix/var/nix/profiles/system" ++ rest
 
 accounts_apart : (rest : Name) → reads_accounts (profile_path rest) ≡ false
 unfolding stage account_names table_places memory_places group_place passwd_place shadow_place groups_place users_place gids_place uids_place is_in_store
 accounts_apart rest =
-    both_false _ _ refl (both_false _ _ refl (none_near (profile_path rest) account_places (
+    or_from _ _ refl (or_from _ _ refl (none_near (profile_path rest) account_places (
       record { first = refl; second = refl },
       (
         record { first = refl; second = refl },
@@ -124,11 +123,11 @@ accounts_apart rest =
 farm_apart : (rest : Name) → reads_farm (profile_path rest) ≡ false
 unfolding stage is_in_etc place clean_name static_name is_in_store
 farm_apart rest =
-    both_false _ _ refl (both_false _ _ refl (none_near (profile_path rest) fixed_places
+    or_from _ _ refl (or_from _ _ refl (none_near (profile_path rest) fixed_places
     (record { first = refl; second = refl }, (record { first = refl; second = refl }, (record { first = refl; second = refl }, tt)))))
 
 pub activation_apart : (q : Name) → owns_profile q ≡ true → reads_accounts q || reads_farm q ≡ false
-activation_apart q own = both_false _ _ (owned_fails reads_accounts accounts_apart q own) (owned_fails reads_farm farm_apart q own)
+activation_apart q own = or_from _ _ (owned_fails reads_accounts accounts_apart q own) (owned_fails reads_farm farm_apart q own)
 
 -- ---- neither looks at what the other owns
 

@@ -19,6 +19,7 @@ use Rattle.generations.specs.Places.{Names, link_path, profile}
 use Rattle.generations.specs.ProfilePart.{owns_profile}
 use Rattle.generations.proofs.ProfileApart.{link_owned, owned_other, profile_owned, stage_not_owned}
 use Rattle.generations.proofs.SetLaws.{generation_of}
+use Rattle.generations.proofs.Apart.{link_not_stage as link_apart_stage}
 use Rattle.host_trait.specs.declared.entry.Entry.{Entry}
 use Rattle.host_trait.specs.declared.manager_state.ManagerState.{ManagerState}
 use Rattle.host_trait.specs.declared.unit_state.State.{State}
@@ -115,10 +116,6 @@ profile_apart_stage = refl
 
 profile_not_stage : profile ≢ stage
 profile_not_stage same = both_ways _ profile_apart_stage (subst (λ x. is_path profile x ≡ true) same (nat_list_eq_equiv.refl profile))
-
-link_apart_stage : (n : ℕ) → is_path (link_path n) stage ≡ false
-unfolding link_path stage
-link_apart_stage n = refl
 
 link_not_stage : (n : ℕ) → link_path n ≢ stage
 link_not_stage n same = both_ways _ (link_apart_stage n) (subst (λ x. is_path (link_path n) x ≡ true) same (nat_list_eq_equiv.refl (link_path n)))

@@ -15,10 +15,8 @@ use Rattle.switch_names.specs.Names.{Name, is_name}
 use Rattle.switch_engine.specs.Final.{HasFailed, is_failed, is_failed_of}
 use Rattle.unit_defs.specs.declared.unit.Unit.{Unit}
 use Rattle.unit_defs.specs.Defs.{found_in}
-use Rattle.unit_defs.proofs.NameLemmas.{less_is_other, name_exact, name_itself}
-
-abbrev listed : List (Name × State) → List UnitState
-listed es = map (λ e. record { unit = e.0; state = e.1 }) es
+use Rattle.host_trait.proofs.NameOrder.{less_is_other, name_exact, name_itself}
+use Rattle.owed_plan.proofs.ActiveLemmas.{listed}
 
 both_of : (a b : Bool) → a && b ≡ true → (a ≡ true) × (b ≡ true)
 both_of true b is = (refl, is)

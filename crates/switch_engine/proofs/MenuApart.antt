@@ -1,6 +1,6 @@
 -- A switch neither looks at the boot menu nor writes where it looks.
 use Rattle.std.proofs.Common.{◌≡◌, ◌≢◌, ◌||◌, ◌++◌, ℕ, Bool, true, false, codes, drop, nat_eq, Option, None, Some, is_some, refl, sym, ap, subst, ◌∙◌, inl, inr}
-use Rattle.std.proofs.lemmas.Bool.{both_ways, cases_Bool}
+use Rattle.std.proofs.lemmas.Bool.{both_ways, cases_Bool, or_from}
 use Rattle.std.specs.Cmp.Lexicographic.{nat_list_eq_equiv, same_text}
 use Rattle.std.specs.List.{AllByRecursion, starts_with}
 use Rattle.accounts_stage.specs.AccountsPart.{reads_accounts}
@@ -14,7 +14,6 @@ use Rattle.etc_clean.specs.CleanList.{clean_name}
 use Rattle.etc_clean.specs.Etc.{static_name}
 use Rattle.etc_clean.specs.Names.{is_in_etc, place}
 use Rattle.etc_farm.specs.FarmPart.{fixed_places, owns_farm, reads_farm}
-use Rattle.switch_parts.proofs.LeafLemmas.{both_false}
 use Rattle.host_trait.specs.World.{is_in_line, is_path, stage}
 use Rattle.owed_lists.specs.Lists.{reloads_place, restarts_place, starts_place}
 use Rattle.owed_plan.specs.Store.{IsInStore}
@@ -64,9 +63,9 @@ unfolding place stage loader_path entries_folder is_in_store
 etc_away q =
     let at = codes "etc/" ++ q in
     away at refl
-    (both_false _ _ refl (both_false _ _ refl (both_false _ _ refl
-    (both_false _ _ (not_line at entries_folder (record { first = refl; second = refl }))
-    (both_false _ _ (not_line at loader_path (record { first = refl; second = refl })) (not_line at stage (record { first = refl; second = refl })))))))
+    (or_from _ _ refl (or_from _ _ refl (or_from _ _ refl
+    (or_from _ _ (not_line at entries_folder (record { first = refl; second = refl }))
+    (or_from _ _ (not_line at loader_path (record { first = refl; second = refl })) (not_line at stage (record { first = refl; second = refl })))))))
 
 pub menu_unread_activation : (q : Name) → owns_accounts q || owns_farm q ≡ true → reads_boot q ≡ false
 menu_unread_activation = fails reads_boot (record { accounts = accounts_away; etc = etc_away })
@@ -108,15 +107,15 @@ menu_fails test each q own = subst (λ x. test x ≡ false) (sym (owned_begins q
 units_apart : (rest : Name) → reads_units (menu_path rest) ≡ false
 unfolding stage current_place reloads_place restarts_place starts_place
 units_apart rest =
-    both_false _ _
-    (both_false _ _ refl (none_near (menu_path rest) unit_places
+    or_from _ _
+    (or_from _ _ refl (none_near (menu_path rest) unit_places
     (record { first = refl; second = refl }, (record { first = refl; second = refl }, (record { first = refl; second = refl }, (record { first = refl; second = refl }, (record { first = refl; second = refl }, tt)))))))
     (not_below (menu_path rest) (codes "nix/store") refl)
 
 accounts_apart : (rest : Name) → reads_accounts (menu_path rest) ≡ false
 unfolding stage account_names table_places memory_places group_place passwd_place shadow_place groups_place users_place gids_place uids_place is_in_store
 accounts_apart rest =
-    both_false _ _ refl (both_false _ _ refl (none_near (menu_path rest) account_places (
+    or_from _ _ refl (or_from _ _ refl (none_near (menu_path rest) account_places (
       record { first = refl; second = refl },
       (
         record { first = refl; second = refl },
@@ -133,14 +132,14 @@ accounts_apart rest =
 farm_apart : (rest : Name) → reads_farm (menu_path rest) ≡ false
 unfolding stage is_in_etc place clean_name static_name is_in_store
 farm_apart rest =
-    both_false _ _ refl (both_false _ _ refl (none_near (menu_path rest) fixed_places
+    or_from _ _ refl (or_from _ _ refl (none_near (menu_path rest) fixed_places
     (record { first = refl; second = refl }, (record { first = refl; second = refl }, (record { first = refl; second = refl }, tt)))))
 
 pub activation_unread : (q : Name) → owns_boot q ≡ true → reads_accounts q || reads_farm q ≡ false
-activation_unread q own = both_false _ _ (menu_fails reads_accounts accounts_apart q own) (menu_fails reads_farm farm_apart q own)
+activation_unread q own = or_from _ _ (menu_fails reads_accounts accounts_apart q own) (menu_fails reads_farm farm_apart q own)
 
 pub switch_unread : (q : Name) → owns_boot q ≡ true → reads_units q || (reads_accounts q || reads_farm q) ≡ false
-switch_unread q own = both_false _ _ (menu_fails reads_units units_apart q own) (activation_unread q own)
+switch_unread q own = or_from _ _ (menu_fails reads_units units_apart q own) (activation_unread q own)
 
 -- ---- no place of it is the stage, or lies in the store
 

@@ -23,7 +23,7 @@ use Rattle.owed_plan.specs.Systems.{Systems, systems_at}
 use Rattle.owed_plan.proofs.NameLemmas.{has-sockets_first}
 use Rattle.switch_names.specs.Names.{Name, has, is_name}
 use Rattle.unit_decide.specs.Facts.{unit_kind}
-use Rattle.unit_defs.proofs.NameLemmas.{name_itself}
+use Rattle.host_trait.proofs.NameOrder.{name_itself}
 use Rattle.unit_stage.specs.Acts.{entry_of}
 use Rattle.unit_stage.specs.End.{entries_of, state_after}
 use Rattle.unit_stage.specs.Owes.{IsOwedAct, IsPaid, Owes, OwesUnit, is_stop, pays}

@@ -1,6 +1,6 @@
 -- What a command does is a part of a switch, whichever of its parts it has.
 use Rattle.std.proofs.Common.{◌≡◌, Bool, true, false, ◌||◌, ◌++◌, codes, refl, sym, ap, ◌∙◌, inl, inr}
-use Rattle.std.proofs.lemmas.Bool.{both_ways, cases_Bool}
+use Rattle.std.proofs.lemmas.Bool.{both_ways, cases_Bool, or_from}
 use Rattle.accounts_stage.specs.AccountsPart.{reads_accounts}
 use Rattle.accounts_stage.specs.Places.{owns_accounts}
 use Rattle.activation_stage.specs.ActivationPart.{activation_part}
@@ -13,13 +13,12 @@ use Rattle.etc_manifest.specs.Owners.{OwnerIds}
 use Rattle.generations.specs.Places.{profiles}
 use Rattle.generations.specs.declared.gens.Gens.{Gens}
 use Rattle.generations.specs.ProfilePart.{owns_profile, reads_profile}
-use Rattle.switch_parts.proofs.LeafLemmas.{both_false}
 use Rattle.generations.proofs.ProfileApart.{owned_fails}
 use Rattle.host_trait.specs.World.{stage}
 use Rattle.owed_lists.specs.Lists.{reloads_place, restarts_place, starts_place}
 use Rattle.owed_plan.specs.Store.{IsInStore}
 use Rattle.switch_engine.specs.Rows.{part_if, parts, switch_part}
-use Rattle.switch_engine.proofs.ActivationApart.{activation_apart, not_owns_store, profile_unread}
+use Rattle.switch_engine.proofs.ActivationApart.{activation_apart, not_owns_store, profile_unread, profile_path}
 use Rattle.boot_entries.proofs.DefaultLemmas.{default_part_law}
 use Rattle.switch_engine.proofs.MenuApart.{activation_unread, menu_not_in_store, menu_unread, menu_unread_activation, switch_unread as menu_apart}
 use Rattle.activation_stage.proofs.ActivationLemmas.{activation_part_law}
@@ -80,20 +79,16 @@ switch_unread q own = elim (cases_Bool (owns_units q)) [
   | inr other ↦ profile_unread q (sym (ap (λ b. b || (owns_accounts q || owns_farm q)) other) ∙ own)
 ]
 
--- a path that begins as the profile does
-abbrev profile_path : Name → Name
-profile_path rest = codes "nix/var/nix/profiles/system" ++ rest
-
 units_apart : (rest : Name) → reads_units (profile_path rest) ≡ false
 unfolding stage current_place reloads_place restarts_place starts_place
 units_apart rest =
-    both_false _ _
-    (both_false _ _ refl (none_near (profile_path rest) unit_places
+    or_from _ _
+    (or_from _ _ refl (none_near (profile_path rest) unit_places
     (record { first = refl; second = refl }, (record { first = refl; second = refl }, (record { first = refl; second = refl }, (record { first = refl; second = refl }, (record { first = refl; second = refl }, tt)))))))
     (not_below (profile_path rest) (codes "nix/store") refl)
 
 profile_apart : (q : Name) → owns_profile q ≡ true → reads_units q || (reads_accounts q || reads_farm q) ≡ false
-profile_apart q own = both_false _ _ (owned_fails reads_units units_apart q own) (activation_apart q own)
+profile_apart q own = or_from _ _ (owned_fails reads_units units_apart q own) (activation_apart q own)
 
 -- what is owned of a boot default is of the profile or of the boot menu
 of_default : (P : Name → Type 0) → ((q : Name) → owns_profile q ≡ true → P q) → ((q : Name) → owns_boot q ≡ true → P q) → (q : Name) → owns_profile q || owns_boot q ≡ true → P q
@@ -106,7 +101,7 @@ default_apart : (q : Name) → owns_profile q || owns_boot q ≡ true → reads_
 default_apart = of_default (λ q. reads_units q || (reads_accounts q || reads_farm q) ≡ false) profile_apart menu_apart
 
 default_unread : (q : Name) → owns_units q || (owns_accounts q || owns_farm q) ≡ true → reads_profile q || reads_boot q ≡ false
-default_unread q own = both_false _ _ (switch_unread q own) (menu_unread q own)
+default_unread q own = or_from _ _ (switch_unread q own) (menu_unread q own)
 
 pub are_parted : (switches sets : Bool) (system : Name) (owners : OwnerIds) (gens : Gens) → AreParted (part_if switches (switch_part system owners)) (part_if sets (boot_default_part system gens))
 are_parted true true system owners gens = record { first = default_unread; second = default_apart; manager = refl }
@@ -118,7 +113,7 @@ are_parted false false system owners gens = record { first = λ q own. refl; sec
 pub default_parted : (sets : Bool) (system : Name) (owners : OwnerIds) (gens : Gens) → AreParted (part_if sets (boot_default_part system gens)) (activation_part system owners)
 default_parted true system owners gens = record {
   first = of_default (λ q. reads_accounts q || reads_farm q ≡ false) activation_apart activation_unread;
-  second = λ q own. both_false _ _ (profile_unread q own) (menu_unread_activation q own);
+  second = λ q own. or_from _ _ (profile_unread q own) (menu_unread_activation q own);
   manager = refl;
 }
 default_parted false system owners gens = record { first = λ q own. absurd (both_ways false refl own); second = λ q own. refl; manager = refl }
@@ -138,13 +133,13 @@ parts_are switches sets system named owners gens are =
 -- ---- no part writes in the store
 
 switch_not_in_store : (q : Name) → IsInStore q → owns_units q || (owns_accounts q || owns_farm q) ≡ false
-switch_not_in_store q inside = both_false _ _ (units_not_in_store q inside) (not_owns_store q inside)
+switch_not_in_store q inside = or_from _ _ (units_not_in_store q inside) (not_owns_store q inside)
 
 default_not_in_store : (q : Name) → IsInStore q → owns_profile q || owns_boot q ≡ false
-default_not_in_store q inside = both_false _ _ (store_not_owned q inside) (menu_not_in_store q inside)
+default_not_in_store q inside = or_from _ _ (store_not_owned q inside) (menu_not_in_store q inside)
 
 pub not_in_store : (switches sets : Bool) (system : Name) (owners : OwnerIds) (gens : Gens) (q : Name) → IsInStore q → (parts switches sets system owners gens).owns q ≡ false
-not_in_store true true system owners gens q inside = both_false _ _ (switch_not_in_store q inside) (default_not_in_store q inside)
-not_in_store true false system owners gens q inside = both_false _ _ (switch_not_in_store q inside) refl
+not_in_store true true system owners gens q inside = or_from _ _ (switch_not_in_store q inside) (default_not_in_store q inside)
+not_in_store true false system owners gens q inside = or_from _ _ (switch_not_in_store q inside) refl
 not_in_store false true system owners gens q inside = default_not_in_store q inside
 not_in_store false false system owners gens q inside = refl

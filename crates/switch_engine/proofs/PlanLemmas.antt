@@ -16,6 +16,7 @@ use Rattle.switch_engine.specs.Plan.{AreUnitsPlanned, IsActivationPlanned, IsPro
 use Rattle.switch_engine.specs.Rows.{part_if, parts_refusal, places, refusal, refusal_by, switch_in}
 use Rattle.switch_engine.specs.System.{version_path}
 use Rattle.switch_names.specs.Names.{Name}
+use Rattle.switch_names.proofs.Outcomes.{none_left}
 use Rattle.switch_parts.specs.declared.refusal.Refusal.{Refusal}
 use Rattle.switch_parts.specs.declared.refusal.Refusal.TheVariants.{InTheWay, NoSystem}
 use Rattle.tree_put.specs.WrittenPlace.{in_the_way}
@@ -73,11 +74,6 @@ module _ (switches sets : Bool) (system : Name) (leaves : Leaves) where
 -- what is told before a call that changes nothing is told after it
 pub told_still : {a b : HostState} {P : WorldState → Type 0} → Passes a b IsSame → Told a P → Told b P
 told_still {P = P} same told = told_after same same.tells P (λ w v is there. subst P (sym there) (told.has w is))
-
--- where there isn't something there is nothing
-pub none_left : {X : Type 0} (o : Option X) → ((x : X) → o ≡ Some x → ⊥) → None ≡ o
-none_left None none = refl
-none_left (Some x) none = absurd (none x refl)
 
 -- without a set of the profile
 pub unset_free : (system : Name) (sets : Bool) (leaves : Leaves) → sets ≡ false → (part_if sets (boot_default_in system leaves)).refusal leaves ≡ None

@@ -1,6 +1,6 @@
 -- All steps of a switch of the units, one after the other: each is a moment of its parts, and the last leaves them at their ends.
 use Rattle.std.proofs.Common.{◌≡◌, true, false, cond, ◌||◌, List, length, ◌++◌, None, Some, refl, sym, ap, subst, ◌∙◌, inl, inr}
-use Rattle.std.proofs.lemmas.Bool.{both_ways, cases_Bool}
+use Rattle.std.proofs.lemmas.Bool.{both_ways, cases_Bool, or_from}
 use Rattle.std.specs.Cmp.Lexicographic.{same_text}
 use Rattle.std.specs.FinMap.{get}
 use Rattle.activation_stage.specs.ActivationPart.{CanActivate, IsActivating, IsActivationPlanOf, activation_part}
@@ -49,7 +49,6 @@ use Rattle.unit_stage.proofs.StepLemmas.{all_taken, manager_seen}
 use Rattle.unit_stage.proofs.SystemsLemmas.{is_system}
 use Rattle.unit_stage.proofs.TableLemmas.{all_entered, can_rest, final_states, in_one, ready, started_all}
 use Rattle.unit_stage.proofs.UnitsPartLemmas.{unit_moment_law, units_part_law}
-use Rattle.switch_parts.proofs.LeafLemmas.{both_false}
 
 module _ (system : Name) (named : IsSystemPath system) (owed : Owed) (w : WorldState) (is_owed : IsOwedBy w system owed) (free : IsFree (switch_in system w.leaves) w.leaves) where
   abbrev owners : OwnerIds
@@ -176,7 +175,7 @@ module _ (system : Name) (named : IsSystemPath system) (owed : Owed) (w : WorldS
           let there = same_bringing (reload_calls owed states) (restart_calls owed) (start_calls owed) system stopped_world v moment.0 units_ready moment.1 in
           let step : IsUnitMoment system owed w m = IsUnitMoment.Bringing there.0 there.1 (units_then there.0 moment.0 m there.2 (units_seen moment.0 m moment.2)) in
           let beside : AreSameBeside w m =
-          λ q read none. (all_only m moment).leaves q (both_false _ _ none (not_activated q read)) (λ same. both_ways _ not_reads_stage (subst (λ x. units.reads x ≡ true) same read)) in
+          λ q read none. (all_only m moment).leaves q (or_from _ _ none (not_activated q read)) (λ same. both_ways _ not_reads_stage (subst (λ x. units.reads x ≡ true) same read)) in
           record {
             free = λ before. free_law system owed w m system_is is_owed step beside before;
             underway = λ before steady. underway_law system owed w m system_is is_owed before steady step beside;

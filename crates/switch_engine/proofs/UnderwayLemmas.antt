@@ -34,10 +34,11 @@ use Rattle.switch_names.specs.Path.{is_below}
 use Rattle.switch_names.specs.SystemName.{IsSystemPath, store_folder, store_name}
 use Rattle.switch_names.proofs.Below.{below_front}
 use Rattle.switch_names.proofs.StorePaths.{IsStorePath-from_named, store_path_is}
+use Rattle.switch_names.proofs.Outcomes.{option_or_parts, option_or_nothing, none_mapped}
 use Rattle.switch_parts.specs.declared.refusal.Refusal.{Refusal}
 use Rattle.switch_parts.specs.declared.refusal.Refusal.TheVariants.{InTheWay, NoSystem}
 use Rattle.switch_parts.specs.Part.{IsFree, IsMomentOf, IsPart, final_leaf}
-use Rattle.switch_parts.proofs.Parts.{ends_alike, first_free, none_mapped, none_or, or_none}
+use Rattle.switch_parts.proofs.Parts.{ends_alike, first_free}
 use Rattle.tree_put.specs.WrittenPlace.{in_the_way}
 use Rattle.unit_stage.specs.Units.{AreUnitsUnderway, units_part}
 
@@ -54,7 +55,7 @@ refused_by switches sets system leaves = cond (is_none (content_of leaves (versi
 free_by : (switches sets : Bool) (system : Name) (leaves : Leaves) → refused_by switches sets system leaves ≡ None → IsFreeBy switches sets system leaves
 free_by switches sets system leaves none =
     let first = split (is_none (content_of leaves (version_path system))) (refusal_by switches sets system leaves) none in
-    let second = or_none (option_map InTheWay (in_the_way (places switches sets system leaves) leaves)) ((parts_in switches sets system leaves).refusal leaves) first.1 in
+    let second = option_or_parts (option_map InTheWay (in_the_way (places switches sets system leaves) leaves)) ((parts_in switches sets system leaves).refusal leaves) first.1 in
     record {
       version = first.0;
       parts = record { way = parts_way switches sets system (owners_after system leaves) leaves (none_mapped InTheWay (in_the_way (places switches sets system leaves) leaves) second.0); refusal = second.1 };
@@ -67,7 +68,7 @@ free_by switches sets system leaves none =
 by_free : (switches sets : Bool) (system : Name) (leaves : Leaves) → IsFreeBy switches sets system leaves → refused_by switches sets system leaves ≡ None
 by_free switches sets system leaves free =
     ap (λ b. cond b (Some NoSystem) (refusal_by switches sets system leaves)) free.version
-    ∙ none_or (option_map InTheWay (in_the_way (places switches sets system leaves) leaves)) ((parts_in switches sets system leaves).refusal leaves)
+    ∙ option_or_nothing (option_map InTheWay (in_the_way (places switches sets system leaves) leaves)) ((parts_in switches sets system leaves).refusal leaves)
     (ap (option_map InTheWay) (places_way switches sets system (owners_after system leaves) leaves free.parts.way)) free.parts.refusal
 
 abbrev pub IsFreeCommand : Command → Leaves → Type 0

@@ -19,7 +19,8 @@ use Rattle.generations.specs.Places.{profile}
 use Rattle.switch_engine.specs.Places.{list_places, run_places}
 use Rattle.switch_engine.specs.Rows.{menu_places_if, middle_places, parts, places, switch_part}
 use Rattle.switch_names.specs.Names.{Name}
-use Rattle.switch_parts.proofs.Parts.{find_none, find_none_both, none_mapped}
+use Rattle.switch_names.proofs.Outcomes.{none_mapped}
+use Rattle.switch_parts.proofs.Parts.{find_none, find_none_both}
 use Rattle.tree_put.specs.declared.written_place.WrittenPlace.{WrittenPlace}
 use Rattle.tree_put.specs.WrittenPlace.{AreApartFromStage, in_the_way, is_in_the_way, written}
 use Rattle.unit_stage.specs.Owned.{unit_places}

@@ -9,16 +9,14 @@ use Rattle.std.proofs.lemmas.Bool.{ne_eqb}
 use Rattle.std.proofs.lemmas.List.{drop_at, get_or_default, take-append-drop}
 use Rattle.std.proofs.lemmas.List.Folds.{list_any_none}
 use Rattle.std.proofs.lemmas.Str.Pattern.{NoCharPasses-char, drop_at_char}
+use Rattle.std.proofs.Math.Bool.{or-true}
 use Rattle.std.specs.List.{list_any, starts_with}
 use Rattle.std.specs.Str.{NoCharPasses}
 use Rattle.std.specs.Str.Pattern.{RFindsChar}
-use Rattle.switch_names.specs.Path.{IsParentOf, is_below, name_below, slash}
+use Rattle.switch_names.specs.Path.{IsParentOf, is_below, name_below, slash, is_slash}
 use Rattle.switch_names.proofs.Joined.{drop_joined}
 
-abbrev is_slash : ℕ → Bool
-is_slash byte = byte == slash
-
-less_from_test : (m n : ℕ) → nat_lt m n ≡ true → m < n
+pub less_from_test : (m n : ℕ) → nat_lt m n ≡ true → m < n
 less_from_test m n is = grind arith
 
 test_from_less : (m n : ℕ) → m < n → nat_lt m n ≡ true
@@ -61,12 +59,8 @@ below_both path middle q first second =
     (long.1 ∙ ap (λ t. t ++ slash ∷ long.0) short.1 ∙ append_assoc q (slash ∷ short.0) (slash ∷ long.0))
     ∙ below_front q (short.0 ++ slash ∷ long.0)
 
-or_true : (a : Bool) → (a || true) ≡ true
-or_true true = refl
-or_true false = refl
-
 has_slash : (front rest : List ℕ) → list_any is_slash (front ++ slash ∷ rest) ≡ true
-has_slash front rest = list_any-append is_slash front (slash ∷ rest) ∙ or_true (list_any is_slash front)
+has_slash front rest = list_any-append is_slash front (slash ∷ rest) ∙ or-true (list_any is_slash front)
 
 -- a text that is cut at a slash and at its last one: the two are one, or the first lies before the last
 two_cuts : (q front rest name : List ℕ) → list_any is_slash name ≡ false → q ++ slash ∷ rest ≡ front ++ slash ∷ name → (q ≡ front) ⊎ ((more : List ℕ) × (front ≡ q ++ slash ∷ more))

@@ -5,9 +5,13 @@ use Rattle.std.specs.Str.{bytes_eq}
 use Rattle.std.proofs.lemmas.Bool.Decides.{Decides-eqb, same_from_decides}
 use Rattle.std.proofs.lemmas.List.Folds.{list_any-append}
 use Rattle.std.proofs.lemmas.Slice.Eq.{ends_is, bytes_eq-Decides}
+use Rattle.std.proofs.Math.Bool.{or-true}
+use Rattle.std.proofs.lemmas.Bool.{and_parts}
 use Rattle.switch_names.specs.UnitKind.{ending_of, all_kinds, has_ending, kind_of}
 use Rattle.switch_names.specs.declared.unit_kind.UnitKind.{UnitKind}
 use Rattle.switch_names.specs.declared.unit_kind.UnitKind.TheVariants.{Service}
+use Rattle.switch_names.proofs.Below.{less_from_test}
+use Rattle.switch_names.proofs.Lists.{find_same, find_passes}
 
 abbrev is_dot : ℕ → Bool
 is_dot byte = byte == 46
@@ -17,12 +21,8 @@ dotted : (kind : UnitKind) → (ending_of kind ≡ 46 ∷ drop 1 (ending_of kind
 dotted Service = (refl, refl)
 dotted _ = (refl, refl)
 
-or_true : (a : Bool) → (a || true) ≡ true
-or_true true = refl
-or_true false = refl
-
 has_dot : (front rest : List ℕ) → list_any is_dot (front ++ 46 ∷ rest) ≡ true
-has_dot front rest = list_any-append is_dot front (46 ∷ rest) ∙ or_true (list_any is_dot front)
+has_dot front rest = list_any-append is_dot front (46 ∷ rest) ∙ or-true (list_any is_dot front)
 
 -- what follows the last dot of a text is one word
 last_word : (front other word rest : List ℕ) → list_any is_dot word ≡ false → list_any is_dot rest ≡ false → front ++ 46 ∷ word ≡ other ++ 46 ∷ rest → word ≡ rest
@@ -63,10 +63,6 @@ has_own_ending stem kind kin more =
     (and_implied (nat_lt (length (ending_of kin)) (length (stem ++ ending_of kind))) (bytes_eq (ending_of kin) (ending_of kind))
     (λ yes. let same : length (ending_of kin) ≡ length (ending_of kind) = ap length ((bytes_eq-Decides (ending_of kin) (ending_of kind)).0 yes) in grind (arith, length-append {A = ℕ})))
 
-find_agree : {X : Type 0} (p q : X → Bool) → ((x : X) → p x ≡ q x) → (xs : List X) → find p xs ≡ find q xs
-find_agree p q agree [] = refl
-find_agree p q agree (x ∷ xs) = rw (agree x) (rw (find_agree p q agree xs))
-
 found_itself : (kind : UnitKind) → find (λ kin. bytes_eq (ending_of kin) (ending_of kind)) all_kinds ≡ Some kind
 found_itself Service = refl
 found_itself _ = refl
@@ -75,33 +71,16 @@ found_itself _ = refl
 pub kind_of-stem : (stem : List ℕ) (kind : UnitKind) → 0 < length stem → kind_of (stem ++ ending_of kind) ≡ Some kind
 unfolding kind_of
 kind_of-stem stem kind more =
-    find_agree (λ kin. has_ending (stem ++ ending_of kind) (ending_of kin)) (λ kin. bytes_eq (ending_of kin) (ending_of kind)) (λ kin. has_own_ending stem kind kin more) all_kinds ∙ found_itself kind
-
-find_passes : {X : Type 0} (p : X → Bool) (xs : List X) (x : X) → find p xs ≡ Some x → p x ≡ true
-find_passes p [] x found = absurd cc
-find_passes p (y ∷ ys) x found =
-    elim (p y) as (λ b. p y ≡ b → cond b (Some y) (find p ys) ≡ Some x → p x ≡ true)
-    [ true ↦ λ yes is. let same : y ≡ x = cc in cc | false ↦ λ not is. find_passes p ys x is ] refl found
-
-and_right : (a b : Bool) → (a && b) ≡ true → b ≡ true
-and_right true b both = both
-and_right false b both = absurd cc
+    find_same (λ kin. has_ending (stem ++ ending_of kind) (ending_of kin)) (λ kin. bytes_eq (ending_of kin) (ending_of kind)) (λ kin. has_own_ending stem kind kin more) all_kinds ∙ found_itself kind
 
 -- a text of a kind ends as that kind does
 pub ends-from_kind : (text : List ℕ) (kind : UnitKind) → kind_of text ≡ Some kind → ends_with nat_eq text (ending_of kind) ≡ true
 unfolding kind_of
-ends-from_kind text kind is = and_right _ _ (find_passes (λ kin. has_ending text (ending_of kin)) all_kinds kind is)
-
-and_left : (a b : Bool) → (a && b) ≡ true → a ≡ true
-and_left true b both = refl
-and_left false b both = absurd cc
-
-less_from_test : (m n : ℕ) → nat_lt m n ≡ true → m < n
-less_from_test m n is = grind arith
+ends-from_kind text kind is = (and_parts _ _ (find_passes (λ kin. has_ending text (ending_of kin)) all_kinds kind is)).1
 
 -- a text of a kind is longer than its ending
 pub longer-from_kind : (text : List ℕ) (kind : UnitKind) → kind_of text ≡ Some kind → length (ending_of kind) < length text
 unfolding kind_of
 longer-from_kind text kind is =
     less_from_test (length (ending_of kind)) (length text)
-    (and_left (nat_lt (length (ending_of kind)) (length text)) (ends_with nat_eq text (ending_of kind)) (find_passes (λ kin. has_ending text (ending_of kin)) all_kinds kind is))
+    (and_parts (nat_lt (length (ending_of kind)) (length text)) (ends_with nat_eq text (ending_of kind)) (find_passes (λ kin. has_ending text (ending_of kin)) all_kinds kind is)).0

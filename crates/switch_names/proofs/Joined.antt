@@ -5,8 +5,10 @@ use Rattle.std.proofs.lemmas.Bool.{or_parts}
 use Rattle.std.proofs.lemmas.List.{drop_at, map-append, take_at}
 use Rattle.std.proofs.lemmas.List.Elements.{All-push, All-same, All-take, All-drop}
 use Rattle.std.proofs.lemmas.List.Folds.{list_any-append}
-use Rattle.switch_names.specs.Path.{IsPath, fault_after, is_dots, is_empty_name, is_no_path_byte, names_of, path_fault, slash}
+use Rattle.std.proofs.Math.Bool.{or-false}
+use Rattle.switch_names.specs.Path.{IsPath, fault_after, is_dots, is_no_path_byte, names_of, path_fault, slash}
 use Rattle.switch_names.specs.declared.name_fault.NameFault.TheVariants.{Byte, Dot}
+use Rattle.switch_names.specs.Texts.{is_empty}
 use Rattle.switch_names.proofs.Faultless.{HasNone, HasNone-from_sought, sought, sought-from_HasNone, no_place}
 use Rattle.switch_names.proofs.Positions.{All-from_no_position, no_position-from_All, position_past}
 
@@ -52,18 +54,14 @@ pub any_more : (p : List ℕ → Bool) (names : List (Bor (List ℕ))) (name : B
 any_more p names name =
     ap (list_any p) (map-append (λ (one : Bor (List ℕ)). one.now) names (name ∷ []))
     ∙ list_any-append p (map (λ (one : Bor (List ℕ)). one.now) names) (name.now ∷ [])
-    ∙ ap (λ b. list_any p (map (λ (one : Bor (List ℕ)). one.now) names) || b) (or_none (p name.now))
-  where
-    or_none : (b : Bool) → (b || false) ≡ b
-    or_none true = refl
-    or_none false = refl
+    ∙ ap (λ b. list_any p (map (λ (one : Bor (List ℕ)). one.now) names) || b) (or-false (p name.now))
 
 -- ---- the faults of a path
 
 -- a path has none of the four faults
-faultless : (path : List ℕ) → IsPath path → HasNone (list_any is_empty_name (names_of path)) (nat_lt 4096 (length path)) (option_map Byte (position is_no_path_byte path)) (list_any is_dots (names_of path))
+faultless : (path : List ℕ) → IsPath path → HasNone (list_any is_empty (names_of path)) (nat_lt 4096 (length path)) (option_map Byte (position is_no_path_byte path)) (list_any is_dots (names_of path))
 faultless path is =
-    HasNone-from_sought (list_any is_empty_name (names_of path)) (nat_lt 4096 (length path)) (option_map Byte (position is_no_path_byte path)) (list_any is_dots (names_of path)) Dot is
+    HasNone-from_sought (list_any is_empty (names_of path)) (nat_lt 4096 (length path)) (option_map Byte (position is_no_path_byte path)) (list_any is_dots (names_of path)) Dot is
 
 path_bytes : (path : List ℕ) → IsPath path → All (λ byte. is_no_path_byte byte ≡ false) path
 path_bytes path is = All-from_no_position is_no_path_byte path (no_place Byte (position is_no_path_byte path) (faultless path is).no_byte)
@@ -72,9 +70,9 @@ pub path_short : (path : List ℕ) → IsPath path → length path ≤ 4096
 path_short path is = let long = (faultless path is).not_long in grind (arith, long)
 
 -- a text without the four faults is a path
-path_from : (text : List ℕ) → list_any is_empty_name (names_of text) ≡ false → length text ≤ 4096 → All (λ byte. is_no_path_byte byte ≡ false) text → list_any is_dots (names_of text) ≡ false → IsPath text
+path_from : (text : List ℕ) → list_any is_empty (names_of text) ≡ false → length text ≤ 4096 → All (λ byte. is_no_path_byte byte ≡ false) text → list_any is_dots (names_of text) ≡ false → IsPath text
 path_from text full short bytes named =
-    sought-from_HasNone (list_any is_empty_name (names_of text)) (nat_lt 4096 (length text)) (option_map Byte (position is_no_path_byte text)) (list_any is_dots (names_of text)) Dot
+    sought-from_HasNone (list_any is_empty (names_of text)) (nat_lt 4096 (length text)) (option_map Byte (position is_no_path_byte text)) (list_any is_dots (names_of text)) Dot
     record {
       not_empty = full;
       not_long = grind (arith, short);
@@ -93,7 +91,7 @@ pub both_paths : (folder more : List ℕ) → IsPath (folder ++ slash ∷ more) 
 both_paths folder more is =
     let whole : List ℕ = folder ++ slash ∷ more in
     let none = faultless whole is in
-    let full = none_of_both is_empty_name folder more none.not_empty in
+    let full = none_of_both is_empty folder more none.not_empty in
     let named = none_of_both is_dots folder more none.not_last in
     let len : length whole ≡ length folder + length (slash ∷ more) = length-append folder (slash ∷ more) in
     let short = path_short whole is in
@@ -122,7 +120,7 @@ place_after folder more is =
 pub fault_joined : (folder more : List ℕ) → IsPath folder → fault_after (length folder + 1) more ≡ path_fault (folder ++ slash ∷ more)
 fault_joined folder more is =
     let none = faultless folder is in
-    let empty = sym (any_after is_empty_name folder more none.not_empty) in
+    let empty = sym (any_after is_empty folder more none.not_empty) in
     let dots = sym (any_after is_dots folder more none.not_last) in
     let len : length folder + 1 + length more ≡ length (folder ++ slash ∷ more) = omega (arith, length-append folder (slash ∷ more)) in
     let place = place_after folder more is in
@@ -132,7 +130,7 @@ fault_joined folder more is =
 pub fault_alone : (text : List ℕ) → fault_after 0 text ≡ path_fault text
 fault_alone text =
     let len : 0 + length text ≡ length text = omega arith in
-    λ i. sought (list_any is_empty_name (names_of text)) (nat_lt 4096 (len i)) (same (position is_no_path_byte text) i) (list_any is_dots (names_of text)) Dot
+    λ i. sought (list_any is_empty (names_of text)) (nat_lt 4096 (len i)) (same (position is_no_path_byte text) i) (list_any is_dots (names_of text)) Dot
   where
     same : (place : Option ℕ) → option_map (λ at. Byte (0 + at)) place ≡ option_map Byte place
     same None = refl

@@ -1,8 +1,11 @@
 pub mod Below
+pub mod Cuts
 pub mod Endings
 pub mod Faultless
 pub mod Joined
+pub mod Lists
 pub mod Names
+pub mod Outcomes
 pub mod Positions
 pub mod StorePaths
 pub mod UnitNames

@@ -5,9 +5,10 @@ use Rattle.std.specs.List.{All, list_any, starts_with}
 use Rattle.std.proofs.lemmas.Slice.Eq.{starts_is}
 use Rattle.std.proofs.lemmas.List.Splits.{slice_split_none}
 use Rattle.std.proofs.lemmas.List.Elements.{All-weaker, All-append, All-from_recursion}
-use Rattle.switch_names.specs.Path.{IsPath, names_of, slash, is_dots, is_empty_name, is_no_path_byte}
+use Rattle.switch_names.specs.Path.{IsPath, names_of, slash, is_dots, is_no_path_byte}
 use Rattle.switch_names.specs.declared.name_fault.NameFault.TheVariants.{Byte, Dot}
 use Rattle.switch_names.specs.SystemName.{IsSystemPath, NamesSystem, system_fault, system_path, store_folder, store_name, store_name_fault, is_no_store_byte}
+use Rattle.switch_names.specs.Texts.{is_empty}
 use Rattle.switch_names.proofs.Faultless.{HasNone-from_sought, sought-from_HasNone, no_place, of_kind}
 use Rattle.switch_names.proofs.Positions.{All-from_no_position, no_position-from_All}
 
@@ -57,9 +58,9 @@ IsPath-from_name name is =
     let path : List ℕ = store_folder ++ name in
     let folder : All (λ byte. is_no_path_byte byte ≡ false) store_folder = All-from_recursion (λ byte. is_no_path_byte byte ≡ false) store_folder (search rules) in
     let bytes = no_position-from_All is_no_path_byte path (All-append (λ byte. is_no_path_byte byte ≡ false) store_folder name folder (All-weaker (λ byte. is_no_store_byte byte ≡ false) (λ byte. is_no_path_byte byte ≡ false) path_byte name is.bytes)) in
-    sought-from_HasNone (list_any is_empty_name (names_of path)) (nat_lt 4096 (length path)) (option_map Byte (position is_no_path_byte path)) (list_any is_dots (names_of path)) Dot
+    sought-from_HasNone (list_any is_empty (names_of path)) (nat_lt 4096 (length path)) (option_map Byte (position is_no_path_byte path)) (list_any is_dots (names_of path)) Dot
     record {
-      not_empty = ap (list_any is_empty_name) names ∙ ap (λ empty. empty || false) is.nonempty;
+      not_empty = ap (list_any is_empty) names ∙ ap (λ empty. empty || false) is.nonempty;
       not_long = grind (arith, is.short, length-append {A = ℕ});
       no_byte = ap (option_map Byte) bytes;
       not_last = ap (list_any is_dots) names ∙ ap (λ dots. dots || false) is.not_dots;

@@ -2,7 +2,11 @@
 use Rattle.std.proofs.Common.{◌≡◌, ℕ, ◌+◌, ◌-◌, ◌<◌, ◌≤◌, ◌==◌, true, false, List, [], ◌∷◌, ◌++◌, length, take, position, is_none, option_map, Some, nat_lt, refl, sym, ◌∙◌, ap, subst, arith, rules, append_assoc, length-append, length-take}
 use Rattle.std.specs.List.{All, position_or_len, before_first, after_first}
 use Rattle.std.proofs.lemmas.Grind.{common_steps}
-use Rattle.std.proofs.lemmas.Bool.Decides.{Decides-eqb}
+use Rattle.std.specs.Str.{IsUtf8, is_utf8}
+use Rattle.std.proofs.lemmas.Bool.{false_from_ne_true}
+use Rattle.std.proofs.lemmas.Bool.Decides.{Decides-eqb, nat_tests}
+use Rattle.std.proofs.lemmas.Str.{IsUtf8-from_ascii, IsUtf8-from_is_utf8}
+use Rattle.std.proofs.lemmas.Str.Ascii.{IsAscii-from_all}
 use Rattle.std.proofs.lemmas.List.Elements.{All-append, All-from_recursion, All-same, All-take, All-push}
 use Rattle.std.proofs.lemmas.Slice.Eq.{ends_is}
 use Rattle.switch_names.specs.UnitKind.{ending_of, kind_of}
@@ -65,6 +69,18 @@ IsShortName-from_name name is =
     let none = HasNone-from_sought (length name == 0) (nat_lt 255 (length name)) (option_map Byte (position is_no_unit_byte name)) (is_none (kind_of name)) Kind is in
     let long = none.not_long in
     record { short = grind (arith, long); bytes = All-from_no_position is_no_unit_byte name (no_place Byte _ none.no_byte) }
+
+pub ascii_byte : (byte : ℕ) → is_no_unit_byte byte ≡ false → byte < 128
+ascii_byte byte is = grind (arith, nat_tests)
+
+-- a name is UTF-8
+pub unit_utf8 : (name : List ℕ) → IsUnitName name → IsUtf8 name
+unit_utf8 name is =
+    let bytes = (IsShortName-from_name name is).bytes in
+    IsUtf8-from_ascii name (IsAscii-from_all name (λ k d l. ascii_byte _ (bytes k d l)))
+
+pub not_utf8 : (text : List ℕ) → (IsUtf8 text → ⊥) → is_utf8 text ≡ false
+not_utf8 text bad = false_from_ne_true (is_utf8 text) (λ is. bad (IsUtf8-from_is_utf8 text is))
 
 -- a name is something and then the ending of its kind
 pub record HasParts (name : List ℕ) (kind : UnitKind) : Type 0 where

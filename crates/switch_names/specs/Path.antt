@@ -4,16 +4,17 @@ use Rattle.std.specs.Option.{option_or}
 use Rattle.std.specs.List.{slice_split, list_any, starts_with}
 use Rattle.switch_names.specs.declared.name_fault.NameFault.{NameFault}
 use Rattle.switch_names.specs.declared.name_fault.NameFault.TheVariants.{Empty, Long, Byte, Dot}
+use Rattle.switch_names.specs.Texts.{is_empty}
 
 abbrev pub slash : ℕ
 slash = 47
 
+abbrev pub is_slash : ℕ → Bool
+is_slash byte = byte == slash
+
 -- the names between the slashes of a text
 abbrev pub names_of : List ℕ → List (List ℕ)
 names_of text = slice_split (λ byte. byte == slash) text
-
-abbrev pub is_empty_name : List ℕ → Bool
-is_empty_name name = length name == 0
 
 -- NUL or a line feed
 abbrev pub is_no_path_byte : ℕ → Bool
@@ -28,14 +29,14 @@ is_dots name = false
 -- what keeps a text from being a path, in the order in which it is sought
 abbrev pub path_fault : List ℕ → Option NameFault
 path_fault text =
-    if list_any is_empty_name (names_of text) then Some Empty
+    if list_any is_empty (names_of text) then Some Empty
     else if nat_lt 4096 (length text) then Some Long
     else option_or (option_map Byte (position is_no_path_byte text)) (if list_any is_dots (names_of text) then Some Dot else None)
 
 -- what keeps a text from being a path, or from ending one that has so many bytes before it: those of a path and a slash
 abbrev pub fault_after : ℕ → List ℕ → Option NameFault
 fault_after before text =
-    if list_any is_empty_name (names_of text) then Some Empty
+    if list_any is_empty (names_of text) then Some Empty
     else if nat_lt 4096 (before + length text) then Some Long
     else option_or (option_map (λ at. Byte (before + at)) (position is_no_path_byte text)) (if list_any is_dots (names_of text) then Some Dot else None)
 

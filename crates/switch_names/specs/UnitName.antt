@@ -22,6 +22,10 @@ unit_fault text =
 abbrev pub IsUnitName : List ℕ → Type 0
 IsUnitName text = unit_fault text ≡ None
 
+-- a text is the name of a unit
+abbrev pub is_unit : List ℕ → Bool
+is_unit text = is_none (unit_fault text)
+
 -- the ending of the name
 abbrev pub name_ending : List ℕ → List ℕ
 name_ending name = option_map_or ending_of (kind_of name) []

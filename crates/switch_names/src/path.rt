@@ -2,7 +2,8 @@
 ghost use Rattle.std.specs.Prelude.{◌≡◌, ℕ, ◌+◌, ◌<◌, ◌^◌, ◌++◌, ◌∷◌, List, true, false, length, drop, nat_eq, IfOk, OnOk, IfSome, IsNone, MatchOption, position};
 ghost use Rattle.std.specs.List.{list_any, starts_with};
 ghost use Rattle.std.specs.Option.{option_copied};
-ghost use Rattle.switch_names.specs.Path.{IsPath, path_fault, fault_after, name_below, names_of, is_no_path_byte, is_empty_name, is_dots, is_below, slash, IsParentOf};
+ghost use Rattle.switch_names.specs.Texts.{is_empty};
+ghost use Rattle.switch_names.specs.Path.{IsPath, path_fault, fault_after, name_below, names_of, is_no_path_byte, is_dots, is_below, slash, IsParentOf};
 ghost use Rattle.switch_names.specs.NameFault.{IsRefusedBy};
 
 use crate::name_fault::NameFault;
@@ -61,7 +62,7 @@ pub(crate) fn is_dots(name: &[u8]) -> bool
 
 /// Whether a name of the text is empty, and whether one is one or two dots.
 fn wrong_names(text: &str) -> (bool, bool)
-    ensures empty { result.0 ≡ list_any is_empty_name (names_of text.now) }
+    ensures empty { result.0 ≡ list_any is_empty (names_of text.now) }
     ensures dots { result.1 ≡ list_any is_dots (names_of text.now) }
 {
     let mut has_empty = false;

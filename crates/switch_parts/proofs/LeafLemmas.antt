@@ -1,6 +1,7 @@
 -- Places of a list, one by one.
 use Rattle.std.proofs.Common.{◌≡◌, ◌&&◌, ◌||◌, ◌==◌, Bool, true, false, nat_eq, nat_lt, slice_index, List, [], ◌∷◌, length, Option, refl, sym, ap, subst, ◌∙◌, inl, inr}
-use Rattle.std.proofs.lemmas.Bool.{both_ways, cases_Bool}
+use Rattle.std.proofs.lemmas.Bool.{both_ways, cases_Bool, or_from}
+use Rattle.std.proofs.Math.Bool.{and-false}
 use Rattle.std.specs.Cmp.Lexicographic.{same_text}
 use Rattle.std.specs.List.{AllByRecursion, starts_with}
 use Rattle.switch_names.specs.Names.{Name}
@@ -11,16 +12,9 @@ use Rattle.switch_parts.specs.declared.refusal.Refusal.{Refusal}
 use Rattle.switch_parts.specs.Leaves.{End, EndsSame, is_among, is_near, leaf_part}
 use Rattle.switch_parts.specs.Part.{IsPart, IsSameFor}
 
-and_false : (b : Bool) → b && false ≡ false
-and_false true = refl
-and_false false = refl
-
-pub both_false : (a b : Bool) → a ≡ false → b ≡ false → a || b ≡ false
-both_false a b first second = cc
-
 -- a path that doesn't begin with another doesn't lie below it
 pub not_below : (p q : Name) → starts_with nat_eq p q ≡ false → is_below p q ≡ false
-not_below p q other = ap (λ b. nat_lt (length q) (length p) && (b && slice_index p (length q) == slash)) other ∙ and_false (nat_lt (length q) (length p))
+not_below p q other = ap (λ b. nat_lt (length q) (length p) && (b && slice_index p (length q) == slash)) other ∙ and-false (nat_lt (length q) (length p))
 
 -- neither of two paths begins with the other
 pub record BeginApart (p q : Name) : Type 0 where
@@ -29,12 +23,12 @@ pub record BeginApart (p q : Name) : Type 0 where
 
 -- such paths aren't in line
 pub not_line : (p q : Name) → BeginApart p q → is_in_line p q ≡ false
-not_line p q apart = both_false (is_below p q) (is_below q p) (not_below p q apart.first) (not_below q p apart.second)
+not_line p q apart = or_from (is_below p q) (is_below q p) (not_below p q apart.first) (not_below q p apart.second)
 
 -- a path that begins apart from each of some places is near none of them
 pub none_near : (q : Name) (places : List WrittenPlace) → AllByRecursion (λ place. BeginApart q place.at) places → is_near places q ≡ false
 none_near q [] apart = refl
-none_near q (place ∷ places) apart = both_false (is_in_line q place.at) (is_near places q) (not_line q place.at apart.0) (none_near q places apart.1)
+none_near q (place ∷ places) apart = or_from (is_in_line q place.at) (is_near places q) (not_line q place.at apart.0) (none_near q places apart.1)
 
 -- what holds of each of some places holds of a path that is among them
 pub each_among : (P : Name → Type 0) (places : List Name) → AllByRecursion P places → (q : Name) → is_among places q ≡ true → P q

@@ -1,3 +1,4 @@
+pub mod Faults
 pub mod LeafLemmas
 pub mod Parts
 pub mod StoreLemmas

@@ -1,15 +1,15 @@
 -- Two parts together are a part.
 use Rattle.std.proofs.Common.{◌≡◌, ◌≢◌, Bool, true, false, ◌&&◌, ◌||◌, cond, Option, None, Some, option_map, List, [], ◌∷◌, ◌++◌, refl, sym, ap, subst, ◌∙◌, inl, inr}
 use Rattle.std.proofs.lemmas.Option.{none-some}
-use Rattle.std.proofs.lemmas.Bool.{cases_Bool, both_ways, or_left, or_right}
+use Rattle.std.proofs.lemmas.Bool.{cases_Bool, both_ways, or_left, or_right, or_from}
 use Rattle.std.specs.FinMap.{get}
 use Rattle.std.specs.Option.{option_or}
 use Rattle.host_trait.specs.World.{Leaves, WorldState, stage}
 use Rattle.switch_names.specs.Names.{Name}
+use Rattle.switch_names.proofs.Outcomes.{option_or_parts, option_or_nothing, none_mapped}
 use Rattle.std.specs.List.{find}
 use Rattle.tree_put.specs.WrittenPlace.{is_in_the_way}
 use Rattle.switch_parts.specs.Part.{AreParted, IsAtEnd, IsFree, IsMomentOf, IsOnly, IsPart, IsSameFor, Part, both, final_leaf}
-use Rattle.switch_parts.proofs.LeafLemmas.{both_false}
 
 pub left_false : (a b : Bool) → a || b ≡ false → a ≡ false
 left_false true b is = absurd (both_ways _ is refl)
@@ -18,13 +18,6 @@ left_false false b is = refl
 pub right_false : (a b : Bool) → a || b ≡ false → b ≡ false
 right_false true b is = absurd (both_ways _ is refl)
 right_false false b is = is
-
-pub or_from_left : (a b : Bool) → a ≡ true → a || b ≡ true
-or_from_left a b is = cc
-
-pub or_from_right : (a b : Bool) → b ≡ true → a || b ≡ true
-or_from_right true b is = refl
-or_from_right false b is = is
 
 pub false_by : (a b : Bool) → (a ≡ true → b ≡ true) → b ≡ false → a ≡ false
 false_by a b then none = elim (cases_Bool a) [ inl is ↦ absurd (both_ways _ none (then is)) | inr not ↦ not ]
@@ -64,34 +57,23 @@ find_none_both test (x ∷ xs) ys first second = elim (cases_Bool (test x)) [
   | inr not ↦ ap (λ b. cond b (Some x) (find test (xs ++ ys))) not ∙ find_none_both test xs ys (sym (ap (λ b. cond b (Some x) (find test xs)) not) ∙ first) second
 ]
 
-pub none_mapped : {X Y : Type 0} (f : X → Y) (o : Option X) → option_map f o ≡ None → o ≡ None
-none_mapped f None is = refl
-none_mapped f (Some x) is = absurd (none-some (f x) (sym is))
-
-pub or_none : {X : Type 0} (a b : Option X) → option_or a b ≡ None → (a ≡ None) × (b ≡ None)
-or_none None b is = (refl, is)
-or_none (Some x) b is = absurd (none-some x (sym is))
-
-pub none_or : {X : Type 0} (a b : Option X) → a ≡ None → b ≡ None → option_or a b ≡ None
-none_or a b first second = ap (λ o. option_or o b) first ∙ second
-
 module _ (p q : Part) where
   pub first_free : (leaves : Leaves) → IsFree (both p q) leaves → IsFree p leaves
   first_free leaves free = record {
     way = ap (option_map (λ place. place.at)) (find_none (is_in_the_way leaves) (p.places leaves) (q.places leaves) (none_mapped _ _ free.way)).0;
-    refusal = (or_none (p.refusal leaves) (q.refusal leaves) free.refusal).0;
+    refusal = (option_or_parts (p.refusal leaves) (q.refusal leaves) free.refusal).0;
   }
 
   pub second_free : (leaves : Leaves) → IsFree (both p q) leaves → IsFree q leaves
   second_free leaves free = record {
     way = ap (option_map (λ place. place.at)) (find_none (is_in_the_way leaves) (p.places leaves) (q.places leaves) (none_mapped _ _ free.way)).1;
-    refusal = (or_none (p.refusal leaves) (q.refusal leaves) free.refusal).1;
+    refusal = (option_or_parts (p.refusal leaves) (q.refusal leaves) free.refusal).1;
   }
 
   pub both_free : (leaves : Leaves) → IsFree p leaves → IsFree q leaves → IsFree (both p q) leaves
   both_free leaves first second = record {
     way = ap (option_map (λ place. place.at)) (find_none_both (is_in_the_way leaves) (p.places leaves) (q.places leaves) (none_mapped _ _ first.way) (none_mapped _ _ second.way));
-    refusal = none_or (p.refusal leaves) (q.refusal leaves) first.refusal second.refusal;
+    refusal = option_or_nothing (p.refusal leaves) (q.refusal leaves) first.refusal second.refusal;
   }
 
 module _ (p q : Part) (first : IsPart p) (second : IsPart q) where
@@ -109,10 +91,10 @@ module _ (p q : Part) (first : IsPart p) (second : IsPart q) where
       second.frame w m (record { leaves = λ at read. same.leaves at (or_right _ _ read); manager = λ call. same.manager (or_right _ _ call) }),
     );
     reads_own = λ at own. elim (cases_Bool (p.owns at)) [
-      | inl is ↦ or_from_left (p.reads at) (q.reads at) (first.reads_own at is)
-      | inr not ↦ or_from_right (p.reads at) (q.reads at) (second.reads_own at (sym (ap (λ b. b || q.owns at) not) ∙ own))
+      | inl is ↦ or_left (p.reads at) (q.reads at) (first.reads_own at is)
+      | inr not ↦ or_right (p.reads at) (q.reads at) (second.reads_own at (sym (ap (λ b. b || q.owns at) not) ∙ own))
     ];
-    no_stage = both_false _ _ first.no_stage second.no_stage;
+    no_stage = or_from _ _ first.no_stage second.no_stage;
   }
 
   module _ (parted : AreParted p q) where

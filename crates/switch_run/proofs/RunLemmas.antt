@@ -6,7 +6,7 @@ use Rattle.host_trait.specs.Change.{IsSame}
 use Rattle.host_trait.specs.Host.{EachMoment, HostState, IsHost, Leads, Passes, Rose, Told}
 use Rattle.host_trait.specs.Sink.{Puts, SinkState}
 use Rattle.host_trait.specs.World.{Leaves, WorldState}
-use Rattle.host_trait.proofs.Moments.{each_moment, passes_as, told_as}
+use Rattle.host_trait.proofs.Moments.{each_moment, passes_as, told_as, none_not_some}
 use Rattle.switch_engine.specs.declared.command.Command.{Command}
 use Rattle.switch_engine.specs.declared.command.Command.TheVariants.{Test, DryActivate}
 use Rattle.switch_engine.specs.Commands.{IsQuery, new_system}
@@ -87,9 +87,6 @@ verdict_of : (command : Command) (w : WorldState) (failed : Bool) → (IsTrue fa
 verdict_of command w true tells = tells.0 refl
 verdict_of command w false tells = λ left. let never : false ≡ true = tells.1 left in cc
 
-none_some : {X : Type 0} (o : Option X) (x : X) → o ≡ None → o ≡ Some x → ⊥
-none_some o x none some = cc
-
 -- ---- what its status tells of a run
 
 module _ {host_state after : HostState} {sink put : SinkState} (given : Option Command) (ending : Result Bool RunFault) (is : IsEnding given host_state after sink put ending)
@@ -134,15 +131,15 @@ module _ {host_state after : HostState} {sink put : SinkState} (given : Option C
 
   -- where the world refuses the command
   in_refused : (command : Command) (w : WorldState) (why : Refusal) → host_state.world ≡ Some w → refusal command w.leaves ≡ Some why → (e : Result Bool RunFault) → Come (Some command) e → IsIdle host_state after sink put
-  in_refused command w why told because (Ok failed) come = absurd (none_some (refusal command w.leaves) why (come.not_refused.has w told) because)
+  in_refused command w why told because (Ok failed) come = absurd (none_not_some (refusal command w.leaves) why (come.not_refused.has w told) because)
   in_refused command w why told because (Err fault.Usage) come = absurd come
   in_refused command w why told because (Err (fault.Refused other)) come = come.idle
   in_refused command w why told because (Err (fault.Host cause)) come = by come
     where
       by : IsBrokenOff command host_state after sink put → IsIdle host_state after sink put
       by (BeforeReport idle) = idle
-      by (AfterReport changes none output) = absurd (none_some (refusal command w.leaves) why (none.has w told) because)
-  in_refused command w why told because (Err fault.Sink) come = absurd (none_some (refusal command w.leaves) why (come.not_refused.has w told) because)
+      by (AfterReport changes none output) = absurd (none_not_some (refusal command w.leaves) why (none.has w told) because)
+  in_refused command w why told because (Err fault.Sink) come = absurd (none_not_some (refusal command w.leaves) why (come.not_refused.has w told) because)
 
   pub refused_world : (command : Command) (why : Refusal) → given ≡ Some command → Told host_state (λ w. refusal command w.leaves ≡ Some why → IsIdle host_state after sink put)
   refused_world command why some = record { has = λ w told because. in_refused command w why told because ending (come_as (Some command) ending some refl) }

@@ -9,6 +9,7 @@ use Rattle.std.specs.List.{filter, list_any}
 use Rattle.std.specs.Ordering.{eq_by_cmp}
 use Rattle.switch_names.specs.Path.{IsParentOf, is_below}
 use Rattle.switch_names.proofs.Below.{below_both}
+use Rattle.switch_names.proofs.Outcomes.{none_there}
 use Rattle.host_trait.specs.World.{Leaves, bytes_cmp, is_in_line, is_listed, is_path, IsClear, stage}
 use Rattle.host_trait.proofs.Places.{bytes_total, same_or_other, none_or_present}
 use Rattle.tree_put.specs.Put.{is_blocked}
@@ -33,10 +34,6 @@ no_key test (k ∷ ks) is q passes =
       | inl same ↦ absurd (both_ways (test k) parts.0 (ap test (sym same) ∙ passes))
       | inr other ↦ or_from (eq_by_cmp bytes_cmp q k) (is_key ks q) other (no_key test ks parts.1 q passes)
     ]
-
-pub none_there : {X : Type 0} (o : Option X) → is_some o ≡ false → o ≡ None
-none_there None is = refl
-none_there (Some x) is = absurd (both_ways true is refl)
 
 -- where a test of all keys passes, a leaf stands at one that passes
 pub leaf_passes : (test : List ℕ → Bool) (leaves : Leaves) → list_any test (keys leaves) ≡ true → (q : List ℕ) × (test q ≡ true) × IsSome (get leaves q)

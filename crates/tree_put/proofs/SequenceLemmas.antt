@@ -12,6 +12,7 @@ use Rattle.host_trait.proofs.Readings.{handed_on}
 use Rattle.host_trait.proofs.Seen.{clear_seen, seen_with_leaf, stage_clear_seen}
 use Rattle.host_trait.proofs.Sound.{clear_insert, clear_remove, line_turned}
 use Rattle.switch_names.specs.Names.{Name}
+use Rattle.switch_names.proofs.Lists.{all_at}
 use Rattle.tree_put.specs.declared.leaf_put.LeafPut.{LeafPut}
 use Rattle.tree_put.specs.Put.{AreApart, CanPut, IsOldOrGone, IsOldOrNew}
 use Rattle.tree_put.specs.Sequence.{ArePutsApart, CanPutAll, IsPutting, IsRemoving, with_puts, without_places}
@@ -22,11 +23,6 @@ pub cause_handed :
 cause_handed {f = f} first second s is = cause_on first second (handed_on f s is)
 
 -- ---- lists
-
-pub all_at : {X : Type 0} (P : X → Type 0) (list : List X) (i : ℕ) (one : X) → i < length list → one ≡ get_or list i one → AllByRecursion P list → P one
-all_at P [] i one inside is all = absurd (omega arith)
-all_at P (x ∷ list) zero one inside is all = subst P (sym is) all.0
-all_at P (x ∷ list) (suc i) one inside is all = all_at P list i one (omega arith) is all.1
 
 pub all_take : {X : Type 0} (P : X → Type 0) (list : List X) (i : ℕ) → AllByRecursion P list → AllByRecursion P (take i list)
 all_take P [] zero all = tt

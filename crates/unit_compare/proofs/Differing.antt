@@ -2,9 +2,10 @@
 use Rattle.std.proofs.Common.{◌≡◌, ◌↔◌, Bool, true, false, not, cond, ◌&&◌, ◌||◌, List, [], ◌∷◌, ◌++◌, map, refl, sym, ap, ◌∙◌, subst}
 use Rattle.std.specs.Cmp.Lexicographic.{bytes_decides, pointwise_decides}
 use Rattle.std.specs.List.{filter, list_any}
-use Rattle.std.proofs.lemmas.Bool.{and_parts, and_from, true≢false}
+use Rattle.std.proofs.lemmas.Bool.{and_parts, and_from, true≢false, or_parts, not-true}
 use Rattle.std.proofs.lemmas.List.{map-append}
 use Rattle.std.proofs.lemmas.List.Folds.{list_any-append}
+use Rattle.std.proofs.Math.Bool.{or-true}
 use Rattle.switch_names.specs.declared.unit_kind.UnitKind.{UnitKind}
 use Rattle.unit_text.specs.declared.assignment.Assignment.{Assignment}
 use Rattle.unit_text.specs.declared.unit_key.UnitKey.{UnitKey}
@@ -15,10 +16,6 @@ use Rattle.unit_compare.specs.declared.comparison.Comparison.{Comparison}
 use Rattle.unit_compare.specs.declared.comparison.Comparison.TheVariants.{Same, ReloadOnly, Changed}
 use Rattle.unit_compare.specs.Compare.{is_ignored, are_same_values, differs, is_reload_key, comparison, AreSame, AreReloadOnly, AreChanged}
 use Rattle.unit_compare.proofs.Outcomes.{by_tests, is_change, made, outcome_made}
-
-or_true : (b : Bool) → (b || true) ≡ true
-or_true true = refl
-or_true false = refl
 
 -- a key of a list that passes a test
 pub record Finds (test : UnitKey → Bool) (keys : List UnitKey) : Type 0 where
@@ -35,7 +32,7 @@ module _ (test : UnitKey → Bool) where
       by true h rest = record { key = k; passes = h; stands = ap (λ b. b || has_key keys k) (same_self k) }
       by false h rest =
           let found = rest (sym (ap (λ b. b || list_any test keys) h) ∙ e) in
-          record { key = found.key; passes = found.passes; stands = ap (λ b. is_same_key found.key k || b) found.stands ∙ or_true (is_same_key found.key k) }
+          record { key = found.key; passes = found.passes; stands = ap (λ b. is_same_key found.key k || b) found.stands ∙ or-true (is_same_key found.key k) }
 
   pub any_from : (keys : List UnitKey) (key : UnitKey) → test key ≡ true → has_key keys key ≡ true → list_any test keys ≡ true
   any_from [] key e h = absurd (true≢false (sym h))
@@ -43,7 +40,7 @@ module _ (test : UnitKey → Bool) where
     where
       by : (b : Bool) → is_same_key key k ≡ b → (has_key keys key ≡ true → list_any test keys ≡ true) → list_any test (k ∷ keys) ≡ true
       by true s rest = ap (λ b. b || list_any test keys) (sym (ap test (same_key key k s)) ∙ e)
-      by false s rest = ap (λ b. test k || b) (rest (sym (ap (λ b. b || has_key keys key) s) ∙ h)) ∙ or_true (test k)
+      by false s rest = ap (λ b. test k || b) (rest (sym (ap (λ b. b || has_key keys key) s) ∙ h)) ∙ or-true (test k)
 
   -- two lists with the same keys, as far as they pass the test
   pub any_same : (xs ys : List UnitKey) → ((key : UnitKey) → test key ≡ true → has_key xs key ≡ has_key ys key) → list_any test xs ≡ list_any test ys
@@ -77,10 +74,6 @@ not_given (a ∷ text) key h = by (is_same_key key a.at) refl (λ s. not_given t
 pub no_values : (text : List Assignment) (key : UnitKey) → has_key (assigned_in text) key ≡ false → values_of text key ≡ []
 no_values text key h = ap after_last_empty (not_given text key h)
 
-pub or_false_parts : (a b : Bool) → (a || b) ≡ false → (a ≡ false) × (b ≡ false)
-or_false_parts true b e = absurd (true≢false e)
-or_false_parts false b e = (refl, e)
-
 module _ (old new : List Assignment) where
   -- a key without a value in either text doesn't differ
   pub unset_same : (key : UnitKey) → values_of old key ≡ [] → values_of new key ≡ [] → differs old new key ≡ false
@@ -100,14 +93,10 @@ module _ (old new : List Assignment) where
       by : (b : Bool) → has_key assigned key ≡ b → has_key assigned key ≡ true
       by true h = h
       by false h =
-          let parts = or_false_parts _ _
+          let parts = or_parts _ _
           (sym (list_any-append (is_same_key key) (assigned_in old) (assigned_in new))
           ∙ sym (ap (λ (ks : List UnitKey). has_key ks key) (map-append (λ (a : Assignment). a.at) old new)) ∙ h) in
           absurd (true≢false (sym e ∙ unset_same key (no_values old key parts.0) (no_values new key parts.1)))
-
-not_true : (b : Bool) → not b ≡ true → b ≡ false
-not_true true e = absurd (true≢false (sym e))
-not_true false e = refl
 
 -- ---- what a comparison says of all keys
 
@@ -133,7 +122,7 @@ module _ (kind : UnitKind) (old new : List Assignment) where
   change_of e =
       let found = finds is_changed (assigned old new) e in
       let parts = and_parts _ _ found.passes in
-      record { key = found.key; other = parts.0; not_taken_up = not_true _ parts.1 }
+      record { key = found.key; other = parts.0; not_taken_up = not-true _ parts.1 }
 
   no_change : list_any is_changed (assigned old new) ≡ false → (key : UnitKey) → differs old new key ≡ true → is_reload_key kind key ≡ true
   no_change e key d = by (is_reload_key kind key) refl
@@ -186,7 +175,7 @@ module _ (kind : UnitKind) (old new : List Assignment) where
   reload_exact = (
     λ e. reload_to found_change found_other refl refl e,
     λ only. λ i. by_tests
-        (none_found is_changed (λ key e. let parts = and_parts _ _ e in true≢false (sym (only.taken_up key parts.0) ∙ not_true _ parts.1)) i)
+        (none_found is_changed (λ key e. let parts = and_parts _ _ e in true≢false (sym (only.taken_up key parts.0) ∙ not-true _ parts.1)) i)
         (other_found only.key only.other i),
   )
 

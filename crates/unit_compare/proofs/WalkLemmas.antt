@@ -9,7 +9,7 @@ use Rattle.std.specs.declared.cmp.Ordering.{Ordering}
 use Rattle.std.specs.List.Sorted.{IsStrictlySortedBy}
 use Rattle.std.specs.declared.cmp.Ordering.TheVariants.{Less, Equal, Greater}
 use Rattle.std.specs.Ordering.{is_ge, is_le, ordering_reverse}
-use Rattle.std.proofs.lemmas.Bool.{and_parts, true≢false}
+use Rattle.std.proofs.lemmas.Bool.{and_parts, true≢false, or_parts}
 use Rattle.std.proofs.Math.ListN.{drop_of_length-le}
 use Rattle.std.proofs.lemmas.List.{drop_more, get_or-map, length-map}
 use Rattle.std.proofs.lemmas.List.Folds.{list_any-append}
@@ -28,7 +28,7 @@ use Rattle.unit_compare.specs.declared.comparison.Comparison.TheVariants.{Same, 
 use Rattle.unit_compare.specs.Compare.{is_ignored, are_same_values, differs, is_reload_key, comparison}
 use Rattle.unit_compare.specs.Walk.{key_comparison, worse, next_order}
 use Rattle.unit_compare.proofs.Outcomes.{by_tests, one, made_first, worse_assoc, worse_comm, worse_itself}
-use Rattle.unit_compare.proofs.Differing.{made_of, is_changed, assigned, any_same, comparison_made, differing_assigned, or_false_parts, unset_same}
+use Rattle.unit_compare.proofs.Differing.{made_of, is_changed, assigned, any_same, comparison_made, differing_assigned, unset_same}
 
 -- the keys that are left of two texts: one of them stands in the other text exactly where it is left there
 pub record AreLeft (old new : List Assignment) (of_old of_new : List UnitKey) : Type 0 where
@@ -330,9 +330,9 @@ module _ (old new : Parts) (are_old : AreParts old) (are_new : AreParts new) whe
       by : (t : Bool) → has_key parted key ≡ t → has_key parted key ≡ true
       by true h = h
       by false h =
-          let halves = or_false_parts _ _ (sym (list_any-append (is_same_key key) (old.front_keys.now ++ new.front_keys.now) (old.changed_keys.now ++ new.changed_keys.now)) ∙ h) in
-          let fronts = or_false_parts _ _ (sym (list_any-append (is_same_key key) old.front_keys.now new.front_keys.now) ∙ halves.0) in
-          let changed = or_false_parts _ _ (sym (list_any-append (is_same_key key) old.changed_keys.now new.changed_keys.now) ∙ halves.1) in
+          let halves = or_parts _ _ (sym (list_any-append (is_same_key key) (old.front_keys.now ++ new.front_keys.now) (old.changed_keys.now ++ new.changed_keys.now)) ∙ h) in
+          let fronts = or_parts _ _ (sym (list_any-append (is_same_key key) old.front_keys.now new.front_keys.now) ∙ halves.0) in
+          let changed = or_parts _ _ (sym (list_any-append (is_same_key key) old.changed_keys.now new.changed_keys.now) ∙ halves.1) in
           absurd (true≢false (sym d ∙ unset_same old.text.now new.text.now key (unset old are_old key fronts.0 changed.0) (unset new are_new key fronts.1 changed.1)))
 
   -- the keys of the parts decide as those that are assigned do

@@ -9,7 +9,7 @@ use Rattle.std.specs.Ordering.{nat_cmp}
 use Rattle.std.proofs.lemmas.Map.Text.{is_eq-slice_cmp}
 use Rattle.std.proofs.lemmas.Map.Views.{any-filter_same}
 use Rattle.std.proofs.lemmas.Slice.Eq.{bytes_eq-Decides}
-use Rattle.std.proofs.lemmas.Bool.{false_from_ne_true}
+use Rattle.std.proofs.lemmas.Bool.{false_from_ne_true, and_parts}
 use Rattle.std.proofs.lemmas.Bool.Decides.{nat_tests}
 use Rattle.std.proofs.lemmas.Str.{IsUtf8-from_ascii}
 use Rattle.std.proofs.lemmas.Str.Ascii.{IsAscii-from_all}
@@ -20,7 +20,8 @@ use Rattle.switch_names.specs.UnitKind.{kind_of}
 use Rattle.switch_names.specs.UnitName.{IsUnitName, is_no_unit_byte, stem_of, unit_fault}
 use Rattle.switch_names.proofs.Endings.{kind_of-stem}
 use Rattle.switch_names.proofs.Faultless.{HasNone-from_sought}
-use Rattle.switch_names.proofs.UnitNames.{HasParts-from_kind, IsShortName-from_name, IsUnitName-with_ending}
+use Rattle.switch_names.proofs.UnitNames.{HasParts-from_kind, IsShortName-from_name, IsUnitName-with_ending, unit_utf8}
+use Rattle.switch_names.proofs.Outcomes.{none_from_test}
 use Rattle.unit_decide.specs.Facts.{unit_kind}
 use Rattle.unit_decide.specs.Kinds.{is_kind}
 use Rattle.switch_names.specs.Names.{Name, has}
@@ -30,30 +31,13 @@ use Rattle.unit_text.specs.declared.assignment.Assignment.{Assignment}
 use Rattle.unit_decide.specs.Flags.{is_not_socket_activated}
 use Rattle.unit_text.specs.UnitText.{has_value, values_of}
 
-none_from_test : {T : Type 0} (o : Option T) → is_none o ≡ true → o ≡ None
-none_from_test None is = refl
-none_from_test (Some x) is = absurd cc
-
-and_left : (a b : Bool) → (a && b) ≡ true → a ≡ true
-and_left true b both = refl
-and_left false b both = absurd cc
-
-pub and_right : (a b : Bool) → (a && b) ≡ true → b ≡ true
-and_right true b both = both
-and_right false b both = absurd cc
-
 -- the name of a socket is the name of a unit
 pub IsUnitName-from_socket : (word : List ℕ) → is_socket_name word ≡ true → IsUnitName word
-IsUnitName-from_socket word is = none_from_test (unit_fault word) (and_left (is_none (unit_fault word)) _ is)
-
-ascii_byte : (byte : ℕ) → is_no_unit_byte byte ≡ false → byte < 128
-ascii_byte byte is = grind (arith, nat_tests)
+IsUnitName-from_socket word is = none_from_test (unit_fault word) (and_parts (is_none (unit_fault word)) _ is).0
 
 -- the name of a socket is UTF-8
 socket_utf8 : (word : List ℕ) → is_socket_name word ≡ true → IsUtf8 word
-socket_utf8 word is =
-    let bytes = (IsShortName-from_name word (IsUnitName-from_socket word is)).bytes in
-    IsUtf8-from_ascii word (IsAscii-from_all word (λ k d l. ascii_byte _ (bytes k d l)))
+socket_utf8 word is = unit_utf8 word (IsUnitName-from_socket word is)
 
 -- bytes that aren't UTF-8 name no socket
 pub no_socket : (word : List ℕ) → ¬ IsUtf8 word → is_socket_name word ≡ false
@@ -69,7 +53,7 @@ socket_kind (Some kind) is = ap Some (socket_from_test kind is)
 
 -- the name of a socket has that kind
 pub kind_of-socket : (word : List ℕ) → is_socket_name word ≡ true → kind_of word ≡ Some Socket
-kind_of-socket word is = socket_kind (kind_of word) (and_right (is_none (unit_fault word)) _ is)
+kind_of-socket word is = socket_kind (kind_of word) (and_parts (is_none (unit_fault word)) _ is).1
 
 -- a service's own name with `.socket` is one byte shorter, and so it is the name of a socket
 pub own_is_socket : (unit : Name) → IsUnitName unit → kind_of unit ≡ Some Service → is_socket_name (own_socket unit) ≡ true
@@ -94,7 +78,7 @@ same_name unit other is = (bytes_eq-Decides unit other).0 (sym (is_eq-slice_cmp 
 -- what is found in a filtered list passes
 passes : (p : Name → Bool) (names : List Name) (unit : Name) → has (filter p names) unit ≡ true → p unit ≡ true
 passes p names unit found =
-    and_left (p unit) _ (sym (any-filter_same (is_at (slice_cmp nat_cmp unit)) p (p unit) (λ other same. ap p (sym (same_name unit other same))) names) ∙ found)
+    (and_parts (p unit) _ (sym (any-filter_same (is_at (slice_cmp nat_cmp unit)) p (p unit) (λ other same. ap p (sym (same_name unit other same))) names) ∙ found)).0
 
 pub none_found : (unit : Name) → has [] unit ≡ true → ⊥
 none_found unit found = cc
@@ -113,7 +97,7 @@ paired_kind text unit socket found = ap (λ kind. unwrap_or kind Service) (kind_
 -- a service that names no socket is paired with the one of its own name
 pub paired_with_own : (text : List Assignment) (unit : Name) → IsUnitName unit → is_socket_activated text unit ≡ true → has_value text sockets_key ≡ false → sockets_of text unit ≡ own_socket unit ∷ []
 paired_with_own text unit is activated none =
-    let service = and_left (is_kind (unit_kind unit) Service) _ activated in
+    let service = (and_parts (is_kind (unit_kind unit) Service) _ activated).0 in
     rw (activated, none, own_is_socket unit is (service_kind unit is service))
 
 -- the sockets of a service that sockets may start

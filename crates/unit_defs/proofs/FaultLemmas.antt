@@ -1,5 +1,6 @@
 -- The first unit with a faulty file.
 use Rattle.std.proofs.Common.{◌≡◌, ℕ, Bool, true, false, cond, List, [], ◌∷◌, map, Option, None, Some, Result, Err, option_map, option_and_then, refl, sym, ap, subst, ◌∙◌}
+use Rattle.std.proofs.lemmas.Option.{same_Some}
 use Rattle.std.specs.List.{AllByRecursion}
 use Rattle.std.specs.List.Sorted.{IsStrictlySortedBy}
 use Rattle.std.specs.Option.{option_or}
@@ -18,8 +19,8 @@ use Rattle.unit_defs.specs.Fstab.{fstab_of, line_text}
 use Rattle.unit_defs.specs.Part.{line_part}
 use Rattle.unit_defs.specs.Units.{HasNoFault, IsFirstFault, file_part, own_fault}
 use Rattle.switch_names.proofs.Names.{name_turned}
-use Rattle.unit_defs.proofs.NameLemmas.{less_is_other, name_exact, name_itself}
-use Rattle.unit_defs.proofs.PathLemmas.{some_same}
+use Rattle.switch_names.proofs.Outcomes.{none_left}
+use Rattle.host_trait.proofs.NameOrder.{less_is_other, name_exact, name_itself}
 
 abbrev fault_of : Unit → Option ℕ
 fault_of unit = option_and_then (λ (part : Part). part.fault) unit.part
@@ -61,7 +62,7 @@ first_line : (unit : Unit) (units : List Unit) (name : List ℕ) (line : ℕ) �
     AreSorted (unit ∷ units) → (first_faulty units ≡ Some (name, line) → IsFirstIn units name line) → IsFirstIn (unit ∷ units) name line
 unfolding IsStrictlySortedBy
 first_line unit units name line (Some n) is first sorted rest =
-    let same : (unit.name, n) ≡ (name, line) = some_same (unit.name, n) (name, line) first in
+    let same : (unit.name, n) ≡ (name, line) = same_Some (unit.name, n) (name, line) first in
     let same_name : unit.name ≡ name = ap (λ (p : List ℕ × ℕ). p.0) same in
     let same_line : n ≡ line = ap (λ (p : List ℕ × ℕ). p.1) same in
     subst (λ k. IsFirstIn (unit ∷ units) k line) same_name (record {
@@ -120,10 +121,6 @@ first_is leaves system units name line are sorted is named =
       faulty = fault_same leaves system units are name named ∙ first.faulty;
       earlier = λ other is_unit less. fault_same leaves system units are other is_unit ∙ first.earlier other less;
     }
-
-pub none_left : {X : Type 0} (o : Option X) → ((x : X) → o ≡ Some x → ⊥) → None ≡ o
-none_left None lacks = refl
-none_left (Some x) lacks = absurd (lacks x refl)
 
 -- a fault of a text names one unit and one line
 pub same_fault : {X : Type 0} (unit other : List ℕ) (line at : ℕ) → ◌≡◌ {A = Result X DefsFault} (Err (Text unit line)) (Err (Text other at)) → (unit ≡ other) × (line ≡ at)

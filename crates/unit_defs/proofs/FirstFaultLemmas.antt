@@ -5,7 +5,7 @@ use Rattle.std.specs.List.{AllByRecursion, find, flat_map, list_any}
 use Rattle.std.specs.List.Sorted.{IsStrictlySortedBy}
 use Rattle.std.specs.Option.{option_map_or, option_or}
 use Rattle.std.specs.declared.cmp.Ordering.TheVariants.{Less}
-use Rattle.std.proofs.lemmas.Bool.{both_ways}
+use Rattle.std.proofs.lemmas.Bool.{both_ways, or_right, or_cases}
 use Rattle.switch_names.specs.UnitName.{IsUnitName, template_of}
 use Rattle.switch_names.specs.Names.{has, is_name}
 use Rattle.host_trait.specs.declared.leaf.LeafKind.{LeafKind}
@@ -24,32 +24,16 @@ use Rattle.unit_defs.specs.Place.{path_of, place_of}
 use Rattle.unit_defs.specs.Units.{HasNoFault, IsFirstFault, file_part, first_fault_of, own_fault, own_part, own_text, unit_at, units_of}
 use Rattle.unit_defs.proofs.DropInLemmas.{none_exactly, some_more}
 use Rattle.switch_names.proofs.Names.{name_turned}
-use Rattle.unit_defs.proofs.NameLemmas.{has-append, less_is_other, name_exact, name_itself}
+use Rattle.host_trait.proofs.NameOrder.{less_is_other, name_exact, name_itself, not_both_less, above_all}
+use Rattle.unit_defs.proofs.NameLemmas.{has-append}
 use Rattle.unit_defs.proofs.OrderLemmas.{has_in_order, in_order_sorted}
-use Rattle.unit_defs.proofs.PathLemmas.{places_named, some_same}
+use Rattle.unit_defs.proofs.PathLemmas.{places_named}
 use Rattle.unit_defs.proofs.WorldLemmas.{among}
 use Rattle.host_trait.proofs.Moments.{none_not_some}
 use Rattle.std.proofs.Math.Bool.{or-false}
+use Rattle.std.proofs.lemmas.Option.{same_Some}
 
 -- ---- the first of some sorted names that has a fault
-
-or_right : (a b : Bool) → b ≡ true → (a || b) ≡ true
-or_right true b is = refl
-or_right false b is = is
-
-or_cases : (a b : Bool) → (a || b) ≡ true → (a ≡ true) ⊎ (b ≡ true)
-or_cases true b is = inl refl
-or_cases false b is = inr is
-
-above_all : (name other : List ℕ) (names : List (List ℕ)) → AllByRecursion (λ b. bytes_cmp name b ≡ Less) names → has names other ≡ true → bytes_cmp name other ≡ Less
-above_all name other [] above there = absurd (cc)
-above_all name other (n ∷ names) above there = elim (or_cases (is_name other n) (has names other) there) [
-  | inl same ↦ subst (λ k. bytes_cmp name k ≡ Less) (sym (name_exact other n same)) above.0
-  | inr rest ↦ above_all name other names above.1 rest
-]
-
-not_both_less : {X : Type 0} (a b : List ℕ) → bytes_cmp a b ≡ Less → bytes_cmp b a ≡ Less → X
-not_both_less a b less more = absurd (both_ways _ (less_is_other a a (bytes_total.trans a b a less more)) (name_itself a))
 
 module _ (fault : List ℕ → Option ℕ) where
   abbrev first_named : List (List ℕ) → Option (List ℕ × ℕ)
@@ -118,7 +102,7 @@ module _ (fault : List ℕ → Option ℕ) where
             ];
           }
       by (Some l) is first rest =
-          let same : (n, l) ≡ (name, line) = some_same (n, l) (name, line) first in
+          let same : (n, l) ≡ (name, line) = same_Some (n, l) (name, line) first in
           let same_name : n ≡ name = ap (λ (p : List ℕ × ℕ). p.0) same in
           let same_line : l ≡ line = ap (λ (p : List ℕ × ℕ). p.1) same in
           subst (λ k. IsFirstOf (n ∷ names) k line) same_name (record {

@@ -12,7 +12,7 @@ use Rattle.unit_defs.specs.declared.part.Part.{Part}
 use Rattle.unit_defs.specs.declared.place.Place.TheVariants.{File, DropIn, Want}
 use Rattle.unit_defs.specs.Found.{Joins, Takes, drop_in_in, file_in, files_in, line_in, wants_in}
 use Rattle.switch_names.specs.Names.{is_name}
-use Rattle.unit_defs.proofs.NameLemmas.{name_exact}
+use Rattle.host_trait.proofs.NameOrder.{name_exact}
 
 chosen : {X Y : Type 0} (obs : Option X → Y) (b : Bool) (x old : Option X) → obs (cond b x old) ≡ cond b (obs x) (obs old)
 chosen obs true x old = refl

@@ -10,6 +10,7 @@ use Rattle.switch_names.specs.declared.unit_kind.UnitKind.{UnitKind}
 use Rattle.switch_names.specs.declared.unit_kind.UnitKind.TheVariants.{Service, Socket, Target, Mount, Automount, Swap, Path, Slice, Timer, Scope, Device}
 use Rattle.switch_names.specs.Names.{Name, has, is_name}
 use Rattle.switch_names.specs.UnitKind.{kind_of}
+use Rattle.switch_names.proofs.Outcomes.{option_or_assoc, option_or_none}
 use Rattle.host_trait.specs.World.{Leaves, bytes_cmp, content_of}
 use Rattle.host_trait.proofs.Places.{alike, found}
 use Rattle.unit_text.specs.declared.assignment.Assignment.{Assignment}
@@ -23,15 +24,10 @@ use Rattle.unit_defs.specs.Files.{folder_wants}
 use Rattle.unit_defs.specs.Found.{AreFilesOf, Joins, JoinsLines, Takes, drop_in_in, drop_ins_in, files_in, line_in, wants_in}
 use Rattle.unit_defs.specs.Place.{named}
 use Rattle.unit_defs.specs.Fstab.{fstab_of, fstab_path, is_auto_mount, is_mount_kind, is_swap, is_swap_kind, line_text, names_of, target_by, target_of, wanted_by_lines}
-use Rattle.unit_defs.proofs.NameLemmas.{name_exact}
-use Rattle.unit_defs.proofs.PartLemmas.{or_none}
+use Rattle.host_trait.proofs.NameOrder.{name_exact}
 use Rattle.unit_defs.proofs.WorldLemmas.{inner_at, none_wanted}
 
 -- ---- what lines say, one list after the other
-
-or_assoc : {X : Type 0} (a b c : Option X) → option_or (option_or a b) c ≡ option_or a (option_or b c)
-or_assoc None b c = refl
-or_assoc (Some x) b c = refl
 
 line_more : (xs ys : List FsUnit) (unit : Name) → line_text (xs ++ ys) unit ≡ option_or (line_text xs unit) (line_text ys unit)
 line_more [] ys unit = refl
@@ -67,7 +63,7 @@ pub joins_none : (kept : Found) → JoinsLines [] kept kept
 joins_none kept = record {
   file = λ unit. refl;
   drop_in = λ unit name. refl;
-  line = λ unit. sym (or_none (line_in kept unit));
+  line = λ unit. sym (option_or_none (line_in kept unit));
   wants = λ unit. sym (append-nil (wants_in kept unit)) ∙ ap (λ names. wants_in kept unit ++ names) (sym (none_wanted unit));
 }
 
@@ -76,7 +72,7 @@ joins_both : (line more : Name → Option (List Assignment)) (names others : Nam
 joins_both line more names others old mid new first second = record {
   file = λ unit. second.file unit ∙ first.file unit;
   drop_in = λ unit name. second.drop_in unit name ∙ first.drop_in unit name;
-  line = λ unit. second.line unit ∙ ap (λ l. option_or l (more unit)) (first.line unit) ∙ or_assoc (line_in old unit) (line unit) (more unit);
+  line = λ unit. second.line unit ∙ ap (λ l. option_or l (more unit)) (first.line unit) ∙ option_or_assoc (line_in old unit) (line unit) (more unit);
   wants = λ unit. second.wants unit ∙ ap (λ w. w ++ others unit) (first.wants unit) ∙ append_assoc (wants_in old unit) (names unit) (others unit);
 }
 
@@ -105,7 +101,7 @@ pub joins_one : (line : FsUnit) (unit : Name) (text : List Assignment) (old mid 
     Joins (λ other. cond (is_name unit other) (Some text) None) (λ other. []) old mid → Joins (λ other. None) (wanted_by_lines (line ∷ [])) mid new → JoinsLines (line ∷ []) old new
 joins_one line unit text old mid new is_unit is_text first second =
     joins_as _ (line_text (line ∷ [])) _ (wanted_by_lines (line ∷ [])) old new
-    (λ other. or_none (cond (is_name unit other) (Some text) None) ∙ (λ i. cond (is_name (is_unit i) other) (Some (is_text i)) None) ∙ by (is_name line.unit other)) (λ other. refl)
+    (λ other. option_or_none (cond (is_name unit other) (Some text) None) ∙ (λ i. cond (is_name (is_unit i) other) (Some (is_text i)) None) ∙ by (is_name line.unit other)) (λ other. refl)
     (joins_both (λ other. cond (is_name unit other) (Some text) None) (λ other. None) (λ other. []) (wanted_by_lines (line ∷ [])) old mid new first second)
   where
     by : (b : Bool) → cond b (Some line.text) None ≡ option_map (λ (l : FsUnit). l.text) (cond b (Some line) None)
@@ -173,7 +169,7 @@ pub joins_unwanted : (line : FsUnit) (kept : Found) → None ≡ target_of line 
 joins_unwanted line kept none = record {
   file = λ unit. refl;
   drop_in = λ unit name. refl;
-  line = λ unit. sym (or_none (line_in kept unit));
+  line = λ unit. sym (option_or_none (line_in kept unit));
   wants = λ unit. sym (append-nil (wants_in kept unit)) ∙ ap (λ names. wants_in kept unit ++ names) (ap (λ target. picked target line.unit unit) none ∙ sym (wanted_one line unit));
 }
 
@@ -183,7 +179,7 @@ pub joins_wanted : (line : FsUnit) (target name : Name) (old new : Found) → So
 joins_wanted line target name old new is_target is_name takes = record {
   file = takes.file;
   drop_in = takes.drop_in;
-  line = λ unit. takes.line unit ∙ sym (or_none (line_in old unit));
+  line = λ unit. takes.line unit ∙ sym (option_or_none (line_in old unit));
   wants = λ unit. takes.wants unit ∙ ap (λ names. wants_in old unit ++ names) (ap (λ n. picked (Some target) n unit) is_name ∙ ap (λ t. picked t line.unit unit) is_target ∙ sym (wanted_one line unit));
 }
 

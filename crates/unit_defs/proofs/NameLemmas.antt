@@ -12,37 +12,18 @@ use Rattle.std.proofs.lemmas.List.Elements.{filter-append}
 use Rattle.std.proofs.lemmas.List.Folds.{list_any-append}
 use Rattle.host_trait.specs.World.{bytes_cmp}
 use Rattle.host_trait.proofs.Places.{bytes_total, same_or_other}
+use Rattle.host_trait.proofs.NameOrder.{name_itself, name_exact, name_from, less_is_other, above_lack}
 use Rattle.unit_text.specs.declared.assignment.Assignment.{Assignment}
 use Rattle.unit_defs.specs.declared.part.Part.{Part}
 use Rattle.unit_defs.specs.declared.unit.Unit.{Unit}
 use Rattle.unit_defs.specs.declared.unit.Wants.{Wants}
 use Rattle.unit_defs.specs.Defs.{AreNamesOf, AreSorted, IsDefs, own_in, unit_in, wants_for}
 use Rattle.switch_names.specs.Names.{has, is_name}
-use Rattle.unit_defs.specs.Place.{is_unit, named}
+use Rattle.unit_defs.specs.Place.{named}
 use Rattle.unit_defs.specs.Units.{can_be_wanted, find_text}
-use Rattle.switch_names.specs.UnitName.{IsUnitName, is_template, template_of}
+use Rattle.switch_names.specs.UnitName.{IsUnitName, is_template, template_of, is_unit}
 use Rattle.std.specs.Option.{option_or}
 use Rattle.std.proofs.Math.Bool.{or-false, and-true, and-false, or_assoc}
-
-pub name_itself : (a : List ℕ) → is_name a a ≡ true
-name_itself a = ap is_eq (tied_itself bytes_total a)
-
-pub name_exact : (a b : List ℕ) → is_name a b ≡ true → a ≡ b
-name_exact a b is = elim (same_or_other a b) [
-  | inl same ↦ same
-  | inr other ↦ absurd (both_ways _ other is)
-]
-
-pub name_from : (a b : List ℕ) → a ≡ b → is_name a b ≡ true
-name_from a b same = subst (λ c. is_name a c ≡ true) same (name_itself a)
-
--- a name below another is another
-pub less_is_other : (a b : List ℕ) → bytes_cmp a b ≡ Less → is_name a b ≡ false
-less_is_other a b less = ap is_eq less
-
-pub above_lack : (a : List ℕ) (names : List (List ℕ)) → AllByRecursion (λ b. bytes_cmp a b ≡ Less) names → has names a ≡ false
-above_lack a [] above = refl
-above_lack a (b ∷ names) above = ap (λ t. t || has names a) (less_is_other a b above.0) ∙ above_lack a names above.1
 
 pub has-append : (xs ys : List (List ℕ)) (name : List ℕ) → has (xs ++ ys) name ≡ (has xs name || has ys name)
 has-append xs ys name = list_any-append (is_name name) xs ys

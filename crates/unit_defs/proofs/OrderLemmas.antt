@@ -10,7 +10,8 @@ use Rattle.host_trait.specs.World.{bytes_cmp}
 use Rattle.host_trait.proofs.Places.{alike, found, ordered_keys}
 use Rattle.switch_names.specs.Names.{has, is_name}
 use Rattle.unit_defs.specs.Units.{can_be_wanted, in_order, wanted, words_in}
-use Rattle.unit_defs.proofs.NameLemmas.{has-filter-append, name_exact}
+use Rattle.host_trait.proofs.NameOrder.{name_exact}
+use Rattle.unit_defs.proofs.NameLemmas.{has-filter-append}
 use Rattle.unit_text.specs.declared.assignment.Assignment.{Assignment}
 use Rattle.host_trait.proofs.Orders.{none_sorted}
 use Rattle.host_trait.proofs.KeyOrder.{keys_sorted}

@@ -5,6 +5,7 @@ use Rattle.std.specs.Option.{option_map_or, option_or}
 use Rattle.std.proofs.lemmas.List.{append-nil}
 use Rattle.std.proofs.lemmas.List.Concat.{flat_map-append}
 use Rattle.switch_names.specs.UnitName.{template_of}
+use Rattle.switch_names.proofs.Outcomes.{option_or_assoc, option_or_none}
 use Rattle.unit_defs.specs.declared.reading.found.Found.{Found}
 use Rattle.unit_defs.specs.declared.reading.found.UnitFiles.{UnitFiles}
 use Rattle.unit_defs.specs.declared.part.Part.{Part}
@@ -15,29 +16,21 @@ use Rattle.unit_defs.specs.Part.{added, first_fault, line_part, merged}
 use Rattle.unit_defs.specs.UnitFiles.{base_from, ordered_drop_ins, part_from}
 use Rattle.unit_defs.proofs.DropInLemmas.{none_ordered}
 
-or_assoc : {X : Type 0} (a b c : Option X) → option_or (option_or a b) c ≡ option_or a (option_or b c)
-or_assoc None b c = refl
-or_assoc (Some x) b c = refl
-
 first_fault-append : (xs ys : List Part) → first_fault (xs ++ ys) ≡ option_or (first_fault xs) (first_fault ys)
 first_fault-append [] ys = refl
-first_fault-append (part ∷ xs) ys = ap (option_or part.fault) (first_fault-append xs ys) ∙ sym (or_assoc part.fault (first_fault xs) (first_fault ys))
-
-pub or_none : {X : Type 0} (o : Option X) → option_or o None ≡ o
-or_none None = refl
-or_none (Some x) = refl
+first_fault-append (part ∷ xs) ys = ap (option_or part.fault) (first_fault-append xs ys) ∙ sym (option_or_assoc part.fault (first_fault xs) (first_fault ys))
 
 pub added_none : (part : Part) → added part [] ≡ part
 added_none part =
     let text = append-nil part.text in
-    let fault = or_none part.fault in
+    let fault = option_or_none part.fault in
     λ i. record { text = text i; fault = fault i }
 
 -- a part is applied before the others that are left
 pub added_first : (part one now : Part) (rest : List Part) → now.text ≡ part.text ++ one.text → now.fault ≡ option_or part.fault one.fault → added now rest ≡ added part (one ∷ rest)
 added_first part one now rest is_text is_fault =
     let text = ap (λ t. t ++ flat_map (λ (part : Part). part.text) rest) is_text ∙ append_assoc part.text one.text (flat_map (λ (part : Part). part.text) rest) in
-    let fault = ap (λ f. option_or f (first_fault rest)) is_fault ∙ or_assoc part.fault one.fault (first_fault rest) in
+    let fault = ap (λ f. option_or f (first_fault rest)) is_fault ∙ option_or_assoc part.fault one.fault (first_fault rest) in
     λ i. record { text = text i; fault = fault i }
 
 -- a file with two lists of files applied after it
@@ -45,7 +38,7 @@ pub added_twice : (base : Part) (xs ys : List Part) → added (added base xs) ys
 added_twice base xs ys =
     let text = append_assoc base.text (flat_map (λ (part : Part). part.text) xs) (flat_map (λ (part : Part). part.text) ys)
     ∙ ap (λ t. base.text ++ t) (sym (flat_map-append (λ (part : Part). part.text) xs ys)) in
-    let fault = or_assoc base.fault (first_fault xs) (first_fault ys) ∙ ap (option_or base.fault) (sym (first_fault-append xs ys)) in
+    let fault = option_or_assoc base.fault (first_fault xs) (first_fault ys) ∙ ap (option_or base.fault) (sym (first_fault-append xs ys)) in
     λ i. record { text = text i; fault = fault i }
 
 -- what a unit has of its own, by what was found of it, and by the drop-ins and the file of its template

@@ -2,41 +2,27 @@
 use Rattle.std.proofs.Common.{◌≡◌, ◌⊎◌, ℕ, suc, ◌-◌, ◌+◌, ◌&&◌, ◌||◌, not, Bool, true, false, cond, List, [], ◌∷◌, ◌++◌, length, take, drop, nat_eq, codes, Option, None, Some, is_none, option_and_then, refl, sym, ap, subst, ◌∙◌, inl, inr, append_assoc, length-append, arith}
 use Rattle.std.specs.List.{after_first, before_first, ends_with, list_any, position_or_len, starts_with}
 use Rattle.std.specs.Option.{option_or}
-use Rattle.std.proofs.lemmas.Bool.{and_parts, both_ways, cases_Bool}
+use Rattle.std.proofs.lemmas.Bool.{and_parts, both_ways, cases_Bool, or_right}
 use Rattle.std.proofs.lemmas.Bool.Decides.{Decides-eqb}
 use Rattle.std.proofs.lemmas.List.{drop_at, take_at}
 use Rattle.std.proofs.lemmas.List.Folds.{list_any-append, list_any_none}
 use Rattle.std.proofs.lemmas.Slice.Eq.{ends_is, starts_is}
+use Rattle.std.proofs.lemmas.Option.{cond_some, same_Some}
 use Rattle.switch_names.specs.declared.name_fault.NameFault.{NameFault}
-use Rattle.switch_names.specs.Path.{slash}
-use Rattle.switch_names.specs.UnitName.{IsUnitName, is_no_unit_byte, unit_fault}
+use Rattle.switch_names.specs.Path.{slash, is_slash}
+use Rattle.switch_names.specs.UnitName.{IsUnitName, is_no_unit_byte, unit_fault, is_unit}
 use Rattle.switch_names.proofs.UnitNames.{IsShortName-from_name}
+use Rattle.switch_names.proofs.Cuts.{front_is, front_there}
 use Rattle.unit_defs.specs.declared.place.Place.{Place}
 use Rattle.unit_defs.specs.declared.place.Place.TheVariants.{File, DropIn, Want}
-use Rattle.unit_defs.specs.Place.{ArePlacesNamed, StandsAt, after_front, before_end, drop_in, drop_in_of, is_drop_in_name, is_slash, is_unit, path_of, place_below, place_in, place_of, unit_folder, want, want_of}
+use Rattle.switch_names.specs.Texts.{after_front, before_end}
+use Rattle.unit_defs.specs.Place.{ArePlacesNamed, StandsAt, drop_in, drop_in_of, is_drop_in_name, path_of, place_below, place_in, place_of, unit_folder, want, want_of}
 
 -- ---- fronts, ends and slashes of texts
 
-pub some_same : {X : Type 0} (x y : X) → Some x ≡ Some y → x ≡ y
-some_same x y is = cc
-
-chosen : {X : Type 0} (b : Bool) (x y : X) → cond b (Some x) None ≡ Some y → (b ≡ true) × (x ≡ y)
-chosen true x y is = (refl, cc)
-chosen false x y is = absurd (cc)
-
-front_is : (front path rest : List ℕ) → after_front front path ≡ Some rest → path ≡ front ++ rest
-front_is front path rest is =
-    let parts = chosen (starts_with nat_eq path front) (drop (length front) path) rest is in
-    (starts_is Decides-eqb path front (starts_with nat_eq path front) refl).0 parts.0 ∙ ap (λ r. front ++ r) parts.1
-
-front_there : (front rest : List ℕ) → after_front front (front ++ rest) ≡ Some rest
-front_there front rest =
-    ap (λ b. cond b (Some (drop (length front) (front ++ rest))) None) ((starts_is Decides-eqb (front ++ rest) front (starts_with nat_eq (front ++ rest) front) refl).1 rest refl)
-    ∙ ap (λ r. Some r) (drop_at front rest (length front) refl)
-
 end_is : (end text stem : List ℕ) → before_end end text ≡ Some stem → text ≡ stem ++ end
 end_is end text stem is =
-    let parts = chosen (ends_with nat_eq text end) (take (length text - length end) text) stem is in
+    let parts = cond_some (ends_with nat_eq text end) (take (length text - length end) text) stem is in
     (ends_is Decides-eqb text end (ends_with nat_eq text end) refl).0 parts.0 ∙ ap (λ s. s ++ end) parts.1
 
 end_there : (end stem : List ℕ) → before_end end (stem ++ end) ≡ Some stem
@@ -146,7 +132,7 @@ drop_in_to folder name place is = by (before_end (codes ".d") folder) (before_en
     by None stem is_unit_end is_stem is = absurd (cc)
     by (Some unit) None is_unit_end is_stem is = absurd (cc)
     by (Some unit) (Some stem) is_unit_end is_stem is =
-        let parts = chosen (is_drop_in_name stem && is_unit unit) (DropIn unit stem) place is in
+        let parts = cond_some (is_drop_in_name stem && is_unit unit) (DropIn unit stem) place is in
         let tests = and_parts (is_drop_in_name stem) (is_unit unit) parts.0 in
         subst (Below folder name) parts.1 (unit_from unit tests.1, tests.0, end_is (codes ".d") folder unit is_unit_end, end_is (codes ".conf") name stem is_stem)
 
@@ -157,7 +143,7 @@ want_to end folder name place is = by (before_end end folder) refl is
     by : (unit : Option (List ℕ)) → before_end end folder ≡ unit → want_of unit name ≡ Some place → (u : List ℕ) × (place ≡ Want u name) × IsUnitName u × IsUnitName name × (folder ≡ u ++ end)
     by None is_unit_end is = absurd (cc)
     by (Some unit) is_unit_end is =
-        let parts = chosen (is_unit unit && is_unit name) (Want unit name) place is in
+        let parts = cond_some (is_unit unit && is_unit name) (Want unit name) place is in
         let tests = and_parts (is_unit unit) (is_unit name) parts.0 in
         (unit, sym parts.1, unit_from unit tests.0, unit_from name tests.1, end_is end folder unit is_unit_end)
 
@@ -216,15 +202,11 @@ requires_there unit name is_unit_name is_name =
 
 -- ---- what stands in the folder of units
 
-true_or : (a b : Bool) → b ≡ true → (a || b) ≡ true
-true_or true b is = refl
-true_or false b is = is
-
 -- what is cut at a slash stands in a folder
 in_folder_there : (folder name : List ℕ) → list_any is_slash folder ≡ false → place_in (folder ++ slash ∷ name) ≡ place_below folder name
 in_folder_there folder name none =
     let rest : List ℕ = folder ++ slash ∷ name in
-    let slashed : list_any is_slash rest ≡ true = list_any-append is_slash folder (slash ∷ name) ∙ true_or (list_any is_slash folder) true refl in
+    let slashed : list_any is_slash rest ≡ true = list_any-append is_slash folder (slash ∷ name) ∙ or_right (list_any is_slash folder) true refl in
     let not_unit : is_unit rest ≡ false = elim (cases_Bool (is_unit rest)) [
       | inl named ↦ absurd (both_ways _ (no_slash rest (unit_from rest named)) slashed)
       | inr other ↦ other
@@ -282,7 +264,7 @@ in_to system path rest place is stands = by (is_unit rest) (list_any is_slash re
   where
     by : (named slashed : Bool) → is_unit rest ≡ named → list_any is_slash rest ≡ slashed →
         cond named (Some (File rest)) (cond slashed (place_below (before_first is_slash rest) (after_first is_slash rest)) None) ≡ Some place → StandsAt system path place
-    by true slashed named some stands = subst (StandsAt system path) (some_same (File rest) place stands) (unit_from rest named, is)
+    by true slashed named some stands = subst (StandsAt system path) (same_Some (File rest) place stands) (unit_from rest named, is)
     by false true named some stands =
         below_stands system path (before_first is_slash rest) (after_first is_slash rest) place (is ∙ ap (path_of system) (cut_at rest some))
         (below_to (before_first is_slash rest) (after_first is_slash rest) place stands)

@@ -6,12 +6,16 @@ use Rattle.std.proofs.lemmas.Bool.{both_ways}
 use Rattle.std.proofs.lemmas.Bool.Decides.{Decides-eqb}
 use Rattle.std.proofs.lemmas.List.{drop_at}
 use Rattle.std.proofs.lemmas.Slice.Eq.{starts_is}
-use Rattle.switch_names.specs.UnitName.{IsUnitName}
+use Rattle.switch_names.specs.UnitName.{IsUnitName, is_unit}
 use Rattle.unit_defs.specs.declared.place.Place.{Place}
 use Rattle.unit_defs.specs.declared.place.Place.TheVariants.{File, DropIn, Want}
 use Rattle.unit_defs.specs.Found.{is_file}
-use Rattle.unit_defs.specs.Place.{after_front, before_end, drop_in, drop_in_of, is_drop_in_name, is_slash, is_unit, named, place_after, place_below, place_in, want, want_of}
-use Rattle.unit_defs.proofs.NameLemmas.{name_by, name_exact, name_itself, not_named}
+use Rattle.switch_names.specs.Path.{is_slash}
+use Rattle.switch_names.specs.Texts.{after_front, before_end}
+use Rattle.switch_names.proofs.Cuts.{front_there}
+use Rattle.unit_defs.specs.Place.{drop_in, drop_in_of, is_drop_in_name, named, place_after, place_below, place_in, want, want_of}
+use Rattle.host_trait.proofs.NameOrder.{name_exact, name_itself}
+use Rattle.unit_defs.proofs.NameLemmas.{name_by, not_named}
 
 -- ---- what a path says, by the names in it
 
@@ -123,14 +127,9 @@ file_path front path unit is = by (starts_with nat_eq path front) refl is
     by true starts is = (starts_is Decides-eqb path front (starts_with nat_eq path front) refl).0 starts ∙ ap (λ rest. front ++ rest) (in_folder unit (drop (length front) path) is)
     by false starts is = absurd (cc)
 
-after_itself : (front rest : List ℕ) → after_front front (front ++ rest) ≡ Some rest
-after_itself front rest =
-    ap (λ b. cond b (Some (drop (length front) (front ++ rest))) None) ((starts_is Decides-eqb (front ++ rest) front (starts_with nat_eq (front ++ rest) front) refl).1 rest refl)
-    ∙ ap (λ r. Some r) (drop_at front rest (length front) refl)
-
 -- at the path of a unit's file there is one
 pub file_there : (front unit : List ℕ) → IsUnitName unit → is_file unit (place_after front (front ++ unit)) ≡ true
 file_there front unit named =
-    ap (λ o. is_file unit (option_and_then place_in o)) (after_itself front unit)
+    ap (λ o. is_file unit (option_and_then place_in o)) (front_there front unit)
     ∙ ap (λ f. is_file unit (cond (is_none f) (Some (File unit)) (cond (list_any is_slash unit) (place_below (before_first is_slash unit) (after_first is_slash unit)) None))) named
     ∙ name_itself unit

@@ -21,8 +21,8 @@ use Rattle.unit_defs.specs.Place.{is_want, place_after}
 use Rattle.switch_names.specs.Names.{is_name}
 use Rattle.unit_defs.proofs.DropInLemmas.{find-append}
 use Rattle.switch_names.proofs.Names.{name_turned}
+use Rattle.switch_names.proofs.Outcomes.{option_map_or_other, option_or_none}
 use Rattle.unit_defs.proofs.PlaceLemmas.{file_path}
-use Rattle.unit_defs.proofs.PartLemmas.{or_none}
 
 -- nothing is read yet
 pub files_none : (leaves : Leaves) (front : List ℕ) (found : Found) → found.units.entries ≡ [] → AreFilesAt leaves front [] found
@@ -45,10 +45,6 @@ both_chosen false true part that same = same refl
 both_chosen true false part that same = refl
 both_chosen false false part that same = refl
 
-map_or : {X Y : Type 0} (f : X → Y) (a b : Option X) → option_map f (option_or a b) ≡ option_or (option_map f a) (option_map f b)
-map_or f None b = refl
-map_or f (Some x) b = refl
-
 one_drop_in : (b : Bool) (name other_name : List ℕ) (content : List ℕ) →
     option_map part_of (find bytes_cmp name (cond b ((other_name, content) ∷ []) [])) ≡ cond (b && is_name other_name name) (Some (part_of content)) None
 one_drop_in true name other_name content = ap (λ c. option_map part_of (cond c (Some content) None)) (name_turned name other_name) ∙ by (is_name other_name name)
@@ -60,10 +56,10 @@ one_drop_in false name other_name content = refl
 
 drop_in_chosen : (place : Option Place) (content : Option (List ℕ)) (unit name : List ℕ) (was : Option Part) →
     drop_in_with place (option_map part_of content) unit name was ≡ option_or was (option_map part_of (find bytes_cmp name (drop_in_at unit place content)))
-drop_in_chosen None content unit name was = sym (or_none was)
-drop_in_chosen (Some (File other)) content unit name was = sym (or_none was)
-drop_in_chosen (Some (Want other other_name)) content unit name was = sym (or_none was)
-drop_in_chosen (Some (DropIn other other_name)) None unit name was = sym (or_none was)
+drop_in_chosen None content unit name was = sym (option_or_none was)
+drop_in_chosen (Some (File other)) content unit name was = sym (option_or_none was)
+drop_in_chosen (Some (Want other other_name)) content unit name was = sym (option_or_none was)
+drop_in_chosen (Some (DropIn other other_name)) None unit name was = sym (option_or_none was)
 drop_in_chosen (Some (DropIn other other_name)) (Some content) unit name was = ap (option_or was) (sym (one_drop_in (is_name other unit) name other_name content))
 
 -- nothing stands at a path
@@ -106,7 +102,7 @@ module _ (leaves : Leaves) (front : List ℕ) (paths : List (List ℕ)) (path : 
       takes.drop_in unit name
       ∙ drop_in_chosen place (content_of leaves path) unit name (drop_in_in old unit name)
       ∙ ap (λ o. option_or o (option_map part_of (find bytes_cmp name (of_path path)))) (read.drop_in unit name)
-      ∙ sym (map_or part_of (find bytes_cmp name (flat_map of_path paths)) (find bytes_cmp name (of_path path)))
+      ∙ sym (option_map_or_other part_of (find bytes_cmp name (flat_map of_path paths)) (find bytes_cmp name (of_path path)))
       ∙ ap (option_map part_of) (sym (find-append name (flat_map of_path paths) (of_path path)))
       ∙ ap (λ es. option_map part_of (find bytes_cmp name es))
       (ap (λ es. flat_map of_path paths ++ es) (sym (append-nil (of_path path))) ∙ sym (flat_map-append of_path paths (path ∷ [])))

@@ -15,7 +15,7 @@ use Rattle.host_trait.proofs.Places.{bytes_exact, bytes_total, same_or_other}
 use Rattle.unit_defs.specs.declared.unit.Unit.{Unit}
 use Rattle.unit_defs.specs.Defs.{AreSorted, unit_in}
 use Rattle.switch_names.proofs.Names.{name_turned}
-use Rattle.unit_defs.proofs.NameLemmas.{less_is_other, name_from}
+use Rattle.host_trait.proofs.NameOrder.{less_is_other, name_from, less_not_equal}
 
 then_assoc : (a b c : Ordering) → ordering_then (ordering_then a b) c ≡ ordering_then a (ordering_then b c)
 then_assoc Less b c = refl
@@ -81,9 +81,6 @@ searchable units name sorted =
 apart : (a b : Ordering) (r : Ordering) → r ≡ a → r ≡ b → a ≡ b
 apart a b r first second = sym first ∙ second
 
-not_less : (r : Ordering) → r ≡ Less → r ≡ Equal → ⊥
-not_less r less equal = absurd (cc)
-
 not_greater : (r : Ordering) → r ≡ Greater → r ≡ Equal → ⊥
 not_greater r greater equal = absurd (cc)
 
@@ -103,6 +100,6 @@ searched units name (Ok at) sorted within is = (within, found_at units at name s
 searched units name (Err at) sorted within is =
     let cut = is (searchable units name sorted) in
     none_at units name (λ k d less equal. elim (either_side k at) [
-      | inl before ↦ not_less _ (cut.0 k d (omega arith) before) equal
+      | inl before ↦ less_not_equal _ (cut.0 k d (omega arith) before) equal
       | inr after ↦ not_greater _ (cut.1 k d after less) equal
     ])

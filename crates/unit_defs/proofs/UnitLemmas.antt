@@ -25,7 +25,7 @@ use Rattle.unit_defs.specs.Part.{line_part, merged, part_of}
 use Rattle.switch_names.specs.Names.{has, is_name}
 use Rattle.unit_defs.specs.Units.{own_part}
 use Rattle.unit_defs.proofs.DropInLemmas.{none_ordered}
-use Rattle.unit_defs.proofs.NameLemmas.{name_exact}
+use Rattle.host_trait.proofs.NameOrder.{name_exact}
 use Rattle.unit_defs.proofs.PartLemmas.{part_by}
 
 -- ---- the template of a unit is a unit

@@ -15,7 +15,8 @@ use Rattle.switch_names.specs.Names.{has, is_name}
 use Rattle.unit_defs.specs.Units.{can_be_wanted, wanted, words_at, words_in, words_of}
 use Rattle.std.specs.List.Sorted.{IsStrictlySortedBy}
 use Rattle.host_trait.specs.World.{bytes_cmp}
-use Rattle.unit_defs.proofs.NameLemmas.{found_unit, has_both, name_exact}
+use Rattle.host_trait.proofs.NameOrder.{name_exact}
+use Rattle.unit_defs.proofs.NameLemmas.{found_unit, has_both}
 use Rattle.unit_defs.proofs.OrderLemmas.{in_order_sorted, none_in_order, wanted_each}
 use Rattle.std.proofs.Math.Bool.{or-false}
 

@@ -6,6 +6,7 @@ use Rattle.std.specs.List.{flat_map, list_any}
 use Rattle.std.specs.Map.{lookup}
 use Rattle.std.specs.Option.{option_map_or}
 use Rattle.std.specs.Ordering.{eq_by_cmp}
+use Rattle.std.specs.Cmp.{both_ways as same_test}
 use Rattle.std.proofs.lemmas.Map.Views.{any-filter_same}
 use Rattle.std.proofs.lemmas.Slice.Eq.{bytes_eq-Decides}
 use Rattle.switch_names.specs.Path.{is_below, slash}
@@ -22,8 +23,10 @@ use Rattle.unit_defs.specs.Part.{part_of}
 use Rattle.unit_defs.specs.Place.{path_of, place_after, unit_folder}
 use Rattle.switch_names.specs.Names.{is_name}
 use Rattle.std.proofs.lemmas.List.{append-nil}
+use Rattle.std.proofs.lemmas.Bool.{false_from_ne_true}
 use Rattle.unit_defs.proofs.DropInLemmas.{same_in_name_order}
-use Rattle.unit_defs.proofs.NameLemmas.{name_exact, name_from}
+use Rattle.host_trait.proofs.NameOrder.{name_exact, name_from}
+use Rattle.host_trait.proofs.Listings.{is_among as listed_below}
 use Rattle.unit_defs.proofs.PlaceLemmas.{file_path, file_there}
 
 -- nothing in the folder of units is the stage
@@ -36,25 +39,9 @@ not_stage (a ∷ b ∷ c ∷ []) rest same = absurd (let fifth = ap (λ (p : Lis
 not_stage (a ∷ b ∷ c ∷ d ∷ more) rest same =
     absurd (omega (arith, ap (λ (p : List ℕ). length p) same, length-append (more ++ codes "/etc/systemd/system") (slash ∷ rest), length-append more (codes "/etc/systemd/system")))
 
-false_from : (b : Bool) → (b ≡ true → ⊥) → b ≡ false
-false_from true lacks = absurd (lacks refl)
-false_from false lacks = refl
-
-same_test : (a b : Bool) → (a ≡ true → b ≡ true) → (b ≡ true → a ≡ true) → a ≡ b
-same_test true b to from = sym (to refl)
-same_test false true to from = from refl
-same_test false false to from = refl
-
-all_three : (a b c : Bool) → b ≡ true → c ≡ false → ((a || b) && not c) ≡ true
-all_three true b c second third = ap not third
-all_three false b c second third = ap (λ x. x && not c) second ∙ ap not third
-
 -- what stands in the folder of units is listed
 is_among : (system rest : List ℕ) → is_listed (unit_folder system) (path_of system rest) ≡ true
-is_among system rest =
-    all_three (is_path (path_of system rest) (unit_folder system)) (is_below (path_of system rest) (unit_folder system)) (is_path (path_of system rest) stage)
-    (below_front (unit_folder system) rest)
-    (false_from _ (λ same. not_stage system rest ((bytes_eq-Decides (path_of system rest) stage).0 same)))
+is_among system rest = listed_below (unit_folder system) rest (not_stage system rest)
 
 module _ (leaves : Leaves) (system unit : List ℕ) (named : IsUnitName unit) where
   joined : path_of system [] ++ unit ≡ path_of system unit

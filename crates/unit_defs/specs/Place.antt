@@ -2,8 +2,9 @@
 use Rattle.std.specs.Prelude.{◌≡◌, ◌⊎◌, ◌↔◌, ℕ, ◌-◌, ◌&&◌, ◌==◌, not, Bool, false, true, List, [], ◌∷◌, ◌++◌, length, take, drop, codes, nat_eq, Option, None, Some, option_and_then, is_none, if◌then◌else◌}
 use Rattle.std.specs.List.{list_any, starts_with, ends_with, before_first, after_first}
 use Rattle.std.specs.Option.{option_or}
-use Rattle.switch_names.specs.Path.{slash}
-use Rattle.switch_names.specs.UnitName.{IsUnitName, unit_fault}
+use Rattle.switch_names.specs.Path.{slash, is_slash}
+use Rattle.switch_names.specs.UnitName.{IsUnitName, unit_fault, is_unit}
+use Rattle.switch_names.specs.Texts.{after_front, before_end}
 use Rattle.unit_defs.specs.declared.place.Place.{Place}
 use Rattle.unit_defs.specs.declared.place.Place.TheVariants.{File, DropIn, Want}
 
@@ -19,21 +20,6 @@ unit_folder system = system ++ codes "/etc/systemd/system"
 -- the path of what has this name in the folder of a system's units
 abbrev pub path_of : List ℕ → List ℕ → List ℕ
 path_of system name = unit_folder system ++ slash ∷ name
-
-abbrev pub is_slash : ℕ → Bool
-is_slash byte = byte == slash
-
--- a text is the name of a unit
-abbrev pub is_unit : List ℕ → Bool
-is_unit name = is_none (unit_fault name)
-
--- what a text has before an ending
-abbrev pub before_end : List ℕ → List ℕ → Option (List ℕ)
-before_end end text = if ends_with nat_eq text end then Some (take (length text - length end) text) else None
-
--- what a text has after a front
-abbrev pub after_front : List ℕ → List ℕ → Option (List ℕ)
-after_front front text = if starts_with nat_eq text front then Some (drop (length front) text) else None
 
 -- the name of a drop-in isn't empty and has no slash
 abbrev pub is_drop_in_name : List ℕ → Bool

@@ -5,7 +5,7 @@ use Rattle.std.specs.FinMap as map
 use Rattle.std.specs.List.{find, flat_map, slice_split}
 use Rattle.std.specs.Option.{option_or}
 use Rattle.std.specs.declared.cmp.Ordering.TheVariants.{Less}
-use Rattle.switch_names.specs.UnitName.{IsUnitName, is_template, template_of}
+use Rattle.switch_names.specs.UnitName.{IsUnitName, is_template, template_of, is_unit}
 use Rattle.host_trait.specs.World.{Leaves, bytes_cmp}
 use Rattle.unit_text.specs.declared.assignment.Assignment.{Assignment}
 use Rattle.unit_text.specs.UnitKey.{key_of}
@@ -16,7 +16,7 @@ use Rattle.unit_defs.specs.declared.place.Place.TheVariants.{File, DropIn, Want}
 use Rattle.unit_defs.specs.Files.{drop_ins_of, file_of, folder_wants, own_files, paths_of}
 use Rattle.unit_defs.specs.Fstab.{fstab_of, line_text, wanted_by_lines}
 use Rattle.unit_defs.specs.Part.{line_part, merged, part_of}
-use Rattle.unit_defs.specs.Place.{is_unit, place_of}
+use Rattle.unit_defs.specs.Place.{place_of}
 use Rattle.switch_names.specs.Names.{Name}
 
 -- these names in byte order, each once

@@ -3,7 +3,9 @@ ghost use Rattle.std.specs.Prelude.{◌≡◌, false, true, Some, IfOk, MatchOpt
 ghost use Rattle.std.specs.List.{list_any, before_first, after_first};
 ghost use Rattle.std.specs.Option.{option_copied};
 ghost use Rattle.unit_defs.specs.Found.{Takes};
-ghost use Rattle.unit_defs.specs.Place.{after_front, before_end, drop_in, is_drop_in_name, is_slash, is_want, named, place_below, place_after, place_in, want};
+ghost use Rattle.switch_names.specs.Path.{is_slash};
+ghost use Rattle.switch_names.specs.Texts.{after_front, before_end};
+ghost use Rattle.unit_defs.specs.Place.{drop_in, is_drop_in_name, is_want, named, place_below, place_after, place_in, want};
 
 use crate::part::Part;
 use crate::reading::found::Found;

@@ -1,11 +1,12 @@
 -- Names in sets and lists.
 use Rattle.std.proofs.Common.{◌≡◌, ◌<◌, ◌+◌, ◌||◌, ◌&&◌, not, ℕ, Bool, true, false, cond, List, [], ◌∷◌, ◌++◌, get_or, length, take, refl, sym, ap, ◌∙◌, arith}
-use Rattle.std.proofs.Math.Bool.{or-false}
+use Rattle.std.proofs.Math.Bool.{or-false, or_assoc}
 use Rattle.std.specs.List.{filter}
 use Rattle.std.proofs.lemmas.List.{append-nil, take_more}
 use Rattle.std.proofs.lemmas.List.Elements.{filter_more}
 use Rattle.switch_names.specs.Names.{Name, has, is_name}
-use Rattle.unit_defs.proofs.NameLemmas.{has-append, name_exact}
+use Rattle.host_trait.proofs.NameOrder.{name_exact}
+use Rattle.unit_defs.proofs.NameLemmas.{has-append}
 
 -- one name more at the end
 pub has_pushed : (old : List Name) (name unit : Name) → has (old ++ name ∷ []) unit ≡ (has old unit || is_name unit name)
@@ -46,15 +47,11 @@ module _ {X : Type 0} (xs : List X) (i : ℕ) (x : X) (inside : i < length xs) (
   pub passed_same : (p : X → Bool) → p x ≡ false → filter p (take (i + 1) xs) ≡ filter p (take i xs)
   passed_same p fails = with_one p ∙ ap (λ b. filter p (take i xs) ++ cond b (x ∷ []) []) fails ∙ append-nil (filter p (take i xs))
 
-or_either : (a b c : Bool) → ((a || b) || c) ≡ (a || (b || c))
-or_either true b c = refl
-or_either false b c = refl
-
 -- a set that gets the name which is new in a list
 pub set_more : (start old new before after : List Name) (unit copy name : Name) → after ≡ before ++ unit ∷ [] → copy ≡ unit →
     has new name ≡ (has old name || is_name name copy) → has old name ≡ (has start name || has before name) → has new name ≡ (has start name || has after name)
 set_more start old new before after unit copy name grown same added was =
-    added ∙ (λ k. was k || is_name name (same k)) ∙ or_either (has start name) (has before name) (is_name name unit)
+    added ∙ (λ k. was k || is_name name (same k)) ∙ or_assoc (has start name) (has before name) (is_name name unit)
     ∙ ap (λ b. has start name || b) (sym (ap (λ (names : List Name). has names name) grown ∙ has_pushed before unit name))
 
 pub set_same : (start old before after : List Name) (name : Name) → after ≡ before → has old name ≡ (has start name || has before name) → has old name ≡ (has start name || has after name)

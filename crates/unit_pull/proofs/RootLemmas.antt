@@ -21,8 +21,9 @@ use Rattle.unit_decide.specs.Facts.{unit_kind}
 use Rattle.unit_decide.specs.Flags.{may_start}
 use Rattle.unit_decide.specs.Kinds.{is_kind}
 use Rattle.unit_decide.proofs.TableLemmas.{target_from_test}
-use Rattle.unit_defs.proofs.NameLemmas.{less_is_other, name_exact}
+use Rattle.host_trait.proofs.NameOrder.{less_is_other, name_exact}
 use Rattle.host_trait.proofs.KeyOrder.{left_of, less_from, right_of}
+use Rattle.host_trait.proofs.StateMaps.{active_from_test}
 use Rattle.unit_pull.specs.Roots.{IsRoot, is_defined_target, is_running_target, may_run}
 use Rattle.unit_text.specs.declared.assignment.Assignment.{Assignment}
 
@@ -79,11 +80,6 @@ module _ (p : UnitState → Bool) where
 
 -- ---- the two ways to be a root
 
-active_from : (state : State) → is_active state ≡ true → state ≡ Active
-active_from Active is = refl
-active_from Inactive is = absurd cc
-active_from Failed is = absurd cc
-
 text_from : (text : Option (List Assignment)) → may_run text ≡ true → (one : List Assignment) × (text ≡ Some one) × (may_start one ≡ true)
 text_from None is = absurd cc
 text_from (Some one) is = (one, refl, is)
@@ -121,7 +117,7 @@ module _ (text_of : Name → Option (List Assignment)) where
         let parts = and_parts (is_active (state_of states unit) && is_kind (unit_kind unit) Target) (may_run (text_of unit)) is in
         let both = and_parts (is_active (state_of states unit)) (is_kind (unit_kind unit) Target) parts.0 in
         let text = text_from (text_of unit) parts.1 in
-        IsRoot.Running text.0 text.1 (target_from_test (unit_kind unit) both.1) (active_from (state_of states unit) both.0) text.2
+        IsRoot.Running text.0 text.1 (target_from_test (unit_kind unit) both.1) (active_from_test (state_of states unit) both.0) text.2
 
     root_pending : (is_defined_target text_of unit && has starts unit) ≡ true → IsOne
     root_pending is =

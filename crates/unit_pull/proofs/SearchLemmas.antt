@@ -5,7 +5,7 @@ use Rattle.std.proofs.lemmas.Bool.{and_from, and_parts, both_ways, not_from_fals
 use Rattle.host_trait.specs.World.{bytes_cmp}
 use Rattle.switch_names.specs.Names.{IsListOf, Name, has, is_name}
 use Rattle.unit_defs.specs.Pull.{Reached}
-use Rattle.unit_defs.proofs.NameLemmas.{name_exact, name_itself}
+use Rattle.host_trait.proofs.NameOrder.{name_exact, name_itself}
 use Rattle.unit_pull.proofs.NameSetLemmas.{has_pushed}
 
 -- names are added to those that are reached

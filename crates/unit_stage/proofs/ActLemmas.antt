@@ -16,7 +16,7 @@ use Rattle.owed_plan.specs.FinalStates.{brought_by}
 use Rattle.switch_names.specs.Names.{Name, has, is_name}
 use Rattle.unit_stage.specs.Acts.{CanPerform, performed}
 use Rattle.unit_decide.specs.Kinds.{is_kind}
-use Rattle.unit_defs.proofs.NameLemmas.{name_exact}
+use Rattle.host_trait.proofs.NameOrder.{name_exact}
 
 -- ---- the state of one unit
 

@@ -21,7 +21,8 @@ use Rattle.owed_plan.specs.FinalStates.{brought_by, is_brought}
 use Rattle.unit_stage.proofs.ActLemmas.{brought_from, brought_to, state_with}
 use Rattle.unit_stage.proofs.CallLemmas.{performed-append, same_bad, same_loaded}
 use Rattle.switch_names.specs.Names.{Name, has, is_name}
-use Rattle.unit_defs.proofs.NameLemmas.{name_exact, name_itself}
+use Rattle.host_trait.proofs.NameOrder.{name_exact, name_itself}
+use Rattle.host_trait.proofs.StateMaps.{active_from_test}
 use Rattle.owed_plan.specs.Called.{AreCalled, IsCalled, IsGiven, IsLeftOf}
 
 -- the lists that still stand
@@ -154,7 +155,7 @@ module _ (owed : Owed) (then_ : Name → State) where
 
 -- ---- lists of calls
 
-called_on : (act : Name → Act) (names : List Name) (unit : Name) → is_called (map (λ u. duty (act u) u) names) unit ≡ has names unit
+pub called_on : (act : Name → Act) (names : List Name) (unit : Name) → is_called (map (λ u. duty (act u) u) names) unit ≡ has names unit
 called_on act [] unit = refl
 called_on act (name ∷ names) unit = ap (λ b. is_name unit name || b) (called_on act names unit)
 
@@ -178,12 +179,7 @@ module _ (owed : Owed) (states : Name → State) (ready : ManagerState) (is_read
   -- the calls of each list are owed
   reload_call : (unit : Name) → has owed.reloads unit ≡ true → (active stops : Bool) → is_active (states unit) ≡ active → has owed.stops unit ≡ stops →
       IsOwedCall owed before (if active && not stops then Reload else Start) unit
-  reload_call unit found true false active stops = ap (λ b. if b then Inactive else states unit) stops ∙ from (states unit) active
-    where
-      from : (state : State) → is_active state ≡ true → state ≡ Active
-      from Active is = refl
-      from Inactive is = absurd cc
-      from Failed is = absurd cc
+  reload_call unit found true false active stops = ap (λ b. if b then Inactive else states unit) stops ∙ active_from_test (states unit) active
   reload_call unit found true true active stops = or_right (has owed.starts unit) (has owed.reloads unit) found
   reload_call unit found false stops active is = or_right (has owed.starts unit) (has owed.reloads unit) found
 

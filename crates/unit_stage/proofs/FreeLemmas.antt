@@ -9,8 +9,8 @@ use Rattle.owed_lists.specs.Lists.{reloads_place, restarts_place, starts_place}
 use Rattle.owed_lists.specs.Record.{leaf_of_list}
 use Rattle.owed_plan.proofs.StoreLemmas.{first_fault_same, leaf_same}
 use Rattle.switch_names.specs.Names.{Name}
+use Rattle.switch_names.proofs.Outcomes.{none_mapped}
 use Rattle.switch_parts.specs.declared.refusal.Refusal.TheVariants.{UnitText}
-use Rattle.switch_parts.proofs.Parts.{none_mapped}
 use Rattle.tree_put.specs.declared.written_place.WrittenPlace.{WrittenPlace}
 use Rattle.tree_put.specs.Put.{is_blocked}
 use Rattle.tree_put.specs.WrittenPlace.{is_in_the_way, lacks_content, written}

@@ -32,7 +32,8 @@ use Rattle.switch_names.specs.Names as names
 use Rattle.switch_names.specs.UnitName.{IsUnitName, unit_fault}
 use Rattle.unit_decide.specs.Facts.{unit_kind}
 use Rattle.unit_defs.specs.Units.{find_text, own_text}
-use Rattle.unit_defs.proofs.NameLemmas.{name_itself}
+use Rattle.host_trait.proofs.NameOrder.{name_itself, all_named}
+use Rattle.host_trait.proofs.Orders.{none_sorted}
 use Rattle.unit_text.specs.declared.assignment.Assignment.{Assignment}
 use Rattle.unit_stage.specs.Acts.{entry_of, performed}
 use Rattle.unit_stage.specs.Laws.{AreSameBeside, FreeLaw, UnderwayLaw}
@@ -72,11 +73,6 @@ free_law system owed w m is_system owes moment same free = come_free system owed
 
 -- ---- the names that are owed are names of units
 
-all_named : (P : Name → Type 0) (list : List Name) → ((unit : Name) → has list unit ≡ true → P unit) → AllByRecursion P list
-all_named P [] each = tt
-all_named P (name ∷ list) each =
-    (each name (or_left (is_name name name) (has list name) (name_itself name)), all_named P list (λ unit found. each unit (or_right (is_name unit name) (has list unit) found)))
-
 -- what a system defines has the name of a unit
 defined_named : (own : Name → Option (List Assignment)) (unit : Name) → is_some (find_text own unit) ≡ true → IsUnitName unit
 defined_named own unit defined = by (unit_fault unit) refl
@@ -84,10 +80,6 @@ defined_named own unit defined = by (unit_fault unit) refl
     by : (o : Option NameFault) → unit_fault unit ≡ o → IsUnitName unit
     by None is = is
     by (Some fault) is = absurd (let none : is_some (find_text own unit) ≡ false = rw is in cc (sym none ∙ defined))
-
-no_names : IsStrictlySortedBy bytes_cmp []
-unfolding IsStrictlySortedBy
-no_names = tt
 
 module _ (system : Name) (lists : Lists) (owed : Owed) (w m : WorldState) (is_system : IsSystem system) (owes : IsOwedIn w system lists owed) (same : AreSameBeside w m) where
   abbrev both : Systems
@@ -115,7 +107,7 @@ module _ (system : Name) (lists : Lists) (owed : Owed) (w m : WorldState) (is_sy
   listed_part place P list part is all (inl whole) there =
       recorded_law m.leaves place part (subst (IsStrictlySortedBy bytes_cmp) (sym whole) is.sorted) (subst (AllByRecursion IsUnitName) (sym whole) all) there
   listed_part place P list part is all (inr none) there =
-      recorded_law m.leaves place part (subst (IsStrictlySortedBy bytes_cmp) (sym none) no_names) (subst (AllByRecursion IsUnitName) (sym none) tt) there
+      recorded_law m.leaves place part (subst (IsStrictlySortedBy bytes_cmp) (sym none) none_sorted) (subst (AllByRecursion IsUnitName) (sym none) tt) there
 
   -- a list that is the old one or recorded is read so
   pub data IsKept (place : List ℕ) (old list : List Name) : Type 0 where

@@ -12,11 +12,11 @@ use Rattle.owed_plan.specs.declared.duty.Duty.{Duty}
 use Rattle.owed_plan.specs.Calls.{duty}
 use Rattle.owed_plan.specs.Systems.{Systems}
 use Rattle.switch_names.specs.Names.{Name, has, is_name}
-use Rattle.unit_defs.proofs.NameLemmas.{name_itself}
+use Rattle.host_trait.proofs.NameOrder.{name_itself}
 use Rattle.unit_stage.specs.Acts.{entry_of}
 use Rattle.unit_stage.specs.Owes.{IsOwedAct, is_stop, pays}
 use Rattle.unit_stage.specs.System.{definitions_of}
-use Rattle.unit_stage.proofs.CallingLemmas.{is_called}
+use Rattle.unit_stage.proofs.CallingLemmas.{is_called, called_on}
 
 -- ---- acts that are owed
 
@@ -72,10 +72,6 @@ all_joined P (entry ∷ entries) more all rest = (all.0, all_joined P entries mo
 pub all_implied : (P Q : Entry → Type 0) → ((entry : Entry) → P entry → Q entry) → (entries : List Entry) → AllByRecursion P entries → AllByRecursion Q entries
 all_implied P Q implies [] all = tt
 all_implied P Q implies (entry ∷ entries) all = (implies entry all.0, all_implied P Q implies entries all.1)
-
-called_on : (act : Name → Act) (names : List Name) (unit : Name) → is_called (map (λ u. duty (act u) u) names) unit ≡ has names unit
-called_on act [] unit = refl
-called_on act (name ∷ names) unit = ap (λ b. is_name unit name || b) (called_on act names unit)
 
 -- a stop pays a stop
 pub stop_paid : (system : Name) (loaded : List ℕ) (unit : Name) (names : List Name) → has names unit ≡ true → list_any (pays system Stop unit) (map (entry_of loaded) (map (duty Stop) names)) ≡ true

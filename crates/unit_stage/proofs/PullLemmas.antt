@@ -5,20 +5,17 @@ use Rattle.host_trait.specs.declared.unit_state.State.{State}
 use Rattle.owed_lists.specs.declared.lists.Lists.{Lists}
 use Rattle.owed_plan.specs.Pull as both
 use Rattle.owed_plan.specs.Systems.{IsDefined, systems_in}
-use Rattle.owed_plan.proofs.SystemLemmas.{sound_in}
+use Rattle.owed_plan.proofs.SystemLemmas.{sound_in, guarded}
 use Rattle.switch_names.specs.Names.{IsListOf, Name, has}
-use Rattle.switch_names.specs.UnitName.{template_of}
+use Rattle.switch_names.specs.UnitName.{template_of, is_unit}
 use Rattle.unit_decide.specs.Flags.{may_start}
+use Rattle.unit_decide.proofs.SocketLemmas.{none_found}
 use Rattle.unit_defs.specs.declared.unit.Unit.{Unit}
 use Rattle.unit_defs.specs.Defs.{found_in, own_in, wanted_in}
-use Rattle.unit_defs.specs.Place.{is_unit}
 use Rattle.unit_defs.specs.Pull.{Reached, FromRoot, FromWant}
 use Rattle.unit_defs.specs.Units.{find_text}
 use Rattle.unit_pull.specs.Roots as new
 use Rattle.unit_text.specs.declared.assignment.Assignment.{Assignment}
-
-none_among : (unit : Name) → has [] unit ≡ true → ⊥
-none_among unit found = cc
 
 some_text : (text : Option (List Assignment)) → is_some text ≡ true → (t : List Assignment) × (text ≡ Some t)
 some_text None is = absurd cc
@@ -55,10 +52,6 @@ module _ (olds news : List Unit) (states : Name → State) (lists : Lists) where
   with_guard : (by unit : Name) → is_unit by ≡ true → has (wanted_in news by) unit ≡ true → has (if is_unit by then wanted_in news by else []) unit ≡ true
   with_guard by unit named wants = ap (λ (b : Bool). has (if b then wanted_in news by else []) unit) named ∙ wants
 
-  without_guard : (b : Bool) (names : List Name) (unit : Name) → has (if b then names else []) unit ≡ true → has names unit ≡ true
-  without_guard true names unit wants = wants
-  without_guard false names unit wants = absurd (none_among unit wants)
-
   module _ (roots : List Name) (are : IsListOf roots (new.IsRoot (found_in news) states lists.starts)) where
     pulled_from : (unit : Name) → Reached (wanted_in news) (λ one. IsTrue (has roots one)) unit → both.Pulled (systems_in olds news) states lists unit
     pulled_from unit (FromRoot _ root) = FromRoot unit (root_from unit ((are.exact unit).0 root))
@@ -68,7 +61,7 @@ module _ (olds news : List Unit) (states : Name → State) (lists : Lists) where
 
     pulled_to : (unit : Name) → both.Pulled (systems_in olds news) states lists unit → Reached (wanted_in news) (λ one. IsTrue (has roots one)) unit
     pulled_to unit (FromRoot _ root) = FromRoot unit ((are.exact unit).1 (root_to unit root))
-    pulled_to unit (FromWant _ by reached wants) = FromWant unit by (pulled_to by reached) (without_guard (is_unit by) (wanted_in news by) unit wants)
+    pulled_to unit (FromWant _ by reached wants) = FromWant unit by (pulled_to by reached) (guarded (is_unit by) (wanted_in news by) unit wants)
 
     -- what is pulled from the roots is what both systems pull
     pub pulled_list : (pulled : List Name) → IsListOf pulled (Reached (wanted_in news) (λ one. IsTrue (has roots one))) → IsListOf pulled (both.Pulled (systems_in olds news) states lists)

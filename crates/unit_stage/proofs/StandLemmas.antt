@@ -5,7 +5,7 @@ use Rattle.std.specs.Ordering.{eq_by_cmp}
 use Rattle.host_trait.specs.declared.leaf.LeafKind.{LeafKind}
 use Rattle.host_trait.specs.World.{Leaves, WorldState, bytes_cmp, seen}
 use Rattle.host_trait.proofs.Places.{at_same}
-use Rattle.host_trait.proofs.Seen.{seen_at}
+use Rattle.host_trait.proofs.Seen.{seen_at, get_removed_here}
 use Rattle.host_trait.proofs.Sound.{get_other}
 use Rattle.owed_lists.specs.declared.lists.Lists.{Lists}
 use Rattle.owed_lists.specs.declared.lists.Which.TheVariants.{Starts, Restarts, Reloads}
@@ -34,11 +34,8 @@ stands leaves = record { current = refl; starts = refl; restarts = refl; reloads
 kept : (leaves : Leaves) (k q : List ℕ) → is_at q k ≡ false → get (remove leaves k) q ≡ get leaves q
 kept leaves k q other = grind (gets, rules)
 
-nothing_there : (leaves : Leaves) (at : List ℕ) → get (remove leaves at) at ≡ None
-nothing_there leaves at = grind (gets, rules)
-
 list_here : (at : List ℕ) (names : List Name) (w : WorldState) → get (with_list at names w).leaves at ≡ leaf_of_list names
-list_here at [] w = nothing_there w.leaves at
+list_here at [] w = get_removed_here w.leaves at
 list_here at (name ∷ names) w = at_same w.leaves at (list_leaf (name ∷ names))
 
 list_elsewhere : (at : List ℕ) (names : List Name) (w : WorldState) (q : List ℕ) → is_at q at ≡ false → get (with_list at names w).leaves q ≡ get w.leaves q
@@ -163,21 +160,21 @@ module _ (leaves : Leaves) (link to_start to_restart to_reload : Option LeafKind
     current = kept leaves reloads_place current_place current_reloads ∙ are.current;
     starts = kept leaves reloads_place starts_place starts_reloads ∙ are.starts;
     restarts = kept leaves reloads_place restarts_place restarts_reloads ∙ are.restarts;
-    reloads = nothing_there leaves reloads_place;
+    reloads = get_removed_here leaves reloads_place;
   }
 
   pub without_restarts : Stand (remove leaves restarts_place) link to_start None to_reload
   without_restarts = record {
     current = kept leaves restarts_place current_place current_restarts ∙ are.current;
     starts = kept leaves restarts_place starts_place starts_restarts ∙ are.starts;
-    restarts = nothing_there leaves restarts_place;
+    restarts = get_removed_here leaves restarts_place;
     reloads = kept leaves restarts_place reloads_place reloads_restarts ∙ are.reloads;
   }
 
   pub without_starts : Stand (remove leaves starts_place) link None to_restart to_reload
   without_starts = record {
     current = kept leaves starts_place current_place current_starts ∙ are.current;
-    starts = nothing_there leaves starts_place;
+    starts = get_removed_here leaves starts_place;
     restarts = kept leaves starts_place restarts_place restarts_starts ∙ are.restarts;
     reloads = kept leaves starts_place reloads_place reloads_starts ∙ are.reloads;
   }

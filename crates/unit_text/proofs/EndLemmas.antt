@@ -5,7 +5,8 @@ use Rattle.std.specs.List.{before_first, list_any, position_or_len}
 use Rattle.std.proofs.lemmas.Bool.{and_right, ne_eqb, eq-eqb}
 use Rattle.std.proofs.lemmas.List.{take_more, take_all, take_at, get_or_push, length_push}
 use Rattle.unit_text.specs.Lines.{IsSplitAtBackslash}
-use Rattle.unit_text.specs.Statement.{begins_section, ends_section, between_ends, is_assignment, is_empty, is_equals, key_part, trimmed}
+use Rattle.switch_names.specs.Texts.{is_empty}
+use Rattle.unit_text.specs.Statement.{begins_section, ends_section, between_ends, is_assignment, is_equals, key_part, trimmed}
 
 last_split : (text : List ℕ) → 0 < length text → text ≡ take (length text - 1) text ++ get_or text (length text - 1) 0 ∷ []
 last_split text some =

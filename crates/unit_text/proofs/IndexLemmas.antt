@@ -9,7 +9,7 @@ use Rattle.std.proofs.lemmas.Option.{get_or_from_slice_get, slice_get_within}
 use Rattle.unit_text.specs.declared.assignment.Assignment.{Assignment}
 use Rattle.unit_text.specs.declared.index.Index.{Index}
 use Rattle.unit_text.specs.declared.unit_key.UnitKey.{UnitKey}
-use Rattle.unit_text.specs.Statement.{is_empty}
+use Rattle.switch_names.specs.Texts.{is_empty}
 use Rattle.unit_text.specs.UnitKey.{key_cmp, is_same_key, has_key}
 use Rattle.unit_text.specs.UnitText.{AreAssignedIn, after_last_empty, given, is_assigned, values_of}
 use Rattle.unit_text.specs.Index.{IsIndexOf, IsPlaceFor}

@@ -14,6 +14,7 @@ use Rattle.std.proofs.lemmas.Map.Keys.{Less-from_sorted}
 use Rattle.std.proofs.lemmas.Map.Lookups.{CmpEqualImpliesEq, exact_bytes, exact_pairs}
 use Rattle.unit_text.specs.declared.unit_key.UnitKey.{UnitKey}
 use Rattle.unit_text.specs.UnitKey.{key_cmp, is_same_key, has_key}
+use Rattle.switch_names.proofs.Lists.{all_before, all_from}
 
 pub key_total : IsTotalOrder key_cmp
 key_total = then_total (on_total (λ (k : UnitKey). k.section) nat_list_cmp_total) (on_total (λ (k : UnitKey). k.key) nat_list_cmp_total)
@@ -159,17 +160,6 @@ sorted_above [] key back s = s.0
 sorted_above (k ∷ front) key back s = sorted_above front key back s.1
 
 -- ---- by places
-
-pub all_before : {X : Type 0} (P : X → Type 0) (xs : List X) (i : ℕ) → i ≤ length xs → ((k : ℕ) (d : X) → k < i → P (get_or xs k d)) → AllByRecursion P (take i xs)
-all_before P xs zero within h = tt
-all_before P [] (suc i) within h = tt
-all_before P (x ∷ xs) (suc i) within h = (h 0 x (omega arith), all_before P xs i (omega arith) (λ k d lt. h (suc k) d (omega arith)))
-
-pub all_from : {X : Type 0} (P : X → Type 0) (xs : List X) (i : ℕ) → ((k : ℕ) (d : X) → i ≤ k → k < length xs → P (get_or xs k d)) → AllByRecursion P (drop i xs)
-all_from P [] zero h = tt
-all_from P [] (suc i) h = tt
-all_from P (x ∷ xs) zero h = (h 0 x (omega arith) (omega arith), all_from P xs zero (λ k d low lt. h (suc k) d (omega arith) (omega arith)))
-all_from P (x ∷ xs) (suc i) h = all_from P xs i (λ k d low lt. h (suc k) d (omega arith) (omega arith))
 
 -- a key in order can be searched for
 pub searchable : (keys : List UnitKey) (key : UnitKey) → IsStrictlySortedBy key_cmp keys → IsNonDecreasingBy (λ other. ordering_index (key_cmp other key)) keys

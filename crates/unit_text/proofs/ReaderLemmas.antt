@@ -12,6 +12,8 @@ use Rattle.unit_text.specs.Statement.{trimmed, section_after, statement_fault, a
 use Rattle.unit_text.specs.TextFault.{is_reached, utf8_fault, joined_fault, first_fault}
 use Rattle.unit_text.specs.UnitText.{assignments_in}
 use Rattle.unit_text.specs.Reader.{joined_part, with_part, fault_left, assignments_left, ended, Completes, Holds, Marks, ReadsOn}
+use Rattle.switch_names.proofs.UnitNames.{not_utf8}
+use Rattle.switch_names.proofs.Outcomes.{option_or_none}
 
 abbrev IsBelow : Option ℕ → ℕ → Type 0
 IsBelow bad number = IfSome bad (λ line. line < number)
@@ -59,13 +61,6 @@ with_ended : (part : Option Part) (number : ℕ) (line : List ℕ) (rest : List 
     → with_part part (record { first = number; last = number; text = line } ∷ rest) ≡ ended part number line ∷ rest
 with_ended None number line rest = refl
 with_ended (Some part) number line rest = refl
-
-pub not_utf8 : (line : List ℕ) → (IsUtf8 line → ⊥) → is_utf8 line ≡ false
-not_utf8 line h = by (is_utf8 line) refl
-  where
-    by : (b : Bool) → is_utf8 line ≡ b → is_utf8 line ≡ false
-    by true u = absurd (h (IsUtf8-from_is_utf8 line u))
-    by false u = u
 
 -- ---- the first joined line that is to come ends with this line or a later one
 
@@ -216,15 +211,11 @@ pub completes_as : (old : Reader) (part : Option Part) (new : Reader) {line whol
     → Completes (record { bad = old.bad; part = part; body = old.body }) new line → Completes old new whole
 completes_as old part new same done = subst (Completes old new) same (record { unreached = done.unreached; body = done.body; bad = done.bad })
 
-or_none : (bad : Option ℕ) → option_or bad None ≡ bad
-or_none None = refl
-or_none (Some number) = refl
-
 -- a part at the end of the file is a joined line
 pub refuses_end : (reader : Reader) (part : Part) (fault : TextFault) → reader.part ≡ Some part
     → joined_fault reader.body.section reader.bad (joined_part part) ≡ Some fault → fault_left reader 1 [] ≡ Some fault
 refuses_end reader part fault kept is =
-    (λ i. first_fault reader.body.section (or_none reader.bad i) (with_part (kept i) []))
+    (λ i. first_fault reader.body.section (option_or_none reader.bad i) (with_part (kept i) []))
     ∙ ap (λ f. option_or f (first_fault (section_after reader.body.section (trimmed (joined_part part).text)) reader.bad [])) is
 
 -- what a reader has once no line is left
@@ -237,7 +228,7 @@ finishes_part old new part kept done =
     let whole = joined_part part in
     record {
       fault =
-          (λ i. first_fault old.body.section (or_none old.bad i) (with_part (kept i) []))
+          (λ i. first_fault old.body.section (option_or_none old.bad i) (with_part (kept i) []))
           ∙ ap (λ f. option_or f (first_fault (section_after old.body.section (trimmed whole.text)) old.bad [])) (sound_is old whole done.unreached done.body.sound)
           ∙ ap (option_map utf8_fault) (sym done.bad);
       all =
@@ -248,6 +239,6 @@ finishes_part old new part kept done =
 
 pub finishes_alone : (old : Reader) → old.part ≡ None → Finishes old (record { bad = old.bad; part = None; body = old.body })
 finishes_alone old none = record {
-  fault = λ i. first_fault old.body.section (or_none old.bad i) (with_part (none i) []);
+  fault = λ i. first_fault old.body.section (option_or_none old.bad i) (with_part (none i) []);
   all = sym ((λ i. old.body.assignments.items ++ assignments_in old.body.section (with_part (none i) [])) ∙ append-nil old.body.assignments.items);
 }

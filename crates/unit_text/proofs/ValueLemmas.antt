@@ -9,20 +9,17 @@ use Rattle.std.proofs.lemmas.Bool.{not-false, eqb-true}
 use Rattle.std.proofs.lemmas.List.{append-nil, append_assoc, map-append, nil_from_length, take-append-drop, take_at}
 use Rattle.std.proofs.lemmas.List.Elements.{filter-append}
 use Rattle.std.proofs.lemmas.List.Folds.{list_any-append}
+use Rattle.std.proofs.Math.Bool.{or-false}
 use Rattle.unit_text.specs.declared.assignment.Assignment.{Assignment}
 use Rattle.unit_text.specs.declared.unit_key.UnitKey.{UnitKey}
-use Rattle.unit_text.specs.Statement.{is_empty}
+use Rattle.switch_names.specs.Texts.{is_empty}
 use Rattle.unit_text.specs.UnitKey.{key_cmp, is_same_key}
 use Rattle.unit_text.specs.UnitText.{HasFrontOf, given, after_last_empty, is_assigned, values_of}
 use Rattle.unit_text.proofs.KeyLemmas.{key_total, exact_keys, same_self, less_other, greater_other}
 
-or_false : (b : Bool) → (b || false) ≡ b
-or_false true = refl
-or_false false = refl
-
 -- one more value clears the earlier ones, or goes to the end
 after_push : (values : List (List ℕ)) (value : List ℕ) → after_last_empty (values ++ value ∷ []) ≡ cond (is_empty value) [] (after_last_empty values ++ value ∷ [])
-after_push [] value = ap (λ b. cond b [] (value ∷ [])) (or_false (is_empty value))
+after_push [] value = ap (λ b. cond b [] (value ∷ [])) (or-false (is_empty value))
 after_push (v ∷ values) value =
     ap (λ b. cond (is_empty v || b) (after_last_empty (values ++ value ∷ [])) (v ∷ (values ++ value ∷ []))) (list_any-append is_empty values (value ∷ []))
     ∙ ap (λ vs. cond (is_empty v || (list_any is_empty values || (is_empty value || false))) vs (v ∷ (values ++ value ∷ []))) (after_push values value)

@@ -5,6 +5,7 @@ use Rattle.std.specs.Option.{option_or}
 use Rattle.unit_text.specs.declared.assignment.Assignment.{Assignment}
 use Rattle.unit_text.specs.declared.text_fault.TextFault.{TextFault}
 use Rattle.unit_text.specs.declared.text_fault.TextFault.TheVariants.{Section, Key, NoSection}
+use Rattle.switch_names.specs.Texts.{is_empty}
 
 -- a space, a tab or a carriage return
 abbrev pub is_trimmed : ℕ → Bool
@@ -19,9 +20,6 @@ trimmed_end text = take (length text - suffix_len is_trimmed text) text
 -- a text without spaces, tabs and carriage returns at both ends
 abbrev pub trimmed : List ℕ → List ℕ
 trimmed text = trimmed_end (trimmed_start text)
-
-abbrev pub is_empty : List ℕ → Bool
-is_empty text = length text == 0
 
 -- a text begins with `[`
 abbrev pub begins_section : List ℕ → Bool

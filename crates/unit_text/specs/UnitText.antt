@@ -7,7 +7,8 @@ use Rattle.std.specs.Str.{str_to_ascii_lowercase}
 use Rattle.unit_text.specs.declared.assignment.Assignment.{Assignment}
 use Rattle.unit_text.specs.declared.unit_key.UnitKey.{UnitKey}
 use Rattle.unit_text.specs.Lines.{Joined, lines, joined}
-use Rattle.unit_text.specs.Statement.{trimmed, is_empty, section_after, assigned}
+use Rattle.switch_names.specs.Texts.{is_empty}
+use Rattle.unit_text.specs.Statement.{trimmed, section_after, assigned}
 use Rattle.unit_text.specs.UnitKey.{key_cmp, is_same_key, has_key}
 
 -- the assignments of joined lines, each in the section that stands

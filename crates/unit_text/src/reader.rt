@@ -1,7 +1,8 @@
 //! Reads a unit file line by line.
 ghost use Rattle.std.specs.Prelude.{◌≡◌, ◌<◌, ◌∷◌, ◌++◌, [], ℕ, List, OnOk, IfOk, IfErr, IfSome, unwrap_or, true, false, None};
 ghost use Rattle.unit_text.specs.Lines.{is_comment};
-ghost use Rattle.unit_text.specs.Statement.{begins_section, is_empty, statement_fault};
+ghost use Rattle.switch_names.specs.Texts.{is_empty};
+ghost use Rattle.unit_text.specs.Statement.{begins_section, statement_fault};
 ghost use Rattle.unit_text.specs.TextFault.{IsRefusedBy, joined_fault, text_fault, utf8_fault};
 ghost use Rattle.unit_text.specs.UnitText.{assignments};
 ghost use Rattle.unit_text.specs.Reader.{fault_left, assignments_left, ended, Takes, Completes, Holds, Marks, ReadsOn};

@@ -7,8 +7,9 @@ use Rattle.std.specs.Option.{option_or}
 use Rattle.account_text.specs.declared.group.GroupRow.{GroupRow}
 use Rattle.account_text.specs.declared.passwd.PasswdRow.{PasswdRow}
 use Rattle.account_text.specs.declared.shadow.ShadowRow.{ShadowRow}
-use Rattle.id_memory.specs.Ids.{Ids}
+use Rattle.host_trait.specs.Ids.{Ids}
 use Rattle.switch_names.specs.Names.{Name, has}
+use Rattle.switch_names.proofs.Outcomes.{option_or_parts, none_mapped}
 use Rattle.users_spec.specs.AccountName.{are_distinct}
 use Rattle.users_spec.specs.declared.group_spec.GroupSpec.{GroupSpec}
 use Rattle.users_spec.specs.declared.user_spec.UserSpec.{UserSpec}
@@ -26,14 +27,6 @@ use Rattle.users_merge.proofs.OrderedLemmas.{unnamed}
 use Rattle.users_merge.proofs.GivenLemmas.{declared_group, declared_user, each_given, give_again, give_kept, group_account_names, names_of, user_account_names, users_given}
 use Rattle.users_merge.proofs.SameRowLemmas.{and_self, group_row_again, group_row_same, or_again, or_nothing, passwd_row_again, passwd_row_same, shadow_row_again, stays_both, stays_in_union}
 
-pub neither : {X : Type 0} (one other : Option X) → option_or one other ≡ None → (one ≡ None) × (other ≡ None)
-neither None other none = (refl, none)
-neither (Some x) other none = absurd (none-some x (sym none))
-
-not_mapped : {X Y : Type 0} (f : X → Y) (o : Option X) → option_map f o ≡ None → o ≡ None
-not_mapped f None none = refl
-not_mapped f (Some x) none = absurd (none-some (f x) (sym none))
-
 abbrev gids_used : Accounts → Table GroupRow → List ℕ
 gids_used spec table = used_ids (map (λ (row : GroupRow). row.gid) (values table)) (group_accounts spec)
 
@@ -46,10 +39,10 @@ in_union all before now name is = ap (λ names. has names name) is ∙ ordered_h
 
 module _ (spec : Accounts) (s t : Stored) (m : Merged) (sound : IsSound spec) (is : IsMerge spec s m) (part : IsPartly s m t) where
   groups_fine : first_without (group_accounts spec) (group_ids spec s) ≡ None
-  groups_fine = not_mapped NoFreeId _ (neither _ _ is.fine).0
+  groups_fine = none_mapped NoFreeId _ (option_or_parts _ _ is.fine).0
 
   users_fine : user_fault (gid_of spec s) spec.users (user_ids spec s) ≡ None
-  users_fine = (neither (option_map NoFreeId (first_without (group_accounts spec) (group_ids spec s))) _ is.fine).1
+  users_fine = (option_or_parts (option_map NoFreeId (first_without (group_accounts spec) (group_ids spec s))) _ is.fine).1
 
   distinct_groups : are_distinct (names_of (group_accounts spec)) ≡ true
   distinct_groups = ap are_distinct (group_account_names spec.groups) ∙ sound.groups

@@ -4,12 +4,13 @@ use Rattle.std.specs.FinMap.{get}
 use Rattle.std.specs.List.{AllByRecursion}
 use Rattle.std.specs.Option.{option_or}
 use Rattle.switch_names.specs.Names.{Name}
-use Rattle.id_memory.specs.Ids.{AreIds, Ids}
+use Rattle.host_trait.specs.Ids.{Ids}
+use Rattle.id_memory.specs.Ids.{AreIds}
 use Rattle.users_merge.specs.Account.{Account, choose, give, has_id, span, unused, while_some}
 use Rattle.users_merge.specs.Given.{IsId}
 use Rattle.users_merge.proofs.GivingLemmas.{all_towards}
 
-or_bounded : (o p : Option ℕ) → IfSome o IsId → IfSome p IsId → IfSome (option_or o p) IsId
+pub or_bounded : (o p : Option ℕ) → IfSome o IsId → IfSome p IsId → IfSome (option_or o p) IsId
 or_bounded None p one other = other
 or_bounded (Some id) p one other = one
 

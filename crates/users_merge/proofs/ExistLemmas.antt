@@ -7,6 +7,7 @@ use Rattle.std.specs.Option.{option_or}
 use Rattle.host_trait.specs.Bytes.{bytes_cmp}
 use Rattle.host_trait.proofs.Moments.{none_or_some}
 use Rattle.host_trait.proofs.Places.{alike, bytes_total}
+use Rattle.host_trait.proofs.NameOrder.{name_exact}
 use Rattle.account_text.specs.declared.group.GroupRow.{GroupRow}
 use Rattle.account_text.specs.declared.passwd.PasswdRow.{PasswdRow}
 use Rattle.account_text.specs.declared.shadow.ShadowRow.{ShadowRow}
@@ -18,7 +19,7 @@ use Rattle.users_merge.specs.Stored.{Merged, Stored, ordered}
 use Rattle.users_merge.specs.Account.{Account, group_accounts, id_of, user_accounts}
 use Rattle.users_merge.specs.Rows.{group_row, passwd_row, shadow_row, stays}
 use Rattle.users_merge.specs.Merge.{IsMerge, fault, gid_of, group_at, group_id, group_ids, group_of, map_at, merge_of, passwd_at, shadow_at, user_id, user_ids, user_of}
-use Rattle.users_merge.proofs.NameLemmas.{has-append, name_exact}
+use Rattle.users_merge.proofs.NameLemmas.{has-append}
 use Rattle.users_merge.proofs.OrderedLemmas.{not_found}
 use Rattle.users_merge.proofs.GivenLemmas.{group_account_names, listed, names_of, user_account_names}
 

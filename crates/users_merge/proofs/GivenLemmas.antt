@@ -6,16 +6,16 @@ use Rattle.std.specs.FinMap.{get}
 use Rattle.std.specs.Option.{option_or}
 use Rattle.host_trait.proofs.Moments.{none_or_some}
 use Rattle.host_trait.proofs.Places.{itself}
-use Rattle.id_memory.specs.Ids.{Ids}
+use Rattle.host_trait.proofs.NameOrder.{name_exact}
+use Rattle.host_trait.specs.Ids.{Ids}
 use Rattle.switch_names.specs.Names.{Name, has, is_name}
+use Rattle.switch_names.proofs.Lists.{find_passes}
 use Rattle.users_spec.specs.AccountName.{are_distinct}
 use Rattle.users_spec.specs.declared.group_spec.GroupSpec.{GroupSpec}
 use Rattle.users_spec.specs.declared.user_spec.UserSpec.{UserSpec}
 use Rattle.users_merge.specs.Account.{Account, choose, first_without, free_id, give, group_account, has_id, id_of, of_other, span, unused, user_account, while_some}
 use Rattle.users_merge.specs.Merge.{user_fault}
 use Rattle.users_merge.specs.declared.merge_fault.MergeFault.TheVariants.{NoFreeId, UnknownGroup}
-use Rattle.users_merge.proofs.NameLemmas.{name_exact}
-use Rattle.users_merge.proofs.TableLemmas.{find_passes}
 
 -- ---- one id
 

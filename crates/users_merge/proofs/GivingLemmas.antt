@@ -12,13 +12,15 @@ use Rattle.std.specs.Bool.{nat_le}
 use Rattle.std.specs.declared.cmp.Ordering.TheVariants.{Less}
 use Rattle.host_trait.specs.Bytes.{bytes_cmp}
 use Rattle.host_trait.proofs.KeyOrder.{keys_sorted}
+use Rattle.host_trait.proofs.NameOrder.{name_exact}
 use Rattle.switch_names.specs.Names.{Name, is_name}
+use Rattle.switch_names.proofs.Lists.{all_join, find_same}
 use Rattle.id_memory.specs.Free.{is_free, numbers_towards}
-use Rattle.id_memory.specs.Ids.{Ids, rows_of}
+use Rattle.host_trait.specs.Ids.{Ids}
+use Rattle.id_memory.specs.Ids.{rows_of}
 use Rattle.id_memory.specs.declared.id_row.IdRow.{IdRow}
 use Rattle.users_merge.specs.Account.{Account, choose, free_id, give, has_id, of_other, span, unused, while_some}
 use Rattle.users_merge.specs.Taken.{AreTakenIn, is_open}
-use Rattle.users_merge.proofs.NameLemmas.{name_exact}
 
 -- ---- a search
 
@@ -26,14 +28,6 @@ use Rattle.users_merge.proofs.NameLemmas.{name_exact}
 find_alike : {X : Type 0} (p q : X → Bool) (xs : List X) → AllByRecursion (λ x. p x ≡ q x) xs → find p xs ≡ find q xs
 find_alike p q [] same = refl
 find_alike p q (x ∷ xs) same = λ i. cond (same.0 i) (Some x) (find_alike p q xs same.1 i)
-
-find_same : {X : Type 0} (p q : X → Bool) → ((x : X) → p x ≡ q x) → (xs : List X) → find p xs ≡ find q xs
-find_same p q same [] = refl
-find_same p q same (x ∷ xs) = λ i. cond (same x i) (Some x) (find_same p q same xs i)
-
-all_join : {X : Type 0} (P : X → Type 0) (front back : List X) → AllByRecursion P front → AllByRecursion P back → AllByRecursion P (front ++ back)
-all_join P [] back f b = b
-all_join P (x ∷ front) back f b = (f.0, all_join P front back f.1 b)
 
 all_range : (P : ℕ → Type 0) (first count : ℕ) → ((n : ℕ) → n < first + count → P n) → AllByRecursion P (range_with_len first count)
 all_range P first zero h = tt

@@ -6,6 +6,7 @@ use Rattle.std.proofs.lemmas.List.{map-append}
 use Rattle.std.specs.FinMap.{get}
 use Rattle.std.specs.Option.{option_or}
 use Rattle.switch_names.specs.Names.{Name, has, is_name}
+use Rattle.switch_names.proofs.Lists.{find_passes}
 use Rattle.account_text.specs.declared.group.GroupRow.{GroupRow}
 use Rattle.account_text.specs.Group.{group_name}
 use Rattle.account_text.specs.Order.{row_named}
@@ -20,8 +21,8 @@ use Rattle.users_merge.specs.Rows.{group_row, member_stays}
 use Rattle.users_merge.specs.Staying.{undeclared}
 use Rattle.users_merge.specs.Stored.{Stored, table_of}
 use Rattle.users_merge.specs.declared.giving.Given.{Given}
-use Rattle.users_merge.proofs.NameLemmas.{name_exact}
-use Rattle.users_merge.proofs.TableLemmas.{distinct_filter, distinct_join, find_append, find_map, find_passes, find_staying, found_given, given_account, given_id, has_row, in_table, no_row}
+use Rattle.users_merge.proofs.TableLemmas.{distinct_filter, distinct_join, find_append, find_map, find_staying, found_given, given_account, given_id, has_row, in_table, no_row}
+use Rattle.host_trait.proofs.NameOrder.{name_exact}
 
 pub stays_if : (mutable here was : Bool) → here ≡ false → (mutable && not here && not was) ≡ (mutable && not was)
 stays_if true true was is = absurd (false≢true (sym is))

@@ -9,19 +9,11 @@ use Rattle.std.specs.BTreeMap.{BTreeMap, get, is_at}
 use Rattle.std.specs.Ordering.{is_eq}
 use Rattle.host_trait.specs.Bytes.{bytes_cmp}
 use Rattle.host_trait.proofs.Places.{bytes_total, same_or_other}
+use Rattle.host_trait.proofs.NameOrder.{name_exact, name_itself}
 use Rattle.switch_names.proofs.Names.{name_turned}
 use Rattle.switch_names.specs.Names.{Name, has, is_name}
 use Rattle.account_text.specs.Order.{row_named}
 use Rattle.users_merge.specs.ByName.{found_in}
-
-pub name_itself : (a : Name) → is_name a a ≡ true
-name_itself a = ap is_eq (tied_itself bytes_total a)
-
-pub name_exact : (a b : Name) → is_name a b ≡ true → a ≡ b
-name_exact a b is = elim (same_or_other a b) [
-  | inl same ↦ same
-  | inr other ↦ absurd (both_ways _ other is)
-]
 
 pub has-append : (xs ys : List Name) (name : Name) → has (xs ++ ys) name ≡ (has xs name || has ys name)
 has-append xs ys name = list_any-append (is_name name) xs ys

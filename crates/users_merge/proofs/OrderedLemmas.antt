@@ -4,14 +4,10 @@ use Rattle.std.proofs.lemmas.Map.Views.{any-filter_same}
 use Rattle.std.proofs.lemmas.Option.{none-some}
 use Rattle.std.specs.BTreeMap.{is_at}
 use Rattle.host_trait.specs.Bytes.{bytes_cmp}
+use Rattle.host_trait.proofs.NameOrder.{has_filter, name_exact}
 use Rattle.switch_names.specs.Names.{Name, has, is_name}
 use Rattle.users_merge.specs.Stored.{ordered}
-use Rattle.users_merge.proofs.NameLemmas.{name_exact}
 use Rattle.users_merge.proofs.NameOrderLemmas.{is_ordered, ordered_has, ordered_sorted}
-
-pub has-filter : (test : Name → Bool) (names : List Name) (name : Name) → has (filter test names) name ≡ (test name && has names name)
-has-filter test names name =
-    any-filter_same (is_at (bytes_cmp name)) test (test name) (λ other same. ap test (sym (name_exact name other same))) names
 
 -- names in byte order are the same for all lists with the same names
 pub ordered_same : (names others : List Name) → ((name : Name) → has names name ≡ has others name) → ordered names ≡ ordered others

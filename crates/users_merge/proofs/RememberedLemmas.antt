@@ -14,14 +14,16 @@ use Rattle.std.specs.declared.cmp.Ordering.{Ordering}
 use Rattle.std.specs.declared.cmp.Ordering.TheVariants.{Less, Equal, Greater}
 use Rattle.host_trait.specs.Bytes.{bytes_cmp}
 use Rattle.host_trait.proofs.KeyOrder.{keys_sorted}
+use Rattle.host_trait.proofs.NameOrder.{name_exact, name_itself}
 use Rattle.switch_names.proofs.Names.{name_turned}
+use Rattle.switch_names.proofs.Outcomes.{option_or_none}
 use Rattle.switch_names.specs.Names.{Name, is_name}
 use Rattle.account_text.specs.Order.{row_named}
-use Rattle.id_memory.specs.Ids.{AreIds, Ids, rows_of}
+use Rattle.host_trait.specs.Ids.{Ids}
+use Rattle.id_memory.specs.Ids.{AreIds, rows_of}
 use Rattle.id_memory.specs.declared.id_row.IdRow.{IdRow}
 use Rattle.users_merge.specs.ByName.{row_ids}
 use Rattle.users_merge.specs.Given.{IsId}
-use Rattle.users_merge.proofs.NameLemmas.{name_exact, name_itself}
 
 -- ---- ids that are inserted
 
@@ -116,13 +118,9 @@ made_more rest all key name id old new above grown was = by (is_name name key) r
         ap (option_or (lookup (is_at (bytes_cmp name)) rest)) (grown ∙ ap (λ b. cond b (Some id) old) is)
         ∙ sym (ap (λ b. option_or (cond b (Some id) (lookup (is_at (bytes_cmp name)) rest)) old) is) ∙ was
 
-pub or_none : (o : Option ℕ) → option_or o None ≡ o
-or_none None = refl
-or_none (Some id) = refl
-
 pub none_made : (rest all : List (Name × ℕ)) (name : Name) (made : Ids) → rest ≡ all → made ≡ empty → option_or (lookup (is_at (bytes_cmp name)) rest) (get made name) ≡ lookup (is_at (bytes_cmp name)) all
 none_made rest all name made same none =
-    (λ i. option_or (lookup (is_at (bytes_cmp name)) (same i)) (get (none i) name)) ∙ ap (option_or (lookup (is_at (bytes_cmp name)) all)) (get-empty bytes_cmp name) ∙ or_none (lookup (is_at (bytes_cmp name)) all)
+    (λ i. option_or (lookup (is_at (bytes_cmp name)) (same i)) (get (none i) name)) ∙ ap (option_or (lookup (is_at (bytes_cmp name)) all)) (get-empty bytes_cmp name) ∙ option_or_none (lookup (is_at (bytes_cmp name)) all)
 
 module _ (rest more : List (Name × ℕ)) (key : Name) (id : ℕ) (step : rest ≡ (key, id) ∷ more) where
   pub first_bounded : AllByRecursion IsId (values_of rest) → IsId id
@@ -149,4 +147,4 @@ pub remembered :
 remembered known rows name o start between same none is =
     ap (option_or o)
     (is ∙ (λ i. option_or (row_ids (λ (row : IdRow). row.name) (λ (row : IdRow). row.id) (same i) name) (lookup (is_at (bytes_cmp name)) (none i)))
-    ∙ or_none (row_ids (λ (row : IdRow). row.name) (λ (row : IdRow). row.id) (rows_of known) name) ∙ known_found known name)
+    ∙ option_or_none (row_ids (λ (row : IdRow). row.name) (λ (row : IdRow). row.id) (rows_of known) name) ∙ known_found known name)

@@ -1,9 +1,11 @@
 -- The rows of a table, and their order.
 use Rattle.std.proofs.Common.{◌≡◌, ℕ, ◌&&◌, ◌||◌, ◌==◌, Bool, true, false, not, cond, List, [], ◌∷◌, ◌++◌, length, find, map, Option, None, Some, option_map, refl, sym, ap, subst, ◌∙◌, arith}
 use Rattle.std.proofs.Math.Path.{fun_ext}
-use Rattle.std.proofs.lemmas.Bool.{and_parts, and_from, false≢true}
+use Rattle.std.proofs.lemmas.Bool.{and_parts, and_from, false≢true, not-true}
 use Rattle.std.proofs.lemmas.List.Folds.{list_any-append}
 use Rattle.std.proofs.lemmas.Map.Lookups.{exact_bytes, exact_pairs, exact_unsigned}
+use Rattle.std.proofs.lemmas.List.{nil_from_length}
+use Rattle.std.proofs.Math.Bool.{or-true}
 use Rattle.std.specs.Cmp.{IsTotalOrder, both_ways}
 use Rattle.std.specs.FinMap.{FinMap, IsAntisymmetric, empty, entries, entries-insert, from_entries, get, get-entries, get-from_entries, len-empty, len-entries, put, same_map, values}
 use Rattle.std.specs.FinMap as finmap
@@ -17,17 +19,17 @@ use Rattle.std.specs.declared.cmp.Ordering.TheVariants.{Less, Equal, Greater}
 use Rattle.host_trait.specs.Bytes.{bytes_cmp}
 use Rattle.host_trait.proofs.KeyOrder.{keys_sorted}
 use Rattle.host_trait.proofs.Places.{bytes_exact, bytes_total}
+use Rattle.host_trait.proofs.NameOrder.{name_exact, name_itself}
 use Rattle.switch_names.specs.Names.{Name, has, is_name}
 use Rattle.account_text.specs.Order.{by_id, row_named}
 use Rattle.account_text.specs.Table.{are_distinct}
-use Rattle.account_text.proofs.FirstLemmas.{any_map, not_true}
+use Rattle.account_text.proofs.FirstLemmas.{any_map}
 use Rattle.account_text.proofs.OrderLemmas.{by_id_total}
 use Rattle.users_merge.specs.Account.{Account, choose, free_id, give, has_id, of_other, span, unused, used_ids, while_some}
 use Rattle.users_merge.specs.ByName.{row_ids}
 use Rattle.users_merge.specs.Order.{in_order}
 use Rattle.users_merge.specs.Stored.{table_of}
 use Rattle.users_merge.specs.Taken.{wanted_ids}
-use Rattle.users_merge.proofs.NameLemmas.{name_exact, name_itself}
 use Rattle.users_merge.proofs.TableLemmas.{in_table, some_row}
 
 -- ---- the entries of a table
@@ -90,7 +92,7 @@ module _ {Row : Type 0} (name_of : Row → Name) where
     any_found [] distinct some = absurd (false≢true some)
     any_found (first ∷ rows) distinct some =
         let parts = and_parts (not (has (map name_of rows) (name_of first))) (are_distinct (map name_of rows)) distinct in
-        by (p first) refl some (not_true _ parts.0) (any_found rows parts.1)
+        by (p first) refl some (not-true _ parts.0) (any_found rows parts.1)
       where
         by : (b : Bool) → p first ≡ b → (b || list_any p rows) ≡ true → has (map name_of rows) (name_of first) ≡ false →
             (list_any p rows ≡ true → (row : Row) × (row_named name_of rows (name_of row) ≡ Some row) × (p row ≡ true)) →
@@ -110,13 +112,9 @@ module _ {Row : Type 0} (name_of : Row → Name) where
     found_any q [] row found is = absurd (let none : None ≡ Some row = found in cc)
     found_any q (first ∷ rows) row found is = by (q first) found (λ there. found_any q rows row there is)
       where
-        or_true : (b : Bool) → (b || true) ≡ true
-        or_true true = refl
-        or_true false = refl
-
         by : (b : Bool) → cond b (Some first) (find q rows) ≡ Some row → (find q rows ≡ Some row → list_any p rows ≡ true) → (p first || list_any p rows) ≡ true
         by true here later = let same : first ≡ row = cc in ap (λ b. b || list_any p rows) (ap p same ∙ is)
-        by false there later = ap (λ b. p first || b) (later there) ∙ or_true (p first)
+        by false there later = ap (λ b. p first || b) (later there) ∙ or-true (p first)
 
     -- rows that are the same by name have some row alike
     pub any_alike : (xs ys : List Row) → are_distinct (map name_of xs) ≡ true → are_distinct (map name_of ys) ≡ true → ((name : Name) → row_named name_of xs name ≡ row_named name_of ys name) → list_any p xs ≡ list_any p ys
@@ -175,13 +173,9 @@ module _ {K X : Type 0} {R : K → K → Ordering} (total : IsTotalOrder R) wher
   entry_first k v [] above = refl
   entry_first k v (e ∷ es) above = ap (λ o. by_order o ((k, v) ∷ e ∷ es) ((e.0, v) ∷ es) (e ∷ put R k v es)) above.0
 
-  none_left : (es : List (K × X)) → length es ≡ 0 → es ≡ []
-  none_left [] e = refl
-  none_left (x ∷ es) e = absurd (omega arith)
-
   entries_ordered : (es : List (K × X)) → IsStrictlySortedBy R (map (λ (e : K × X). e.0) es) → entries (from_entries {R = R} es) ≡ es
   unfolding IsStrictlySortedBy
-  entries_ordered [] sorted = none_left _ (sym (len-entries empty) ∙ len-empty R X)
+  entries_ordered [] sorted = nil_from_length _ (sym (len-entries empty) ∙ len-empty R X)
   entries_ordered (e ∷ es) sorted = entries-insert total (from_entries es) e.0 e.1 ∙ ap (put R e.0 e.1) (entries_ordered es sorted.1) ∙ entry_first e.0 e.1 es sorted.0
 
 by_id_exact : IsAntisymmetric by_id
@@ -211,7 +205,7 @@ module _ {Row : Type 0} (key_of : Row → ℕ × Name) where
   find_key [] q distinct = refl
   find_key (row ∷ rows) q distinct =
       let parts = and_parts (not (has (map name_by rows) (name_by row))) (are_distinct (map name_by rows)) distinct in
-      by (eq_by_cmp by_id q (key_of row)) refl (is_name q.1 (name_by row)) refl (not_true _ parts.0) (find_key rows q parts.1)
+      by (eq_by_cmp by_id q (key_of row)) refl (is_name q.1 (name_by row)) refl (not-true _ parts.0) (find_key rows q parts.1)
     where
       rest : Option Row
       rest = row_named name_by rows q.1

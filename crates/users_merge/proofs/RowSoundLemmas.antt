@@ -5,7 +5,8 @@ use Rattle.std.proofs.lemmas.List.Folds.{list_all-append}
 use Rattle.std.specs.List.{AllByRecursion, cons_option, filter_map, list_all, list_any}
 use Rattle.std.specs.Option.{option_or, unwrap_or}
 use Rattle.switch_names.specs.Names.{Name, is_name}
-use Rattle.account_text.specs.Field.{is_colon, is_line_feed, is_member, is_plain, is_row_name, max_id}
+use Rattle.switch_names.specs.Texts.{is_line_feed}
+use Rattle.account_text.specs.Field.{is_colon, is_member, is_plain, is_row_name, max_id}
 use Rattle.account_text.specs.Group.{group_name, is_group_row}
 use Rattle.account_text.specs.Order.{row_named}
 use Rattle.account_text.specs.Passwd.{is_passwd_row}
@@ -38,7 +39,7 @@ module _ {Row : Type 0} (name_of : Row → Name) (p : Row → Bool) where
       by true later = (and_parts (p first) (list_all p rows) all).0
       by false later = later
 
-all_names : (p q : Name → Bool) → ((name : Name) → p name ≡ true → q name ≡ true) → (names : List Name) → list_all p names ≡ true → list_all q names ≡ true
+pub all_names : (p q : Name → Bool) → ((name : Name) → p name ≡ true → q name ≡ true) → (names : List Name) → list_all p names ≡ true → list_all q names ≡ true
 all_names p q more [] all = refl
 all_names p q more (name ∷ names) all = let parts = and_parts (p name) (list_all p names) all in and_from _ _ (more name parts.0) (all_names p q more names parts.1)
 

@@ -9,10 +9,12 @@ use Rattle.std.specs.Option.{option_or}
 use Rattle.host_trait.specs.Bytes.{bytes_cmp}
 use Rattle.host_trait.proofs.Moments.{none_or_some}
 use Rattle.host_trait.proofs.Places.{same_or_other}
+use Rattle.host_trait.proofs.NameOrder.{name_exact}
 use Rattle.account_text.specs.declared.group.GroupRow.{GroupRow}
 use Rattle.account_text.specs.declared.passwd.PasswdRow.{PasswdRow}
-use Rattle.id_memory.specs.Ids.{Ids}
+use Rattle.host_trait.specs.Ids.{Ids}
 use Rattle.switch_names.specs.Names.{Name, has, is_name}
+use Rattle.switch_names.proofs.Lists.{find_passes}
 use Rattle.users_spec.specs.declared.group_spec.GroupSpec.{GroupSpec}
 use Rattle.users_spec.specs.declared.user_spec.UserSpec.{UserSpec}
 use Rattle.users_spec.specs.Spec.{Accounts}
@@ -22,8 +24,6 @@ use Rattle.users_merge.specs.IdLaws.{AreSafe, IdsLaw, IsNew, account_of, table_g
 use Rattle.users_merge.specs.Merge.{gid_of, group_id, group_of, user_id, user_of}
 use Rattle.users_merge.specs.Rows.{declared_row, group_row, passwd_row, stays}
 use Rattle.users_merge.proofs.GivenLemmas.{first_unused, free_unused}
-use Rattle.users_merge.proofs.NameLemmas.{name_exact}
-use Rattle.users_merge.proofs.TableLemmas.{find_passes}
 
 -- ---- used ids
 

@@ -13,7 +13,8 @@ use Rattle.users_merge.specs.Stored.{ordered}
 use Rattle.users_merge.specs.Rows.{fixed, group_password, group_row, member_stays, members, old_members, passwd_row, row_password, shadow_rest, shadow_row, stays}
 use Rattle.users_merge.proofs.NameLemmas.{has-append}
 use Rattle.users_merge.proofs.NameOrderLemmas.{ordered_has}
-use Rattle.users_merge.proofs.OrderedLemmas.{has-filter, ordered_same}
+use Rattle.users_merge.proofs.OrderedLemmas.{ordered_same}
+use Rattle.host_trait.proofs.NameOrder.{has_filter}
 
 -- ---- tests
 
@@ -78,7 +79,7 @@ module _ (spec : Accounts) (before later : List Name) where
   members_again group row new made both = ordered_same _ _ (λ name.
       has-append group.members (filter (member_stays spec later) new.members) name
       ∙ ap (λ b. has group.members name || b)
-      (has-filter (member_stays spec later) new.members name
+      (has_filter (member_stays spec later) new.members name
       ∙ ap (λ b. member_stays spec later name && b) (ap (λ names. has names name) made ∙ ordered_has _ name ∙ named name))
       ∙ member_again (has group.members name) (member_stays spec before name) (member_stays spec later name) (has (old_members row) name) (both name)
       ∙ sym (named name))
@@ -86,7 +87,7 @@ module _ (spec : Accounts) (before later : List Name) where
       named : (name : Name) → has (group.members ++ filter (member_stays spec before) (old_members row)) name ≡ (has group.members name || (member_stays spec before name && has (old_members row) name))
       named name =
           has-append group.members (filter (member_stays spec before) (old_members row)) name
-          ∙ ap (λ b. has group.members name || b) (has-filter (member_stays spec before) (old_members row) name)
+          ∙ ap (λ b. has group.members name || b) (has_filter (member_stays spec before) (old_members row) name)
 
   -- the row that was made is made again
   pub group_row_again :

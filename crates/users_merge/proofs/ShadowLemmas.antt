@@ -1,25 +1,25 @@
 -- The shadow rows of users are those of a merge.
 use Rattle.std.proofs.Common.{◌≡◌, Bool, true, false, not, cond, List, [], ◌∷◌, map, Option, None, Some, is_some, refl, sym, ap, ◌∙◌}
-use Rattle.std.proofs.lemmas.Bool.{and_parts, and_from, false≢true, or_from, or_parts}
+use Rattle.std.proofs.lemmas.Bool.{and_parts, and_from, false≢true, or_from, or_parts, not-true}
 use Rattle.std.specs.FinMap.{get}
 use Rattle.std.specs.List.{AllByRecursion, cons_option, filter_map}
 use Rattle.std.specs.Option.{option_and_then}
 use Rattle.switch_names.specs.Names.{Name, has, is_name}
+use Rattle.switch_names.proofs.Lists.{find_passes}
 use Rattle.account_text.specs.declared.passwd.PasswdRow.{PasswdRow}
 use Rattle.account_text.specs.declared.shadow.ShadowRow.{ShadowRow}
 use Rattle.account_text.specs.Passwd.{passwd_name}
 use Rattle.account_text.specs.Shadow.{shadow_name}
 use Rattle.account_text.specs.Order.{row_named}
 use Rattle.account_text.specs.Table.{are_distinct}
-use Rattle.account_text.proofs.FirstLemmas.{not_true}
 use Rattle.users_spec.specs.declared.user_spec.UserSpec.{UserSpec}
 use Rattle.users_spec.specs.Spec.{Accounts}
 use Rattle.users_merge.specs.Merge.{passwd_at, shadow_at, user_of}
 use Rattle.users_merge.specs.Rows.{shadow_row}
 use Rattle.users_merge.specs.ShadowRows.{declared_shadow, merged_shadow, shadow_beside, shadow_by}
 use Rattle.users_merge.specs.Stored.{Stored, table_of}
-use Rattle.users_merge.proofs.NameLemmas.{name_exact, name_itself}
-use Rattle.users_merge.proofs.TableLemmas.{find_passes, in_table, some_row}
+use Rattle.users_merge.proofs.TableLemmas.{in_table, some_row}
+use Rattle.host_trait.proofs.NameOrder.{name_exact, name_itself}
 
 -- rows that are made of others, each of the name of the row that it is made of
 module _ {Row Made : Type 0} (name_of : Row → Name) (made_name : Made → Name) (f : Row → Option Made) where
@@ -34,7 +34,7 @@ module _ {Row Made : Type 0} (name_of : Row → Name) (made_name : Made → Name
   made_found [] name keep same distinct = refl
   made_found (row ∷ rows) name keep same distinct =
       let parts = and_parts (not (has (map name_of rows) (name_of row))) (are_distinct (map name_of rows)) distinct in
-      by (f row) refl (is_name name (name_of row)) refl (not_true _ parts.0) (made_found rows name keep same parts.1)
+      by (f row) refl (is_name name (name_of row)) refl (not-true _ parts.0) (made_found rows name keep same parts.1)
     where
       rest : List Made
       rest = filter_map f rows
@@ -108,7 +108,7 @@ each_found name_of P [] distinct holds = tt
 each_found {Row} name_of P (row ∷ rows) distinct holds =
     let parts = and_parts (not (has (map name_of rows) (name_of row))) (are_distinct (map name_of rows)) distinct in (
       holds row (ap (λ b. cond b (Some row) (row_named name_of rows (name_of row))) (name_itself (name_of row))),
-      each_found name_of P rows parts.1 (λ other found. holds other (later other found (not_true _ parts.0) (is_name (name_of other) (name_of row)) refl)),
+      each_found name_of P rows parts.1 (λ other found. holds other (later other found (not-true _ parts.0) (is_name (name_of other) (name_of row)) refl)),
     )
   where
     later : (other : Row) → row_named name_of rows (name_of other) ≡ Some other → has (map name_of rows) (name_of row) ≡ false → (b : Bool) → is_name (name_of other) (name_of row) ≡ b →
@@ -124,7 +124,7 @@ pub made_distinct :
 made_distinct name_of made_name f keep [] distinct = refl
 made_distinct {Row} {Made} name_of made_name f keep (row ∷ rows) distinct =
     let parts = and_parts (not (has (map name_of rows) (name_of row))) (are_distinct (map name_of rows)) distinct in
-    by (f row) refl (not_true _ parts.0) (made_distinct name_of made_name f keep rows parts.1)
+    by (f row) refl (not-true _ parts.0) (made_distinct name_of made_name f keep rows parts.1)
   where
     fewer : (rs : List Row) (name : Name) → has (map name_of rs) name ≡ false → has (map made_name (filter_map f rs)) name ≡ false
     fewer [] name none = refl

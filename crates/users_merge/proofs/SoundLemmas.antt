@@ -1,17 +1,18 @@
 -- What is merged can be written, and is read back.
 use Rattle.std.proofs.Common.{◌≡◌, ℕ, ◌==◌, ◌&&◌, ◌||◌, Bool, true, false, not, List, [], ◌∷◌, length, take, nat_le, nat_lt, refl, sym, ap, ◌∙◌}
 use Rattle.std.proofs.Math.Dec.{eqb-suc-zero}
-use Rattle.std.proofs.lemmas.Bool.{and_parts, and_from, eqb-true, false≢true, or_parts}
+use Rattle.std.proofs.lemmas.Bool.{and_parts, and_from, eqb-true, false≢true, or_parts, not-true}
+use Rattle.std.proofs.Math.Bool.{or-true}
 use Rattle.std.specs.List.{list_all, list_any}
 use Rattle.switch_names.specs.Names.{Name, has, is_name}
-use Rattle.account_text.specs.Field.{is_colon, is_comma, is_empty, is_line_feed, is_member, is_row_name, max_id}
+use Rattle.switch_names.specs.Texts.{is_empty, is_line_feed}
+use Rattle.account_text.specs.Field.{is_colon, is_comma, is_member, is_row_name, max_id}
 use Rattle.account_text.specs.Field as field
-use Rattle.account_text.proofs.FirstLemmas.{not_true}
 use Rattle.users_spec.specs.AccountName.{is_account_name, is_no_field_byte, is_no_name_byte, is_sign}
 use Rattle.users_spec.specs.AccountName as declared
 use Rattle.users_merge.specs.Stored.{ordered}
-use Rattle.users_merge.proofs.NameLemmas.{name_exact, name_itself}
 use Rattle.users_merge.proofs.NameOrderLemmas.{ordered_has}
+use Rattle.host_trait.proofs.NameOrder.{name_exact, name_itself}
 
 -- where none of some bytes stands, none of fewer does
 fewer : (p q : ℕ → Bool) → ((byte : ℕ) → p byte ≡ true → q byte ≡ true) → (text : List ℕ) → list_any q text ≡ false → list_any p text ≡ false
@@ -32,7 +33,7 @@ name_is_member name is =
     let unsigned = and_parts (nat_lt 0 (length name) && nat_le (length name) 255 && not (list_any is_no_name_byte name)) (not (list_any is_sign (take 1 name))) is in
     let bytes = and_parts (nat_lt 0 (length name) && nat_le (length name) 255) (not (list_any is_no_name_byte name)) unsigned.0 in
     let some = and_parts (nat_lt 0 (length name)) (nat_le (length name) 255) bytes.0 in
-    let none = not_true _ bytes.1 in
+    let none = not-true _ bytes.1 in
     and_from _ _
     (and_from _ _
     (and_from _ _
@@ -51,7 +52,7 @@ name_is_row_name name is = (and_parts (is_row_name name) (not (list_any is_comma
 -- a text of a specification can stand in a field
 pub plain_is_plain : (text : List ℕ) → declared.is_plain text ≡ true → field.is_plain text ≡ true
 plain_is_plain text is =
-    let none = not_true _ is in
+    let none = not-true _ is in
     and_from _ _
     (ap not (fewer is_line_feed is_no_field_byte (λ byte same. at_byte is_no_field_byte 10 byte refl same) text none))
     (ap not (fewer is_colon is_no_field_byte (λ byte same. at_byte is_no_field_byte 58 byte refl same) text none))
@@ -70,10 +71,6 @@ all_ordered p names all = from_has (ordered names) (λ name there. each names al
         by true same here first rest = ap p (name_exact name x same) ∙ first
         by false other later first rest = rest later
 
-    or_true : (b : Bool) → (b || true) ≡ true
-    or_true true = refl
-    or_true false = refl
-
     from_has : (xs : List Name) → ((name : Name) → has xs name ≡ true → p name ≡ true) → list_all p xs ≡ true
     from_has [] h = refl
-    from_has (x ∷ xs) h = and_from _ _ (h x (ap (λ b. b || has xs x) (name_itself x))) (from_has xs (λ name there. h name (ap (λ b. is_name name x || b) there ∙ or_true (is_name name x))))
+    from_has (x ∷ xs) h = and_from _ _ (h x (ap (λ b. b || has xs x) (name_itself x))) (from_has xs (λ name there. h name (ap (λ b. is_name name x || b) there ∙ or-true (is_name name x))))

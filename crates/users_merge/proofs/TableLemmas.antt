@@ -1,22 +1,25 @@
 -- The row of one name, among rows that are made one after another.
 use Rattle.std.proofs.Common.{◌≡◌, ◌&&◌, ◌||◌, Bool, true, false, not, cond, List, [], ◌∷◌, ◌++◌, filter, find, map, Option, None, Some, is_some, option_map, refl, sym, ap, ◌∙◌}
-use Rattle.std.proofs.lemmas.Bool.{and_parts, and_from, or_from}
+use Rattle.std.proofs.lemmas.Bool.{and_parts, and_from, or_from, not-true}
+use Rattle.std.proofs.Math.Bool.{or-true}
 use Rattle.std.specs.FinMap.{get, get-from_entries}
 use Rattle.std.specs.FinMap as finmap
 use Rattle.std.specs.List.{list_any}
 use Rattle.std.specs.Option.{option_or}
 use Rattle.host_trait.specs.Bytes.{bytes_cmp}
 use Rattle.host_trait.proofs.Places.{bytes_total}
+use Rattle.host_trait.proofs.NameOrder.{name_exact, name_itself}
 use Rattle.switch_names.specs.Names.{Name, has, is_name}
+use Rattle.switch_names.proofs.Lists.{find_passes}
 use Rattle.account_text.specs.Order.{row_named}
 use Rattle.account_text.specs.Table.{are_distinct}
-use Rattle.account_text.proofs.FirstLemmas.{any_map, none_filter, not_true}
+use Rattle.account_text.proofs.FirstLemmas.{any_map, none_filter}
 use Rattle.users_spec.specs.AccountName as declared
 use Rattle.users_merge.specs.Account.{Account, id_of}
 use Rattle.users_merge.specs.Given.{given_accounts, given_ids}
 use Rattle.users_merge.specs.Stored.{table_of}
 use Rattle.users_merge.specs.declared.giving.Given.{Given}
-use Rattle.users_merge.proofs.NameLemmas.{has-append, name_exact, name_itself}
+use Rattle.users_merge.proofs.NameLemmas.{has-append}
 
 -- ---- searches
 
@@ -35,15 +38,6 @@ find_map {X} {Y} p f (x ∷ xs) = by (p (f x)) (find_map p f xs)
     by : (b : Bool) → find p (map f xs) ≡ option_map f (find (λ y. p (f y)) xs) → cond b (Some (f x)) (find p (map f xs)) ≡ option_map f (cond b (Some x) (find (λ y. p (f y)) xs))
     by true later = refl
     by false later = later
-
--- what is found passes
-pub find_passes : {X : Type 0} (p : X → Bool) (xs : List X) (x : X) → find p xs ≡ Some x → p x ≡ true
-find_passes p [] x is = absurd (let none : None ≡ Some x = is in cc)
-find_passes {X} p (y ∷ ys) x is = by (p y) refl is (find_passes p ys x)
-  where
-    by : (b : Bool) → p y ≡ b → cond b (Some y) (find p ys) ≡ Some x → (find p ys ≡ Some x → p x ≡ true) → p x ≡ true
-    by true passes here later = let same : y ≡ x = cc in ap p (sym same) ∙ passes
-    by false fails there later = later there
 
 pub is_found : {X : Type 0} (p : X → Bool) (xs : List X) → is_some (find p xs) ≡ list_any p xs
 is_found p [] = refl
@@ -124,18 +118,14 @@ distinct_join [] ys one other apart = other
 distinct_join (x ∷ xs) ys one other apart =
     let parts = and_parts (not (has xs x)) (are_distinct xs) one in
     and_from _ _
-    (ap not (has-append xs ys x ∙ or_from (has xs x) (has ys x) (not_true _ parts.0) (apart x (ap (λ b. b || has xs x) (name_itself x)))))
-    (distinct_join xs ys parts.1 other (λ name there. apart name (ap (λ b. is_name name x || b) there ∙ or_true (is_name name x))))
-  where
-    or_true : (b : Bool) → (b || true) ≡ true
-    or_true true = refl
-    or_true false = refl
+    (ap not (has-append xs ys x ∙ or_from (has xs x) (has ys x) (not-true _ parts.0) (apart x (ap (λ b. b || has xs x) (name_itself x)))))
+    (distinct_join xs ys parts.1 other (λ name there. apart name (ap (λ b. is_name name x || b) there ∙ or-true (is_name name x))))
 
 pub distinct_filter : {Row : Type 0} (name_of : Row → Name) (p : Row → Bool) (rows : List Row) → are_distinct (map name_of rows) ≡ true → are_distinct (map name_of (filter p rows)) ≡ true
 distinct_filter name_of p [] is = refl
 distinct_filter {Row} name_of p (row ∷ rows) is =
     let parts = and_parts (not (has (map name_of rows) (name_of row))) (are_distinct (map name_of rows)) is in
-    by (p row) (not_true _ parts.0) (distinct_filter name_of p rows parts.1)
+    by (p row) (not-true _ parts.0) (distinct_filter name_of p rows parts.1)
   where
     by : (b : Bool) → has (map name_of rows) (name_of row) ≡ false → are_distinct (map name_of (filter p rows)) ≡ true → are_distinct (map name_of (cond b (row ∷ filter p rows) (filter p rows))) ≡ true
     by true apart rest =

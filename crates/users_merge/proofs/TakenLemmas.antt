@@ -1,6 +1,6 @@
 -- Ids that are taken one after another.
 use Rattle.std.proofs.Common.{◌≡◌, ◌≢◌, ◌⊎◌, ℕ, ◌+◌, ◌<◌, ◌≤◌, ◌==◌, ◌||◌, Bool, true, false, cond, List, [], ◌∷◌, ◌++◌, length, get_or, take, set, map, replicate, refl, sym, ap, subst, ◌∙◌, inl, inr, append_assoc, arith}
-use Rattle.std.proofs.Math.Bool.{or-false}
+use Rattle.std.proofs.Math.Bool.{or-false, or-true}
 use Rattle.std.proofs.lemmas.Bool.Decides.{eqb_tells}
 use Rattle.std.proofs.lemmas.List.{get_or-set_same, get_or-set_other, get_or-replicate, length-replicate, length-set, map_more}
 use Rattle.std.proofs.lemmas.List.Elements.{filter_map-append}
@@ -23,10 +23,6 @@ none_taken keys marks no_key no_mark = record {
   marked = λ id within. ap (λ (ms : List Bool). get_or ms id true) no_mark ∙ get_or-replicate 30000 id false true within;
 }
 
-or_true : (b : Bool) → (b || true) ≡ true
-or_true true = refl
-or_true false = refl
-
 -- one id more is marked
 pub marked_more :
     (used known keys : List ℕ) (marks : List Bool) (id : ℕ) → id < length marks → AreTakenIn used known keys marks →
@@ -41,7 +37,7 @@ marked_more used known keys marks id within are = record {
         get_or (set marks id true) i true ≡ (has_id used i || has_id (known ++ id ∷ []) i)
     by i small (inl same) =
         subst (λ k. get_or (set marks id true) k true ≡ true) same.1 (get_or-set_same marks id true true within)
-        ∙ sym (ap (λ b. has_id used i || b) (has_more known id i ∙ ap (λ b. has_id known i || b) same.0 ∙ or_true (has_id known i)) ∙ or_true (has_id used i))
+        ∙ sym (ap (λ b. has_id used i || b) (has_more known id i ∙ ap (λ b. has_id known i || b) same.0 ∙ or-true (has_id known i)) ∙ or-true (has_id used i))
     by i small (inr other) =
         get_or-set_other marks id i true true (λ e. other.1 (sym e)) ∙ are.marked i small
         ∙ sym (ap (λ b. has_id used i || b) (has_more known id i ∙ ap (λ b. has_id known i || b) other.0 ∙ or-false (has_id known i)))
@@ -69,7 +65,7 @@ moved false false true = refl
 moved false false false = refl
 
 either : (e h : Bool) → cond e true h ≡ (h || e)
-either true h = sym (or_true h)
+either true h = sym (or-true h)
 either false h = sym (or-false h)
 
 -- an id that is marked is used

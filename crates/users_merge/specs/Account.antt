@@ -5,7 +5,7 @@ use Rattle.std.specs.List.{list_any, find, filter_map}
 use Rattle.std.specs.Option.{option_or}
 use Rattle.switch_names.specs.Names.{Name, is_name}
 use Rattle.id_memory.specs.Free.{numbers_towards}
-use Rattle.id_memory.specs.Ids.{Ids}
+use Rattle.host_trait.specs.Ids.{Ids}
 use Rattle.users_spec.specs.declared.group_spec.GroupSpec.{GroupSpec}
 use Rattle.users_spec.specs.declared.user_spec.UserSpec.{UserSpec}
 use Rattle.users_spec.specs.Spec.{Accounts}

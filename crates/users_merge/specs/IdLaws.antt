@@ -3,7 +3,7 @@ use Rattle.std.specs.Prelude.{◌≡◌, ◌≢◌, ℕ, List, find, Option, Non
 use Rattle.std.specs.FinMap.{get}
 use Rattle.account_text.specs.declared.group.GroupRow.{GroupRow}
 use Rattle.account_text.specs.declared.passwd.PasswdRow.{PasswdRow}
-use Rattle.id_memory.specs.Ids.{Ids}
+use Rattle.host_trait.specs.Ids.{Ids}
 use Rattle.switch_names.specs.Names.{Name, is_name}
 use Rattle.users_spec.specs.Spec.{Accounts}
 use Rattle.users_merge.specs.Stored.{Merged, Stored, Table}

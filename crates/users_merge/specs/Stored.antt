@@ -10,7 +10,7 @@ use Rattle.account_text.specs.declared.tables.Tables.{Tables}
 use Rattle.account_text.specs.Group.{group_name}
 use Rattle.account_text.specs.Passwd.{passwd_name}
 use Rattle.account_text.specs.Shadow.{shadow_name}
-use Rattle.id_memory.specs.Ids.{Ids}
+use Rattle.host_trait.specs.Ids.{Ids}
 use Rattle.users_merge.specs.declared.declared_names.Declared.{Declared}
 use Rattle.users_merge.specs.declared.remembered.Remembered.{Remembered}
 use Rattle.users_merge.specs.declared.merged.Merged as answered

@@ -1,7 +1,8 @@
 //! The ids that can't be given any more.
 ghost use Rattle.std.specs.Prelude.{◌≡◌, ◌++◌, ◌∷◌, [], List, ℕ, length, map, find, IfOk, OnOk};
 ghost use Rattle.std.specs.List.{filter_map};
-ghost use Rattle.id_memory.specs.Ids.{AreIds, Ids, rows_of};
+ghost use Rattle.host_trait.specs.Ids.{Ids};
+ghost use Rattle.id_memory.specs.Ids.{AreIds, rows_of};
 ghost use Rattle.users_merge.specs.Account.{has_id, span, used_ids};
 ghost use Rattle.users_merge.specs.Taken.{AreTaken, is_open, wanted_ids};
 

@@ -2,6 +2,7 @@
 use Rattle.std.proofs.Common.{◌≡◌, ℕ, List, [], ◌∷◌, ◌++◌, Bool, true, false, not, ◌||◌, ◌&&◌, refl, sym, ap, ◌∙◌, true≢false}
 use Rattle.std.proofs.lemmas.Map.Text.{is_eq-slice_cmp}
 use Rattle.std.proofs.lemmas.Slice.Eq.{bytes_eq-Decides}
+use Rattle.std.proofs.lemmas.Bool.{and_parts, or_parts, and_from, not-true}
 use Rattle.std.specs.List.{list_any}
 use Rattle.std.specs.Str.{bytes_eq}
 use Rattle.switch_names.specs.Names.{has, is_name}
@@ -11,18 +12,6 @@ use Rattle.users_spec.specs.AccountName.{are_distinct}
 pub has_bytes_eq : (names : List (List ℕ)) (name : List ℕ) → has names name ≡ list_any (bytes_eq name) names
 has_bytes_eq [] name = refl
 has_bytes_eq (x ∷ xs) name = ap (λ b. b || has xs name) (is_eq-slice_cmp name x) ∙ ap (λ b. bytes_eq name x || b) (has_bytes_eq xs name)
-
--- of two tests that both hold, and of two that both fail
-pub both : (a b : Bool) → (a && b) ≡ true → (a ≡ true) × (b ≡ true)
-both true b h = (refl, h)
-both false b h = absurd (true≢false (sym h))
-
-pub neither : (a b : Bool) → (a || b) ≡ false → (a ≡ false) × (b ≡ false)
-neither true b h = absurd (true≢false h)
-neither false b h = (refl, h)
-
-joined : (a b : Bool) → a ≡ true → b ≡ true → (a && b) ≡ true
-joined a b p q = rw (p, q) refl
 
 differs : (a b : List ℕ) → is_name a b ≡ false → is_name b a ≡ false
 differs a b h = by (is_name b a) refl
@@ -36,17 +25,13 @@ differs a b h = by (is_name b a) refl
 has_push : (xs : List (List ℕ)) (last name : List ℕ) → has xs name ≡ false → is_name name last ≡ false → has (xs ++ last ∷ []) name ≡ false
 has_push [] last name none other = rw other refl
 has_push (x ∷ xs) last name none other =
-    let parts = neither (is_name name x) (has xs name) none in
+    let parts = or_parts (is_name name x) (has xs name) none in
     ap (λ b. b || has (xs ++ last ∷ []) name) parts.0 ∙ has_push xs last name parts.1 other
 
 -- a new name after distinct ones
 pub distinct_push : (names : List (List ℕ)) (name : List ℕ) → are_distinct names ≡ true → has names name ≡ false → are_distinct (names ++ name ∷ []) ≡ true
 distinct_push [] name distinct new = refl
 distinct_push (x ∷ xs) name distinct new =
-    let parts = both (not (has xs x)) (are_distinct xs) distinct in
-    let others = neither (is_name name x) (has xs name) new in
-    joined _ _ (ap not (has_push xs name x (none _ parts.0) (differs name x others.0))) (distinct_push xs name parts.1 others.1)
-  where
-    none : (b : Bool) → not b ≡ true → b ≡ false
-    none true h = absurd (true≢false (sym h))
-    none false h = refl
+    let parts = and_parts (not (has xs x)) (are_distinct xs) distinct in
+    let others = or_parts (is_name name x) (has xs name) new in
+    and_from _ _ (ap not (has_push xs name x (not-true _ parts.0) (differs name x others.0))) (distinct_push xs name parts.1 others.1)

@@ -1,6 +1,6 @@
 //! Worlds and faults, as lines.
 use crate::lines::Lines;
-use host_trait::{Act, Leaf, State, World};
+use host_trait::{Leaf, World};
 use node_text::write_node;
 use std::alloc::Global;
 use std::test::Fail;
@@ -36,32 +36,13 @@ pub fn show_leaves(
     Ok(())
 }
 
-/// The word of a unit's state.
-fn state_word(state: State) -> &'static str {
-    match state {
-        State::Active => "active",
-        State::Inactive => "inactive",
-        State::Failed => "failed",
-    }
-}
-
-/// The word of an act.
-fn act_word(act: Act) -> &'static str {
-    match act {
-        Act::Stop => "stop",
-        Act::Reload => "reload",
-        Act::Restart => "restart",
-        Act::Start => "start",
-    }
-}
-
 /// Adds what the manager has loaded and the states of its units, as the first lines of its text.
 pub fn show_states(lines: &mut Lines, world: &World) {
     lines.add_word("loaded");
     lines.add_word(world.loaded().as_str());
     lines.end_line();
     for one in world.states().list().as_slice() {
-        lines.add_word(state_word(one.state));
+        lines.add_word(one.state.word());
         lines.add_word(one.unit.as_str());
         lines.end_line();
     }
@@ -70,7 +51,7 @@ pub fn show_states(lines: &mut Lines, world: &World) {
 /// Adds what the manager has done, as the last lines of its text.
 pub fn show_journal(lines: &mut Lines, world: &World) {
     for one in world.journal().as_slice() {
-        lines.add_word(act_word(one.act));
+        lines.add_word(one.act.word());
         lines.add_word(one.unit.as_str());
         lines.add_word(one.loaded.as_str());
         lines.end_line();

@@ -4,6 +4,7 @@ use Rattle.std.specs.Cmp.Lexicographic.{slice_cmp}
 use Rattle.std.specs.List.Sorted.{IsStrictlySortedBy}
 use Rattle.std.specs.Ordering.{nat_cmp}
 use Rattle.host_trait.specs.declared.unit_state.State.{State}
+use Rattle.host_trait.proofs.Orders.{none_sorted}
 use Rattle.owed_lists.specs.declared.lists.Lists.{Lists}
 use Rattle.owed_plan.specs.Pull.{IsRoot, Pulled}
 use Rattle.owed_plan.specs.Systems.{IsDefined, systems_in}
@@ -13,10 +14,6 @@ use Rattle.unit_decide.proofs.SocketLemmas.{none_found}
 use Rattle.unit_defs.specs.declared.unit.Unit.{Unit}
 use Rattle.unit_defs.specs.Pull.{Reached}
 use Rattle.unit_text.specs.declared.assignment.Assignment.{Assignment}
-
-none_sorted : IsStrictlySortedBy (slice_cmp nat_cmp) []
-unfolding IsStrictlySortedBy
-none_sorted = tt
 
 module _ (states : Name → State) (lists : Lists) where
   undefined : (unit : Name) → IsDefined (systems_in [] []) unit → ⊥

@@ -2,7 +2,7 @@ use Rattle.std.proofs.lemmas.Grind.{common_steps}
 use Rattle.std.proofs.Common.{ap, ◌∙◌, filter, not, lit<, arith}
 use Rattle.std.proofs.lemmas.Iterator.Consumers.{YieldsList-at, YieldsList-end}
 use Rattle.std.proofs.lemmas.Iterator.Splits.{YieldsList-from_str_split}
-use Rattle.account_text.specs.Field.{is_empty}
+use Rattle.switch_names.specs.Texts.{is_empty}
 use Rattle.account_text.proofs.field.read_members.Goals as goal
 
 pub returns : goal.returns

@@ -1,5 +1,5 @@
 use Rattle.std.proofs.Common.{◌≡◌, not, map, filter}
-use Rattle.account_text.specs.Field.{is_empty}
+use Rattle.switch_names.specs.Texts.{is_empty}
 use Rattle.account_text.proofs.field.read_members.Given as goal
 
 -- the names so far have been looked at

@@ -2,10 +2,11 @@ use Rattle.std.proofs.Common.{◌≡◌, Some, ◌∙◌, Ok}
 use Rattle.host_trait.proofs.Moments.{told_as, told_before}
 use Rattle.host_trait.proofs.Readings.{reads_of, reads_then, same_twice}
 use Rattle.switch_parts.specs.declared.plan_fault.PlanFault.TheVariants.{Refused}
+use Rattle.switch_parts.proofs.Faults.{no_err}
 use Rattle.accounts_stage.specs.AccountsPart.{accounts_refusal, table_refusal}
 use Rattle.accounts_stage.specs.Answer.{Answers, IsMergingOf, merging_refusal}
 use Rattle.accounts_stage.specs.Standing.{declared_by}
-use Rattle.accounts_stage.proofs.AnsweringLemmas.{err_handed, ok_no_err}
+use Rattle.accounts_stage.proofs.AnsweringLemmas.{err_handed}
 use Rattle.accounts_stage.proofs.PlanningLemmas.{both_fine, merge_planned, refusal_is, spec_first, tables_second}
 use Rattle.accounts_stage.proofs.planning.plan_accounts.Goals as goal
 
@@ -53,4 +54,4 @@ returns-clause-not_refused g c =
     }
 
 pub returns-clause-reads : goal.returns-clause-reads
-returns-clause-reads g c = reads_of (reads_then (reads_then c.read_spec.ensures.reads c.read_tables.ensures.reads) c.read_merge.ensures.reads) _ (λ e. absurd (ok_no_err _ _ e))
+returns-clause-reads g c = reads_of (reads_then (reads_then c.read_spec.ensures.reads c.read_tables.ensures.reads) c.read_merge.ensures.reads) _ (λ e. absurd (no_err _ _ e))

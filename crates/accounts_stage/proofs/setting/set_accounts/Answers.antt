@@ -1,4 +1,5 @@
 use Rattle.std.proofs.Common.{List, sym, ap, subst, ◌∙◌}
+use Rattle.std.proofs.lemmas.Result.{on_ok_weaker}
 use Rattle.host_trait.specs.World.{seen}
 use Rattle.host_trait.proofs.Moments.{leads_as, passes_as, started, told_as}
 use Rattle.tree_put.specs.declared.leaf_put.LeafPut.{LeafPut}
@@ -6,7 +7,7 @@ use Rattle.tree_put.specs.Sequence.{CanPutAll, IsPutting, with_puts}
 use Rattle.tree_put.proofs.SequenceLemmas.{putting_none}
 use Rattle.accounts_stage.specs.Plan.{AreAccountsSet, IsSettingAccounts, puts_of}
 use Rattle.accounts_stage.specs.Puts.{AreAtAccounts}
-use Rattle.accounts_stage.proofs.PuttingLemmas.{accounts_apart, can_of_set, on_ok_as, plan_puts_are}
+use Rattle.accounts_stage.proofs.PuttingLemmas.{accounts_apart, can_of_set, plan_puts_are}
 use Rattle.accounts_stage.proofs.setting.set_accounts.Goals as goal
 
 pub returns-in_err-puts-clause-moments : goal.returns-in_err-puts-clause-moments
@@ -23,7 +24,7 @@ put_all-requires-clause-apart g c = accounts_apart c.as_slice.result.now (subst 
 pub returns-clause-ok : goal.returns-clause-ok
 returns-clause-ok g c =
     let system = c.args.system.now in let plan = c.args.plan.now in let puts = c.as_slice.ensures ∙ c.in_ok-puts.ensures.puts in
-    on_ok_as c.put_all.result
+    on_ok_weaker c.put_all.result
     (λ led. leads_as led (AreAccountsSet system) (λ w v is now. now ∙ ap (λ (ps : List LeafPut). seen (with_puts ps w)) (puts ∙ plan_puts_are system w.leaves plan (c.requires.has w is).planned)))
     c.put_all.ensures.ok
 

@@ -4,7 +4,7 @@ use Rattle.host_trait.specs.declared.tree.HostFault.TheVariants.{Device}
 use Rattle.host_trait.proofs.Moments.{told_as, told_before}
 use Rattle.host_trait.proofs.Readings.{reads_of, reads_then}
 use Rattle.switch_parts.specs.declared.plan_fault.PlanFault.TheVariants.{Host}
-use Rattle.etc_farm.proofs.PlanLemmas.{handed, no_err}
+use Rattle.switch_parts.proofs.Faults.{handed, no_err}
 use Rattle.activation_stage.specs.ActivationPart.{activation_in}
 use Rattle.activation_stage.proofs.ActivationLemmas.{first_refusal, owners_planned, second_refusal}
 use Rattle.activation_stage.proofs.planning.plan_activation.Goals as goal

@@ -4,8 +4,9 @@ use Rattle.host_trait.proofs.Moments.{told_as}
 use Rattle.host_trait.proofs.Readings.{nothing_read_of}
 use Rattle.switch_parts.specs.declared.refusal.Refusal.{Refusal}
 use Rattle.switch_parts.specs.declared.refusal.Refusal.TheVariants.{GenerationsFull}
+use Rattle.switch_parts.proofs.Faults.{refused_is, refused_no_device, memory_no_device}
 use Rattle.boot_entries.specs.BootDefault.{boot_default_in}
-use Rattle.boot_entries.proofs.MakeLemmas.{default_planned, full_refusal, memory_no_device, no_refusal, refused_as, refused_no_device}
+use Rattle.boot_entries.proofs.MakeLemmas.{default_planned, full_refusal, no_refusal}
 use Rattle.boot_entries.proofs.boot_default.plan_boot_default.Goals as goal
 
 pub returns-in_default-clause-refused : goal.returns-in_default-clause-refused
@@ -13,7 +14,7 @@ returns-in_default-clause-refused g c why e =
     told_as c.requires.gens (λ w. (boot_default_in c.args.system.now w.leaves).refusal w.leaves ≡ Some why)
     (λ w is gens.
     full_refusal c.args.system.now w.leaves c.args.gens gens (sym c.number_for.ensures ∙ c.in_default.is)
-    ∙ ap (λ (r : Refusal). Some r) (refused_as GenerationsFull why e))
+    ∙ ap (λ (r : Refusal). Some r) (refused_is GenerationsFull why e))
 
 pub returns-in_default-clause-reads : goal.returns-in_default-clause-reads
 returns-in_default-clause-reads g c = nothing_read_of _ (λ e. refused_no_device GenerationsFull e)

@@ -3,7 +3,7 @@ use Rattle.host_trait.specs.declared.tree.HostFault.TheVariants.{Device}
 use Rattle.host_trait.proofs.Moments.{told_before}
 use Rattle.host_trait.proofs.Readings.{read_of, reads_of, reads_then}
 use Rattle.switch_parts.specs.declared.plan_fault.PlanFault.TheVariants.{Host}
-use Rattle.etc_farm.proofs.PlanLemmas.{handed, host_device, no_err}
+use Rattle.switch_parts.proofs.Faults.{handed, host_device, no_err}
 use Rattle.etc_farm.proofs.planning.plan_etc.Goals as goal
 
 pub returns-in_err-manifest-clause-refused : goal.returns-in_err-manifest-clause-refused

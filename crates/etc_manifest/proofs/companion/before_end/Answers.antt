@@ -1,4 +1,4 @@
-use Rattle.etc_manifest.proofs.TextLemmas.{stripped_end}
+use Rattle.switch_names.proofs.Cuts.{stripped_end}
 use Rattle.etc_manifest.proofs.companion.before_end.Goals as goal
 
 pub returns : goal.returns

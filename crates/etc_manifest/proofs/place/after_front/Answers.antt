@@ -1,4 +1,4 @@
-use Rattle.etc_manifest.proofs.TextLemmas.{stripped_front}
+use Rattle.switch_names.proofs.Cuts.{stripped_front}
 use Rattle.etc_manifest.proofs.place.after_front.Goals as goal
 
 pub returns : goal.returns

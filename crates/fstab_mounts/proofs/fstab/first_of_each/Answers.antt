@@ -1,8 +1,9 @@
 use Rattle.std.proofs.Common.{◌≡◌, true, false, cond, List, [], ◌∷◌, ◌++◌, append-nil, sym, ap, ◌∙◌}
+use Rattle.std.proofs.lemmas.Bool.{not-true}
 use Rattle.switch_names.specs.Names.{has, is_name}
 use Rattle.fstab_mounts.specs.declared.fs_unit.FsUnit.{FsUnit}
 use Rattle.fstab_mounts.specs.Fstab.{first_of_each}
-use Rattle.fstab_mounts.proofs.FstabLemmas.{first_more, names_more, not_false, not_true, units_names}
+use Rattle.fstab_mounts.proofs.FstabLemmas.{first_more, names_more, not_false, units_names}
 use Rattle.fstab_mounts.proofs.fstab.first_of_each.Goals as goal
 
 pub loop-unit-preserved-in_ok-push : goal.loop-unit-preserved-in_ok-push
@@ -10,7 +11,7 @@ loop-unit-preserved-in_ok-push c =
     let units = c.loop-unit.yielded in
     let unit = c.in-Some.unit in
     let names = c.loop-unit.names.keys in
-    let fresh : has names c.in_ok-copy.field-0 ≡ false = not_true _ (sym c.in_ok-insert.ensures.added ∙ c.if-branch.true) in
+    let fresh : has names c.in_ok-copy.field-0 ≡ false = not-true _ (sym c.in_ok-insert.ensures.added ∙ c.if-branch.true) in
     let is_new : has (units_names units) unit.unit ≡ false = sym (c.loop-unit.invariant.names unit.unit) ∙ ap (λ n. has names n) (sym c.in_ok-copy.ensures) ∙ fresh in
     record {
       first = c.in_ok-push.ensures.ok ∙ ap (λ (f : List FsUnit). f ++ unit ∷ []) c.loop-unit.invariant.first

@@ -3,10 +3,7 @@ use Rattle.std.proofs.lemmas.Result.{on_ok_weaker}
 use Rattle.host_trait.specs.States.{IsSortedList}
 use Rattle.host_trait.proofs.StateLists.{place_within, put_at_place, set_at_place}
 use Rattle.host_trait.proofs.states.put_into.Goals as goal
-
-either : {T E P Q R : Type 0} (r : Result T E) → (P → R) → (Q → R) → OnOk r P → OnErr r Q → R
-either (Ok x) f g p q = f p
-either (Err e) f g p q = g q
+use Rattle.switch_names.proofs.Outcomes.{on_either}
 
 pub returns-in-Ok-clause-ok : goal.returns-in-Ok-clause-ok
 returns-in-Ok-clause-ok c =
@@ -24,7 +21,7 @@ returns-in-Err-clause-ok c =
 
 pub returns-in-Err-clause-sorted : goal.returns-in-Err-clause-sorted
 returns-in-Err-clause-sorted c =
-    either c.insert.result
+    on_either c.insert.result
     (λ now. (put_at_place _ _ _ (record { unit = c.args.unit; state = c.args.state }) c.requires.sorted c.in-Err.ensures.missing now c.as_str-name.ensures.is_name c.requires.other).1)
     (λ same. subst IsSortedList (sym same) c.requires.sorted)
     c.insert.ensures.ok c.insert.ensures.err

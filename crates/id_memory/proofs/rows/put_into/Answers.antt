@@ -5,10 +5,7 @@ use Rattle.id_memory.specs.Ids.{IsSortedList, IsPlaceFor, ids_of}
 use Rattle.id_memory.proofs.RowLemmas.{put_at_place, set_at_place}
 use Rattle.id_memory.proofs.rows.put_into.Goals as goal
 use Rattle.id_memory.proofs.rows.put_into.Goals.{After-drop-was}
-
-either : {T E P Q R : Type 0} (r : Result T E) → (P → R) → (Q → R) → OnOk r P → OnErr r Q → R
-either (Ok x) f g p q = f p
-either (Err e) f g p q = g q
+use Rattle.switch_names.proofs.Outcomes.{on_either}
 
 changed : (c : After-drop-was) → (ids_of c.replace-was.new.self ≡ insert (ids_of c.args.rows.now) c.args.name c.args.id) × IsSortedList c.replace-was.new.self
 changed c =
@@ -30,7 +27,7 @@ returns-in-Err-clause-ok c =
 
 pub returns-in-Err-clause-sorted : goal.returns-in-Err-clause-sorted
 returns-in-Err-clause-sorted c =
-    either c.insert.result
+    on_either c.insert.result
     (λ now. (put_at_place c.args.rows.now c.insert.new.self c.in-Err.at (record { name = c.args.name; id = c.args.id }) c.requires.sorted
     (subst (λ (n : List ℕ). IsPlaceFor c.args.rows.now n c.in-Err.at) c.as_str.ensures c.in-Err.ensures.missing) now c.requires.bounded).1)
     (λ same. subst IsSortedList (sym same) c.requires.sorted)

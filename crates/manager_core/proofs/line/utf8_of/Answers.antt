@@ -1,7 +1,7 @@
 use Rattle.std.proofs.Common.{Some, ap}
 use Rattle.std.proofs.lemmas.Str.{is_utf8-from_IsUtf8}
-use Rattle.manager_core.proofs.Names.{no_utf8}
 use Rattle.manager_core.proofs.line.utf8_of.Goals as goal
+use Rattle.switch_names.proofs.UnitNames.{not_utf8}
 
 pub returns-in-Ok : goal.returns-in-Ok
 returns-in-Ok c =
@@ -10,5 +10,5 @@ returns-in-Ok c =
 
 pub returns-in-Err : goal.returns-in-Err
 returns-in-Err c =
-    let is = no_utf8 c.args.bytes.now c.in-Err.ensures.cases.0 in
+    let is = not_utf8 c.args.bytes.now c.in-Err.ensures.cases.0 in
     rw is

@@ -5,10 +5,7 @@ use Rattle.manager_core.specs.UnitLine.{unit_text}
 use Rattle.manager_core.specs.declared.line.Line.TheVariants as line
 use Rattle.manager_core.proofs.UnitLines.{acted_text}
 use Rattle.manager_core.proofs.written_state.act_in.Goals as goal
-
-both : {T E P Q R : Type 0} (r : Result T E) → (P → Q → R) → OnOk r P → OnOk r Q → OnOk r R
-both (Ok x) f p q = f p q
-both (Err e) f p q = tt
+use Rattle.switch_names.proofs.Outcomes.{on_ok_both}
 
 pub returns-clause-text : goal.returns-clause-text
 returns-clause-text c =
@@ -16,7 +13,7 @@ returns-clause-text c =
     let unit = c.args.unit.now in
     let done = c.in_ok-act_on.ensures.ok in
     let same = ap (λ (m : ManagerState). m.loaded) done in
-    both c.write_act.result (λ added is_line.
+    on_ok_both c.write_act.result (λ added is_line.
     subst (λ (m : ManagerState). IsTextOf m c.write_act.new.out.items) (sym done)
     (acted_text old unit c.in-Some.from c.in-Some.to c.args.text.now.items c.requires c.in-Some.ensures c.args.act is_line.0
     (subst (λ l. IsLine (line.Entry (record { unit = unit; act = c.args.act; loaded = l }))) same is_line)

@@ -2,7 +2,7 @@ use Rattle.std.proofs.lemmas.Grind.{common_steps}
 use Rattle.std.proofs.Common.{◌==◌, ap, ◌∙◌, filter, rules, tests, arith}
 use Rattle.std.proofs.lemmas.Iterator.Consumers.{YieldsList-at, YieldsList-end}
 use Rattle.std.proofs.lemmas.Iterator.Splits.{YieldsList-from_slice_split}
-use Rattle.owed_lists.specs.Lists.{is_unit}
+use Rattle.switch_names.specs.UnitName.{is_unit}
 use Rattle.owed_lists.proofs.loading.read_names.Goals as goal
 
 pub returns : goal.returns

@@ -1,5 +1,5 @@
 use Rattle.std.proofs.Common.{◌≡◌, filter, map}
-use Rattle.owed_lists.specs.Lists.{is_unit}
+use Rattle.switch_names.specs.UnitName.{is_unit}
 use Rattle.owed_lists.proofs.loading.read_names.Given as goal
 
 -- the lines so far have been looked at

@@ -6,7 +6,8 @@ use Rattle.host_trait.proofs.Moments.{goes_on_same, leads_then, told_after}
 use Rattle.switch_engine.specs.Final.{HasFailed}
 use Rattle.switch_engine.specs.Moments.{IsSwitchMoment, IsSwitched}
 use Rattle.unit_defs.specs.declared.unit.Unit.{Unit}
-use Rattle.unit_stage.proofs.CauseLemmas.{cause_end, handed}
+use Rattle.switch_parts.proofs.Faults.{handed}
+use Rattle.unit_stage.proofs.CauseLemmas.{cause_end}
 use Rattle.unit_stage.specs.Plan.{owed_of}
 use Rattle.switch_engine.proofs.carrying.carry_switch.Goals as goal
 

@@ -1,6 +1,7 @@
 use Rattle.std.proofs.lemmas.Result.{err_from_is_err_and}
 use Rattle.host_trait.proofs.Causes.{cause_on, cause_then}
-use Rattle.unit_stage.proofs.CauseLemmas.{cause_end, handed}
+use Rattle.switch_parts.proofs.Faults.{handed}
+use Rattle.unit_stage.proofs.CauseLemmas.{cause_end}
 use Rattle.switch_engine.proofs.WayOfSwitch.{activation_can, ends, first_way, lists_can, second_way, stops_can, third_way, units_can}
 use Rattle.switch_engine.proofs.carrying.switch_units.Goals as goal
 

@@ -7,8 +7,8 @@ use Rattle.switch_engine.specs.Rows.{places}
 use Rattle.switch_engine.proofs.PlanLemmas.{placed}
 use Rattle.switch_parts.specs.declared.plan_fault.PlanFault.TheVariants.{Refused}
 use Rattle.switch_parts.specs.declared.refusal.Refusal.TheVariants.{InTheWay}
+use Rattle.switch_parts.proofs.Faults.{memory_no_device}
 use Rattle.tree_put.specs.WrittenPlace.{in_the_way}
-use Rattle.unit_stage.proofs.CauseLemmas.{memory_no_device}
 use Rattle.unit_stage.proofs.KnownLemmas.{same_fault}
 use Rattle.switch_engine.proofs.planning.check_places.Goals as goal
 

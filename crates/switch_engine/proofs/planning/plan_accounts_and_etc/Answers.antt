@@ -8,7 +8,7 @@ use Rattle.switch_engine.specs.Commands.{new_system, row_of}
 use Rattle.switch_engine.specs.Plan.{IsActivationPlanned}
 use Rattle.switch_engine.specs.Rows.{part_if}
 use Rattle.switch_parts.specs.declared.plan_fault.PlanFault.TheVariants.{Host, Refused}
-use Rattle.unit_stage.proofs.CauseLemmas.{no_err}
+use Rattle.switch_parts.proofs.Faults.{no_err}
 use Rattle.unit_stage.proofs.KnownLemmas.{same_fault}
 use Rattle.switch_engine.proofs.PlanLemmas.{activation_on, refused_activation}
 use Rattle.switch_engine.proofs.planning.plan_accounts_and_etc.Goals as goal

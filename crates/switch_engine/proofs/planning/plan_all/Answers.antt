@@ -11,7 +11,7 @@ use Rattle.switch_engine.proofs.PlanLemmas.{has_system, no_system}
 use Rattle.switch_names.specs.SystemName.{IsSystemPath}
 use Rattle.switch_parts.specs.declared.plan_fault.PlanFault.TheVariants.{Host, Refused}
 use Rattle.switch_parts.specs.declared.refusal.Refusal.TheVariants.{NoSystem}
-use Rattle.unit_stage.proofs.CauseLemmas.{handed, no_err, refused_is}
+use Rattle.switch_parts.proofs.Faults.{handed, no_err, refused_is}
 use Rattle.unit_stage.proofs.KnownLemmas.{same_fault}
 use Rattle.switch_engine.proofs.planning.plan_all.Goals as goal
 

@@ -12,7 +12,7 @@ use Rattle.switch_engine.specs.Plan.{ArePlanned, IsSound}
 use Rattle.switch_engine.specs.Rows.{parts_refusal}
 use Rattle.switch_engine.proofs.PlanLemmas.{activation_refused, profile_refused, told_still, units_refused, way_refused}
 use Rattle.switch_parts.specs.declared.plan_fault.PlanFault.TheVariants.{Host, Refused}
-use Rattle.unit_stage.proofs.CauseLemmas.{handed, memory_no_device, no_err}
+use Rattle.switch_parts.proofs.Faults.{handed, no_err, memory_no_device}
 use Rattle.unit_stage.proofs.KnownLemmas.{same_fault}
 use Rattle.switch_engine.proofs.planning.plan_parts.Goals as goal
 

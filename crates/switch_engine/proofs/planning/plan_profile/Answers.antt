@@ -11,10 +11,11 @@ use Rattle.switch_engine.specs.Commands.{new_system, row_of}
 use Rattle.switch_engine.specs.Plan.{AreGensFor, IsProfilePlanned}
 use Rattle.switch_engine.specs.Rows.{part_if}
 use Rattle.switch_parts.specs.declared.plan_fault.PlanFault.TheVariants.{Host, Refused}
-use Rattle.unit_stage.proofs.CauseLemmas.{no_err}
+use Rattle.switch_parts.proofs.Faults.{no_err}
 use Rattle.unit_stage.proofs.KnownLemmas.{same_fault}
-use Rattle.switch_engine.proofs.PlanLemmas.{default_on, default_refused, none_left, unset_free}
+use Rattle.switch_engine.proofs.PlanLemmas.{default_on, default_refused, unset_free}
 use Rattle.switch_engine.proofs.planning.plan_profile.Goals as goal
+use Rattle.switch_names.proofs.Outcomes.{none_left}
 
 pub returns-in_default-clause-plan : goal.returns-in_default-clause-plan
 returns-in_default-clause-plan g c =

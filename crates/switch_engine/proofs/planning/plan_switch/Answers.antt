@@ -9,7 +9,7 @@ use Rattle.switch_engine.specs.Plan.{AreUnitsPlanned}
 use Rattle.switch_engine.specs.Rows.{part_if}
 use Rattle.switch_parts.specs.declared.plan_fault.PlanFault.TheVariants.{Host, Refused}
 use Rattle.unit_stage.specs.Units.{units_part}
-use Rattle.unit_stage.proofs.CauseLemmas.{no_err}
+use Rattle.switch_parts.proofs.Faults.{no_err}
 use Rattle.unit_stage.proofs.KnownLemmas.{same_fault}
 use Rattle.switch_engine.proofs.PlanLemmas.{planned_on, refused_switch, steady_off, steady_on}
 use Rattle.switch_engine.proofs.planning.plan_switch.Goals as goal

@@ -2,8 +2,9 @@ use Rattle.std.proofs.Common.{◌≡◌, true, false, List, ℕ, IsSome, IfSome,
 use Rattle.std.specs.FinMap.{keys}
 use Rattle.std.specs.List.{list_any}
 use Rattle.switch_names.specs.Path.{is_below}
+use Rattle.switch_names.proofs.Outcomes.{none_there}
 use Rattle.host_trait.proofs.Moments.{told_as}
-use Rattle.tree_put.proofs.BlockedLemmas.{IsFreeBut, above_is_left, parent_above, next_above, free_next, free_last, one_passes, none_there}
+use Rattle.tree_put.proofs.BlockedLemmas.{IsFreeBut, above_is_left, parent_above, next_above, free_next, free_last, one_passes}
 use Rattle.host_trait.proofs.Readings.{nothing_read, nothing_read_ok, no_device, read_handed, read_ok, read_starved, read_then, told_read}
 use Rattle.tree_put.proofs.blocked.has_leaf_above.Goals as goal
 

@@ -1,4 +1,4 @@
-use Rattle.unit_defs.proofs.TextLemmas.{stripped_front}
+use Rattle.switch_names.proofs.Cuts.{stripped_front}
 use Rattle.unit_defs.proofs.place.after_front.Goals as goal
 
 pub returns : goal.returns

@@ -1,4 +1,4 @@
-use Rattle.unit_defs.proofs.TextLemmas.{stripped_end}
+use Rattle.switch_names.proofs.Cuts.{stripped_end}
 use Rattle.unit_defs.proofs.place.before_end.Goals as goal
 
 pub returns : goal.returns

@@ -2,8 +2,8 @@ use Rattle.std.proofs.Common.{◌≡◌, None, codes, ◌∙◌}
 use Rattle.std.specs.Option.{option_or}
 use Rattle.std.proofs.lemmas.Result.{IfOk-weaker}
 use Rattle.unit_defs.specs.Place.{drop_in, want}
-use Rattle.unit_defs.proofs.FaultLemmas.{none_left}
 use Rattle.unit_defs.proofs.place.place_below.Goals as goal
+use Rattle.switch_names.proofs.Outcomes.{none_left}
 
 pub returns : goal.returns
 returns c =

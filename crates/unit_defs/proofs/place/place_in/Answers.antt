@@ -1,8 +1,8 @@
 use Rattle.std.proofs.Common.{sym, ◌∙◌}
 use Rattle.std.proofs.lemmas.Result.{IfOk-weaker}
-use Rattle.unit_defs.proofs.FaultLemmas.{none_left}
 use Rattle.unit_defs.proofs.PlaceLemmas.{placed_below, placed_file, placed_nowhere}
 use Rattle.unit_defs.proofs.place.place_in.Goals as goal
+use Rattle.switch_names.proofs.Outcomes.{none_left}
 
 pub returns-in-Some : goal.returns-in-Some
 returns-in-Some c = placed_file c.args.rest.now c.in-Some.unit (sym c.in-Some.is ∙ c.in_ok-unit.ensures)

@@ -1,7 +1,7 @@
 use Rattle.std.proofs.Common.{lit<}
 use Rattle.std.proofs.lemmas.Str.Pattern.{split_once_first}
 use Rattle.unit_defs.proofs.TextLemmas.{split_once_at}
-use Rattle.unit_defs.specs.Place.{is_slash}
+use Rattle.switch_names.specs.Path.{is_slash}
 use Rattle.unit_defs.proofs.place.split_at_slash.Goals as goal
 
 pub returns : goal.returns

@@ -1,7 +1,7 @@
 use Rattle.std.proofs.Common.{ap, option_copied, sym, ◌∙◌}
-use Rattle.unit_defs.proofs.FaultLemmas.{none_left}
 use Rattle.unit_defs.proofs.PlaceLemmas.{no_unit_wanted, no_unit_wants, placed_want}
 use Rattle.unit_defs.proofs.place.want.Goals as goal
+use Rattle.switch_names.proofs.Outcomes.{none_left}
 
 pub returns : goal.returns
 returns c =

@@ -1,8 +1,8 @@
 use Rattle.std.proofs.Common.{sym, ◌∙◌}
 use Rattle.host_trait.proofs.Readings.{no_device, nothing_read, nothing_read_ok, read_handed, read_ok, read_starved}
-use Rattle.unit_defs.proofs.FaultLemmas.{none_left}
 use Rattle.unit_defs.proofs.ReadingLemmas.{none_taken, path_taken}
 use Rattle.unit_defs.proofs.reading.read_path.Goals as goal
+use Rattle.switch_names.proofs.Outcomes.{none_left}
 
 pub returns-in_default-clause-found : goal.returns-in_default-clause-found
 returns-in_default-clause-found g c = record {

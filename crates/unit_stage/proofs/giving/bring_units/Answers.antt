@@ -5,7 +5,8 @@ use Rattle.host_trait.proofs.Causes.{cause_on}
 use Rattle.host_trait.proofs.Moments.{goes_on, leads_then, passes_as, told_after, told_as}
 use Rattle.unit_stage.specs.Acts.{CanPerform}
 use Rattle.unit_stage.specs.Steps.{CanLoad, IsBringMoment, with_brought, with_loaded}
-use Rattle.unit_stage.proofs.CauseLemmas.{cause_end, handed}
+use Rattle.switch_parts.proofs.Faults.{handed}
+use Rattle.unit_stage.proofs.CauseLemmas.{cause_end}
 use Rattle.unit_stage.proofs.StepLemmas.{brought_world, giving_brings, loading_brings, manager_seen}
 use Rattle.unit_stage.proofs.giving.bring_units.Goals as goal
 

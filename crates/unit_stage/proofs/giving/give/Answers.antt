@@ -5,7 +5,8 @@ use Rattle.host_trait.proofs.Causes.{cause_on}
 use Rattle.host_trait.proofs.Moments.{goes_on, leads_then, passes_as}
 use Rattle.owed_lists.specs.Lists.{place_of}
 use Rattle.unit_stage.specs.Steps.{IsListMoment, with_given}
-use Rattle.unit_stage.proofs.CauseLemmas.{cause_end, handed}
+use Rattle.switch_parts.proofs.Faults.{handed}
+use Rattle.unit_stage.proofs.CauseLemmas.{cause_end}
 use Rattle.unit_stage.proofs.StepLemmas.{given}
 use Rattle.unit_stage.proofs.giving.give.Goals as goal
 

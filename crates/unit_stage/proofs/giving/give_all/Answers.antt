@@ -9,7 +9,8 @@ use Rattle.owed_plan.specs.declared.duty.Duty.{Duty}
 use Rattle.unit_stage.specs.Acts.{CanPerform}
 use Rattle.unit_stage.specs.Steps.{IsGiveMoment, IsListMoment, with_all_given, with_given}
 use Rattle.unit_stage.proofs.CallLemmas.{performed-append}
-use Rattle.unit_stage.proofs.CauseLemmas.{cause_end, handed}
+use Rattle.switch_parts.proofs.Faults.{handed}
+use Rattle.unit_stage.proofs.CauseLemmas.{cause_end}
 use Rattle.unit_stage.proofs.StepLemmas.{can_first, can_then, first_given, second_given, third_given}
 use Rattle.unit_stage.proofs.giving.give_all.Goals as goal
 

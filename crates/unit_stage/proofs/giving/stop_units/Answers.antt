@@ -5,7 +5,8 @@ use Rattle.host_trait.proofs.Causes.{cause_on}
 use Rattle.host_trait.proofs.Moments.{goes_on, leads_then, passes_as}
 use Rattle.owed_lists.specs.Record.{with_lists}
 use Rattle.unit_stage.specs.Steps.{IsStopMoment, with_stops}
-use Rattle.unit_stage.proofs.CauseLemmas.{cause_end, handed}
+use Rattle.switch_parts.proofs.Faults.{handed}
+use Rattle.unit_stage.proofs.CauseLemmas.{cause_end}
 use Rattle.unit_stage.proofs.StepLemmas.{recording, seen_with_calls, stopping}
 use Rattle.unit_stage.proofs.giving.stop_units.Goals as goal
 

@@ -4,7 +4,7 @@ use Rattle.host_trait.specs.declared.tree.HostFault.TheVariants.{Device}
 use Rattle.host_trait.proofs.Moments.{told_before}
 use Rattle.host_trait.proofs.Readings.{read_of, reads_of, reads_then, same_twice, told_read}
 use Rattle.switch_parts.specs.declared.plan_fault.PlanFault.TheVariants.{Host, Refused}
-use Rattle.unit_stage.proofs.CauseLemmas.{handed, host_device, host_no_refusal, no_err}
+use Rattle.switch_parts.proofs.Faults.{handed, host_device, host_no_refusal, no_err}
 use Rattle.unit_stage.proofs.KnownLemmas.{same_fault}
 use Rattle.unit_stage.proofs.known.read_known.Goals as goal
 

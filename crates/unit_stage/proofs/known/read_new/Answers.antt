@@ -2,8 +2,8 @@ use Rattle.std.proofs.Common.{◌≡◌, ℕ, None, Some, option_map, ap, ◌∙
 use Rattle.host_trait.proofs.Moments.{told_as}
 use Rattle.switch_names.specs.Names.{Name}
 use Rattle.switch_parts.specs.declared.refusal.Refusal.TheVariants.{UnitText}
+use Rattle.switch_parts.proofs.Faults.{refused_is}
 use Rattle.unit_stage.specs.System.{unit_refusal}
-use Rattle.unit_stage.proofs.CauseLemmas.{refused_is}
 use Rattle.unit_stage.proofs.known.read_new.Goals as goal
 
 pub returns-in-Ok-clause-not_refused : goal.returns-in-Ok-clause-not_refused

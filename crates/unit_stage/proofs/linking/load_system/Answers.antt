@@ -6,7 +6,8 @@ use Rattle.host_trait.proofs.Moments.{goes_on, leads_then, passes_as, told_as}
 use Rattle.tree_put.specs.Put.{CanPut}
 use Rattle.unit_stage.specs.Steps.{IsLoadMoment, with_loaded}
 use Rattle.unit_stage.specs.System.{current_place}
-use Rattle.unit_stage.proofs.CauseLemmas.{cause_end, handed}
+use Rattle.switch_parts.proofs.Faults.{handed}
+use Rattle.unit_stage.proofs.CauseLemmas.{cause_end}
 use Rattle.unit_stage.proofs.StepLemmas.{linking, loaded_world, loads}
 use Rattle.unit_stage.proofs.linking.load_system.Goals as goal
 

@@ -6,7 +6,7 @@ use Rattle.host_trait.proofs.Readings.{reads_of}
 use Rattle.switch_parts.specs.declared.plan_fault.PlanFault.TheVariants.{Host, Refused}
 use Rattle.unit_stage.specs.Owes.{IsSteadyWorld}
 use Rattle.unit_stage.specs.Plan.{IsUnitPlanOf}
-use Rattle.unit_stage.proofs.CauseLemmas.{host_no_refusal, memory_no_device, no_err}
+use Rattle.switch_parts.proofs.Faults.{host_no_refusal, no_err, memory_no_device}
 use Rattle.unit_stage.proofs.KnownLemmas.{plan_is, same_fault, steady_is}
 use Rattle.unit_stage.proofs.planning.plan_units.Goals as goal
 

@@ -7,7 +7,8 @@ use Rattle.std.proofs.lemmas.Option.{slice_get-get_or}
 use Rattle.unit_text.specs.declared.unit_key.UnitKey.{UnitKey}
 use Rattle.unit_text.specs.UnitKey.{key_cmp, key_of}
 use Rattle.unit_text.specs.Index.{IsPlaceFor}
-use Rattle.unit_text.proofs.KeyLemmas.{key_total, exact_keys, all_before, all_from, searchable}
+use Rattle.switch_names.proofs.Lists.{all_before, all_from}
+use Rattle.unit_text.proofs.KeyLemmas.{key_total, exact_keys, searchable}
 use Rattle.unit_text.proofs.index.find_key.Goals as goal
 
 found : (keys : List UnitKey) (key : UnitKey) (r : Result ℕ ℕ) → IsSearchInRange r (length keys) → IsBinarySearchResult (λ other. key_cmp other key) keys r → IfOk r (λ at. slice_get keys at ≡ Some key)

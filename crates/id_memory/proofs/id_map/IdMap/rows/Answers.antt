@@ -1,5 +1,6 @@
 use Rattle.std.proofs.Common.{subst, ◌∙◌, ap}
-use Rattle.id_memory.specs.Ids.{AreIds, Ids, rows_of}
+use Rattle.host_trait.specs.Ids.{Ids}
+use Rattle.id_memory.specs.Ids.{AreIds, rows_of}
 use Rattle.id_memory.proofs.RowLemmas.{are_ids, rows_are}
 use Rattle.id_memory.proofs.id_map.IdMap.rows.Goals as goal
 

@@ -1,7 +1,8 @@
 use Rattle.std.proofs.Common.{◌≡◌, ℕ, List, Some, IfSome, ap, subst, sym, ◌∙◌}
 use Rattle.switch_names.specs.UnitName.{IsUnitName}
+use Rattle.switch_names.proofs.Outcomes.{none_left}
 use Rattle.unit_defs.specs.Defs.{first_faulty}
-use Rattle.unit_defs.proofs.FaultLemmas.{none_left, same_fault}
+use Rattle.unit_defs.proofs.FaultLemmas.{same_fault}
 use Rattle.unit_defs.proofs.defs.Defs.from_sound.Goals as goal
 
 pub returns-in-Some-clause-text : goal.returns-in-Some-clause-text

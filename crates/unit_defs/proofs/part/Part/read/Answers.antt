@@ -1,7 +1,7 @@
 use Rattle.std.proofs.Common.{ap, option_copied, option_map, rules}
 use Rattle.unit_defs.specs.Part.{part_of}
-use Rattle.unit_defs.proofs.FaultLemmas.{none_left}
 use Rattle.unit_defs.proofs.part.Part.read.Goals as goal
+use Rattle.switch_names.proofs.Outcomes.{none_left}
 
 pub returns-in_default : goal.returns-in_default
 returns-in_default c =

@@ -1,8 +1,8 @@
 use Rattle.std.proofs.Common.{None, sym, ◌∙◌}
 use Rattle.std.proofs.lemmas.Result.{on_ok_weaker}
-use Rattle.unit_defs.proofs.FaultLemmas.{none_left}
 use Rattle.unit_defs.proofs.FstabLemmas.{joins_unwanted, joins_wanted}
 use Rattle.unit_defs.proofs.reading.fstab.add_wanted.Goals as goal
+use Rattle.switch_names.proofs.Outcomes.{none_left}
 
 pub returns-in_default : goal.returns-in_default
 returns-in_default c = joins_unwanted c.args.line.now c.args.found.now (none_left c.in_ok-target.field-0 c.in_default.not-Some ∙ c.in_ok-target.ensures)

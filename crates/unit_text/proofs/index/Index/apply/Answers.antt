@@ -11,13 +11,10 @@ use Rattle.unit_text.specs.Index.{IsIndexOf, IsPlaceFor}
 use Rattle.unit_text.specs.UnitText.{AreAssignedIn, values_of}
 use Rattle.unit_text.proofs.IndexLemmas.{added, cleared, entering, had, inserts, replaces}
 use Rattle.unit_text.proofs.index.Index.apply.Goals as goal
+use Rattle.switch_names.proofs.Outcomes.{on_ok_both}
 
 within : {X : Type 0} (xs : List X) (at : ℕ) (x : X) → slice_get xs at ≡ Some x → at < length xs
 within xs at x e = ⊎_elim (λ h. h) (λ h. absurd (none-some x (sym (slice_get_past xs at h) ∙ e))) (cases_lt at (length xs))
-
-both : {T E P Q R : Type 0} (r : Result T E) → (P → Q → R) → OnOk r P → OnOk r Q → OnOk r R
-both (Ok x) f p q = f p q
-both (Err e) f p q = tt
 
 both_err : {T E P Q R : Type 0} (r : Result T E) → (P → Q → R) → OnErr r P → OnErr r Q → OnErr r R
 both_err (Ok x) f p q = tt
@@ -62,7 +59,7 @@ returns-in-Err-clause-ok c front later is before =
     let place = subst (λ (key : UnitKey). IsPlaceFor old.keys key c.in-Err.at) (λ i. key_of (c.as_str-2.ensures i) (c.as_str-3.ensures i)) c.in-Err.ensures.missing in
     let keys = subst (λ (key : UnitKey). OnOk c.insert.result (c.insert.new.self.keys ≡ insert old.keys c.in-Err.at key)) c.into_parts-in-Err.ensures.key c.insert.ensures.keys in
     let values = subst (λ (values : List (List ℕ)). OnOk c.insert.result (c.insert.new.self.values.items ≡ insert old.values.items c.in-Err.at values)) c.new.ensures c.insert.ensures.values in
-    both c.insert.result
+    on_ok_both c.insert.result
     (inserts front later one old c.insert.new.self is c.in-Err.at [] place
     (cleared front later one (ap (λ t. length t == 0) (sym c.as_str.ensures) ∙ sym c.if-is_empty-2.ensures)))
     keys values
@@ -77,7 +74,7 @@ returns-in_ok-with_value-in-Err-2-clause-ok c front later is before =
     let keys = subst (λ (key : UnitKey). OnOk c.insert-in-Err-2.result (new.keys ≡ insert old.keys c.in-Err.at key)) c.into_parts-key.ensures.key c.insert-in-Err-2.ensures.keys in
     let made = c.in_ok-with_value-in-Err-2.ensures ∙ ap (λ (value : List ℕ). c.args.before.now ++ value ∷ []) c.into_parts-key.ensures.value in
     let values = subst (λ (values : List (List ℕ)). OnOk c.insert-in-Err-2.result (new.values.items ≡ insert old.values.items c.in-Err.at values)) made c.insert-in-Err-2.ensures.values in
-    both c.insert-in-Err-2.result
+    on_ok_both c.insert-in-Err-2.result
     (inserts front later one old new is c.in-Err.at all place
     (added front later one c.args.before.now (entering front later one old new is c.in-Err.at c.args.before.now place before)
     (ap (λ t. length t == 0) (sym c.as_str.ensures) ∙ sym c.if-is_empty-2.ensures)))

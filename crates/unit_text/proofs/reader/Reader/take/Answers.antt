@@ -5,16 +5,14 @@ use Rattle.std.proofs.lemmas.Str.{is_utf8-from_IsUtf8}
 use Rattle.unit_text.specs.Lines.{is_continued, with_space}
 use Rattle.unit_text.specs.Reader.{Holds, Completes, ended}
 use Rattle.unit_text.specs.TextFault.{joined_fault}
-use Rattle.unit_text.proofs.ReaderLemmas.{not_utf8, reads_comment, reads_bad_comment, refuses_bad, reads_held, reads_ended, refuses_ended}
+use Rattle.unit_text.proofs.ReaderLemmas.{reads_comment, reads_bad_comment, refuses_bad, reads_held, reads_ended, refuses_ended}
 use Rattle.unit_text.proofs.reader.Reader.take.Goals as goal
-
-both : {T E P Q R : Type 0} (r : Result T E) → (P → Q → R) → OnOk r P → OnOk r Q → OnOk r R
-both (Ok x) f p q = f p q
-both (Err e) f p q = tt
+use Rattle.switch_names.proofs.Outcomes.{on_ok_both}
+use Rattle.switch_names.proofs.UnitNames.{not_utf8}
 
 pub returns-in_default-clause-ok : goal.returns-in_default-clause-ok
 returns-in_default-clause-ok c =
-    both c.take_bad.result
+    on_ok_both c.take_bad.result
     (λ marks comment. reads_bad_comment c.args.self.now c.take_bad.new.self c.args.number c.args.line.now c.requires (not_utf8 _ c.in_default.ensures.cases.0) comment marks)
     c.take_bad.ensures.ok c.take_bad.ensures.comment
 
@@ -44,7 +42,7 @@ pub returns-in-None-clause-ok :
     goal.returns-in-None-clause-ok
 returns-in-None-clause-ok c =
     let same = c.in-Ok.ensures.cases.0 in
-    both c.end.result
+    on_ok_both c.end.result
     (λ done part. reads_ended c.args.self.now c.end.new.self c.args.number c.args.line.now c.requires
     (is_utf8-from_IsUtf8 _ c.in-Ok.ensures.cases.1) (sym c.if-is_comment.ensures)
     (sym (ap is_continued same) ∙ c.in-None.ensures)
