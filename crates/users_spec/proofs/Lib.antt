@@ -1,3 +1,4 @@
+pub mod AccountReads
 pub mod Handed
 pub mod Lists
 pub mod SoundReads
