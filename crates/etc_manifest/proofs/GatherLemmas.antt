@@ -56,3 +56,11 @@ module _ {X T E : Type 0} (f : X → Result T E) where
     pub gathered_same : (before : List T) → p x ≡ false →
         gathered (map f (filter p xs)) ≡ prefixed before (gathered (map f (filter p (drop i xs)))) → gathered (map f (filter p xs)) ≡ prefixed before (gathered (map f (filter p (drop (i + 1) xs))))
     gathered_same before fails so_far = so_far ∙ ap (λ zs. prefixed before (gathered (map f zs))) (left_by false fails)
+
+    -- or the fault that stops it
+    pub gathered_stops : (e : E) (before : List T) → p x ≡ true → f x ≡ Err e →
+        gathered (map f (filter p xs)) ≡ prefixed before (gathered (map f (filter p (drop i xs)))) → gathered (map f (filter p xs)) ≡ Err e
+    gathered_stops e before passes faulty so_far =
+        so_far
+        ∙ ap (λ zs. prefixed before (gathered (map f zs))) (left_by true passes)
+        ∙ ap (prefixed before) (gathered_err x (filter p (drop (i + 1) xs)) e faulty)

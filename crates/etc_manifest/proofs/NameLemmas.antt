@@ -199,6 +199,10 @@ all_at P [] at name all there = absurd (cc)
 all_at P (n ∷ names) zero name all there = let same : n ≡ name = cc in subst P same all.0
 all_at P (n ∷ names) (suc at) name all there = all_at P names at name all.1 there
 
+-- a name that stands at a place is the one that is read there
+pub name_at : (names : List (List ℕ)) (at : ℕ) (one name : List ℕ) → at < length names → one ≡ get_or names at one → slice_get names at ≡ Some name → one ≡ name
+name_at names at one name within is there = let both : Some one ≡ Some name = sym (slice_get_read names (length names) at one refl within is) ∙ there in cc
+
 -- ---- where a name belongs among others
 
 -- the place is between those below the name and those above it

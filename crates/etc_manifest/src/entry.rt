@@ -1,5 +1,5 @@
 //! Reads the entries of a system's etc.
-ghost use Rattle.std.specs.Prelude.{◌≡◌, ◌≤◌, ℕ, false, Some, IfOk, OnOk, IsErrOf, map, option_and_then, slice_get};
+ghost use Rattle.std.specs.Prelude.{◌≡◌, ◌<◌, ◌≤◌, ℕ, false, List, length, Some, IfOk, OnOk, IsErrOf, map, option_and_then, slice_get};
 ghost use Rattle.std.specs.FinMap.{get};
 ghost use Rattle.std.specs.List.{AllByRecursion};
 ghost use Rattle.std.specs.List.Sorted.{IsStrictlySortedBy};
@@ -146,7 +146,7 @@ fn read_with<T: Tree>(
     }
 }
 
-/// Reads how an entry is placed, which stands at this place among the names.
+/// Reads how the entry at this place among the names is placed.
 fn read_kind<T: Tree>(
     alloc: Global,
     host: &mut T,
@@ -154,16 +154,16 @@ fn read_kind<T: Tree>(
     names: &[Path],
     owners: &Owners,
     at: usize,
-    name: &Path,
 ) -> Result<ItemKind, ManifestFault>
     requires sorted { IsStrictlySortedBy bytes_cmp names.now }
-    requires there { slice_get names.now at ≡ Some name.now }
-    ensures kind { Told (T.host host.old) (λ w. IsAnswer result (kind_of (has names.now) w.leaves folder.now owners.now name.now)) }
+    requires there { at < length names.now }
+    ensures kind { (name : List ℕ) → slice_get names.now at ≡ Some name → Told (T.host host.old) (λ w. IsAnswer result (kind_of (has names.now) w.leaves folder.now owners.now name)) }
     ensures reads { IsReadingOf (T.host host.old) (T.host host.new) (IsErrOf result (Host Device)) }
 {
-    if !has_longer(names, at, name) {
+    if !has_longer(names, at) {
         return Ok(ItemKind::Linked);
     }
+    let name = &names[at];
     let Some(text) = companion(alloc, host, folder, names, name, ".mode")? else {
         return Ok(ItemKind::Linked);
     };
@@ -171,7 +171,7 @@ fn read_kind<T: Tree>(
     read_with(alloc, host, folder, names, owners, name, mode)
 }
 
-/// Reads an entry, which stands at this place among the names.
+/// Reads the entry at this place among the names.
 fn read_item<T: Tree>(
     alloc: Global,
     host: &mut T,
@@ -179,19 +179,19 @@ fn read_item<T: Tree>(
     names: &[Path],
     owners: &Owners,
     at: usize,
-    name: &Path,
 ) -> Result<Item, ManifestFault>
     requires sorted { IsStrictlySortedBy bytes_cmp names.now }
-    requires there { slice_get names.now at ≡ Some name.now }
-    ensures item { Told (T.host host.old) (λ w. IsAnswer result (item_of (has names.now) w.leaves folder.now owners.now name.now)) }
-    ensures place { IfOk result (λ item. item.place ≡ name.now) }
-    ensures free { OnOk result (is_reserved name.now ≡ false) }
+    requires there { at < length names.now }
+    ensures item { (name : List ℕ) → slice_get names.now at ≡ Some name → Told (T.host host.old) (λ w. IsAnswer result (item_of (has names.now) w.leaves folder.now owners.now name)) }
+    ensures place { IfOk result (λ item. slice_get names.now at ≡ Some item.place) }
+    ensures free { IfOk result (λ item. is_reserved item.place ≡ false) }
     ensures reads { IsReadingOf (T.host host.old) (T.host host.new) (IsErrOf result (Host Device)) }
 {
+    let name = &names[at];
     if is_reserved(name) {
         return Err(ManifestFault::Reserved(name.copy(alloc)?));
     }
-    let kind = read_kind(alloc, host, folder, names, owners, at, name)?;
+    let kind = read_kind(alloc, host, folder, names, owners, at)?;
     Ok(Item {
         place: name.copy(alloc)?,
         kind,
@@ -218,7 +218,7 @@ pub fn read_items<T: Tree>(
         if is_companion(alloc, names, name.as_str())? {
             continue;
         }
-        items.push(read_item(alloc, host, folder, names, owners, at, name)?)?;
+        items.push(read_item(alloc, host, folder, names, owners, at)?)?;
     }
     Ok(items)
 }

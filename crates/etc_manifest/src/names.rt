@@ -68,17 +68,15 @@ pub fn has_name(names: &[Path], name: &str) -> bool
 }
 
 /// Whether a longer name begins with the one at this place, of names in byte order.
-pub fn has_longer(names: &[Path], at: usize, name: &Path) -> bool
+pub fn has_longer(names: &[Path], at: usize) -> bool
     requires sorted { IsStrictlySortedBy bytes_cmp names.now }
-    requires there { slice_get names.now at ≡ Some name.now }
-    ensures { result ≡ false → (end : List ℕ) → 0 < length end → has names.now (name.now ++ end) ≡ false }
+    requires there { at < length names.now }
+    ensures { result ≡ false → (name end : List ℕ) → slice_get names.now at ≡ Some name → 0 < length end → has names.now (name ++ end) ≡ false }
 {
     // What begins with a name comes next after it.
+    let name = names[at].as_str();
     match names.get(at + 1) {
-        Some(next) => next
-            .as_str()
-            .as_bytes()
-            .starts_with(name.as_str().as_bytes()),
+        Some(next) => next.as_str().as_bytes().starts_with(name.as_bytes()),
         None => false,
     }
 }

@@ -10,7 +10,8 @@ use Rattle.etc_manifest.specs.Manifest.{places}
 use Rattle.etc_manifest.specs.Place.{is_reserved}
 use Rattle.etc_manifest.proofs.AnswerLemmas.{fault_handed, no_host}
 use Rattle.etc_manifest.proofs.GatherLemmas.{gathered_begins, gathered_more, gathered_same}
-use Rattle.etc_manifest.proofs.ReadLemmas.{free_more, kept_more, kept_same, place_more}
+use Rattle.etc_manifest.proofs.NameLemmas.{name_at}
+use Rattle.etc_manifest.proofs.ReadLemmas.{free_more, kept_more, kept_same, place_more, refused_here}
 use Rattle.etc_manifest.proofs.entry.read_items.Goals as goal
 
 pub loop-at-init : goal.loop-at-init
@@ -20,9 +21,6 @@ loop-at-init g c = record {
   free = tt;
   reads = nothing_read_of ⊥ (λ none. none);
 }
-
-pub read_item-requires-clause-there : goal.read_item-requires-clause-there
-read_item-requires-clause-there g c = slice_get_read c.args.names.now (length c.args.names.now) c.loop-at.at c.index-names-at.result refl c.loop-at-test.true c.index-names-at.is
 
 pub loop-at-preserved-then-branch : goal.loop-at-preserved-then-branch
 loop-at-preserved-then-branch g c =
@@ -47,7 +45,9 @@ loop-at-preserved g c =
     let name = c.index-names-at.result in
     let entry = ap not (ap (is_companion (has names)) (sym c.as_str.ensures.text) ∙ sym c.in_ok-is_companion.ensures ∙ c.if-branch.false) in
     let more = kept_more (λ one. not (is_companion (has names) one)) names c.loop-at.at name c.loop-at-test.true c.index-names-at.is entry in
-    let read = told_before c.loop-at.invariant.reads.moments c.in_ok-read_item.ensures.item in
+    let there = slice_get_read names (length names) c.loop-at.at name refl c.loop-at-test.true c.index-names-at.is in
+    let read = told_before c.loop-at.invariant.reads.moments (c.in_ok-read_item.ensures.item name there) in
+    let placed = name_at names c.loop-at.at name c.in_ok-read_item.field-0.place c.loop-at-test.true c.index-names-at.is c.in_ok-read_item.ensures.place in
     record {
       items = record {
         has = λ w is.
@@ -56,9 +56,22 @@ loop-at-preserved g c =
       };
       placed =
           place_more (entry_names (has names) (take c.loop-at.at names)) (entry_names (has names) (take (c.loop-at.at + 1) names)) name c.in_ok-read_item.field-0 c.loop-at.items c.push.new.self
-          more c.in_ok-read_item.ensures.place c.in_ok-push.ensures.ok c.loop-at.invariant.placed;
-      free = free_more (entry_names (has names) (take c.loop-at.at names)) (entry_names (has names) (take (c.loop-at.at + 1) names)) name more c.in_ok-read_item.ensures.free c.loop-at.invariant.free;
+          more (sym placed) c.in_ok-push.ensures.ok c.loop-at.invariant.placed;
+      free = free_more (entry_names (has names) (take c.loop-at.at names)) (entry_names (has names) (take (c.loop-at.at + 1) names)) name more (ap is_reserved placed ∙ c.in_ok-read_item.ensures.free) c.loop-at.invariant.free;
       reads = reads_of (reads_then c.loop-at.invariant.reads c.read_item.ensures.reads) ⊥ (λ none. absurd none);
+    }
+
+pub returns-in_err-read_item-clause-items : goal.returns-in_err-read_item-clause-items
+returns-in_err-read_item-clause-items g c =
+    let names = c.args.names.now in
+    let name = c.index-names-at.result in
+    let entry = ap not (ap (is_companion (has names)) (sym c.as_str.ensures.text) ∙ sym c.in_ok-is_companion.ensures ∙ c.if-branch.false) in
+    let there = slice_get_read names (length names) c.loop-at.at name refl c.loop-at-test.true c.index-names-at.is in
+    let read = told_before c.loop-at.invariant.reads.moments (c.in_err-read_item.ensures.item name there) in
+    record {
+      has = λ w is.
+          refused_here (item_of (has names) w.leaves c.args.folder.now c.args.owners.now) (λ one. not (is_companion (has names) one)) names c.loop-at.at name c.loop-at-test.true c.index-names-at.is
+          _ c.loop-at.items c.from_residual-in_err-read_item.result c.from_residual-in_err-read_item.ensures.1 entry (read.has w is) (c.loop-at.invariant.items.has w is);
     }
 
 pub returns-in_err-read_item-clause-reads : goal.returns-in_err-read_item-clause-reads
