@@ -7,8 +7,8 @@
 # docs/ARCHITECTURE.md. What each crate may use, in docs/ARCHITECTURE.md, is what crates.txt says, without the crates
 # of the kit: --write writes it anew. No cell of README.md has more than 200 characters. Each wrong body in must-fail/
 # says by which public clause it is forbidden (`# clause: CRATE FUNCTION CLAUSE`, which stands in src/), and for which input
-# the body breaks it (`# why: ..`). Each fault is a line, and it ends with 1 where there is one. Needs awk, grep and the
-# coreutils.
+# the body breaks it (`# why: ..`). No lemma or definition stands in two files, word for word. Each fault is a line, and
+# it ends with 1 where there is one. Needs awk, grep and the coreutils.
 cd "$(dirname "$0")/.." || exit 1
 page=docs/ARCHITECTURE.md
 failed=0
@@ -108,6 +108,28 @@ wrong_clauses() {
             }
         }' - crates/*/must-fail/*.edit
 }
+
+# The lemmas and definitions that stand in two files, word for word.
+twice() {
+    find crates/*/specs crates/*/proofs -name '*.antt' -exec awk '
+        BEGIN { RS = ""; FS = "\n" }
+        {
+            text = ""
+            for (at = 1; at <= NF; at++)
+                if ($at !~ /^(pub )?use / && $at !~ /^ *--/) text = text $at "\n"
+            sub(/^pub /, "", text)
+            sub(/^abbrev pub /, "abbrev ", text)
+            if (text !~ /^[^ ]/ || text ~ /^(pub )?mod(ule)? / || text ~ /goal\./ || text !~ /\n.*\n/) next
+            if (text in first && first[text] != FILENAME) {
+                name = text
+                sub(/ :.*/, "", name)
+                print FILENAME ": " name " stands in " first[text] " too"
+            }
+            first[text] = FILENAME
+        }' {} +
+}
+both=$(twice)
+[ -z "$both" ] || fault "$both"
 wrong=$(wrong_clauses)
 [ -z "$wrong" ] || fault "$wrong"
 exit "$failed"

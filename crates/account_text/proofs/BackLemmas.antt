@@ -8,7 +8,8 @@ use Rattle.account_text.specs.declared.group.GroupRow.{GroupRow}
 use Rattle.account_text.specs.declared.passwd.PasswdRow.{PasswdRow}
 use Rattle.account_text.specs.declared.shadow.ShadowRow.{ShadowRow}
 use Rattle.switch_names.specs.Texts.{is_empty, is_line_feed}
-use Rattle.account_text.specs.Field.{fields, id_of, is_colon, is_comma, is_member, is_plain, is_row_name, max_id, members_of}
+use Rattle.switch_names.specs.Ids.{id_max}
+use Rattle.account_text.specs.Field.{fields, id_of, is_colon, is_comma, is_member, is_plain, is_row_name, members_of}
 use Rattle.account_text.specs.Group.{group_row, group_line, is_group_row}
 use Rattle.account_text.specs.Passwd.{passwd_row, passwd_line, is_passwd_row}
 use Rattle.account_text.specs.Shadow.{shadow_row, shadow_line, is_shadow_row}
@@ -28,25 +29,25 @@ named_parts name is = let parts = and_parts (is_plain name) (not (is_empty name)
 record PasswdParts (row : PasswdRow) : Type 0 where
   name : IsNamed row.name
   password : is_plain row.password ≡ true
-  uid : row.uid ≤ max_id
-  gid : row.gid ≤ max_id
+  uid : row.uid ≤ id_max
+  gid : row.gid ≤ id_max
   gecos : is_plain row.gecos ≡ true
   home : is_plain row.home ≡ true
   shell : is_plain row.shell ≡ true
 
 passwd_parts : (row : PasswdRow) → is_passwd_row row ≡ true → PasswdParts row
 passwd_parts row is =
-    let p6 = and_parts (is_row_name row.name && is_plain row.password && nat_le row.uid max_id && nat_le row.gid max_id && is_plain row.gecos && is_plain row.home) (is_plain row.shell) is in
-    let p5 = and_parts (is_row_name row.name && is_plain row.password && nat_le row.uid max_id && nat_le row.gid max_id && is_plain row.gecos) (is_plain row.home) p6.0 in
-    let p4 = and_parts (is_row_name row.name && is_plain row.password && nat_le row.uid max_id && nat_le row.gid max_id) (is_plain row.gecos) p5.0 in
-    let p3 = and_parts (is_row_name row.name && is_plain row.password && nat_le row.uid max_id) (nat_le row.gid max_id) p4.0 in
-    let p2 = and_parts (is_row_name row.name && is_plain row.password) (nat_le row.uid max_id) p3.0 in
+    let p6 = and_parts (is_row_name row.name && is_plain row.password && nat_le row.uid id_max && nat_le row.gid id_max && is_plain row.gecos && is_plain row.home) (is_plain row.shell) is in
+    let p5 = and_parts (is_row_name row.name && is_plain row.password && nat_le row.uid id_max && nat_le row.gid id_max && is_plain row.gecos) (is_plain row.home) p6.0 in
+    let p4 = and_parts (is_row_name row.name && is_plain row.password && nat_le row.uid id_max && nat_le row.gid id_max) (is_plain row.gecos) p5.0 in
+    let p3 = and_parts (is_row_name row.name && is_plain row.password && nat_le row.uid id_max) (nat_le row.gid id_max) p4.0 in
+    let p2 = and_parts (is_row_name row.name && is_plain row.password) (nat_le row.uid id_max) p3.0 in
     let p1 = and_parts (is_row_name row.name) (is_plain row.password) p2.0 in
     record {
       name = named_parts row.name p1.0;
       password = p1.1;
-      uid = leb-true row.uid max_id p2.1;
-      gid = leb-true row.gid max_id p3.1;
+      uid = leb-true row.uid id_max p2.1;
+      gid = leb-true row.gid id_max p3.1;
       gecos = p4.1;
       home = p5.1;
       shell = p6.1;
@@ -79,15 +80,15 @@ passwd_back = record {
 record GroupParts (row : GroupRow) : Type 0 where
   name : IsNamed row.name
   password : is_plain row.password ≡ true
-  gid : row.gid ≤ max_id
+  gid : row.gid ≤ id_max
   members : list_all is_member row.members ≡ true
 
 group_parts : (row : GroupRow) → is_group_row row ≡ true → GroupParts row
 group_parts row is =
-    let p3 = and_parts (is_row_name row.name && is_plain row.password && nat_le row.gid max_id) (list_all is_member row.members) is in
-    let p2 = and_parts (is_row_name row.name && is_plain row.password) (nat_le row.gid max_id) p3.0 in
+    let p3 = and_parts (is_row_name row.name && is_plain row.password && nat_le row.gid id_max) (list_all is_member row.members) is in
+    let p2 = and_parts (is_row_name row.name && is_plain row.password) (nat_le row.gid id_max) p3.0 in
     let p1 = and_parts (is_row_name row.name) (is_plain row.password) p2.0 in
-    record { name = named_parts row.name p1.0; password = p1.1; gid = leb-true row.gid max_id p2.1; members = p3.1 }
+    record { name = named_parts row.name p1.0; password = p1.1; gid = leb-true row.gid id_max p2.1; members = p3.1 }
 
 record MemberParts (members : List (List ℕ)) : Type 0 where
   feeds : list_all (λ m. not (list_any is_line_feed m)) members ≡ true

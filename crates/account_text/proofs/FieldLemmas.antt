@@ -15,7 +15,8 @@ use Rattle.std.proofs.lemmas.List.Folds.{list_any-append}
 use Rattle.std.proofs.lemmas.List.Splits.{slice_split_none, slice_split_at, slice_split_first, length-slice_split}
 use Rattle.std.proofs.lemmas.List.Sums.{fails_before_first}
 use Rattle.switch_names.specs.Texts.{is_line_feed}
-use Rattle.account_text.specs.Field.{fields, is_colon, id_of, is_id, is_plain, max_id}
+use Rattle.switch_names.specs.Ids.{id_max}
+use Rattle.account_text.specs.Field.{fields, is_colon, id_of, is_id, is_plain}
 
 -- ---- cutting
 
@@ -108,18 +109,18 @@ record IsIdText (field : List ℕ) : Type 0 where
   digits : all_ascii_digits field ≡ true
   some : 0 < length field
   short : length field ≤ 10
-  low : digits_value 10 field ≤ max_id
+  low : digits_value 10 field ≤ id_max
 
 id_text : (field : List ℕ) → is_id field ≡ true → IsIdText field
 id_text field is =
-    let low = and_parts (all_ascii_digits field && ltb 0 (length field) && leb (length field) 10) (leb (digits_value 10 field) max_id) is in
+    let low = and_parts (all_ascii_digits field && ltb 0 (length field) && leb (length field) 10) (leb (digits_value 10 field) id_max) is in
     let short = and_parts (all_ascii_digits field && ltb 0 (length field)) (leb (length field) 10) low.0 in
     let some = and_parts (all_ascii_digits field) (ltb 0 (length field)) short.0 in
-    record { digits = some.0; some = ltb-true 0 _ some.1; short = leb-true _ 10 short.1; low = leb-true _ max_id low.1 }
+    record { digits = some.0; some = ltb-true 0 _ some.1; short = leb-true _ 10 short.1; low = leb-true _ id_max low.1 }
 
 text_id : (field : List ℕ) → IsIdText field → is_id field ≡ true
 text_id field is =
-    and_from _ _ (and_from _ _ (and_from _ _ is.digits (lt-ltb 0 _ is.some)) (le-leb _ 10 is.short)) (le-leb _ max_id is.low)
+    and_from _ _ (and_from _ _ (and_from _ _ is.digits (lt-ltb 0 _ is.some)) (le-leb _ 10 is.short)) (le-leb _ id_max is.low)
 
 -- what `parse` refuses is no id
 pub refused : {E : Type 0} (field : List ℕ) (e : E) → ParsesUnsigned 32 10 field (Err e) → all_ascii_digits field ≡ true → None ≡ id_of field
@@ -128,7 +129,7 @@ refused {E} field e read digits =
     sym (ap (λ b. cond b (Some (digits_value 10 field)) None) (false_from_ne_true (is_id field) (λ is. let id = id_text field is in refusal (id.some, let low = id.low in omega arith))))
 
 -- an id as it is written is that id
-pub written_id : (id : ℕ) → id ≤ max_id → id_of (decimal id) ≡ Some id
+pub written_id : (id : ℕ) → id ≤ id_max → id_of (decimal id) ≡ Some id
 written_id id low =
     let value = digits_value-decimal numerals id (omega arith) in
     let is = text_id (decimal id) (record {
@@ -155,14 +156,14 @@ plain_digits (byte ∷ bytes) digits =
         (ap (λ b. not (b || list_any is_line_feed bytes)) (ne_eqb byte 10 (λ is. omega arith)) ∙ rest.0)
         (ap (λ b. not (b || list_any is_colon bytes)) (ne_eqb byte 58 (λ is. omega arith)) ∙ rest.1)
 
-pub plain_id : (id : ℕ) → id ≤ max_id → is_plain (decimal id) ≡ true
+pub plain_id : (id : ℕ) → id ≤ id_max → is_plain (decimal id) ≡ true
 plain_id id low = plain_digits (decimal id) (digits_decimal numerals id (omega arith))
 
-pub low_id : (field : List ℕ) (id : ℕ) → id_of field ≡ Some id → nat_le id max_id ≡ true
+pub low_id : (field : List ℕ) (id : ℕ) → id_of field ≡ Some id → nat_le id id_max ≡ true
 low_id field id is = by (is_id field) refl is
   where
-    by : (b : Bool) → is_id field ≡ b → cond b (Some (digits_value 10 field)) None ≡ Some id → leb id max_id ≡ true
-    by true is same = let value : digits_value 10 field ≡ id = cc in let low = (id_text field is).low in le-leb id max_id (omega arith)
+    by : (b : Bool) → is_id field ≡ b → cond b (Some (digits_value 10 field)) None ≡ Some id → leb id id_max ≡ true
+    by true is same = let value : digits_value 10 field ≡ id = cc in let low = (id_text field is).low in le-leb id id_max (omega arith)
     by false is same = absurd cc
 
 -- members of which the first is known, as a field

@@ -4,6 +4,7 @@ use Rattle.std.specs.List.{slice_split, list_any}
 use Rattle.std.specs.Str.{all_ascii_digits}
 use Rattle.std.specs.Str.Parse.{digits_value}
 use Rattle.switch_names.specs.Texts.{is_empty, is_line_feed}
+use Rattle.switch_names.specs.Ids.{id_max}
 
 abbrev pub is_colon : ℕ → Bool
 is_colon byte = byte == 58
@@ -23,13 +24,9 @@ fields line = slice_split is_colon line
 abbrev pub members_of : List ℕ → List (List ℕ)
 members_of field = filter (λ name. not (is_empty name)) (slice_split is_comma field)
 
--- the greatest id
-abbrev pub max_id : ℕ
-max_id = 4294967294
-
 -- 1 to 10 digits with a value that is an id
 abbrev pub is_id : List ℕ → Bool
-is_id field = all_ascii_digits field && nat_lt 0 (length field) && nat_le (length field) 10 && nat_le (digits_value 10 field) max_id
+is_id field = all_ascii_digits field && nat_lt 0 (length field) && nat_le (length field) 10 && nat_le (digits_value 10 field) id_max
 
 -- the id that a field says
 abbrev pub id_of : List ℕ → Option ℕ

@@ -4,7 +4,8 @@ use Rattle.std.specs.List.{join_with_byte, list_all}
 use Rattle.switch_names.specs.Names.{Name}
 use Rattle.account_text.specs.declared.group.GroupRow.{GroupRow}
 use Rattle.switch_names.specs.Texts.{is_empty}
-use Rattle.account_text.specs.Field.{id_of, members_of, is_plain, is_row_name, is_member, max_id}
+use Rattle.switch_names.specs.Ids.{id_max}
+use Rattle.account_text.specs.Field.{id_of, members_of, is_plain, is_row_name, is_member}
 use Rattle.account_text.specs.Table.{IsTableOf, IsSound, table_text}
 
 -- the row of four fields, if the first isn't empty and the third is an id
@@ -23,7 +24,7 @@ group_line row = join_with_byte 58 (row.name ∷ row.password ∷ decimal row.gi
 
 -- a row that can be written
 abbrev pub is_group_row : GroupRow → Bool
-is_group_row row = is_row_name row.name && is_plain row.password && nat_le row.gid max_id && list_all is_member row.members
+is_group_row row = is_row_name row.name && is_plain row.password && nat_le row.gid id_max && list_all is_member row.members
 
 -- a text is the group table of these rows
 abbrev pub IsGroup : List ℕ → List GroupRow → Type 0

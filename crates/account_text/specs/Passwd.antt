@@ -4,7 +4,8 @@ use Rattle.std.specs.List.{join_with_byte}
 use Rattle.switch_names.specs.Names.{Name}
 use Rattle.account_text.specs.declared.passwd.PasswdRow.{PasswdRow}
 use Rattle.switch_names.specs.Texts.{is_empty}
-use Rattle.account_text.specs.Field.{id_of, is_plain, is_row_name, max_id}
+use Rattle.switch_names.specs.Ids.{id_max}
+use Rattle.account_text.specs.Field.{id_of, is_plain, is_row_name}
 use Rattle.account_text.specs.Table.{IsTableOf, IsSound, table_text}
 
 -- the row of seven fields, if the first isn't empty and the third and the fourth are ids
@@ -25,7 +26,7 @@ passwd_line row =
 -- a row that can be written
 abbrev pub is_passwd_row : PasswdRow → Bool
 is_passwd_row row =
-    is_row_name row.name && is_plain row.password && nat_le row.uid max_id && nat_le row.gid max_id
+    is_row_name row.name && is_plain row.password && nat_le row.uid id_max && nat_le row.gid id_max
     && is_plain row.gecos && is_plain row.home && is_plain row.shell
 
 -- a text is the passwd table of these rows

@@ -28,7 +28,8 @@ use Rattle.host_trait.proofs.Orders.{sorted_below}
 use Rattle.host_trait.proofs.Places.{alike, bytes_total}
 use Rattle.id_memory.specs.declared.id_row.IdRow.{IdRow}
 use Rattle.host_trait.specs.Ids.{Ids}
-use Rattle.id_memory.specs.Ids.{AreIds, id_max, ids_of, names_of, rows_of}
+use Rattle.switch_names.specs.Ids.{id_max}
+use Rattle.id_memory.specs.Ids.{AreIds, ids_of, names_of, rows_of}
 use Rattle.id_memory.specs.Json.{ids_read, ids_text, members_of}
 use Rattle.id_memory.proofs.MemberLemmas.{put_last, text_reads}
 use Rattle.switch_names.specs.Names.{Name}

@@ -14,7 +14,8 @@ use Rattle.host_trait.specs.Bytes.{bytes_cmp}
 use Rattle.host_trait.proofs.Places.{bytes_total}
 use Rattle.id_memory.specs.declared.id_row.IdRow.{IdRow}
 use Rattle.host_trait.specs.Ids.{Ids}
-use Rattle.id_memory.specs.Ids.{AreIds, id_max, ids_of, names_of}
+use Rattle.switch_names.specs.Ids.{id_max}
+use Rattle.id_memory.specs.Ids.{AreIds, ids_of, names_of}
 use Rattle.id_memory.specs.Json.{id_in, ids_read, rows_in, rows_read, with_row}
 use Rattle.switch_names.specs.Names.{Name}
 use Rattle.accounts_stage.proofs.JsonTextLemmas.{are_member_texts, is_data_text, read_texts}

@@ -12,7 +12,8 @@ use Rattle.account_text.specs.declared.group.GroupRow.{GroupRow}
 use Rattle.account_text.specs.declared.passwd.PasswdRow.{PasswdRow}
 use Rattle.account_text.specs.declared.shadow.ShadowRow.{ShadowRow}
 use Rattle.account_text.specs.declared.tables.Tables.{Tables}
-use Rattle.account_text.specs.Field.{is_member, is_plain, is_row_name, max_id}
+use Rattle.switch_names.specs.Ids.{id_max}
+use Rattle.account_text.specs.Field.{is_member, is_plain, is_row_name}
 use Rattle.account_text.specs.Group.{is_group_row}
 use Rattle.account_text.specs.Passwd.{is_passwd_row}
 use Rattle.id_memory.specs.Ids.{AreIds}
@@ -88,19 +89,19 @@ row_gid : (o : Option GroupRow) → IfSome o (λ row. is_group_text row ≡ true
 row_gid None is = tt
 row_gid (Some row) is =
     let both = and_parts (is_group_row row) (list_all is_utf8 (group_texts row)) is in
-    leb-true row.gid max_id
-    (and_parts (is_row_name row.name && is_plain row.password) (nat_le row.gid max_id)
-    (and_parts (is_row_name row.name && is_plain row.password && nat_le row.gid max_id) (list_all is_member row.members) both.0).0).1
+    leb-true row.gid id_max
+    (and_parts (is_row_name row.name && is_plain row.password) (nat_le row.gid id_max)
+    (and_parts (is_row_name row.name && is_plain row.password && nat_le row.gid id_max) (list_all is_member row.members) both.0).0).1
 
 row_uid : (o : Option PasswdRow) → IfSome o (λ row. is_passwd_text row ≡ true) → IfSome (option_map (λ row. row.uid) o) IsId
 row_uid None is = tt
 row_uid (Some row) is =
     let both = and_parts (is_passwd_row row) (list_all is_utf8 (passwd_texts row)) is in
-    let p1 = and_parts (is_row_name row.name && is_plain row.password && nat_le row.uid max_id && nat_le row.gid max_id && is_plain row.gecos && is_plain row.home) (is_plain row.shell) both.0 in
-    let p2 = and_parts (is_row_name row.name && is_plain row.password && nat_le row.uid max_id && nat_le row.gid max_id && is_plain row.gecos) (is_plain row.home) p1.0 in
-    let p3 = and_parts (is_row_name row.name && is_plain row.password && nat_le row.uid max_id && nat_le row.gid max_id) (is_plain row.gecos) p2.0 in
-    let p4 = and_parts (is_row_name row.name && is_plain row.password && nat_le row.uid max_id) (nat_le row.gid max_id) p3.0 in
-    leb-true row.uid max_id (and_parts (is_row_name row.name && is_plain row.password) (nat_le row.uid max_id) p4.0).1
+    let p1 = and_parts (is_row_name row.name && is_plain row.password && nat_le row.uid id_max && nat_le row.gid id_max && is_plain row.gecos && is_plain row.home) (is_plain row.shell) both.0 in
+    let p2 = and_parts (is_row_name row.name && is_plain row.password && nat_le row.uid id_max && nat_le row.gid id_max && is_plain row.gecos) (is_plain row.home) p1.0 in
+    let p3 = and_parts (is_row_name row.name && is_plain row.password && nat_le row.uid id_max && nat_le row.gid id_max) (is_plain row.gecos) p2.0 in
+    let p4 = and_parts (is_row_name row.name && is_plain row.password && nat_le row.uid id_max) (nat_le row.gid id_max) p3.0 in
+    leb-true row.uid id_max (and_parts (is_row_name row.name && is_plain row.password) (nat_le row.uid id_max) p4.0).1
 
 no_tables : Tables
 no_tables = record { group = []; passwd = []; shadow = [] }

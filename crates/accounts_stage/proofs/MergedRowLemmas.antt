@@ -10,7 +10,8 @@ use Rattle.account_text.specs.declared.group.GroupRow.{GroupRow}
 use Rattle.account_text.specs.declared.passwd.PasswdRow.{PasswdRow}
 use Rattle.account_text.specs.declared.shadow.ShadowRow.{ShadowRow}
 use Rattle.switch_names.specs.Texts.{is_line_feed}
-use Rattle.account_text.specs.Field.{is_colon, is_member, is_plain, is_row_name, max_id}
+use Rattle.switch_names.specs.Ids.{id_max}
+use Rattle.account_text.specs.Field.{is_colon, is_member, is_plain, is_row_name}
 use Rattle.account_text.specs.Group.{is_group_row}
 use Rattle.account_text.specs.Shadow.{is_shadow_row}
 use Rattle.account_text.proofs.FirstLemmas.{all_filter}
@@ -80,8 +81,8 @@ record GroupParts (row : GroupRow) : Type 0 where
 group_parts : (row : GroupRow) → is_group_text row ≡ true → GroupParts row
 group_parts row is =
     let both = and_parts (is_group_row row) (list_all is_utf8 (group_texts row)) is in
-    let front = and_parts (is_row_name row.name && is_plain row.password && nat_le row.gid max_id) (list_all is_member row.members) both.0 in
-    let more = and_parts (is_row_name row.name && is_plain row.password) (nat_le row.gid max_id) front.0 in
+    let front = and_parts (is_row_name row.name && is_plain row.password && nat_le row.gid id_max) (list_all is_member row.members) both.0 in
+    let more = and_parts (is_row_name row.name && is_plain row.password) (nat_le row.gid id_max) front.0 in
     let texts = and_parts (is_utf8 row.name) (list_all is_utf8 (row.password ∷ row.members)) both.1 in
     let rest = and_parts (is_utf8 row.password) (list_all is_utf8 row.members) texts.1 in
     record { password = (and_parts (is_row_name row.name) (is_plain row.password) more.0).1; password_text = rest.0; members = front.1; member_texts = rest.1 }
@@ -114,7 +115,7 @@ module _ (spec : Accounts) (before : List Name) (group : GroupSpec) (good : IsGo
       let texts = and_parts (is_utf8 group.name) (list_all is_utf8 group.members) good.texts in
       and_from _ _
       (and_from _ _
-      (and_from _ _ (and_from _ _ (name_is_row_name group.name good.sound.name) (password_plain old was)) (le-leb id max_id is))
+      (and_from _ _ (and_from _ _ (name_is_row_name group.name good.sound.name) (password_plain old was)) (le-leb id id_max is))
       (member_all is_member old (all_names is_account_name is_member name_is_member group.members good.sound.members) (were_members old was)))
       (and_from _ _ texts.0 (and_from _ _ (password_utf8 old was) (member_all is_utf8 old texts.1 (were_texts old was))))
 
@@ -135,7 +136,7 @@ declared_user user id gid good one other =
     (and_from _ _
     (and_from _ _
     (and_from _ _
-    (and_from _ _ (and_from _ _ (and_from _ _ (name_is_row_name user.name good.sound.name) refl) (le-leb id max_id one)) (le-leb gid max_id other))
+    (and_from _ _ (and_from _ _ (and_from _ _ (name_is_row_name user.name good.sound.name) refl) (le-leb id id_max one)) (le-leb gid id_max other))
     (plain_is_plain user.description good.sound.description))
     (plain_is_plain user.home good.sound.home))
     (plain_is_plain user.shell good.sound.shell))

@@ -11,7 +11,8 @@ use Rattle.account_text.specs.declared.group.GroupRow.{GroupRow}
 use Rattle.account_text.specs.declared.passwd.PasswdRow.{PasswdRow}
 use Rattle.account_text.specs.declared.shadow.ShadowRow.{ShadowRow}
 use Rattle.switch_names.specs.Texts.{is_empty}
-use Rattle.account_text.specs.Field.{fields, id_of, is_colon, is_comma, is_member, is_plain, is_row_name, lines, max_id, members_of}
+use Rattle.switch_names.specs.Ids.{id_max}
+use Rattle.account_text.specs.Field.{fields, id_of, is_colon, is_comma, is_member, is_plain, is_row_name, lines, members_of}
 use Rattle.account_text.specs.Group.{group_line, group_name, group_row, is_group_row}
 use Rattle.account_text.specs.Passwd.{is_passwd_row, passwd_line, passwd_name, passwd_row}
 use Rattle.account_text.specs.Shadow.{is_shadow_row, shadow_line, shadow_name, shadow_row}
@@ -42,14 +43,14 @@ is_passwd_text row = is_passwd_row row && list_all is_utf8 (passwd_texts row)
 abbrev pub is_shadow_text : ShadowRow → Bool
 is_shadow_text row = is_shadow_row row && list_all is_utf8 (shadow_texts row)
 
-id_text : (id : ℕ) → nat_le id max_id ≡ true → is_utf8 (decimal id) ≡ true
-id_text id low = let small = leb-true id max_id low in is_utf8-from_IsUtf8 (decimal id) (IsUtf8-from_ascii (decimal id) (IsAscii-decimal id (omega arith)))
+id_text : (id : ℕ) → nat_le id id_max ≡ true → is_utf8 (decimal id) ≡ true
+id_text id low = let small = leb-true id id_max low in is_utf8-from_IsUtf8 (decimal id) (IsUtf8-from_ascii (decimal id) (IsAscii-decimal id (omega arith)))
 
 pub group_line_text : (row : GroupRow) → is_group_text row ≡ true → is_utf8 (group_line row) ≡ true
 group_line_text row is =
     let parts = and_parts (is_group_row row) (list_all is_utf8 (group_texts row)) is in
-    let front = and_parts (is_row_name row.name && is_plain row.password && nat_le row.gid max_id) (list_all is_member row.members) parts.0 in
-    let id = and_parts (is_row_name row.name && is_plain row.password) (nat_le row.gid max_id) front.0 in
+    let front = and_parts (is_row_name row.name && is_plain row.password && nat_le row.gid id_max) (list_all is_member row.members) parts.0 in
+    let id = and_parts (is_row_name row.name && is_plain row.password) (nat_le row.gid id_max) front.0 in
     let name = and_parts (is_utf8 row.name) (list_all is_utf8 (row.password ∷ row.members)) parts.1 in
     let password = and_parts (is_utf8 row.password) (list_all is_utf8 row.members) name.1 in
     join_texts 58 (omega arith) (row.name ∷ row.password ∷ decimal row.gid ∷ join_with_byte 44 row.members ∷ [])
@@ -58,11 +59,11 @@ group_line_text row is =
 pub passwd_line_text : (row : PasswdRow) → is_passwd_text row ≡ true → is_utf8 (passwd_line row) ≡ true
 passwd_line_text row is =
     let parts = and_parts (is_passwd_row row) (list_all is_utf8 (passwd_texts row)) is in
-    let p6 = and_parts (is_row_name row.name && is_plain row.password && nat_le row.uid max_id && nat_le row.gid max_id && is_plain row.gecos && is_plain row.home) (is_plain row.shell) parts.0 in
-    let p5 = and_parts (is_row_name row.name && is_plain row.password && nat_le row.uid max_id && nat_le row.gid max_id && is_plain row.gecos) (is_plain row.home) p6.0 in
-    let p4 = and_parts (is_row_name row.name && is_plain row.password && nat_le row.uid max_id && nat_le row.gid max_id) (is_plain row.gecos) p5.0 in
-    let p3 = and_parts (is_row_name row.name && is_plain row.password && nat_le row.uid max_id) (nat_le row.gid max_id) p4.0 in
-    let p2 = and_parts (is_row_name row.name && is_plain row.password) (nat_le row.uid max_id) p3.0 in
+    let p6 = and_parts (is_row_name row.name && is_plain row.password && nat_le row.uid id_max && nat_le row.gid id_max && is_plain row.gecos && is_plain row.home) (is_plain row.shell) parts.0 in
+    let p5 = and_parts (is_row_name row.name && is_plain row.password && nat_le row.uid id_max && nat_le row.gid id_max && is_plain row.gecos) (is_plain row.home) p6.0 in
+    let p4 = and_parts (is_row_name row.name && is_plain row.password && nat_le row.uid id_max && nat_le row.gid id_max) (is_plain row.gecos) p5.0 in
+    let p3 = and_parts (is_row_name row.name && is_plain row.password && nat_le row.uid id_max) (nat_le row.gid id_max) p4.0 in
+    let p2 = and_parts (is_row_name row.name && is_plain row.password) (nat_le row.uid id_max) p3.0 in
     let name = and_parts (is_utf8 row.name) (list_all is_utf8 (row.password ∷ row.gecos ∷ row.home ∷ row.shell ∷ [])) parts.1 in
     let password = and_parts (is_utf8 row.password) (list_all is_utf8 (row.gecos ∷ row.home ∷ row.shell ∷ [])) name.1 in
     join_texts 58 (omega arith) (row.name ∷ row.password ∷ decimal row.uid ∷ decimal row.gid ∷ row.gecos ∷ row.home ∷ row.shell ∷ [])

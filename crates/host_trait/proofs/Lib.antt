@@ -9,6 +9,7 @@ pub mod Plain
 pub mod Readings
 pub mod SameLeaves
 pub mod Seen
+pub mod SortedLists
 pub mod Sound
 pub mod StateLists
 pub mod StateMaps

@@ -19,18 +19,22 @@ use Rattle.host_trait.specs.declared.unit_state.State.TheVariants.{Active, Inact
 use Rattle.host_trait.specs.declared.unit_state.UnitState.{UnitState}
 use Rattle.host_trait.specs.States.{AreStates, IsPlaceFor, IsSortedList, UnitStates, listed_states, state_of, states_of, units_of, with_state}
 use Rattle.host_trait.proofs.Orders.{AreAbove, AreBelow, less_other, none_sorted, sorted_above, sorted_below, sorted_insert, sorted_remove}
+use Rattle.host_trait.proofs.SortedLists as lists
+use Rattle.host_trait.proofs.SortedLists.{split_at}
 use Rattle.host_trait.proofs.Places.{bytes_total, alike, found, given, gone, ordered_entries, same_or_other, some_of}
 
 abbrev pub pair_of : UnitState → List ℕ × State
 pair_of one = (one.unit, one.state)
 
+abbrev unit_of : UnitState → List ℕ
+unit_of one = one.unit
+
+abbrev state_in_list : UnitState → State
+state_in_list one = one.state
+
 -- the state that a list gives a unit
 abbrev look : List UnitState → List ℕ → Option State
-look list q = lookup (is_at (bytes_cmp q)) (map pair_of list)
-
-keys_are_units : (list : List UnitState) → keys_of (map pair_of list) ≡ units_of list
-keys_are_units [] = refl
-keys_are_units (one ∷ list) = ap (λ rest. one.unit ∷ rest) (keys_are_units list)
+look list q = lists.look unit_of state_in_list list q
 
 unpaired : (list : List UnitState) → map (λ (e : List ℕ × State). record { unit = e.0; state = e.1 }) (map pair_of list) ≡ list
 unpaired [] = refl
@@ -39,7 +43,7 @@ unpaired (one ∷ list) = ap (λ rest. one ∷ rest) (unpaired list)
 -- a list in order is the list of its states
 pub list_is : (list : List UnitState) → IsSortedList list → list ≡ listed_states (states_of list)
 list_is list is =
-    sym (ap (map (λ (e : List ℕ × State). record { unit = e.0; state = e.1 })) (ordered_entries (map pair_of list) (subst (IsStrictlySortedBy bytes_cmp) (sym (keys_are_units list)) is.sorted))
+    sym (ap (map (λ (e : List ℕ × State). record { unit = e.0; state = e.1 })) (ordered_entries (map pair_of list) (subst (IsStrictlySortedBy bytes_cmp) (sym (lists.keys_are_names unit_of state_in_list list)) is.sorted))
     ∙ unpaired list)
 
 -- what holds of each unit of a list holds of each unit that has a state
@@ -73,57 +77,13 @@ none_is_sorted = record { sorted = none_sorted; names = tt; others = tt }
 -- ---- a list round one of its units
 
 module _ (x : UnitState) where
-  abbrev AreOther : List UnitState → Type 0
-  AreOther list = AllByRecursion (λ other. eq_by_cmp bytes_cmp x.unit other.unit ≡ false) list
-
-  other_below : (list : List UnitState) → AreBelow (units_of list) x.unit → AreOther list
-  other_below [] h = tt
-  other_below (one ∷ list) h = (apart, other_below list h.1)
-    where
-      apart : eq_by_cmp bytes_cmp x.unit one.unit ≡ false
-      apart = elim (same_or_other x.unit one.unit) [ inl same ↦ absurd (less_other one.unit x.unit h.0 (sym same)) | inr other ↦ other ]
-
-  other_above : (list : List UnitState) → AreAbove (units_of list) x.unit → AreOther list
-  other_above [] h = tt
-  other_above (one ∷ list) h = (apart, other_above list h.1)
-    where
-      apart : eq_by_cmp bytes_cmp x.unit one.unit ≡ false
-      apart = elim (same_or_other x.unit one.unit) [ inl same ↦ absurd (less_other x.unit one.unit h.0 same) | inr other ↦ other ]
-
-  -- a unit among others
-  look_round : (front back : List UnitState) → AreOther front → (q : List ℕ) →
-      look (front ++ x ∷ back) q ≡ cond (is_at (bytes_cmp x.unit) q) (Some x.state) (look (front ++ back) q)
-  look_round [] back h q = ap (λ b. cond b (Some x.state) (look back q)) ((eq_by_cmp_equiv bytes_total).symm q x.unit)
-  look_round (one ∷ front) back h q =
-      ap (cond (is_at (bytes_cmp q) one.unit) (Some one.state)) (look_round front back h.1 q)
-      ∙ elim (is_at (bytes_cmp x.unit) q) as (λ b. is_at (bytes_cmp x.unit) q ≡ b →
-      cond (is_at (bytes_cmp q) one.unit) (Some one.state) (cond b (Some x.state) (look (front ++ back) q))
-      ≡ cond b (Some x.state) (cond (is_at (bytes_cmp q) one.unit) (Some one.state) (look (front ++ back) q))) [
-        | true ↦ λ e. ap (λ b. cond b (Some one.state) (Some x.state)) (apart e)
-        | false ↦ λ e. refl
-      ] refl
-    where
-      apart : is_at (bytes_cmp x.unit) q ≡ true → is_at (bytes_cmp q) one.unit ≡ false
-      apart e = elim (same_or_other x.unit q) [
-        | inl same ↦ subst (λ k. eq_by_cmp bytes_cmp k one.unit ≡ false) same h.0
-        | inr other ↦ absurd (both_ways _ other e)
-      ]
-
-  look_others : (list : List UnitState) → AreOther list → look list x.unit ≡ None
-  look_others [] h = refl
-  look_others (one ∷ list) h = ap (λ b. cond b (Some one.state) (look list x.unit)) h.0 ∙ look_others list h.1
-
-  look_none : (list : List UnitState) → AreOther list → (q : List ℕ) → is_at (bytes_cmp x.unit) q ≡ true → look list q ≡ None
-  look_none list h q e = elim (same_or_other x.unit q) [
-    | inl same ↦ subst (λ k. look list k ≡ None) same (look_others list h)
-    | inr other ↦ absurd (both_ways _ other e)
-  ]
-
   module _ (front back : List UnitState) where
-    around : IsSortedList (front ++ x ∷ back) → AreOther front × AreOther back
-    around is =
-        let sorted = subst (IsStrictlySortedBy bytes_cmp) (map-append (λ (one : UnitState). one.unit) front (x ∷ back)) is.sorted in
-        (other_below front (sorted_below (units_of front) x.unit (units_of back) sorted), other_above back (sorted_above (units_of front) x.unit (units_of back) sorted))
+    around : IsSortedList (front ++ x ∷ back) → lists.AreOther unit_of state_in_list x front × lists.AreOther unit_of state_in_list x back
+    around is = (
+      lists.around unit_of state_in_list x front back is.sorted,
+      lists.other_above unit_of state_in_list x back
+          (sorted_above (units_of front) x.unit (units_of back) (subst (IsStrictlySortedBy bytes_cmp) (map-append (λ (one : UnitState). one.unit) front (x ∷ back)) is.sorted)),
+    )
 
     -- the unit is taken out
     pub taken_out : IsSortedList (front ++ x ∷ back) → (states_of (front ++ back) ≡ remove (states_of (front ++ x ∷ back)) x.unit) × IsSortedList (front ++ back)
@@ -131,8 +91,8 @@ module _ (x : UnitState) where
         let apart = around is in (
           gone (map pair_of (front ++ x ∷ back)) (map pair_of (front ++ back)) x.unit
               (λ q. elim (is_at (bytes_cmp x.unit) q) as (λ b. is_at (bytes_cmp x.unit) q ≡ b → look (front ++ back) q ≡ cond b None (look (front ++ x ∷ back) q)) [
-                | true ↦ λ e. look_none (front ++ back) (all_join _ front back apart.0 apart.1) q e
-                | false ↦ λ e. sym (look_round front back apart.0 q ∙ ap (λ b. cond b (Some x.state) (look (front ++ back) q)) e)
+                | true ↦ λ e. lists.look_none unit_of state_in_list x (front ++ back) (all_join _ front back apart.0 apart.1) q e
+                | false ↦ λ e. sym (lists.look_round unit_of state_in_list x front back apart.0 q ∙ ap (λ b. cond b (Some x.state) (look (front ++ back) q)) e)
               ] refl),
           record {
             sorted = subst (IsStrictlySortedBy bytes_cmp) (sym (map-append (λ (one : UnitState). one.unit) front back))
@@ -147,10 +107,9 @@ module _ (x : UnitState) where
         IsSortedList (front ++ back) → AreBelow (units_of front) x.unit → AreAbove (units_of back) x.unit → IsUnitName x.unit → x.state ≢ Inactive →
         (states_of (front ++ x ∷ back) ≡ insert (states_of (front ++ back)) x.unit x.state) × IsSortedList (front ++ x ∷ back)
     put_in is below above name other = (
-      given (map pair_of (front ++ back)) (map pair_of (front ++ x ∷ back)) x.unit x.state (look_round front back (other_below front below)),
+      lists.put_given unit_of state_in_list x front back below,
       record {
-        sorted = subst (IsStrictlySortedBy bytes_cmp) (sym (map-append (λ (one : UnitState). one.unit) front (x ∷ back)))
-            (sorted_insert (units_of front) x.unit (units_of back) (subst (IsStrictlySortedBy bytes_cmp) (map-append (λ (one : UnitState). one.unit) front back) is.sorted) below above);
+        sorted = lists.put_sorted unit_of state_in_list x front back is.sorted below above;
         names = all_join _ front (x ∷ back) (all_front _ front back is.names) (name, all_back _ front back is.names);
         others = all_join _ front (x ∷ back) (all_front _ front back is.others) (other, all_back _ front back is.others);
       },
@@ -158,57 +117,28 @@ module _ (x : UnitState) where
 
 -- ---- by places
 
-above_drop : (list : List UnitState) (name : List ℕ) → AllByRecursion (λ other. bytes_cmp name other.unit ≡ Less) list → AreAbove (units_of list) name
-above_drop [] name h = tt
-above_drop (one ∷ list) name h = (h.0, above_drop list name h.1)
-
-below_take : (list : List UnitState) (name : List ℕ) → AllByRecursion (λ other. bytes_cmp other.unit name ≡ Less) list → AreBelow (units_of list) name
-below_take [] name h = tt
-below_take (one ∷ list) name h = (h.0, below_take list name h.1)
-
--- a list round the item at a place
-pub split_at : {X : Type 0} (xs : List X) (at : ℕ) (x : X) → slice_get xs at ≡ Some x → xs ≡ take at xs ++ x ∷ drop (suc at) xs
-split_at xs at x e =
-    let next : at + 1 ≡ suc at = omega arith in
-    sym (take-append-drop at xs)
-    ∙ ap (λ ys. take at xs ++ ys) (drop_more xs at x (slice_get_within xs at x e) ∙ (λ i. get_or_from_slice_get xs at x x e i ∷ drop (next i) xs))
-
-option_unit : (o : Option UnitState) (unit : List ℕ) → Rattle.std.proofs.Common.option_map (λ (one : UnitState). one.unit) o ≡ Some unit → (x : UnitState) × (o ≡ Some x) × (x.unit ≡ unit)
-option_unit None unit is = absurd (let none : None ≡ Some unit = is in cc)
-option_unit (Some x) unit is = (x, refl, let e : x.unit ≡ unit = cc in e)
-
 -- the item at the place where a unit was found
 pub item_at : (list : List UnitState) (at : ℕ) (unit : List ℕ) → slice_get (units_of list) at ≡ Some unit → (x : UnitState) × (slice_get list at ≡ Some x) × (x.unit ≡ unit)
-item_at list at unit is = option_unit (slice_get list at) unit (sym (slice_get-map (λ (one : UnitState). one.unit) list at) ∙ is)
+item_at list at unit is = lists.item_at unit_of state_in_list list at unit is
 
 -- the place where a unit was found is within the list
 pub place_within : (list : List UnitState) (at : ℕ) (unit : List ℕ) → slice_get (units_of list) at ≡ Some unit → at < length list
-place_within list at unit is = let one = item_at list at unit is in slice_get_within list at one.0 one.1
+place_within list at unit is = lists.place_within unit_of state_in_list list at unit is
 
 -- the state of a unit that was found
 pub state_at : (list : List UnitState) (at : ℕ) (unit : List ℕ) (d : UnitState) → IsSortedList list → slice_get (units_of list) at ≡ Some unit
     → (get_or list at d).state ≡ state_of (states_of list) unit
 state_at list at unit d is here =
     let one = item_at list at unit here in
-    let x = one.0 in
-    let split = split_at list at x one.1 in
-    let front = take at list in
-    let back = drop (suc at) list in
-    let apart = around x front back (subst IsSortedList split is) in
-    let looked : look list unit ≡ Some x.state =
-    ap (λ l. look l unit) split ∙ look_round x front back apart.0 unit
-    ∙ ap (λ b. cond b (Some x.state) (look (front ++ back) unit)) (subst (λ u. is_at (bytes_cmp x.unit) u ≡ true) one.2 ((eq_by_cmp_equiv bytes_total).refl x.unit)) in
-    ap (λ (o : UnitState). o.state) (get_or_from_slice_get list at x d one.1)
-    ∙ sym (ap (λ o. unwrap_or o Inactive) (found (map pair_of list) unit ∙ looked))
+    ap (λ (o : UnitState). o.state) (get_or_from_slice_get list at one.0 d one.1)
+    ∙ sym (ap (λ o. unwrap_or o Inactive) (found (map pair_of list) unit ∙ lists.looked_at unit_of state_in_list list at one.0 unit is.sorted one.1 one.2))
 
 -- a unit that was not found has no state
 pub none_at : (list : List UnitState) (unit : List ℕ) (at : ℕ) → IsPlaceFor list unit at → get (states_of list) unit ≡ None
 none_at list unit at place =
     let x : UnitState = record { unit = unit; state = Inactive } in
-    let front = other_below x (take at list) (below_take (take at list) unit place.lower) in
-    let back = other_above x (drop at list) (above_drop (drop at list) unit place.higher) in
     found (map pair_of list) unit
-    ∙ look_others x list (subst (λ (l : List UnitState). AreOther x l) (take-append-drop at list) (all_join _ _ _ front back))
+    ∙ lists.nothing_at unit_of state_in_list list at x (lists.below_take unit_of state_in_list (take at list) unit place.lower) (lists.above_drop unit_of state_in_list (drop at list) unit place.higher)
 
 -- nothing is removed where nothing stands
 pub nothing_removed : (states : UnitStates) (unit : List ℕ) → get states unit ≡ None → states ≡ remove states unit
@@ -272,7 +202,7 @@ pub put_at_place :
 put_at_place old new at y is place now name other =
     let whole = take-append-drop at old in
     let there = put_in y (take at old) (drop at old) (subst IsSortedList (sym whole) is)
-    (below_take (take at old) y.unit place.lower) (above_drop (drop at old) y.unit place.higher) name other in (
+    (lists.below_take unit_of state_in_list (take at old) y.unit place.lower) (lists.above_drop unit_of state_in_list (drop at old) y.unit place.higher) name other in (
       ap states_of now ∙ there.0 ∙ ap (λ l. insert (states_of l) y.unit y.state) whole,
       subst IsSortedList (sym now) there.1,
     )

@@ -23,9 +23,10 @@ use Rattle.serde_json.specs.declared.value.Value.{Value}
 use Rattle.host_trait.specs.Bytes.{bytes_cmp}
 use Rattle.host_trait.proofs.Orders.{AreAbove, AreBelow, sorted_below}
 use Rattle.host_trait.proofs.Places.{bytes_total}
-use Rattle.host_trait.proofs.StateLists.{split_at}
+use Rattle.host_trait.proofs.SortedLists.{split_at}
 use Rattle.id_memory.specs.declared.id_row.IdRow.{IdRow}
-use Rattle.id_memory.specs.Ids.{IsSortedList, id_max, names_of}
+use Rattle.switch_names.specs.Ids.{id_max}
+use Rattle.id_memory.specs.Ids.{IsSortedList, names_of}
 use Rattle.id_memory.specs.Json.{id_in, members_in, members_of, rows_in, rows_read, with_row}
 use Rattle.id_memory.proofs.LineFeedLemmas.{tokens-fed}
 use Rattle.id_memory.proofs.RowLemmas.{none_is_sorted}

@@ -14,21 +14,25 @@ use Rattle.std.specs.declared.cmp.Ordering.TheVariants.{Less}
 use Rattle.host_trait.specs.Bytes.{bytes_cmp}
 use Rattle.host_trait.proofs.Orders.{AreAbove, AreBelow, less_other, none_sorted, sorted_below, sorted_insert}
 use Rattle.host_trait.proofs.Places.{bytes_total, found, given, ordered_entries, same_or_other}
-use Rattle.host_trait.proofs.StateLists.{split_at}
+use Rattle.host_trait.proofs.SortedLists as lists
+use Rattle.host_trait.proofs.SortedLists.{split_at}
 use Rattle.id_memory.specs.declared.id_row.IdRow.{IdRow}
-use Rattle.id_memory.specs.Ids.{AreIds, IsPlaceFor, IsSortedList, id_max, ids_of, names_of, rows_of}
+use Rattle.switch_names.specs.Ids.{id_max}
+use Rattle.id_memory.specs.Ids.{AreIds, IsPlaceFor, IsSortedList, ids_of, names_of, rows_of}
 use Rattle.switch_names.proofs.Lists.{all_join, all_front, all_back}
 
 abbrev pub pair_of : IdRow → List ℕ × ℕ
 pair_of row = (row.name, row.id)
 
+abbrev name_in : IdRow → List ℕ
+name_in row = row.name
+
+abbrev id_in : IdRow → ℕ
+id_in row = row.id
+
 -- the id that rows give a name
 abbrev look : List IdRow → List ℕ → Option ℕ
-look rows q = lookup (is_at (bytes_cmp q)) (map pair_of rows)
-
-keys_are_names : (rows : List IdRow) → keys_of (map pair_of rows) ≡ names_of rows
-keys_are_names [] = refl
-keys_are_names (row ∷ rows) = ap (λ rest. row.name ∷ rest) (keys_are_names rows)
+look rows q = lists.look name_in id_in rows q
 
 unpaired : (rows : List IdRow) → map (λ (e : List ℕ × ℕ). record { name = e.0; id = e.1 }) (map pair_of rows) ≡ rows
 unpaired [] = refl
@@ -37,7 +41,7 @@ unpaired (row ∷ rows) = ap (λ rest. row ∷ rest) (unpaired rows)
 -- rows in order are the rows of their ids
 pub rows_are : (rows : List IdRow) → IsSortedList rows → rows ≡ rows_of (ids_of rows)
 rows_are rows is =
-    sym (ap (map (λ (e : List ℕ × ℕ). record { name = e.0; id = e.1 })) (ordered_entries (map pair_of rows) (subst (IsStrictlySortedBy bytes_cmp) (sym (keys_are_names rows)) is.sorted))
+    sym (ap (map (λ (e : List ℕ × ℕ). record { name = e.0; id = e.1 })) (ordered_entries (map pair_of rows) (subst (IsStrictlySortedBy bytes_cmp) (sym (lists.keys_are_names name_in id_in rows)) is.sorted))
     ∙ unpaired rows)
 
 bounded_at : (rows : List IdRow) → AllByRecursion (λ row. row.id ≤ id_max) rows → (q : List ℕ) → IfSome (look rows q) (λ id. id ≤ id_max)
@@ -54,141 +58,67 @@ none_is_sorted = record { sorted = none_sorted; bounded = tt }
 
 -- ---- rows round one of them
 
-names_join : (front back : List IdRow) → names_of (front ++ back) ≡ names_of front ++ names_of back
-names_join front back = map-append (λ (row : IdRow). row.name) front back
-
 shadowed : {A : Type 0} (b : Bool) (x y z : A) → cond b x z ≡ cond b x (cond b y z)
 shadowed true x y z = refl
 shadowed false x y z = refl
 
-module _ (x : IdRow) where
-  abbrev AreOther : List IdRow → Type 0
-  AreOther rows = AllByRecursion (λ other. eq_by_cmp bytes_cmp x.name other.name ≡ false) rows
-
-  other_below : (rows : List IdRow) → AreBelow (names_of rows) x.name → AreOther rows
-  other_below [] h = tt
-  other_below (row ∷ rows) h = (apart, other_below rows h.1)
-    where
-      apart : eq_by_cmp bytes_cmp x.name row.name ≡ false
-      apart = elim (same_or_other x.name row.name) [ inl same ↦ absurd (less_other row.name x.name h.0 (sym same)) | inr other ↦ other ]
-
-  other_above : (rows : List IdRow) → AreAbove (names_of rows) x.name → AreOther rows
-  other_above [] h = tt
-  other_above (row ∷ rows) h = (apart, other_above rows h.1)
-    where
-      apart : eq_by_cmp bytes_cmp x.name row.name ≡ false
-      apart = elim (same_or_other x.name row.name) [ inl same ↦ absurd (less_other x.name row.name h.0 same) | inr other ↦ other ]
-
-  -- a row among others
-  look_round : (front back : List IdRow) → AreOther front → (q : List ℕ) →
-      look (front ++ x ∷ back) q ≡ cond (is_at (bytes_cmp x.name) q) (Some x.id) (look (front ++ back) q)
-  look_round [] back h q = ap (λ b. cond b (Some x.id) (look back q)) ((eq_by_cmp_equiv bytes_total).symm q x.name)
-  look_round (row ∷ front) back h q =
-      ap (cond (is_at (bytes_cmp q) row.name) (Some row.id)) (look_round front back h.1 q)
-      ∙ elim (is_at (bytes_cmp x.name) q) as (λ b. is_at (bytes_cmp x.name) q ≡ b →
-      cond (is_at (bytes_cmp q) row.name) (Some row.id) (cond b (Some x.id) (look (front ++ back) q))
-      ≡ cond b (Some x.id) (cond (is_at (bytes_cmp q) row.name) (Some row.id) (look (front ++ back) q))) [
-        | true ↦ λ e. ap (λ b. cond b (Some row.id) (Some x.id)) (apart e)
-        | false ↦ λ e. refl
-      ] refl
-    where
-      apart : is_at (bytes_cmp x.name) q ≡ true → is_at (bytes_cmp q) row.name ≡ false
-      apart e = elim (same_or_other x.name q) [
-        | inl same ↦ subst (λ k. eq_by_cmp bytes_cmp k row.name ≡ false) same h.0
-        | inr other ↦ absurd (both_ways _ other e)
-      ]
-
-  look_others : (rows : List IdRow) → AreOther rows → look rows x.name ≡ None
-  look_others [] h = refl
-  look_others (row ∷ rows) h = ap (λ b. cond b (Some row.id) (look rows x.name)) h.0 ∙ look_others rows h.1
-
-  module _ (front back : List IdRow) where
-    pub around : IsSortedList (front ++ x ∷ back) → AreOther front
-    around is = other_below front (sorted_below (names_of front) x.name (names_of back) (subst (IsStrictlySortedBy bytes_cmp) (names_join front (x ∷ back)) is.sorted))
-
-    -- a name is given its id where it has none
-    put_in :
-        IsSortedList (front ++ back) → AreBelow (names_of front) x.name → AreAbove (names_of back) x.name → x.id ≤ id_max →
-        (ids_of (front ++ x ∷ back) ≡ insert (ids_of (front ++ back)) x.name x.id) × IsSortedList (front ++ x ∷ back)
-    put_in is below above bounded = (
-      given (map pair_of (front ++ back)) (map pair_of (front ++ x ∷ back)) x.name x.id (look_round front back (other_below front below)),
-      record {
-        sorted = subst (IsStrictlySortedBy bytes_cmp) (sym (names_join front (x ∷ back)))
-            (sorted_insert (names_of front) x.name (names_of back) (subst (IsStrictlySortedBy bytes_cmp) (names_join front back) is.sorted) below above);
-        bounded = all_join _ front (x ∷ back) (all_front _ front back is.bounded) (bounded, all_back _ front back is.bounded);
-      },
-    )
+-- a name is given its id where it has none
+put_in :
+    (x : IdRow) (front back : List IdRow) → IsSortedList (front ++ back) → AreBelow (names_of front) x.name → AreAbove (names_of back) x.name → x.id ≤ id_max →
+    (ids_of (front ++ x ∷ back) ≡ insert (ids_of (front ++ back)) x.name x.id) × IsSortedList (front ++ x ∷ back)
+put_in x front back is below above bounded = (
+  lists.put_given name_in id_in x front back below,
+  record {
+    sorted = lists.put_sorted name_in id_in x front back is.sorted below above;
+    bounded = all_join _ front (x ∷ back) (all_front _ front back is.bounded) (bounded, all_back _ front back is.bounded);
+  },
+)
 
 -- a name is given another id
 change_in :
     (x y : IdRow) (front back : List IdRow) → IsSortedList (front ++ x ∷ back) → y.name ≡ x.name → y.id ≤ id_max →
     (ids_of (front ++ y ∷ back) ≡ insert (ids_of (front ++ x ∷ back)) y.name y.id) × IsSortedList (front ++ y ∷ back)
 change_in x y front back is same bounded =
-    let apart = around x front back is in
+    let apart = lists.around name_in id_in x front back is.sorted in
     let apart_y : AllByRecursion (λ other. eq_by_cmp bytes_cmp y.name other.name ≡ false) front =
     subst (λ n. AllByRecursion (λ (other : IdRow). eq_by_cmp bytes_cmp n other.name ≡ false) front) (sym same) apart in (
       given (map pair_of (front ++ x ∷ back)) (map pair_of (front ++ y ∷ back)) y.name y.id
-          (λ q. look_round y front back apart_y q ∙ shadowed (is_at (bytes_cmp y.name) q) (Some y.id) (Some x.id) (look (front ++ back) q)
+          (λ q. lists.look_round name_in id_in y front back apart_y q ∙ shadowed (is_at (bytes_cmp y.name) q) (Some y.id) (Some x.id) (look (front ++ back) q)
           ∙ ap (λ n. cond (is_at (bytes_cmp y.name) q) (Some y.id) (cond (is_at (bytes_cmp n) q) (Some x.id) (look (front ++ back) q))) same
-          ∙ ap (cond (is_at (bytes_cmp y.name) q) (Some y.id)) (sym (look_round x front back apart q))),
+          ∙ ap (cond (is_at (bytes_cmp y.name) q) (Some y.id)) (sym (lists.look_round name_in id_in x front back apart q))),
       record {
-        sorted = subst (IsStrictlySortedBy bytes_cmp) (names_join front (x ∷ back) ∙ ap (λ n. names_of front ++ n ∷ names_of back) (sym same) ∙ sym (names_join front (y ∷ back))) is.sorted;
+        sorted = subst (IsStrictlySortedBy bytes_cmp) (map-append name_in front (x ∷ back) ∙ ap (λ n. names_of front ++ n ∷ names_of back) (sym same) ∙ sym (map-append name_in front (y ∷ back))) is.sorted;
         bounded = all_join _ front (y ∷ back) (all_front _ front (x ∷ back) is.bounded) (bounded, (all_back _ front (x ∷ back) is.bounded).1);
       },
     )
 
 -- ---- by places
 
-below_take : (rows : List IdRow) (name : List ℕ) → AllByRecursion (λ other. bytes_cmp other.name name ≡ Less) rows → AreBelow (names_of rows) name
-below_take [] name h = tt
-below_take (row ∷ rows) name h = (h.0, below_take rows name h.1)
-
-above_drop : (rows : List IdRow) (name : List ℕ) → AllByRecursion (λ other. bytes_cmp name other.name ≡ Less) rows → AreAbove (names_of rows) name
-above_drop [] name h = tt
-above_drop (row ∷ rows) name h = (h.0, above_drop rows name h.1)
-
-option_name : (o : Option IdRow) (name : List ℕ) → option_map (λ (row : IdRow). row.name) o ≡ Some name → (x : IdRow) × (o ≡ Some x) × (x.name ≡ name)
-option_name None name is = absurd (let none : None ≡ Some name = is in cc)
-option_name (Some x) name is = (x, refl, let e : x.name ≡ name = cc in e)
-
--- the row at the place where a name was found
-row_at : (rows : List IdRow) (at : ℕ) (name : List ℕ) → slice_get (names_of rows) at ≡ Some name → (x : IdRow) × (slice_get rows at ≡ Some x) × (x.name ≡ name)
-row_at rows at name is = option_name (slice_get rows at) name (sym (slice_get-map (λ (row : IdRow). row.name) rows at) ∙ is)
-
 -- the place where a name was found is within the rows
 pub place_within : (rows : List IdRow) (at : ℕ) (name : List ℕ) → slice_get (names_of rows) at ≡ Some name → at < length rows
-place_within rows at name is = let row = row_at rows at name is in slice_get_within rows at row.0 row.1
+place_within rows at name is = lists.place_within name_in id_in rows at name is
 
 -- the id of a name that was found
 pub id_at : (rows : List IdRow) (at : ℕ) (name : List ℕ) (d : IdRow) → IsSortedList rows → slice_get (names_of rows) at ≡ Some name
     → Some (get_or rows at d).id ≡ get (ids_of rows) name
 id_at rows at name d is here =
-    let row = row_at rows at name here in
-    let x = row.0 in
-    let split = split_at rows at x row.1 in
-    let front = take at rows in
-    let back = drop (suc at) rows in
-    let apart = around x front back (subst IsSortedList split is) in
-    let looked : look rows name ≡ Some x.id =
-    ap (λ l. look l name) split ∙ look_round x front back apart name
-    ∙ ap (λ b. cond b (Some x.id) (look (front ++ back) name)) (subst (λ u. is_at (bytes_cmp x.name) u ≡ true) row.2 ((eq_by_cmp_equiv bytes_total).refl x.name)) in
-    ap (λ (o : IdRow). Some o.id) (get_or_from_slice_get rows at x d row.1) ∙ sym (found (map pair_of rows) name ∙ looked)
+    let row = lists.item_at name_in id_in rows at name here in
+    ap (λ (o : IdRow). Some o.id) (get_or_from_slice_get rows at row.0 d row.1)
+    ∙ sym (found (map pair_of rows) name ∙ lists.looked_at name_in id_in rows at row.0 name is.sorted row.1 row.2)
 
 -- a name that was not found has no id
 pub none_at : (rows : List IdRow) (name : List ℕ) (at : ℕ) → IsPlaceFor rows name at → get (ids_of rows) name ≡ None
 none_at rows name at place =
     let x : IdRow = record { name = name; id = 0 } in
-    let front = other_below x (take at rows) (below_take (take at rows) name place.lower) in
-    let back = other_above x (drop at rows) (above_drop (drop at rows) name place.higher) in
     found (map pair_of rows) name
-    ∙ look_others x rows (subst (λ (l : List IdRow). AreOther x l) (take-append-drop at rows) (all_join _ _ _ front back))
+    ∙ lists.nothing_at name_in id_in rows at x (lists.below_take name_in id_in (take at rows) name place.lower) (lists.above_drop name_in id_in (drop at rows) name place.higher)
 
 -- the name at a place is given another id
 pub set_at_place :
     (old new : List IdRow) (at : ℕ) (y : IdRow) → IsSortedList old → slice_get (names_of old) at ≡ Some y.name → new ≡ set old at y → y.id ≤ id_max →
     (ids_of new ≡ insert (ids_of old) y.name y.id) × IsSortedList new
 set_at_place old new at y is here now bounded =
-    let row = row_at old at y.name here in
+    let row = lists.item_at name_in id_in old at y.name here in
     let x = row.0 in
     let front = take at old in
     let back = drop (suc at) old in
@@ -208,7 +138,7 @@ pub put_at_place :
 put_at_place old new at y is place now bounded =
     let whole = take-append-drop at old in
     let there = put_in y (take at old) (drop at old) (subst IsSortedList (sym whole) is)
-    (below_take (take at old) y.name place.lower) (above_drop (drop at old) y.name place.higher) bounded in (
+    (lists.below_take name_in id_in (take at old) y.name place.lower) (lists.above_drop name_in id_in (drop at old) y.name place.higher) bounded in (
       ap ids_of now ∙ there.0 ∙ ap (λ l. insert (ids_of l) y.name y.id) whole,
       subst IsSortedList (sym now) there.1,
     )

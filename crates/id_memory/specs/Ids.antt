@@ -7,13 +7,10 @@ use Rattle.std.specs.List.{AllByRecursion}
 use Rattle.std.specs.List.Sorted.{IsStrictlySortedBy}
 use Rattle.std.specs.declared.cmp.Ordering.TheVariants.{Less}
 use Rattle.switch_names.specs.Names.{Name}
+use Rattle.switch_names.specs.Ids.{id_max}
 use Rattle.host_trait.specs.Bytes.{bytes_cmp}
 use Rattle.host_trait.specs.Ids.{Ids}
 use Rattle.id_memory.specs.declared.id_row.IdRow.{IdRow}
-
--- the greatest id: the number after it means none
-abbrev pub id_max : ℕ
-id_max = 4294967294
 
 -- each number is an id
 abbrev pub AreIds : Ids → Type 0

@@ -7,7 +7,8 @@ use Rattle.serde_json.specs.Read.{read}
 use Rattle.serde_json.specs.Written.{compact_text}
 use Rattle.id_memory.specs.declared.id_row.IdRow.{IdRow}
 use Rattle.host_trait.specs.Ids.{Ids}
-use Rattle.id_memory.specs.Ids.{id_max, ids_of, rows_of}
+use Rattle.switch_names.specs.Ids.{id_max}
+use Rattle.id_memory.specs.Ids.{ids_of, rows_of}
 
 -- the id that a value is: a number in digits alone, at most the greatest id
 abbrev pub id_in : Data → Option ℕ

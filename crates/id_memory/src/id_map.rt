@@ -3,7 +3,8 @@ ghost use Rattle.std.specs.Prelude.{◌≡◌, ◌≤◌, None, Some, IfOk, IfSo
 ghost use Rattle.std.specs.FinMap.{empty, get, insert};
 ghost use Rattle.std.specs.List.Sorted.{IsStrictlySortedBy};
 ghost use Rattle.host_trait.specs.Bytes.{bytes_cmp};
-ghost use Rattle.id_memory.specs.Ids.{AreIds, id_max, names_of, rows_of};
+ghost use Rattle.switch_names.specs.Ids.{id_max};
+ghost use Rattle.id_memory.specs.Ids.{AreIds, names_of, rows_of};
 ghost use Rattle.id_memory.specs.Json.{ids_read, ids_text};
 
 use crate::id_fault::IdFault;

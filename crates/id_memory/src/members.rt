@@ -4,7 +4,8 @@ ghost use Rattle.std.specs.List.Sorted.{IsStrictlySortedBy};
 ghost use Rattle.host_trait.specs.Bytes.{bytes_cmp};
 ghost use Rattle.serde_json.specs.Find.{as_object};
 ghost use Rattle.serde_json.specs.View.{view, members_view};
-ghost use Rattle.id_memory.specs.Ids.{IsSortedList, id_max, names_of};
+ghost use Rattle.switch_names.specs.Ids.{id_max};
+ghost use Rattle.id_memory.specs.Ids.{IsSortedList, names_of};
 ghost use Rattle.id_memory.specs.Json.{id_in, members_in, members_of, rows_in, rows_read, rows_text};
 
 use crate::id_fault::IdFault;

@@ -1,7 +1,8 @@
 //! Rows of ids in byte order of their names.
 ghost use Rattle.std.specs.Prelude.{◌≡◌, ◌≤◌, Some, IfOk, IfErr, OnOk, OnErr, slice_get};
 ghost use Rattle.std.specs.FinMap.{get, insert};
-ghost use Rattle.id_memory.specs.Ids.{IsPlaceFor, IsSortedList, id_max, ids_of, names_of};
+ghost use Rattle.switch_names.specs.Ids.{id_max};
+ghost use Rattle.id_memory.specs.Ids.{IsPlaceFor, IsSortedList, ids_of, names_of};
 
 use crate::id_row::IdRow;
 use std::alloc::{AllocError, Global};

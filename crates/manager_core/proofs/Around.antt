@@ -14,7 +14,8 @@ use Rattle.host_trait.specs.declared.unit_state.State.{State}
 use Rattle.host_trait.specs.declared.unit_state.State.TheVariants.{Active, Inactive, Failed}
 use Rattle.host_trait.specs.declared.unit_state.UnitState.{UnitState}
 use Rattle.host_trait.proofs.Places.{alike, bytes_total}
-use Rattle.host_trait.proofs.StateLists.{item_at, list_is, none_at, nothing_removed, put_at_place, set_at_place, split_at, state_at, taken_out}
+use Rattle.host_trait.proofs.SortedLists.{split_at}
+use Rattle.host_trait.proofs.StateLists.{item_at, list_is, none_at, nothing_removed, put_at_place, set_at_place, state_at, taken_out}
 use Rattle.manager_core.specs.StateText.{IsLine, lines_text}
 use Rattle.manager_core.specs.UnitLine.{AreAround, listed_one, unit_text}
 use Rattle.manager_core.specs.declared.line.Line.TheVariants as line

@@ -1,3 +1,4 @@
+pub mod Ids
 pub mod NameFault
 pub mod Names
 pub mod Path

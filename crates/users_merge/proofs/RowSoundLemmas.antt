@@ -6,7 +6,8 @@ use Rattle.std.specs.List.{AllByRecursion, cons_option, filter_map, list_all, li
 use Rattle.std.specs.Option.{option_or, unwrap_or}
 use Rattle.switch_names.specs.Names.{Name, is_name}
 use Rattle.switch_names.specs.Texts.{is_line_feed}
-use Rattle.account_text.specs.Field.{is_colon, is_member, is_plain, is_row_name, max_id}
+use Rattle.switch_names.specs.Ids.{id_max}
+use Rattle.account_text.specs.Field.{is_colon, is_member, is_plain, is_row_name}
 use Rattle.account_text.specs.Group.{group_name, is_group_row}
 use Rattle.account_text.specs.Order.{row_named}
 use Rattle.account_text.specs.Passwd.{is_passwd_row}
@@ -47,15 +48,15 @@ all_names p q more (name ∷ names) all = let parts = and_parts (p name) (list_a
 
 group_parts : (row : GroupRow) → is_group_row row ≡ true → (is_plain row.password ≡ true) × (list_all is_member row.members ≡ true)
 group_parts row is =
-    let front = and_parts (is_row_name row.name && is_plain row.password && nat_le row.gid max_id) (list_all is_member row.members) is in
-    let more = and_parts (is_row_name row.name && is_plain row.password) (nat_le row.gid max_id) front.0 in
+    let front = and_parts (is_row_name row.name && is_plain row.password && nat_le row.gid id_max) (list_all is_member row.members) is in
+    let more = and_parts (is_row_name row.name && is_plain row.password) (nat_le row.gid id_max) front.0 in
     ((and_parts (is_row_name row.name) (is_plain row.password) more.0).1, front.1)
 
 group_made : (users : Name → Bool) (old : Name → Option GroupRow) → ((name : Name) → IfSome (old name) (λ row. is_group_row row ≡ true)) → (one : Given GroupSpec) → IsSoundGroup one.account.now → IsId one.id →
     is_group_row (given_group users old one) ≡ true
 group_made users old sound one group id =
     and_from _ _
-    (and_from _ _ (and_from _ _ (name_is_row_name one.account.now.name group.name) (password (old one.account.now.name) (sound one.account.now.name))) (le-leb one.id max_id id))
+    (and_from _ _ (and_from _ _ (name_is_row_name one.account.now.name group.name) (password (old one.account.now.name) (sound one.account.now.name))) (le-leb one.id id_max id))
     (all_ordered is_member _
     (list_all-append is_member one.account.now.members (filter users (old_members (old one.account.now.name)))
     ∙ and_from _ _ (all_names is_account_name is_member name_is_member one.account.now.members group.members) (all_filter users is_member (old_members (old one.account.now.name)) (members (old one.account.now.name) (sound one.account.now.name)))))
@@ -89,7 +90,7 @@ user_made user id gid is one other =
     and_from _ _
     (and_from _ _
     (and_from _ _
-    (and_from _ _ (and_from _ _ (and_from _ _ (name_is_row_name user.name is.name) refl) (le-leb id max_id one)) (le-leb gid max_id other))
+    (and_from _ _ (and_from _ _ (and_from _ _ (name_is_row_name user.name is.name) refl) (le-leb id id_max one)) (le-leb gid id_max other))
     (plain_is_plain user.description is.description))
     (plain_is_plain user.home is.home))
     (plain_is_plain user.shell is.shell)

@@ -11,7 +11,8 @@ use Rattle.switch_names.specs.Names.{Name, is_name}
 use Rattle.account_text.specs.declared.group.GroupRow.{GroupRow}
 use Rattle.account_text.specs.declared.passwd.PasswdRow.{PasswdRow}
 use Rattle.account_text.specs.declared.tables.Tables.{Tables}
-use Rattle.account_text.specs.Field.{is_plain, is_row_name, is_member, max_id}
+use Rattle.switch_names.specs.Ids.{id_max}
+use Rattle.account_text.specs.Field.{is_plain, is_row_name, is_member}
 use Rattle.account_text.specs.Group.{IsSoundGroup, group_name, is_group_row}
 use Rattle.account_text.specs.Order.{IsInOrder, group_key, passwd_key, row_named}
 use Rattle.account_text.specs.Passwd.{IsSoundPasswd, is_passwd_row, passwd_name}
@@ -82,9 +83,9 @@ module _ (spec : Accounts) (tables : Tables) (remembered : Remembered) (declared
   group_bound : (name : Name) (o : Option GroupRow) → IfSome o (λ row. is_group_row row ≡ true) → IfSome (option_map (λ row. row.gid) o) IsId
   group_bound name None is = tt
   group_bound name (Some row) is =
-      leb-true row.gid max_id
-      (and_parts (is_row_name row.name && is_plain row.password) (nat_le row.gid max_id)
-      (and_parts (is_row_name row.name && is_plain row.password && nat_le row.gid max_id) (list_all is_member row.members) is).0).1
+      leb-true row.gid id_max
+      (and_parts (is_row_name row.name && is_plain row.password) (nat_le row.gid id_max)
+      (and_parts (is_row_name row.name && is_plain row.password && nat_le row.gid id_max) (list_all is_member row.members) is).0).1
 
   pub group_rows_bounded : (table : List GroupRow) → table ≡ tables.group → IsSoundGroup tables.group → (name : Name) → IfSome (row_ids group_name (λ row. row.gid) table name) IsId
   group_rows_bounded table is sound name =
@@ -129,11 +130,11 @@ module _ (spec : Accounts) (tables : Tables) (remembered : Remembered) (declared
   user_bound : (name : Name) (o : Option PasswdRow) → IfSome o (λ row. is_passwd_row row ≡ true) → IfSome (option_map (λ row. row.uid) o) IsId
   user_bound name None is = tt
   user_bound name (Some row) is =
-      let p1 = and_parts (is_row_name row.name && is_plain row.password && nat_le row.uid max_id && nat_le row.gid max_id && is_plain row.gecos && is_plain row.home) (is_plain row.shell) is in
-      let p2 = and_parts (is_row_name row.name && is_plain row.password && nat_le row.uid max_id && nat_le row.gid max_id && is_plain row.gecos) (is_plain row.home) p1.0 in
-      let p3 = and_parts (is_row_name row.name && is_plain row.password && nat_le row.uid max_id && nat_le row.gid max_id) (is_plain row.gecos) p2.0 in
-      let p4 = and_parts (is_row_name row.name && is_plain row.password && nat_le row.uid max_id) (nat_le row.gid max_id) p3.0 in
-      leb-true row.uid max_id (and_parts (is_row_name row.name && is_plain row.password) (nat_le row.uid max_id) p4.0).1
+      let p1 = and_parts (is_row_name row.name && is_plain row.password && nat_le row.uid id_max && nat_le row.gid id_max && is_plain row.gecos && is_plain row.home) (is_plain row.shell) is in
+      let p2 = and_parts (is_row_name row.name && is_plain row.password && nat_le row.uid id_max && nat_le row.gid id_max && is_plain row.gecos) (is_plain row.home) p1.0 in
+      let p3 = and_parts (is_row_name row.name && is_plain row.password && nat_le row.uid id_max && nat_le row.gid id_max) (is_plain row.gecos) p2.0 in
+      let p4 = and_parts (is_row_name row.name && is_plain row.password && nat_le row.uid id_max) (nat_le row.gid id_max) p3.0 in
+      leb-true row.uid id_max (and_parts (is_row_name row.name && is_plain row.password) (nat_le row.uid id_max) p4.0).1
 
   pub user_rows_bounded : (table : List PasswdRow) → table ≡ tables.passwd → IsSoundPasswd tables.passwd → (name : Name) → IfSome (row_ids passwd_name (λ row. row.uid) table name) IsId
   user_rows_bounded table is sound name =

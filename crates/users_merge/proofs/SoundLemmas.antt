@@ -6,7 +6,8 @@ use Rattle.std.proofs.Math.Bool.{or-true}
 use Rattle.std.specs.List.{list_all, list_any}
 use Rattle.switch_names.specs.Names.{Name, has, is_name}
 use Rattle.switch_names.specs.Texts.{is_empty, is_line_feed}
-use Rattle.account_text.specs.Field.{is_colon, is_comma, is_member, is_row_name, max_id}
+use Rattle.switch_names.specs.Ids.{id_max}
+use Rattle.account_text.specs.Field.{is_colon, is_comma, is_member, is_row_name}
 use Rattle.account_text.specs.Field as field
 use Rattle.users_spec.specs.AccountName.{is_account_name, is_no_field_byte, is_no_name_byte, is_sign}
 use Rattle.users_spec.specs.AccountName as declared

@@ -1,6 +1,6 @@
 -- Declared accounts with the ids that they get.
 use Rattle.std.specs.Prelude.{ℕ, ◌≤◌, List, map}
-use Rattle.id_memory.specs.Ids.{id_max}
+use Rattle.switch_names.specs.Ids.{id_max}
 use Rattle.users_merge.specs.declared.giving.Given.{Given}
 
 -- the ids, in the order of declaration

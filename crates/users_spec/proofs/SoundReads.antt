@@ -8,7 +8,8 @@ use Rattle.std.specs.Option.{ok_or, option_map_or}
 use Rattle.serde_json.specs.Data.{Data}
 use Rattle.serde_json.specs.Find.{get, as_str, as_number, as_u64}
 use Rattle.switch_names.specs.Names.{has}
-use Rattle.users_spec.specs.AccountName.{id_max, is_plain, is_account_name, are_distinct}
+use Rattle.switch_names.specs.Ids.{id_max}
+use Rattle.users_spec.specs.AccountName.{is_plain, is_account_name, are_distinct}
 use Rattle.users_spec.specs.Fields.{Read, ◌>>=◌, read_and_then, Form, field, present, if_any, or_default, as_id, as_plain, name_at, names_at, once, read_each}
 use Rattle.users_spec.specs.declared.place.Place.{Place}
 use Rattle.users_spec.specs.declared.spec_fault.SpecFault.{SpecFault}

@@ -3,10 +3,6 @@ use Rattle.std.specs.Prelude.{ℕ, ◌&&◌, ◌||◌, ◌==◌, not, Bool, true
 use Rattle.std.specs.List.{list_any}
 use Rattle.switch_names.specs.Names.{has}
 
--- the greatest id, one below the one that stands for no user in chown(2)
-abbrev pub id_max : ℕ
-id_max = 4294967294
-
 -- a blank or a control byte, DEL, a colon or a comma
 abbrev pub is_no_name_byte : ℕ → Bool
 is_no_name_byte byte = nat_lt byte 33 || byte == 127 || byte == 58 || byte == 44

@@ -5,7 +5,8 @@ use Rattle.std.specs.Option.{ok_or, option_map_or}
 use Rattle.serde_json.specs.Data.{Data, Items, no_items, item}
 use Rattle.serde_json.specs.Find.{get, as_null, as_number, as_u64, as_str, as_array, as_object}
 use Rattle.switch_names.specs.Names.{has}
-use Rattle.users_spec.specs.AccountName.{id_max, is_plain, is_account_name}
+use Rattle.switch_names.specs.Ids.{id_max}
+use Rattle.users_spec.specs.AccountName.{is_plain, is_account_name}
 use Rattle.users_spec.specs.declared.place.Place.{Place}
 use Rattle.users_spec.specs.declared.spec_fault.SpecFault.{SpecFault}
 use Rattle.users_spec.specs.declared.spec_fault.SpecFault.TheVariants.{Field, Twice, Name, Memory}

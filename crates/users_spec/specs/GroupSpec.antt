@@ -2,7 +2,8 @@
 use Rattle.std.specs.Prelude.{◌≡◌, ◌≤◌, ℕ, true, List, map, length, codes, IfSome, Ok}
 use Rattle.std.specs.List.{list_all}
 use Rattle.serde_json.specs.Data.{Data}
-use Rattle.users_spec.specs.AccountName.{id_max, is_account_name}
+use Rattle.switch_names.specs.Ids.{id_max}
+use Rattle.users_spec.specs.AccountName.{is_account_name}
 use Rattle.users_spec.specs.Place.{place_number}
 use Rattle.users_spec.specs.Fields.{Read, ◌>>=◌, field, if_any, as_id, object_at, name_at, names_at, once}
 use Rattle.users_spec.specs.declared.place.Place.{Place}

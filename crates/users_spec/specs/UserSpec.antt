@@ -2,7 +2,8 @@
 use Rattle.std.specs.Prelude.{◌≡◌, ◌≤◌, ℕ, Bool, true, false, List, [], map, length, codes, Option, IfSome, Ok}
 use Rattle.serde_json.specs.Data.{Data}
 use Rattle.serde_json.specs.Find.{as_bool}
-use Rattle.users_spec.specs.AccountName.{id_max, is_account_name, is_plain}
+use Rattle.switch_names.specs.Ids.{id_max}
+use Rattle.users_spec.specs.AccountName.{is_account_name, is_plain}
 use Rattle.users_spec.specs.Place.{place_number}
 use Rattle.users_spec.specs.Fields.{Read, ◌>>=◌, field, if_any, or_default, left_out, as_id, as_plain, object_at, name_at, once}
 use Rattle.users_spec.specs.declared.place.Place.{Place}

@@ -1,5 +1,5 @@
 use Rattle.std.proofs.Common.{◌≤◌, IfSome, sym, subst}
-use Rattle.id_memory.specs.Ids.{id_max}
+use Rattle.switch_names.specs.Ids.{id_max}
 use Rattle.id_memory.proofs.RowLemmas.{are_ids}
 use Rattle.id_memory.proofs.id_map.IdMap.get.Goals as goal
 
