@@ -1,5 +1,5 @@
 -- The texts of accounts that are declared are UTF-8.
-use Rattle.std.proofs.Common.{◌≡◌, ℕ, ◌&&◌, Bool, true, false, cond, List, [], ◌∷◌, ◌++◌, Option, None, Some, IfSome, Ok, refl, subst, ◌∙◌}
+use Rattle.std.proofs.Common.{◌≡◌, ℕ, Bool, true, false, cond, List, [], ◌∷◌, ◌++◌, Option, None, Some, IfSome, Ok, refl, subst, ◌∙◌}
 use Rattle.std.proofs.lemmas.Bool.{and_from, and_parts}
 use Rattle.std.proofs.lemmas.List.Folds.{list_all-append}
 use Rattle.std.proofs.lemmas.Str.{IsUtf8-from_is_utf8, is_utf8-from_IsUtf8}
@@ -16,37 +16,18 @@ use Rattle.users_spec.specs.declared.user_spec.UserSpec.{UserSpec}
 use Rattle.users_spec.specs.Fields.{Read, as_list, as_plain, if_any, needed, or_default, read_each}
 use Rattle.users_spec.specs.GroupSpec.{group_after, group_at}
 use Rattle.users_spec.specs.Spec.{Accounts, accounts_in, accounts_of, json_of}
-use Rattle.users_spec.specs.UserSpec.{empty_home, hashes_at, nologin, user_after, user_at, user_named, user_with}
-use Rattle.users_spec.proofs.SoundReads.{bound, same_read}
+use Rattle.users_spec.specs.UserSpec.{empty_home, nologin, user_after, user_at}
+use Rattle.users_spec.proofs.AccountReads.{accounts_are_read, group_is_read, user_is_read}
+use Rattle.users_spec.proofs.SoundReads.{bound}
 use Rattle.accounts_stage.proofs.JsonTextLemmas.{is_data_text, read_texts}
 use Rattle.accounts_stage.proofs.MergedRowLemmas.{is_group_spec_text, is_some_text, is_user_spec_text}
 use Rattle.accounts_stage.proofs.TextLemmas.{empty_text}
 use Rattle.accounts_stage.proofs.FieldTextLemmas.{IsText, IsValue, any_text, default_text, field_text, name_text, names_text, needed_list}
 
 group_text : (place : Place) (earlier : List (List ℕ)) (d : Data) (group : GroupSpec) → IsValue d → group_at place earlier d ≡ Ok group → is_group_spec_text group ≡ true
-unfolding group_at
 group_text place earlier d group is h =
-    let object = bound _ _ _ h in
-    let name = bound _ _ _ object.2 in
-    let new = bound _ _ _ name.2 in
-    let gid = bound _ _ _ new.2 in
-    let members = bound _ _ _ gid.2 in
-    let same = same_read _ _ members.2 in
-    subst (λ (g : GroupSpec). is_group_spec_text g ≡ true) same (and_from _ _ (name_text _ _ d name.0 is name.1) (names_text _ _ d members.0 is members.1))
-
--- both hashes are UTF-8
-abbrev are_hash_texts : Option (List ℕ) × Option (List ℕ) → Bool
-are_hash_texts hashes = is_some_text hashes.0 && is_some_text hashes.1
-
-hash_texts : (place : Place) (d : Data) (hashes : Option (List ℕ) × Option (List ℕ)) → IsValue d → hashes_at place d ≡ Ok hashes → are_hash_texts hashes ≡ true
-unfolding hashes_at
-hash_texts place d hashes is h =
-    let hashed = bound _ _ _ h in
-    let initial = bound _ _ _ hashed.2 in
-    let none = bound _ _ _ initial.2 in
-    let same = same_read _ _ none.2 in
-    subst (λ both. are_hash_texts both ≡ true) same
-    (and_from _ _ (field_text (λ text. is_some_text text ≡ true) (if_any as_plain) _ _ d hashed.0 any_text is hashed.1) (field_text (λ text. is_some_text text ≡ true) (if_any as_plain) _ _ d initial.0 any_text is initial.1))
+    let read = group_is_read place earlier d group h in
+    and_from _ _ (name_text _ _ d group.name is read.name) (names_text _ _ d group.members is read.members)
 
 home_text : IsText empty_home
 home_text = is_utf8-from_IsUtf8 empty_home (IsUtf8-are_ascii empty_home refl)
@@ -54,33 +35,18 @@ home_text = is_utf8-from_IsUtf8 empty_home (IsUtf8-are_ascii empty_home refl)
 shell_text : IsText nologin
 shell_text = is_utf8-from_IsUtf8 nologin (IsUtf8-are_ascii nologin refl)
 
-named_text : (name : List ℕ) (place : Place) (d : Data) (user : UserSpec) → IsText name → IsValue d → user_named name place d ≡ Ok user → is_user_spec_text user ≡ true
-unfolding user_named
-named_text name place d user named is h =
-    let group = bound _ _ _ h in
-    let uid = bound _ _ _ group.2 in
-    let system = bound _ _ _ uid.2 in
-    let description = bound _ _ _ system.2 in
-    let home = bound _ _ _ description.2 in
-    let shell = bound _ _ _ home.2 in
-    let hashes = bound _ _ _ shell.2 in
-    let made : UserSpec = user_with name uid.0 group.0 system.0 description.0 home.0 shell.0 hashes.0.0 hashes.0.1 in
-    let same = same_read made user hashes.2 in
-    subst (λ (u : UserSpec). is_user_spec_text u ≡ true) {x = made} same
-    (and_from _ _
-    (and_from _ _ named
-    (and_from _ _ (field_text IsText (or_default [] as_plain) _ _ d description.0 (default_text [] empty_text) is description.1)
-    (and_from _ _ (field_text IsText (or_default empty_home as_plain) _ _ d home.0 (default_text empty_home home_text) is home.1)
-    (and_from _ _ (field_text IsText (or_default nologin as_plain) _ _ d shell.0 (default_text nologin shell_text) is shell.1) refl))))
-    (hash_texts place d hashes.0 is hashes.1))
-
 user_text : (place : Place) (earlier : List (List ℕ)) (d : Data) (user : UserSpec) → IsValue d → user_at place earlier d ≡ Ok user → is_user_spec_text user ≡ true
-unfolding user_at
 user_text place earlier d user is h =
-    let object = bound _ _ _ h in
-    let name = bound _ _ _ object.2 in
-    let new = bound _ _ _ name.2 in
-    named_text name.0 place d user (name_text _ _ d name.0 is name.1) is new.2
+    let read = user_is_read place earlier d user h in
+    let named = read.named in
+    and_from _ _
+    (and_from _ _ (name_text _ _ d user.name is read.name)
+    (and_from _ _ (field_text IsText (or_default [] as_plain) _ _ d user.description (default_text [] empty_text) is named.description)
+    (and_from _ _ (field_text IsText (or_default empty_home as_plain) _ _ d user.home (default_text empty_home home_text) is named.home)
+    (and_from _ _ (field_text IsText (or_default nologin as_plain) _ _ d user.shell (default_text nologin shell_text) is named.shell) refl))))
+    (and_from _ _
+    (field_text (λ text. is_some_text text ≡ true) (if_any as_plain) _ _ d user.hashed any_text is named.hashes.hashed)
+    (field_text (λ text. is_some_text text ≡ true) (if_any as_plain) _ _ d user.initial any_text is named.hashes.initial))
 
 -- what is read one after another has such texts
 module _ {A : Type 0} (p : A → Bool) (reading : List A → Data → Read A) (reads : (before : List A) (d : Data) (x : A) → IsValue d → reading before d ≡ Ok x → p x ≡ true) where
@@ -97,21 +63,14 @@ pub record AreSpecTexts (spec : Accounts) : Type 0 where
   pub users : list_all is_user_spec_text spec.users ≡ true
 
 accounts_text : (d : Data) (spec : Accounts) → IsValue d → accounts_in d ≡ Ok spec → AreSpecTexts spec
-unfolding accounts_in
 accounts_text d spec is h =
-    let object = bound _ _ _ h in
-    let mutable = bound _ _ _ object.2 in
-    let group_values = bound _ _ _ mutable.2 in
-    let user_values = bound _ _ _ group_values.2 in
-    let groups = bound _ _ _ user_values.2 in
-    let users = bound _ _ _ groups.2 in
-    let same = same_read _ _ users.2 in
-    subst AreSpecTexts same (record {
-      groups = each_text is_group_spec_text group_after (λ before v x good at. group_text _ _ v x good at) [] group_values.0 groups.0 refl
-          (field_text (λ ds. list_all is_data_text ds ≡ true) (needed as_list) _ _ d group_values.0 needed_list is group_values.1) groups.1;
-      users = each_text is_user_spec_text user_after (λ before v x good at. user_text _ _ v x good at) [] user_values.0 users.0 refl
-          (field_text (λ ds. list_all is_data_text ds ≡ true) (needed as_list) _ _ d user_values.0 needed_list is user_values.1) users.1;
-    })
+    let read = accounts_are_read d spec h in
+    record {
+      groups = each_text is_group_spec_text group_after (λ before v x good at. group_text _ _ v x good at) [] read.group_values spec.groups refl
+          (field_text (λ ds. list_all is_data_text ds ≡ true) (needed as_list) _ _ d read.group_values needed_list is read.group_list) read.groups;
+      users = each_text is_user_spec_text user_after (λ before v x good at. user_text _ _ v x good at) [] read.user_values spec.users refl
+          (field_text (λ ds. list_all is_data_text ds ≡ true) (needed as_list) _ _ d read.user_values needed_list is read.user_list) read.users;
+    }
 
 json_text : (bytes : List ℕ) (d : Data) → json_of bytes ≡ Ok d → IsValue d
 unfolding json_of
