@@ -1,5 +1,5 @@
 -- Names below etc, and the places that they stand for.
-use Rattle.std.proofs.Common.{◌≡◌, ◌≢◌, ℕ, ◌||◌, Bool, true, false, cond, List, [], ◌∷◌, ◌++◌, map, codes, nat_eq, is_some, refl, sym, ap, subst, ◌∙◌, inl, inr}
+use Rattle.std.proofs.Common.{◌≡◌, ◌≢◌, ℕ, ◌||◌, Bool, true, false, cond, List, [], ◌∷◌, ◌++◌, map, codes, nat_eq, None, Some, is_some, refl, sym, ap, subst, ◌∙◌, inl, inr}
 use Rattle.std.proofs.lemmas.Bool.{both_ways, cases_Bool, or_left, or_right}
 use Rattle.std.proofs.lemmas.Bool.Decides.{Decides-eqb}
 use Rattle.std.proofs.lemmas.Slice.Eq.{starts_is}
@@ -7,12 +7,14 @@ use Rattle.std.specs.FinMap.{contains_key-keys, keys}
 use Rattle.std.specs.List.{filter, list_any, starts_with}
 use Rattle.std.specs.Ordering.{eq_by_cmp}
 use Rattle.switch_names.specs.Names.{Name, has, is_name}
+use Rattle.switch_names.specs.Path.{name_below}
 use Rattle.host_trait.specs.World.{Leaves, bytes_cmp}
 use Rattle.host_trait.proofs.Places.{same_or_other}
 use Rattle.host_trait.proofs.Seen.{other_of}
 use Rattle.host_trait.proofs.NameOrder.{passes_among}
 use Rattle.etc_manifest.specs.Place.{is_reserved, reserved_names}
-use Rattle.etc_clean.specs.Names.{etc_names, is_in_etc, name_of, names_below, place}
+use Rattle.etc_manifest.proofs.NameLemmas.{below_is_after}
+use Rattle.etc_clean.specs.Names.{etc_folder, etc_names, is_in_etc, name_of, names_below, place}
 use Rattle.etc_clean.specs.CleanList.{clean_name}
 use Rattle.etc_clean.specs.Etc.{static_name}
 use Rattle.etc_clean.specs.Farm.{at}
@@ -25,6 +27,11 @@ in_etc k is = (starts_is Decides-eqb k (codes "etc/") (starts_with nat_eq k (cod
 pub place_in_etc : (q : Name) → is_in_etc (place q) ≡ true
 unfolding is_in_etc place
 place_in_etc q = (starts_is Decides-eqb (codes "etc/" ++ q) (codes "etc/") (starts_with nat_eq (codes "etc/" ++ q) (codes "etc/")) refl).1 q refl
+
+-- the name of a path in etc is what it has after the folder and a slash
+pub name_after : (path : List ℕ) → name_below etc_folder path ≡ cond (is_in_etc path) (Some (name_of path)) None
+unfolding etc_folder is_in_etc name_of
+name_after path = below_is_after (codes "etc") path
 
 -- places are compared as their names are
 pub place_cmp : (p q : Name) → bytes_cmp (place p) (place q) ≡ bytes_cmp p q

@@ -27,16 +27,9 @@ pub fn etc_place(alloc: Global, name: &Path) -> Result<Path, AllocError>
 }
 
 /// The name below `etc` that a path has, where it has one.
-#[tactic(auto, unfolding(crate::specs::Names::is_in_etc, crate::specs::Names::name_of))]
 pub fn name_in_etc(alloc: Global, path: &Path) -> Result<Option<Path>, AllocError>
     ensures { IfOk result (λ name. name ≡ (if is_in_etc path.now then Some (name_of path.now) else None)) }
 {
-    let Some(name) = path.as_str().strip_prefix("etc/") else {
-        return Ok(None);
-    };
-    // What a path has after a slash is a path, so that memory alone can be wanting.
-    match Path::parse(alloc, name) {
-        Ok(name) => Ok(Some(name)),
-        Err(_) => Err(AllocError),
-    }
+    let folder = etc_folder(alloc)?;
+    path.name_below(alloc, &folder)
 }
