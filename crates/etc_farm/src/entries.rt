@@ -44,23 +44,6 @@ fn item_leaf(alloc: Global, item: &Item) -> Result<Leaf, AllocError>
     }
 }
 
-/// Puts a leaf at a name below `etc`, where another leaf or none stands there.
-pub fn put_name<T: Tree>(
-    alloc: Global,
-    host: &mut T,
-    name: &Path,
-    leaf: &Leaf,
-) -> Result<(), HostFault>
-    requires { Told (T.host host.old) (CanPut (place name.now)) }
-    ensures ok { OnOk result (Comes (T.host host.old) (T.host host.new) (with_leaf (place name.now) leaf.now)) }
-    ensures moments { Passes (T.host host.old) (T.host host.new) (IsOldOrNew (place name.now) leaf.now) }
-    ensures cause { HasCause (T.host host.old) (T.host host.new) result }
-{
-    let at = etc_place(alloc, name)?;
-    put_if_other(alloc, host, &at, leaf)?;
-    Ok(())
-}
-
 /// Puts what stands at an entry, where another leaf or none stands there.
 fn put_item<T: Tree>(alloc: Global, host: &mut T, item: &Item) -> Result<(), HostFault>
     requires { Told (T.host host.old) (CanPut (place item.now.place)) }
@@ -69,7 +52,8 @@ fn put_item<T: Tree>(alloc: Global, host: &mut T, item: &Item) -> Result<(), Hos
     ensures cause { HasCause (T.host host.old) (T.host host.new) result }
 {
     let leaf = item_leaf(alloc, item)?;
-    put_name(alloc, host, &item.place, &leaf)?;
+    let at = etc_place(alloc, &item.place)?;
+    put_if_other(alloc, host, &at, &leaf)?;
     Ok(())
 }
 
