@@ -1,20 +1,24 @@
 -- Names in byte order.
-use Rattle.std.proofs.Common.{◌≡◌, ◌⊎◌, ℕ, zero, suc, ◌+◌, ◌-◌, ◌<◌, ◌≤◌, ◌||◌, ◌&&◌, Bool, true, false, cond, List, [], ◌∷◌, ◌++◌, length, get_or, take, drop, map, Bor, codes, nat_eq, Option, None, Some, IfSome, Result, Ok, Err, refl, sym, ap, subst, ◌∙◌, inl, inr, arith, append_assoc}
+use Rattle.std.proofs.Common.{◌≡◌, ◌⊎◌, ℕ, zero, suc, ◌+◌, ◌-◌, ◌<◌, ◌||◌, ◌&&◌, Bool, true, false, cond, List, [], ◌∷◌, ◌++◌, length, get_or, take, drop, map, Bor, codes, nat_eq, Option, None, Some, IfSome, Result, Ok, Err, refl, sym, ap, subst, ◌∙◌, inl, inr, arith, append_assoc}
 use Rattle.std.specs.FinMap.{nat_cmp-IsAntisymmetric}
 use Rattle.std.specs.List.{AllByRecursion, cons_option, filter, filter_map, slice_get, starts_with}
 use Rattle.std.specs.Slice.{IsItemAt}
-use Rattle.std.specs.List.Sorted.{IsBinarySearchResult, IsSearchInRange, IsStrictlySortedBy}
+use Rattle.std.specs.List.Retain.{DiffersFromLast, IsFiltered}
+use Rattle.std.specs.List.Sorted.{IsBinarySearchResult, IsSearchInRange, IsSorted, IsStrictlySortedBy}
+use Rattle.std.specs.Cmp.Lexicographic.{pointwise, texts_ties}
 use Rattle.std.specs.Ordering.{is_eq, nat_cmp, ordering_reverse, ordering_then}
-use Rattle.std.specs.Result.{is_ok, result_err}
+use Rattle.std.specs.Result.{is_ok}
 use Rattle.std.specs.declared.cmp.Ordering.{Ordering}
 use Rattle.std.specs.declared.cmp.Ordering.TheVariants.{Less, Equal, Greater}
 use Rattle.std.proofs.lemmas.Bool.{both_ways, or_right, or_cases}
 use Rattle.std.proofs.lemmas.Bool.Decides.{Decides-eqb}
 use Rattle.std.proofs.lemmas.Cmp.{nat_cmp_total, tied_itself}
 use Rattle.std.proofs.Math.Seq.{drop-cons}
-use Rattle.std.proofs.lemmas.List.{append-nil, drop_all, drop_at, take-append-drop, take_all, take_more}
+use Rattle.std.proofs.lemmas.List.{append-nil, drop_at, take-append-drop, take_more}
 use Rattle.std.proofs.lemmas.List.Elements.{filter_map-append}
+use Rattle.std.proofs.lemmas.List.Filters.{dedup_is}
 use Rattle.std.proofs.lemmas.List.Folds.{list_any-append}
+use Rattle.std.proofs.lemmas.List.Kept.{IsStrictlySortedBy-dedup}
 use Rattle.std.proofs.lemmas.Option.{slice_get_past, slice_get_read}
 use Rattle.std.proofs.lemmas.Slice.Eq.{starts_is}
 use Rattle.switch_names.specs.Names.{has, is_name}
@@ -124,19 +128,12 @@ module _ (front : List ℕ) where
 
 -- ---- names that are added in order
 
--- one name more, of paths in order
-one_after : (front : List ℕ) (before : List (List ℕ)) (path : List ℕ) (after : List (List ℕ)) (name : List ℕ) →
-    IsStrictlySortedBy bytes_cmp (before ++ path ∷ after) → Some name ≡ after_front front path →
-    AreBelow (filter_map (after_front front) before) name × (filter_map (after_front front) (before ++ path ∷ []) ≡ filter_map (after_front front) before ++ name ∷ [])
-one_after front before path after name sorted is =
-    let all : IsStrictlySortedBy bytes_cmp (filter_map (after_front front) before ++ name ∷ filter_map (after_front front) after) =
-    subst (IsStrictlySortedBy bytes_cmp) (parts after) (sorted_after front (before ++ path ∷ after) sorted) in
-    (sorted_below (filter_map (after_front front) before) name (filter_map (after_front front) after) all, parts [])
-  where
-    parts : (rest : List (List ℕ)) → filter_map (after_front front) (before ++ path ∷ rest) ≡ filter_map (after_front front) before ++ name ∷ filter_map (after_front front) rest
-    parts rest =
-        filter_map-append (after_front front) before (path ∷ rest)
-        ∙ ap (λ o. filter_map (after_front front) before ++ cons_option o (filter_map (after_front front) rest)) (sym is)
+-- one name more
+more_after : (front : List ℕ) (before : List (List ℕ)) (path : List ℕ) (after : List (List ℕ)) (name : List ℕ) → Some name ≡ after_front front path →
+    filter_map (after_front front) (before ++ path ∷ after) ≡ filter_map (after_front front) before ++ name ∷ filter_map (after_front front) after
+more_after front before path after name is =
+    filter_map-append (after_front front) before (path ∷ after)
+    ∙ ap (λ o. filter_map (after_front front) before ++ cons_option o (filter_map (after_front front) after)) (sym is)
 
 -- a path without the front adds no name
 pub none_after : (front : List ℕ) (before : List (List ℕ)) (path : List ℕ) → None ≡ after_front front path →
@@ -156,14 +153,17 @@ module _ (front : List ℕ) (paths : List (List ℕ)) (i : ℕ) (path : List ℕ
   taken : take (i + 1) paths ≡ take i paths ++ path ∷ []
   taken = take_more paths i path within ∙ ap (λ p. take i paths ++ p ∷ []) (sym is)
 
-  -- the name of one path more comes last
-  pub next_after : (name : List ℕ) (old : List (List ℕ)) → Some name ≡ after_front front path → IsStrictlySortedBy bytes_cmp paths → old ≡ filter_map (after_front front) (take i paths) →
-      AreBelow old name × (old ++ name ∷ [] ≡ filter_map (after_front front) (take (i + 1) paths))
-  next_after name old named sorted so_far =
-      let both = one_after front (take i paths) path (drop (i + 1) paths) name (subst (IsStrictlySortedBy bytes_cmp) split sorted) named in (
-        subst (λ names. AreBelow names name) (sym so_far) both.0,
-        ap (λ names. names ++ name ∷ []) so_far ∙ sym both.1 ∙ ap (filter_map (after_front front)) (sym taken),
-      )
+  -- the name of one path more is added at the end
+  pub next_after : (name : List ℕ) (old new : List (List ℕ)) → Some name ≡ after_front front path → old ≡ filter_map (after_front front) (take i paths) → new ≡ old ++ name ∷ [] →
+      new ≡ filter_map (after_front front) (take (i + 1) paths)
+  next_after name old new named so_far pushed =
+      pushed ∙ ap (λ names. names ++ name ∷ []) so_far ∙ sym (more_after front (take i paths) path [] name named) ∙ ap (filter_map (after_front front)) (sym taken)
+
+  -- and comes after them, where the paths are in order
+  pub comes_after : (name : List ℕ) (old : List (List ℕ)) → Some name ≡ after_front front path → old ≡ filter_map (after_front front) (take i paths) → IsStrictlySortedBy bytes_cmp paths → AreBelow old name
+  comes_after name old named so_far sorted =
+      let all = subst (IsStrictlySortedBy bytes_cmp) (ap (filter_map (after_front front)) split ∙ more_after front (take i paths) path (drop (i + 1) paths) name named) (sorted_after front paths sorted) in
+      subst (λ names. AreBelow names name) (sym so_far) (sorted_below (filter_map (after_front front) (take i paths)) name (filter_map (after_front front) (drop (i + 1) paths)) all)
 
   -- a path without the front leaves the names as they are
   pub same_after : (old : List (List ℕ)) → None ≡ after_front front path → old ≡ filter_map (after_front front) (take i paths) → old ≡ filter_map (after_front front) (take (i + 1) paths)
@@ -203,13 +203,10 @@ all_at P (n ∷ names) (suc at) name all there = all_at P names at name all.1 th
 pub name_at : (names : List (List ℕ)) (at : ℕ) (one name : List ℕ) → at < length names → one ≡ get_or names at one → slice_get names at ≡ Some name → one ≡ name
 name_at names at one name within is there = let both : Some one ≡ Some name = sym (slice_get_read names (length names) at one refl within is) ∙ there in cc
 
--- ---- where a name belongs among others
+-- ---- names that come after others
 
--- the place is between those below the name and those above it
-abbrev pub AreAround : List (List ℕ) → List ℕ → ℕ → Type 0
-AreAround names name at = (at ≤ length names) × AreBelow (take at names) name × AreAbove (drop at names) name
-
-below_past : (names : List (List ℕ)) (last name : List ℕ) → IsStrictlySortedBy bytes_cmp names → slice_get names (length names - 1) ≡ Some last → bytes_cmp last name ≡ Less → AreBelow names name
+-- what is above the last name is above all
+pub below_past : (names : List (List ℕ)) (last name : List ℕ) → IsStrictlySortedBy bytes_cmp names → slice_get names (length names - 1) ≡ Some last → bytes_cmp last name ≡ Less → AreBelow names name
 unfolding IsStrictlySortedBy
 below_past [] last name sorted there less = absurd (cc)
 below_past (n ∷ []) last name sorted there less = let same : n ≡ last = cc in (subst (λ k. bytes_cmp k name ≡ Less) (sym same) less, tt)
@@ -218,34 +215,19 @@ below_past (n ∷ m ∷ names) last name sorted there less =
     let rest = below_past (m ∷ names) last name sorted.1 (sym (ap (slice_get (n ∷ m ∷ names)) at) ∙ there) less in
     (bytes_total.trans n m name sorted.0.0 rest.0, rest)
 
--- what is above the last name comes last
-pub last_around : (names : List (List ℕ)) (last name : List ℕ) → IsStrictlySortedBy bytes_cmp names → slice_get names (length names - 1) ≡ Some last → bytes_cmp last name ≡ Less → AreAround names name (length names)
-last_around names last name sorted there less = (
-  omega arith,
-  subst (λ ns. AreBelow ns name) (sym (take_all (length names) names (omega arith))) (below_past names last name sorted there less),
-  subst (λ ns. AreAbove ns name) (sym (drop_all (length names) names (omega arith))) tt,
-)
-
--- a search that finds no name ends where it belongs
-pub cut_around : (names : List (List ℕ)) (name : List ℕ) (r : Result ℕ ℕ) → IsStrictlySortedBy bytes_cmp names → IsSearchInRange r (length names) →
-    IsBinarySearchResult (λ other. bytes_cmp other name) names r → IfSome (result_err r) (AreAround names name)
-cut_around names name (Ok at) sorted within found = tt
-cut_around names name (Err at) sorted within found = missing_name (λ n. n) names name (Err at) (subst (IsStrictlySortedBy bytes_cmp) (sym (map_self names)) sorted) within found
-
 -- a name comes not last where the last isn't below it
 pub not_last : {X : Type 0} (names : List (List ℕ)) (last name : List ℕ) → slice_get names (length names - 1) ≡ Some last → (bytes_cmp last name ≡ Less → ⊥) → AreBelow names name → X
 not_last names last name there other below = absurd (other (all_at (λ k. bytes_cmp k name ≡ Less) names (length names - 1) last below there))
 
--- a name is put where it belongs
-pub put_sorted : (names new : List (List ℕ)) (name : List ℕ) (at : ℕ) → IsStrictlySortedBy bytes_cmp names → AreAround names name at → new ≡ take at names ++ name ∷ drop at names → IsStrictlySortedBy bytes_cmp new
-put_sorted names new name at sorted around put =
-    subst (IsStrictlySortedBy bytes_cmp) (sym put)
-    (sorted_insert (take at names) name (drop at names) (subst (IsStrictlySortedBy bytes_cmp) (sym (take-append-drop at names)) sorted) around.1 around.2)
+-- names in order stay so with one that comes after them
+pub sorted_more : (names new : List (List ℕ)) (name : List ℕ) → IsStrictlySortedBy bytes_cmp names → AreBelow names name → new ≡ names ++ name ∷ [] → IsStrictlySortedBy bytes_cmp new
+sorted_more names new name sorted below pushed =
+    subst (IsStrictlySortedBy bytes_cmp) (sym pushed) (sorted_insert names name [] (subst (IsStrictlySortedBy bytes_cmp) (sym (append-nil names)) sorted) below tt)
 
-pub put_last : (names new : List (List ℕ)) (name : List ℕ) (at : ℕ) → Some at ≡ Some (length names) → new ≡ take at names ++ name ∷ drop at names → new ≡ names ++ name ∷ []
-put_last names new name at last put =
-    let past : at ≡ length names = cc in
-    put ∙ (λ i. take_all at names (omega (arith, past)) i ++ name ∷ drop_all at names (omega (arith, past)) i)
+-- sorted names are in order, each once, when those that are repeated are let go
+pub sorted_once : (names new : List (List ℕ)) → IsSorted bytes_cmp names → IsFiltered (DiffersFromLast (pointwise nat_eq)) [] names new → IsStrictlySortedBy bytes_cmp new
+sorted_once names new sorted once =
+    subst (IsStrictlySortedBy bytes_cmp) (sym (dedup_is (pointwise nat_eq) names new once)) (IsStrictlySortedBy-dedup bytes_total texts_ties names sorted)
 
 -- ---- names that begin with another
 

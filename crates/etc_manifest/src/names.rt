@@ -1,5 +1,5 @@
 //! The names of the leaves below a folder.
-ghost use Rattle.std.specs.Prelude.{◌≡◌, ◌<◌, ◌≤◌, ◌++◌, ◌∷◌, [], ℕ, false, List, length, take, drop, Some, IfOk, IfSome, OnOk, slice_get, string_bytes};
+ghost use Rattle.std.specs.Prelude.{◌≡◌, ◌<◌, ◌++◌, [], ℕ, true, false, List, length, Some, IfOk, slice_get, string_bytes};
 ghost use Rattle.std.specs.List.{AllByRecursion, filter_map};
 ghost use Rattle.std.specs.List.Sorted.{IsStrictlySortedBy};
 ghost use Rattle.std.specs.declared.cmp.Ordering.TheVariants.{Less};
@@ -12,34 +12,28 @@ use std::alloc::{AllocError, Global};
 use std::cmp::Ordering;
 use switch_names::{Listed, Path};
 
-/// Where a name belongs among others in byte order, unless it is there.
-fn place_of(names: &[Path], name: &Path) -> Option<usize>
-    requires { IsStrictlySortedBy bytes_cmp names.now }
-    ensures place { IfSome result (λ at. (at ≤ length names.now)
-        × AllByRecursion (λ other. bytes_cmp other name.now ≡ Less) (take at names.now)
-        × AllByRecursion (λ other. bytes_cmp name.now other ≡ Less) (drop at names.now)) }
-    ensures last { AllByRecursion (λ other. bytes_cmp other name.now ≡ Less) names.now → result ≡ Some (length names.now) }
+/// Whether a name comes after others in byte order, where they are in that order.
+fn is_after(names: &[Path], name: &Path) -> bool
+    ensures after { result ≡ true → IsStrictlySortedBy bytes_cmp names.now → AllByRecursion (λ other. bytes_cmp other name.now ≡ Less) names.now }
+    ensures last { AllByRecursion (λ other. bytes_cmp other name.now ≡ Less) names.now → result ≡ true }
 {
     let Some(last) = names.last() else {
-        return Some(0);
+        return true;
     };
-    // A host lists in byte order, so that each name comes last.
     match last.cmp(name) {
-        Ordering::Less => Some(names.len()),
-        _ => names.binary_search(name).err(),
+        Ordering::Less => true,
+        _ => false,
     }
 }
 
-/// Adds a name to others in byte order, unless it is there.
-fn add_name(names: &mut Listed<Path>, name: Path) -> Result<(), AllocError>
-    requires { IsStrictlySortedBy bytes_cmp names.old }
-    ensures sorted { OnOk result (IsStrictlySortedBy bytes_cmp names.new) }
-    ensures last { OnOk result (AllByRecursion (λ other. bytes_cmp other name ≡ Less) names.old → names.new ≡ names.old ++ name ∷ []) }
+/// Names in byte order, each once.
+fn in_order(names: Vec<Path>) -> Result<Listed<Path>, AllocError>
+    ensures { IfOk result (λ list. IsStrictlySortedBy bytes_cmp list) }
 {
-    match place_of(names.as_slice(), &name) {
-        Some(at) => names.insert(at, name),
-        None => Ok(()),
-    }
+    let mut names = names;
+    names.sort()?;
+    names.dedup();
+    Ok(Listed::from_vec(names))
 }
 
 /// What each path below a folder has after it, in byte order: also where the paths aren't.
@@ -47,14 +41,20 @@ pub fn names_after(alloc: Global, folder: &Path, paths: &[Path]) -> Result<Liste
     ensures sorted { IfOk result (λ names. IsStrictlySortedBy bytes_cmp names) }
     ensures names { IfOk result (λ names. IsStrictlySortedBy bytes_cmp paths.now → names ≡ filter_map (after_front (path_in folder.now [])) paths.now) }
 {
-    let mut names = Listed::new(alloc);
+    let mut names = Vec::new(alloc);
+    // A host lists in byte order, so that nothing is sorted.
+    let mut is_sorted = true;
     for path in paths {
         let Some(name) = path.name_below(alloc, folder)? else {
             continue;
         };
-        add_name(&mut names, name)?;
+        is_sorted = is_sorted && is_after(names.as_slice(), &name);
+        names.push(name)?;
     }
-    Ok(names)
+    if is_sorted {
+        return Ok(Listed::from_vec(names));
+    }
+    in_order(names)
 }
 
 /// Whether a name is among names in byte order.
