@@ -1,5 +1,5 @@
 -- Targets by number as a list of generations.
-use Rattle.std.proofs.Common.{◌≡◌, ℕ, ◌==◌, Bool, true, false, cond, List, [], ◌∷◌, ◌++◌, map, Option, Some, option_map, refl, sym, ap, subst, ◌∙◌, arith}
+use Rattle.std.proofs.Common.{◌≡◌, ℕ, ◌==◌, cond, List, [], ◌∷◌, ◌++◌, map, Option, Some, option_map, refl, sym, ap, subst, ◌∙◌, arith}
 use Rattle.std.proofs.lemmas.Grind.{common_steps}
 use Rattle.std.proofs.lemmas.List.{append-nil}
 use Rattle.std.specs.BTreeMap.{is_at}
@@ -7,6 +7,7 @@ use Rattle.std.specs.List.{find}
 use Rattle.std.specs.List.Sorted.{IsStrictlySortedBy}
 use Rattle.std.specs.Map.{keys_of, lookup}
 use Rattle.std.specs.Ordering.{nat_cmp}
+use Rattle.switch_names.proofs.Outcomes.{option_map_cond}
 use Rattle.generations.specs.declared.gens.Gen.{Gen}
 use Rattle.generations.specs.Gens.{listed_at}
 
@@ -17,10 +18,6 @@ gens_of (e ∷ es) = (record { number = e.0; target = e.1 }) ∷ gens_of es
 numbers_are_keys : (es : List (ℕ × Option (List ℕ))) → map (λ (gen : Gen). gen.number) (gens_of es) ≡ keys_of es
 numbers_are_keys [] = refl
 numbers_are_keys (e ∷ es) = ap (λ ks. e.0 ∷ ks) (numbers_are_keys es)
-
-option_map_cond : {X Y : Type 0} (f : X → Y) (b : Bool) (x : X) (o : Option X) → option_map f (cond b (Some x) o) ≡ cond b (Some (f x)) (option_map f o)
-option_map_cond f true x o = refl
-option_map_cond f false x o = refl
 
 same_test : (n k : ℕ) → is_at (nat_cmp n) k ≡ (k == n)
 same_test n k = grind (arith, common_steps)

@@ -1,9 +1,9 @@
 -- How a history goes on by each act of the manager: what undoes the act is in its record.
-use Rattle.std.proofs.Common.{◌≡◌, ℕ, ◌-◌, cond, List, [], ◌∷◌, ◌++◌, length, take, Result, Ok, Err, OnOk, OnErr, refl, sym, ap, subst, ◌∙◌, inl, inr, arith}
+use Rattle.std.proofs.Common.{◌≡◌, ℕ, ◌-◌, cond, List, [], ◌∷◌, ◌++◌, length, take, Result, OnOk, OnErr, refl, sym, ap, subst, ◌∙◌, inl, inr, arith}
 use Rattle.std.specs.FinMap.{get}
 use Rattle.std.specs.Ordering.{eq_by_cmp}
 use Rattle.std.proofs.lemmas.List.{length-append, take_at}
-use Rattle.std.proofs.lemmas.Result.{on_ok_weaker}
+use Rattle.std.proofs.lemmas.Result.{on_err_weaker, on_ok_weaker}
 use Rattle.host_memory.proofs.Histories.{recorded}
 use Rattle.host_memory.specs.declared.history.DoneCall.TheVariants.{Performed, Halted, Loaded}
 use Rattle.host_memory.specs.declared.history.History.{History}
@@ -38,10 +38,6 @@ shorter items x =
     let size : length (items ++ x ∷ []) - 1 ≡ length items = omega arith in
     ap (λ n. take n (items ++ x ∷ [])) size ∙ take_at items (x ∷ []) (length items) refl
 
-on_err : {T E P Q : Type 0} (r : Result T E) → (P → Q) → OnErr r P → OnErr r Q
-on_err (Ok x) f p = p
-on_err (Err e) f p = f p
-
 -- a manager that was taken out of a world and put back after a step
 module _
     {T E : Type 0} (result : Result T E) (old middle new : WorldState) (empty was then : ManagerState)
@@ -57,7 +53,7 @@ module _
     pub not_stepped :
         was ≡ old.manager → middle ≡ with_manager empty old → new ≡ with_manager then middle →
         OnErr result (then ≡ was) → OnErr result (new ≡ old)
-    not_stepped taken out back is = on_err result (λ now. stepped_to old.manager taken out back (now ∙ taken)) is
+    not_stepped taken out back is = on_err_weaker result (λ now. stepped_to old.manager taken out back (now ∙ taken)) is
 
 module _ (old new : History) where
   -- something was done to a unit

@@ -1,5 +1,5 @@
 -- What two clauses say of one outcome, and values that may be there.
-use Rattle.std.proofs.Common.{◌≡◌, true, false, Option, None, Some, is_none, is_some, option_map, Result, Ok, Err, OnOk, OnErr, refl, ap, ◌∙◌}
+use Rattle.std.proofs.Common.{◌≡◌, Bool, true, false, cond, Option, None, Some, is_none, is_some, option_map, Result, Ok, Err, OnOk, OnErr, refl, ap, ◌∙◌}
 use Rattle.std.specs.Option.{option_or}
 
 pub on_ok_both : {T E P Q R : Type 0} (r : Result T E) → (P → Q → R) → OnOk r P → OnOk r Q → OnOk r R
@@ -21,6 +21,10 @@ option_or_none (Some x) = refl
 pub option_or_assoc : {X : Type 0} (a b c : Option X) → option_or (option_or a b) c ≡ option_or a (option_or b c)
 option_or_assoc None b c = refl
 option_or_assoc (Some x) b c = refl
+
+pub option_map_cond : {X Y : Type 0} (f : X → Y) (b : Bool) (x : X) (o : Option X) → option_map f (cond b (Some x) o) ≡ cond b (Some (f x)) (option_map f o)
+option_map_cond f true x o = refl
+option_map_cond f false x o = refl
 
 pub option_map_or_other : {X Y : Type 0} (f : X → Y) (a b : Option X) → option_map f (option_or a b) ≡ option_or (option_map f a) (option_map f b)
 option_map_or_other f None b = refl

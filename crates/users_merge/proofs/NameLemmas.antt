@@ -1,16 +1,12 @@
 -- Names, and rows by their names.
-use Rattle.std.proofs.Common.{◌≡◌, ℕ, ◌+◌, ◌<◌, ◌||◌, Bool, true, false, cond, Bor, List, [], ◌∷◌, ◌++◌, length, get_or, take, drop, map, Option, Some, option_map, refl, sym, ap, ◌∙◌, inl, inr}
+use Rattle.std.proofs.Common.{◌≡◌, ℕ, ◌+◌, ◌<◌, ◌||◌, cond, Bor, List, [], ◌∷◌, ◌++◌, length, get_or, take, drop, map, Some, option_map, refl, sym, ap, ◌∙◌}
 use Rattle.std.proofs.Math.Bool.{or-false, or_assoc}
-use Rattle.std.proofs.lemmas.Bool.{both_ways}
-use Rattle.std.proofs.lemmas.Cmp.{tied_itself}
 use Rattle.std.proofs.lemmas.List.{drop_more, map_more}
 use Rattle.std.proofs.lemmas.List.Folds.{list_any-append}
 use Rattle.std.specs.BTreeMap.{BTreeMap, get, is_at}
-use Rattle.std.specs.Ordering.{is_eq}
 use Rattle.host_trait.specs.Bytes.{bytes_cmp}
-use Rattle.host_trait.proofs.Places.{bytes_total, same_or_other}
-use Rattle.host_trait.proofs.NameOrder.{name_exact, name_itself}
 use Rattle.switch_names.proofs.Names.{name_turned}
+use Rattle.switch_names.proofs.Outcomes.{option_map_cond}
 use Rattle.switch_names.specs.Names.{Name, has, is_name}
 use Rattle.account_text.specs.Order.{row_named}
 use Rattle.users_merge.specs.ByName.{found_in}
@@ -32,10 +28,6 @@ has_next name_of items i item start old new added name inside is named was grown
     ∙ ap (λ b. has (map name_of (take i items)) name || b) (sym (or-false (is_name name (name_of (get_or items i item)))))
     ∙ sym (ap (λ (names : List Name). has names name) (map_more name_of items i item inside) ∙ has-append (map name_of (take i items)) (name_of (get_or items i item) ∷ []) name))
 
-option_cond : {X Y : Type 0} (f : X → Y) (b : Bool) (x : X) (o : Option X) → option_map f (cond b (Some x) o) ≡ cond b (Some (f x)) (option_map f o)
-option_cond f true x o = refl
-option_cond f false x o = refl
-
 -- rows are found from the last on, and so the first one of a name
 pub found_more :
     {Row : Type 0} (name_of : Row → Name) (rows : List Row) (at : ℕ) (row : Row) (old new : BTreeMap Name (Bor Row)) (key : Name) (lent : Bor Row) →
@@ -45,7 +37,7 @@ pub found_more :
     (q : Name) → found_in new q ≡ row_named name_of (drop at rows) q
 found_more {Row} name_of rows at row old new key lent inside is named same updates was q =
     ap (option_map (λ (r : Bor Row). r.now)) (updates q)
-    ∙ option_cond (λ (r : Bor Row). r.now) (is_at (bytes_cmp key) q) lent (get bytes_cmp old q)
+    ∙ option_map_cond (λ (r : Bor Row). r.now) (is_at (bytes_cmp key) q) lent (get bytes_cmp old q)
     ∙ (λ i. cond (is_name (named i) q) (Some (same i)) (was q i))
     ∙ ap (λ b. cond b (Some row) (row_named name_of (drop (at + 1) rows) q)) (name_turned (name_of row) q)
     ∙ ap (λ r. cond (is_name q (name_of r)) (Some r) (row_named name_of (drop (at + 1) rows) q)) is

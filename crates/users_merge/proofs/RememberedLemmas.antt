@@ -1,5 +1,5 @@
 -- Ids by name, as they are remembered.
-use Rattle.std.proofs.Common.{◌≡◌, ℕ, ◌+◌, ◌<◌, Bool, true, false, cond, List, [], ◌∷◌, length, get_or, drop, map, Option, None, Some, IfSome, option_map, refl, sym, ap, subst, ◌∙◌, zero, suc, arith}
+use Rattle.std.proofs.Common.{◌≡◌, ℕ, ◌+◌, ◌<◌, Bool, true, false, cond, List, [], ◌∷◌, length, get_or, drop, map, Option, None, Some, IfSome, refl, sym, ap, subst, ◌∙◌, zero, suc, arith}
 use Rattle.std.proofs.lemmas.List.{drop_more}
 use Rattle.std.specs.BTreeMap as tree
 use Rattle.std.specs.BTreeMap.{insert_entry, is_at}
@@ -16,7 +16,7 @@ use Rattle.host_trait.specs.Bytes.{bytes_cmp}
 use Rattle.host_trait.proofs.KeyOrder.{keys_sorted}
 use Rattle.host_trait.proofs.NameOrder.{name_exact, name_itself}
 use Rattle.switch_names.proofs.Names.{name_turned}
-use Rattle.switch_names.proofs.Outcomes.{option_or_none}
+use Rattle.switch_names.proofs.Outcomes.{option_map_cond, option_or_none}
 use Rattle.switch_names.specs.Names.{Name, is_name}
 use Rattle.account_text.specs.Order.{row_named}
 use Rattle.host_trait.specs.Ids.{Ids}
@@ -31,10 +31,6 @@ option_cond : (b : Bool) (x : ℕ) (o p : Option ℕ) → cond b (Some x) (optio
 option_cond true x o p = refl
 option_cond false x o p = refl
 
-map_cond : {X : Type 0} (f : X → ℕ) (b : Bool) (x : X) (o : Option X) → option_map f (cond b (Some x) o) ≡ cond b (Some (f x)) (option_map f o)
-map_cond f true x o = refl
-map_cond f false x o = refl
-
 -- rows from the last on give their ids
 pub inserted_more :
     {Row : Type 0} (name_of : Row → Name) (id_of : Row → ℕ) (rows : List Row) (at : ℕ) (row : Row) (key name : Name) (id : ℕ) (old new before : Option ℕ) → at < length rows → row ≡ get_or rows at row →
@@ -46,7 +42,7 @@ inserted_more {Row} name_of id_of rows at row key name id old new before inside 
     ∙ option_cond (is_name name (name_of row)) (id_of row) (row_ids name_of id_of (drop (at + 1) rows) name) before
     ∙ ap (λ o. option_or o before)
     (sym (ap (λ (rest : List Row). row_ids name_of id_of rest name) (drop_more rows at row inside ∙ ap (λ r. r ∷ drop (at + 1) rows) (sym is))
-    ∙ map_cond id_of (is_name name (name_of row)) row (row_named name_of (drop (at + 1) rows) name)))
+    ∙ option_map_cond id_of (is_name name (name_of row)) row (row_named name_of (drop (at + 1) rows) name)))
 
 -- what holds of the ids holds of those with one more
 pub inserted_bounded : (es : List (Name × ℕ)) (key : Name) (id : ℕ) → IsId id → AllByRecursion IsId (values_of es) → AllByRecursion IsId (values_of (insert_entry bytes_cmp es key id))
@@ -72,7 +68,7 @@ id_of_at id_of rows at row id all inside is numbered = subst IsId (sym numbered)
 rows_found : (es : List (Name × ℕ)) (name : Name) → row_ids (λ (row : IdRow). row.name) (λ (row : IdRow). row.id) (map (λ (e : Name × ℕ). record { name = e.0; id = e.1 }) es) name ≡ finmap.find bytes_cmp name es
 rows_found [] name = refl
 rows_found (e ∷ es) name =
-    map_cond (λ (row : IdRow). row.id) (is_name name e.0) (record { name = e.0; id = e.1 }) (row_named (λ (row : IdRow). row.name) (map (λ (x : Name × ℕ). record { name = x.0; id = x.1 }) es) name)
+    option_map_cond (λ (row : IdRow). row.id) (is_name name e.0) (record { name = e.0; id = e.1 }) (row_named (λ (row : IdRow). row.name) (map (λ (x : Name × ℕ). record { name = x.0; id = x.1 }) es) name)
     ∙ ap (cond (is_name name e.0) (Some e.1)) (rows_found es name)
 
 pub known_found : (known : Ids) (name : Name) → row_ids (λ (row : IdRow). row.name) (λ (row : IdRow). row.id) (rows_of known) name ≡ get known name

@@ -1,4 +1,5 @@
 use Rattle.std.proofs.Common.{◌≡◌, ◌++◌, List, OnErr, Ok, Err, Result, ap, subst, ◌∙◌}
+use Rattle.std.proofs.lemmas.Result.{on_err_weaker}
 use Rattle.unit_text.specs.declared.assignment.Assignment.{Assignment}
 use Rattle.unit_text.specs.UnitText.{HasFrontOf}
 use Rattle.unit_text.proofs.ValueLemmas.{of_first, of_second}
@@ -7,10 +8,6 @@ use Rattle.unit_text.proofs.unit_text.UnitText.add.Goals as goal
 on_err : {T E P : Type 0} (r : Result T E) → P → OnErr r P
 on_err (Ok x) p = tt
 on_err (Err e) p = p
-
-err_weaker : {T E P Q : Type 0} (r : Result T E) → (P → Q) → OnErr r P → OnErr r Q
-err_weaker (Ok x) f p = tt
-err_weaker (Err e) f p = f p
 
 pub returns-in_err-push_all-clause-err : goal.returns-in_err-push_all-clause-err
 returns-in_err-push_all-clause-err c =
@@ -27,7 +24,7 @@ returns-clause-err c =
     let first = c.later.inside.front in
     let second = c.later.inside.later.items in
     let before : c.push_all.new.self ≡ old ++ first = c.in_ok-push_all.ensures.ok ∙ ap (λ (xs : List Assignment). old ++ xs) (c.as_slice.ensures.value ∙ c.in_ok-first.ensures) in
-    err_weaker c.push_all-2.result
+    on_err_weaker c.push_all-2.result
     (λ h. subst (λ (text : List Assignment). HasFrontOf old text new) c.later.view_is
     (of_second old first second new (subst (λ (text : List Assignment). HasFrontOf text second new) before h)))
     (subst (λ (xs : List Assignment). OnErr c.push_all-2.result (HasFrontOf c.push_all.new.self xs new)) c.as_slice-2.ensures.value c.push_all-2.ensures.err)
