@@ -155,7 +155,10 @@ make_accounts() {
 
 # make_whole FOLDER UNITS ENTRIES ACCOUNTS: a root with two systems of so many units, further entries below etc and users.
 # A tenth of each is another in the second system. The first is in use as the program leaves it, with each unit active.
+# Sets `first_planned` and `first` to the microseconds of a dry run of the first system where nothing is in use, and of
+# the switch to it.
 make_whole() {
+    local from
     rm -rf "$1"
     make_system "$1" old-sys "$2" /bin/old
     make_system "$1" new-sys "$2" /bin/new
@@ -163,10 +166,15 @@ make_whole() {
     make_entries "$1" new-sys "$3" 10
     make_accounts "$1" old-sys "$4" 10
     make_accounts "$1" new-sys "$4" 0
+    from=${EPOCHREALTIME/./}
+    "$program" "$1" dry-activate nix/store/old-sys >"$work/stdout" 2>"$work/stderr"
+    first_planned=$((${EPOCHREALTIME/./} - from))
+    from=${EPOCHREALTIME/./}
     if ! "$program" "$1" switch nix/store/old-sys >"$work/stdout" 2>"$work/stderr"; then
         echo "the root with $2 units, $3 entries and $4 users can't be made: $(cat "$work/stderr")" >&2
         exit 1
     fi
+    first=$((${EPOCHREALTIME/./} - from))
     { echo "loaded /nix/store/old-sys/etc" && { echo multi-user.target && services "$2" 1; } | sort | lines active; } >"$1/manager"
 }
 

@@ -9,8 +9,10 @@
 # Each root has two systems of that many units, further entries below /etc and users (500, 2,000 and 60; 2,000, 5,000
 # and 200; 16,000, 100,000 and 1,000), of which the first is in use. A tenth of the units have another program in the
 # second system, a tenth of the entries are others there, and so are a tenth of the users. For each root it prints
-#   planned       milliseconds of the quickest of three dry runs
-#   milliseconds  those of a switch, without strace
+#   first         milliseconds of a dry run of the first system, where nothing is in use
+#   switched      those of the switch to it, which puts each entry and account and starts each unit
+#   planned       milliseconds of the quickest of three dry runs of the second system, of which a tenth is another
+#   milliseconds  those of the switch to it, without strace
 #   peak KiB      the most memory that a switch had at once
 #   calls         all system calls of a switch
 #   opens         the most calls that open one unit file
@@ -86,9 +88,14 @@ END { print calls + 0, opens + 0, puts + 0 }
 AWK
 
 find_tools
-form='%6s %8s %6s %12s %13s %9s %9s %6s %7s %6s\n'
+form='%6s %8s %6s %9s %10s %10s %13s %9s %9s %6s %7s %6s\n'
+
+# milliseconds MICROS: prints them.
+milliseconds() {
+    printf '%d.%03d' $(($1 / 1000)) $(($1 % 1000))
+}
 # shellcheck disable=SC2059
-printf "$form" units entries users planned milliseconds 'peak KiB' calls opens puts acts
+printf "$form" units entries users first switched planned milliseconds 'peak KiB' calls opens puts acts
 for size in "$@"; do
     IFS=, read -r units entries users <<<"$size"
     make_root "$units" "$entries" "$users"
@@ -116,8 +123,8 @@ for size in "$@"; do
         [ "$opens" = 1 ] || wrong "a unit file was opened $opens times"
     fi
     # shellcheck disable=SC2059
-    printf "$form" "$units" "$entries" "$users" "$(printf '%d.%03d' $((planned / 1000)) $((planned % 1000)))" \
-        "$(printf '%d.%03d' $((micros / 1000)) $((micros % 1000)))" "$peak" "$calls" "$opens" "$puts" "$acts"
+    printf "$form" "$units" "$entries" "$users" "$(milliseconds "$first_planned")" "$(milliseconds "$first")" \
+        "$(milliseconds "$planned")" "$(milliseconds "$micros")" "$peak" "$calls" "$opens" "$puts" "$acts"
     grow $((units + entries + users)) "$micros" 'units, entries and users'
 done
 printf '%s' "$grown"
