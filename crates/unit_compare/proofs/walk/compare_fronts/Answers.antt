@@ -1,17 +1,73 @@
-use Rattle.std.proofs.Common.{◌≡◌, ◌+◌, ◌∙◌, ◌++◌, get_or, length, ap, sym, Some}
+use Rattle.std.proofs.Common.{◌≡◌, ◌+◌, ◌∙◌, ◌++◌, get_or, length, ap, arith, sym, Some}
 use Rattle.std.specs.Int.{from_bool}
 use Rattle.std.specs.Ordering.{is_le, is_ge}
 use Rattle.unit_text.specs.UnitText.{values_of}
 use Rattle.unit_compare.specs.Compare.{differs}
 use Rattle.unit_compare.specs.Walk.{worse}
 use Rattle.unit_compare.proofs.Outcomes.{made_append, outcome_made}
-use Rattle.unit_compare.proofs.WalkLemmas.{at_end, equal_turn, fronts_made, greater_turn, is_here, less_turn, moved, one_in, one_key, places, stays, texts_of}
+use Rattle.unit_compare.proofs.WalkLemmas.{at_end, at_start, equal_here, equal_turn, fewer, fronts_made, greater_here, greater_turn, is_here, less_here, less_turn, moved, one_in, one_key, places, stays, texts_of, valued_here}
 use Rattle.unit_compare.proofs.walk.compare_fronts.Goals as goal
 use Rattle.unit_compare.proofs.walk.compare_fronts.Goals.{in-Less, in-Equal, in-Greater}
 
 -- the change so far with that by the next key
 joined : (c : goal.After-from-new_at) → c.worse-outcome.result ≡ worse c.loop-order.outcome c.match-order.one
 joined c = c.worse-outcome.ensures
+
+pub loop-order-init : goal.loop-order-init
+loop-order-init c = record {
+  of_old = omega arith;
+  of_new = omega arith;
+  walk = λ o n.
+      at_start c.args.kind (texts_of c.args.old.now c.args.new.now o n) c.args.old.now.front_keys.now c.args.new.now.front_keys.now o.front_keys n.front_keys;
+}
+
+pub bounds-old-old_at : goal.bounds-old-old_at
+bounds-old-old_at c = less_here c.args.old.now.front_keys.now c.loop-order.old_at _ (sym c.next_order.ensures ∙ c.in-Some.is ∙ ap Some c.in-Less.is)
+
+pub bounds-old-old_at-in-Less : goal.bounds-old-old_at-in-Less
+bounds-old-old_at-in-Less c =
+    let old = c.args.old.now in
+    let are = c.requires.old in
+    valued_here are.front old.front_keys.now old.front_values.now c.loop-order.old_at are.front_values
+    (less_here old.front_keys.now c.loop-order.old_at _ (sym c.next_order.ensures ∙ c.in-Some.is ∙ ap Some c.in-Less.is))
+
+pub bounds-old-old_at-in-Equal : goal.bounds-old-old_at-in-Equal
+bounds-old-old_at-in-Equal c =
+    (equal_here c.args.old.now.front_keys.now c.args.new.now.front_keys.now c.loop-order.old_at c.loop-order.new_at (sym c.next_order.ensures ∙ c.in-Some.is ∙ ap Some c.in-Equal.is)).0
+
+pub bounds-old-old_at-in-Equal-2 : goal.bounds-old-old_at-in-Equal-2
+bounds-old-old_at-in-Equal-2 c =
+    let old = c.args.old.now in
+    let are = c.requires.old in
+    valued_here are.front old.front_keys.now old.front_values.now c.loop-order.old_at are.front_values
+    (equal_here old.front_keys.now c.args.new.now.front_keys.now c.loop-order.old_at c.loop-order.new_at (sym c.next_order.ensures ∙ c.in-Some.is ∙ ap Some c.in-Equal.is)).0
+
+pub bounds-new-new_at : goal.bounds-new-new_at
+bounds-new-new_at c =
+    let new = c.args.new.now in
+    let are = c.requires.new in
+    valued_here are.front new.front_keys.now new.front_values.now c.loop-order.new_at are.front_values
+    (equal_here c.args.old.now.front_keys.now new.front_keys.now c.loop-order.old_at c.loop-order.new_at (sym c.next_order.ensures ∙ c.in-Some.is ∙ ap Some c.in-Equal.is)).1
+
+pub bounds-new-new_at-in-Greater : goal.bounds-new-new_at-in-Greater
+bounds-new-new_at-in-Greater c = greater_here c.args.new.now.front_keys.now c.loop-order.new_at _ (sym c.next_order.ensures ∙ c.in-Some.is ∙ ap Some c.in-Greater.is)
+
+pub bounds-new-new_at-in-Greater-2 : goal.bounds-new-new_at-in-Greater-2
+bounds-new-new_at-in-Greater-2 c =
+    let new = c.args.new.now in
+    let are = c.requires.new in
+    valued_here are.front new.front_keys.now new.front_values.now c.loop-order.new_at are.front_values
+    (greater_here new.front_keys.now c.loop-order.new_at _ (sym c.next_order.ensures ∙ c.in-Some.is ∙ ap Some c.in-Greater.is))
+
+pub loop-order-smaller : goal.loop-order-smaller
+loop-order-smaller c =
+    let old_keys = c.args.old.now.front_keys.now in
+    let new_keys = c.args.new.now.front_keys.now in
+    let old_at = c.loop-order.old_at in
+    let new_at = c.loop-order.new_at in
+    fewer (length old_keys) (length new_keys) old_at new_at c.from-old_at.result c.from-new_at.result c.loop-order.invariant.of_old c.loop-order.invariant.of_new
+    c.in-Some.order (c.from-old_at.ensures ∙ ap from_bool c.is_le.ensures) (c.from-new_at.ensures ∙ ap from_bool c.is_ge.ensures)
+    (is_here old_keys new_keys old_at new_at c.in-Some.order (sym c.next_order.ensures ∙ c.in-Some.is))
 
 pub loop-order-preserved : goal.loop-order-preserved
 loop-order-preserved c =
