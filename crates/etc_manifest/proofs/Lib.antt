@@ -2,6 +2,7 @@ pub mod AnswerLemmas
 pub mod ApartLemmas
 pub mod FirstLemmas
 pub mod GatherLemmas
+pub mod KindLemmas
 pub mod LeafLemmas
 pub mod ManifestLemmas
 pub mod ModeLemmas

@@ -1,5 +1,5 @@
 //! Reads the entries of a system's etc.
-ghost use Rattle.std.specs.Prelude.{◌≡◌, ◌<◌, ◌≤◌, ℕ, false, List, length, Some, IfOk, OnOk, IsErrOf, map, option_and_then, slice_get};
+ghost use Rattle.std.specs.Prelude.{◌≡◌, ◌<◌, ◌≤◌, ℕ, false, List, length, Some, Err, IfOk, OnOk, IsErrOf, map, option_and_then, slice_get};
 ghost use Rattle.std.specs.FinMap.{get};
 ghost use Rattle.std.specs.List.{AllByRecursion};
 ghost use Rattle.std.specs.List.Sorted.{IsStrictlySortedBy};
@@ -8,12 +8,13 @@ ghost use Rattle.host_trait.specs.declared.tree.HostFault.TheVariants.{Device};
 ghost use Rattle.host_trait.specs.Bytes.{bytes_cmp};
 ghost use Rattle.host_trait.specs.Host.{Told};
 ghost use Rattle.host_trait.specs.Reading.{IsReadingOf};
-ghost use Rattle.etc_manifest.specs.declared.manifest_fault.ManifestFault.TheVariants.{Host};
+ghost use Rattle.etc_manifest.specs.declared.manifest_fault.ManifestFault.TheVariants.{Entry, Host};
 ghost use Rattle.etc_manifest.specs.declared.mode.Mode.TheVariants.{Bits};
 ghost use Rattle.etc_manifest.specs.Entries.{IsAnswer, entry_names, item_of};
 ghost use Rattle.etc_manifest.specs.Companion.{parts_of};
 ghost use Rattle.etc_manifest.specs.Kind.{copied_kind, direct_kind, kind_of, kind_with, mode_of, owned_kind, target_of};
 ghost use Rattle.etc_manifest.specs.Manifest.{gathered, places};
+ghost use Rattle.etc_manifest.specs.Owners.{owner_id};
 ghost use Rattle.etc_manifest.specs.Place.{is_reserved, path_in};
 
 use crate::companion::is_companion;
@@ -25,8 +26,16 @@ use crate::owners::Owners;
 use crate::place::is_reserved;
 use crate::reading::{Parts, companion, read_parts, read_target};
 use host_trait::{Leaf, Tree};
-use std::alloc::Global;
+use std::alloc::{AllocError, Global};
 use switch_names::{Bytes, Listed, Path, Text};
+
+/// The refusal of an entry that can't be placed.
+fn refused_kind(alloc: Global, name: &Path) -> Result<ItemKind, ManifestFault>
+    ensures kind { IsAnswer result (Err (Entry name.now)) }
+    ensures cause { IsErrOf result (Host Device) → ⊥ }
+{
+    Err(ManifestFault::Entry(name.copy(alloc)?))
+}
 
 /// An entry that is placed as the link that it is itself.
 fn direct_kind(alloc: Global, name: &Path, target: Option<Text>) -> Result<ItemKind, ManifestFault>
@@ -35,7 +44,7 @@ fn direct_kind(alloc: Global, name: &Path, target: Option<Text>) -> Result<ItemK
 {
     match target {
         Some(target) => Ok(ItemKind::Direct { target }),
-        None => Err(ManifestFault::Entry(name.copy(alloc)?)),
+        None => refused_kind(alloc, name),
     }
 }
 
@@ -59,6 +68,18 @@ fn owned_kind(
     }
 }
 
+/// The ids of the owners of a copy that these texts name, its user's and its group's.
+fn owner_ids(
+    alloc: Global,
+    owners: &Owners,
+    uid: &[u8],
+    gid: &[u8],
+) -> Result<(Option<u32>, Option<u32>), AllocError>
+    ensures { IfOk result (λ ids. (ids.0 ≡ owner_id owners.now.users uid.now) × (ids.1 ≡ owner_id owners.now.groups gid.now)) }
+{
+    Ok((owners.user(alloc, uid)?, owners.group(alloc, gid)?))
+}
+
 /// A copy that is made of these parts.
 fn copied_kind(
     alloc: Global,
@@ -72,14 +93,13 @@ fn copied_kind(
     ensures cause { IsErrOf result (Host Device) → ⊥ }
 {
     let Some((uid, gid)) = parts.owners() else {
-        return Err(ManifestFault::Entry(name.copy(alloc)?));
+        return refused_kind(alloc, name);
     };
-    let uid = owners.user(alloc, uid)?;
-    let gid = owners.group(alloc, gid)?;
-    let Some(bytes) = parts.into_bytes() else {
-        return Err(ManifestFault::Entry(name.copy(alloc)?));
-    };
-    owned_kind(alloc, name, bytes, mode, (uid, gid))
+    let ids = owner_ids(alloc, owners, uid, gid)?;
+    match parts.into_bytes() {
+        Some(bytes) => owned_kind(alloc, name, bytes, mode, ids),
+        None => refused_kind(alloc, name),
+    }
 }
 
 /// The mode that a companion says, where it has content.
@@ -142,7 +162,7 @@ fn read_with<T: Tree>(
     match mode {
         Some(Mode::DirectSymlink) => read_direct(alloc, host, folder, name),
         Some(Mode::Bits(mode)) => read_copied(alloc, host, folder, names, owners, name, mode),
-        None => Err(ManifestFault::Entry(name.copy(alloc)?)),
+        None => refused_kind(alloc, name),
     }
 }
 

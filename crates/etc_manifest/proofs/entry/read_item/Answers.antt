@@ -47,3 +47,6 @@ returns-clause-item g c = λ name there.
 pub returns-clause-place : goal.returns-clause-place
 returns-clause-place g c =
     slice_get_read c.args.names.now (length c.args.names.now) c.args.at c.index-names-at.result refl c.requires.there c.index-names-at.is ∙ ap (λ n. Some n) (sym c.in_ok-copy-2.ensures)
+
+pub returns-clause-free : goal.returns-clause-free
+returns-clause-free g c = ap is_reserved c.in_ok-copy-2.ensures ∙ sym c.is_reserved.ensures ∙ c.if-is_reserved.false

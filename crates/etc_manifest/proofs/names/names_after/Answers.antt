@@ -1,6 +1,9 @@
-use Rattle.std.proofs.Common.{◌≡◌, ◌++◌, ◌∷◌, [], Some, refl, sym, subst, ◌∙◌}
+use Rattle.std.proofs.Common.{◌≡◌, ◌++◌, ◌∷◌, [], Some, ap, refl, sym, subst, ◌∙◌}
+use Rattle.std.specs.List.{filter_map}
 use Rattle.std.specs.List.Sorted.{IsStrictlySortedBy}
 use Rattle.std.proofs.lemmas.Bool.{both_ways}
+use Rattle.std.proofs.lemmas.List.{take_all}
+use Rattle.std.proofs.lemmas.Result.{IfOk-weaker}
 use Rattle.host_trait.specs.Bytes.{bytes_cmp}
 use Rattle.host_trait.proofs.Orders.{AreBelow, none_sorted}
 use Rattle.etc_manifest.specs.Place.{path_in}
@@ -54,3 +57,18 @@ loop-path-preserved c =
         known = λ sorted. absurd (both_ways _ w.if-is_sorted.false (c.loop-path.invariant.known sorted));
       }
     ]
+
+pub returns-then-is_sorted-2-clause-sorted : goal.returns-then-is_sorted-2-clause-sorted
+returns-then-is_sorted-2-clause-sorted c = subst (IsStrictlySortedBy bytes_cmp) (sym c.from_vec.ensures) (c.loop-path.invariant.sorted c.if-is_sorted-2.true)
+
+pub returns-then-is_sorted-2-clause-names : goal.returns-then-is_sorted-2-clause-names
+returns-then-is_sorted-2-clause-names c = λ sorted.
+    c.from_vec.ensures ∙ c.loop-path.invariant.names
+    ∙ ap (filter_map (after_front (path_in c.args.folder.now []))) (take_all c.loop-path.path-index c.args.paths.now c.loop-path-test.false)
+
+pub returns-clause-sorted : goal.returns-clause-sorted
+returns-clause-sorted c = c.in_order.ensures
+
+pub returns-clause-names : goal.returns-clause-names
+returns-clause-names c =
+    IfOk-weaker c.in_order.result _ _ (λ names _ sorted. absurd (both_ways _ c.if-is_sorted-2.false (c.loop-path.invariant.known sorted))) c.in_order.ensures
