@@ -23,14 +23,14 @@ impl Drop for Part {
 }
 
 /// The line that a fault names.
-fn line_of(fault: &TextFault) -> u32
-    ensures { result ≡ line_of fault.now }
+fn line_of(fault: TextFault) -> u32
+    ensures { result ≡ line_of fault }
 {
     match fault {
         TextFault::Section(line)
         | TextFault::Key(line)
         | TextFault::NoSection(line)
-        | TextFault::Utf8(line) => *line,
+        | TextFault::Utf8(line) => line,
         TextFault::Memory => 0,
     }
 }
@@ -52,7 +52,7 @@ impl Part {
             Err(TextFault::Memory) => Err(AllocError),
             Err(fault) => Ok(Some(Part {
                 text: UnitText::empty(alloc),
-                fault: Some(line_of(&fault)),
+                fault: Some(line_of(fault)),
             })),
         }
     }

@@ -12,7 +12,7 @@ use crate::place::named;
 use fstab_mounts::{FsUnit, parse};
 use host_trait::{HostFault, Tree, content};
 use std::alloc::{AllocError, Global};
-use switch_names::{Listed, NameFault, Path, SystemName, UnitKind, UnitName};
+use switch_names::{Bytes, Listed, NameFault, Path, SystemName, UnitKind, UnitName};
 
 /// The fstab of a system.
 #[tactic(auto, unfolding(crate::specs::Fstab::fstab_path))]
@@ -25,6 +25,16 @@ fn fstab_path(alloc: Global, system: &SystemName) -> Result<Path, AllocError>
         .map_err(|_fault: NameFault| AllocError)
 }
 
+/// The units that the lines of an fstab define, where it has content.
+fn lines_in(alloc: Global, content: Option<Bytes>) -> Result<Listed<FsUnit>, AllocError>
+    ensures { IfOk result (λ lines. lines ≡ option_map_or fstab_units content []) }
+{
+    match content {
+        Some(bytes) => parse(alloc, bytes.as_slice()),
+        None => Ok(Listed::new(alloc)),
+    }
+}
+
 /// The units that the lines of a system's fstab define.
 fn lines_of<T: Tree>(
     alloc: Global,
@@ -35,10 +45,8 @@ fn lines_of<T: Tree>(
     ensures reads { IsReading (T.host host.old) (T.host host.new) result }
 {
     let path = fstab_path(alloc, system)?;
-    match content(alloc, host, &path)? {
-        Some(bytes) => Ok(parse(alloc, bytes.as_slice())?),
-        None => Ok(Listed::new(alloc)),
-    }
+    let bytes = content(alloc, host, &path)?;
+    Ok(lines_in(alloc, bytes)?)
 }
 
 /// The target that wants the unit of a line.

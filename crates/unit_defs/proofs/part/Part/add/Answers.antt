@@ -5,4 +5,4 @@ pub returns-clause-text : goal.returns-clause-text
 returns-clause-text c = c.in_ok-add.ensures.ok
 
 pub returns-clause-fault : goal.returns-clause-fault
-returns-clause-fault c = search rules
+returns-clause-fault c = search rules steps 300000

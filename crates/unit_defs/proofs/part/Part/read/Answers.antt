@@ -6,4 +6,4 @@ use Rattle.switch_names.proofs.Outcomes.{none_left}
 pub returns-in_default : goal.returns-in_default
 returns-in_default c =
     let none = ap (λ o. option_map part_of (option_copied o)) (none_left c.args.content c.in_default.not-Some) in
-    search (rules, none)
+    search (rules, none) steps 300000

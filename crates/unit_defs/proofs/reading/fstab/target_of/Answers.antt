@@ -1,4 +1,4 @@
-use Rattle.std.proofs.Common.{◌≡◌, Some, ap, ◌∙◌}
+use Rattle.std.proofs.Common.{◌≡◌, Some, ap, rules, ◌∙◌}
 use Rattle.std.proofs.lemmas.Result.{IfOk-weaker}
 use Rattle.unit_defs.specs.Fstab.{target_of}
 use Rattle.unit_defs.proofs.FstabLemmas.{mount_target, swap_target}
@@ -13,3 +13,6 @@ pub returns-in-Swap : goal.returns-in-Swap
 returns-in-Swap c =
     IfOk-weaker c.named-in-Swap.result _ (λ target. target ≡ target_of c.args.line.now)
     (λ target is. is ∙ swap_target c.args.line.now (c.kind.ensures ∙ ap (λ kind. Some kind) c.in-Swap.is)) c.named-in-Swap.ensures
+
+pub returns-in_default : goal.returns-in_default
+returns-in_default c = search rules steps 300000

@@ -1,0 +1,5 @@
+use Rattle.std.proofs.Common.{rules}
+use Rattle.unit_defs.proofs.reading.units.base.Goals as goal
+
+pub returns : goal.returns
+returns c = search rules steps 300000
