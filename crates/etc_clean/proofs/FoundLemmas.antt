@@ -171,6 +171,11 @@ pub name_there : (b : Bool) (x name : Name) (o : Option Name) → o ≡ cond b (
 name_there true x name o is there = (refl, cc)
 name_there false x name o is there = absurd (cc)
 
+-- or that it has none
+pub no_name_there : (b : Bool) (x : Name) (o : Option Name) → o ≡ cond b (Some x) None → o ≡ None → b ≡ false
+no_name_there true x o is none = absurd (cc)
+no_name_there false x o is none = refl
+
 -- one more item is looked at
 pub blocked_next : (test : Name → Bool) (items : List Item) (i : ℕ) (item : Item) (old new : List Name) → i < length items → item ≡ get_or items i item →
     old ≡ filter test (places (take i items)) → new ≡ old ++ filter test (item.place ∷ []) → new ≡ filter test (places (take (i + 1) items))
