@@ -5,7 +5,7 @@ use Rattle.serde_json.specs.Data.{Data}
 use Rattle.serde_json.specs.Find.{as_bool}
 use Rattle.users_spec.specs.Fields.{field, needed, if_any, or_default, as_id, as_list, as_plain, name_at, names_at, once, read_each}
 use Rattle.users_spec.specs.GroupSpec.{group_at, group_after}
-use Rattle.users_spec.specs.UserSpec.{empty_home, nologin, user_with, hashes_at, user_named, user_at, user_after}
+use Rattle.users_spec.specs.UserSpec.{empty_home, nologin, user_with, hashes_at, texts_at, user_named, user_at, user_after}
 use Rattle.users_spec.specs.Spec.{Accounts, accounts_in}
 use Rattle.users_spec.specs.declared.place.Place.{Place}
 use Rattle.users_spec.specs.declared.place.Place.TheVariants.{Top}
@@ -43,6 +43,20 @@ hashes_are_read place d hashes h =
     let no_clear = bound _ _ _ initial.2 in
     subst (AreReadHashes place d) (same_read _ _ no_clear.2) (record { hashed = hashed.1; initial = initial.1 })
 
+-- three texts are what stands at their keys
+pub record AreReadTexts (place : Place) (d : Data) (texts : List ℕ × List ℕ × List ℕ) : Type 0 where
+  pub description : field (or_default [] as_plain) place (codes "description") d ≡ Ok texts.0
+  pub home : field (or_default empty_home as_plain) place (codes "home") d ≡ Ok texts.1
+  pub shell : field (or_default nologin as_plain) place (codes "shell") d ≡ Ok texts.2
+
+pub texts_are_read : (place : Place) (d : Data) (texts : List ℕ × List ℕ × List ℕ) → texts_at place d ≡ Ok texts → AreReadTexts place d texts
+unfolding texts_at
+texts_are_read place d texts h =
+    let description = bound _ _ _ h in
+    let home = bound _ _ _ description.2 in
+    let shell = bound _ _ _ home.2 in
+    subst (AreReadTexts place d) (same_read _ _ shell.2) (record { description = description.1; home = home.1; shell = shell.1 })
+
 -- a user of a name is what stands at the keys that follow the name
 pub record IsReadUserNamed (given : List ℕ) (place : Place) (d : Data) (user : UserSpec) : Type 0 where
   pub name : given ≡ user.name
@@ -60,19 +74,18 @@ named_is_read given place d user h =
     let group = bound _ _ _ h in
     let uid = bound _ _ _ group.2 in
     let system = bound _ _ _ uid.2 in
-    let description = bound _ _ _ system.2 in
-    let home = bound _ _ _ description.2 in
-    let shell = bound _ _ _ home.2 in
-    let hashes = bound _ _ _ shell.2 in
-    let made : UserSpec = user_with given uid.0 group.0 system.0 description.0 home.0 shell.0 hashes.0.0 hashes.0.1 in
+    let texts = bound _ _ _ system.2 in
+    let hashes = bound _ _ _ texts.2 in
+    let read = texts_are_read place d texts.0 texts.1 in
+    let made : UserSpec = user_with given uid.0 group.0 system.0 texts.0.0 texts.0.1 texts.0.2 hashes.0.0 hashes.0.1 in
     subst (IsReadUserNamed given place d) {x = made} (same_read made user hashes.2) (record {
       name = refl;
       group = group.1;
       uid = uid.1;
       system = system.1;
-      description = description.1;
-      home = home.1;
-      shell = shell.1;
+      description = read.description;
+      home = read.home;
+      shell = read.shell;
       hashes = hashes_are_read place d hashes.0 hashes.1;
     })
 

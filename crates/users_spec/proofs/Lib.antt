@@ -1,4 +1,5 @@
 pub mod AccountReads
+pub mod EachReads
 pub mod Handed
 pub mod Lists
 pub mod SoundReads

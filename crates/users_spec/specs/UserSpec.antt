@@ -47,17 +47,23 @@ hashes_at place d = do
   _ ← no_clear_password place d
   Ok (hashed, initial)
 
+-- the description, the home and the shell
+unfoldable pub texts_at : Place → Data → Read (List ℕ × List ℕ × List ℕ)
+texts_at place d = do
+  description ← field (or_default [] as_plain) place (codes "description") d
+  home ← field (or_default empty_home as_plain) place (codes "home") d
+  shell ← field (or_default nologin as_plain) place (codes "shell") d
+  Ok (description, home, shell)
+
 -- the user of this name that a value is, by the keys that follow the name
 unfoldable pub user_named : List ℕ → Place → Data → Read UserSpec
 user_named name place d = do
   group ← name_at place (codes "group") d
   uid ← field (if_any as_id) place (codes "uid") d
   system ← field (or_default false as_bool) place (codes "isSystemUser") d
-  description ← field (or_default [] as_plain) place (codes "description") d
-  home ← field (or_default empty_home as_plain) place (codes "home") d
-  shell ← field (or_default nologin as_plain) place (codes "shell") d
+  texts ← texts_at place d
   hashes ← hashes_at place d
-  Ok (user_with name uid group system description home shell hashes.0 hashes.1)
+  Ok (user_with name uid group system texts.0 texts.1 texts.2 hashes.0 hashes.1)
 
 -- the user that a value is at a place, beside the names that stand before it
 unfoldable pub user_at : Place → List (List ℕ) → Data → Read UserSpec

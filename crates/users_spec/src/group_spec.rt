@@ -36,7 +36,6 @@ impl Drop for GroupSpec {
 }
 
 /// Reads the group at a place.
-#[tactic(auto, unfolding(crate::specs::GroupSpec::group_at, crate::specs::Fields::read_and_then))]
 fn group_at(
     alloc: Global,
     names: &mut DeclaredNames,
@@ -54,7 +53,6 @@ fn group_at(
 }
 
 /// Reads groups in the order of declaration.
-#[tactic(auto, unfolding(crate::specs::Fields::read_and_then))]
 pub fn groups_of(alloc: Global, values: &[Value]) -> Result<Listed<GroupSpec>, SpecFault>
     ensures { Gives result (read_each group_after [] (map view values.now)) }
 {

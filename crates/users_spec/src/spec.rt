@@ -59,7 +59,6 @@ fn json_of(alloc: Global, bytes: &[u8]) -> Result<Value, SpecFault>
 
 impl Spec {
     /// The accounts of a JSON value.
-    #[tactic(auto, unfolding(crate::specs::Spec::accounts_in, crate::specs::Fields::read_and_then))]
     fn of_value(alloc: Global, value: &Value) -> Result<Spec, SpecFault>
         ensures { Gives result (accounts_in (view value.now)) }
     {

@@ -2,7 +2,7 @@
 ghost use Rattle.std.specs.Prelude.{◌≡◌, ◌++◌, [], ◌∷◌, map, IfOk};
 ghost use Rattle.serde_json.specs.View.{view};
 ghost use Rattle.users_spec.specs.Fields.{Gives, read_each};
-ghost use Rattle.users_spec.specs.UserSpec.{no_clear_password, hashes_at, user_named, user_at, user_after};
+ghost use Rattle.users_spec.specs.UserSpec.{no_clear_password, hashes_at, texts_at, user_named, user_at, user_after};
 
 use crate::declared_names::DeclaredNames;
 use crate::object::Object;
@@ -60,7 +60,6 @@ impl Drop for UserSpec {
 }
 
 /// That no password stands in clear text or in a file.
-#[tactic(auto, unfolding(crate::specs::UserSpec::no_clear_password, crate::specs::Fields::read_and_then))]
 fn no_clear_password(alloc: Global, object: &Object) -> Result<(), SpecFault>
     ensures { Gives result (no_clear_password object.now.place (view object.now.value.now)) }
 {
@@ -70,7 +69,6 @@ fn no_clear_password(alloc: Global, object: &Object) -> Result<(), SpecFault>
 }
 
 /// The hash of a user's password and that of its first password.
-#[tactic(auto, unfolding(crate::specs::UserSpec::hashes_at, crate::specs::Fields::read_and_then))]
 fn hashes_at(alloc: Global, object: &Object) -> Result<(Option<Text>, Option<Text>), SpecFault>
     ensures { Gives result (hashes_at object.now.place (view object.now.value.now)) }
 {
@@ -80,8 +78,17 @@ fn hashes_at(alloc: Global, object: &Object) -> Result<(Option<Text>, Option<Tex
     Ok((hashed, initial))
 }
 
+/// The description, the home and the shell of a user.
+fn texts_at(alloc: Global, object: &Object) -> Result<(Text, Text, Text), SpecFault>
+    ensures { Gives result (texts_at object.now.place (view object.now.value.now)) }
+{
+    let description = object.text_or(alloc, "description", "")?;
+    let home = object.text_or(alloc, "home", EMPTY_HOME)?;
+    let shell = object.text_or(alloc, "shell", NOLOGIN)?;
+    Ok((description, home, shell))
+}
+
 /// Reads a user of this name.
-#[tactic(auto, unfolding(crate::specs::UserSpec::user_named, crate::specs::Fields::read_and_then))]
 fn user_named(alloc: Global, name: Text, object: &Object) -> Result<UserSpec, SpecFault>
     ensures read { Gives result (user_named name object.now.place (view object.now.value.now)) }
     ensures name { IfOk result (λ user. user.name ≡ name) }
@@ -89,9 +96,7 @@ fn user_named(alloc: Global, name: Text, object: &Object) -> Result<UserSpec, Sp
     let group = object.name(alloc, "group")?;
     let uid = object.id(alloc, "uid")?;
     let system = object.truth_or(alloc, "isSystemUser", false)?;
-    let description = object.text_or(alloc, "description", "")?;
-    let home = object.text_or(alloc, "home", EMPTY_HOME)?;
-    let shell = object.text_or(alloc, "shell", NOLOGIN)?;
+    let (description, home, shell) = texts_at(alloc, object)?;
     let (hashed, initial) = hashes_at(alloc, object)?;
     Ok(UserSpec {
         name,
@@ -107,7 +112,6 @@ fn user_named(alloc: Global, name: Text, object: &Object) -> Result<UserSpec, Sp
 }
 
 /// Reads the user at a place.
-#[tactic(auto, unfolding(crate::specs::UserSpec::user_at, crate::specs::Fields::read_and_then))]
 fn user_at(alloc: Global, names: &mut DeclaredNames, object: &Object) -> Result<UserSpec, SpecFault>
     ensures read { Gives result (user_at object.now.place names.old (view object.now.value.now)) }
     ensures names { IfOk result (λ user. names.new ≡ names.old ++ user.name ∷ []) }
@@ -119,7 +123,6 @@ fn user_at(alloc: Global, names: &mut DeclaredNames, object: &Object) -> Result<
 }
 
 /// Reads users in the order of declaration.
-#[tactic(auto, unfolding(crate::specs::Fields::read_and_then))]
 pub fn users_of(alloc: Global, values: &[Value]) -> Result<Listed<UserSpec>, SpecFault>
     ensures { Gives result (read_each user_after [] (map view values.now)) }
 {

@@ -1,4 +1,4 @@
-use Rattle.std.proofs.Common.{◌≡◌, List, ℕ, true, false, cond, None, Err, refl, sym, ap, ◌∙◌, inr, true≢false}
+use Rattle.std.proofs.Common.{◌≡◌, List, ℕ, true, false, cond, None, Err, refl, sym, ap, ◌∙◌, inl, inr, true≢false}
 use Rattle.std.specs.Option.{ok_or}
 use Rattle.std.specs.Str.{IsUtf8, is_utf8}
 use Rattle.std.proofs.lemmas.Str.{is_utf8-from_IsUtf8, IsUtf8-from_is_utf8}
@@ -20,3 +20,6 @@ returns-in-Ok c = rw (is_utf8-from_IsUtf8 _ c.in-Ok.ensures.ok.0, c.in-Ok.ensure
 pub returns-in-Err-2 : goal.returns-in-Err-2
 returns-in-Err-2 c =
     inr (refused c.args.bytes.now (c.in-Err.ensures.err (λ memory. true≢false (sym (c.is_memory.ensures.1 memory) ∙ c.if-is_memory.false))))
+
+pub returns-in-Err : goal.returns-in-Err
+returns-in-Err c = inl refl
