@@ -1,6 +1,6 @@
 -- What loops have collected, with one item more.
 use Rattle.std.proofs.Common.{◌≡◌, ◌⊎◌, ℕ, ◌+◌, ◌<◌, ◌&&◌, Bool, true, false, not, cond, List, [], ◌∷◌, ◌++◌, length, get_or, take, drop, map, Option, None, Some, is_some, filter, Result, Ok, Err, IfErr, refl, sym, ap, ◌∙◌, inl, inr, append_assoc}
-use Rattle.std.proofs.lemmas.List.{drop_more, take-append-drop, take_more}
+use Rattle.std.proofs.lemmas.List.{drop_more, map-append, take-append-drop, take_more}
 use Rattle.std.proofs.lemmas.List.Elements.{filter-append, filter_map-append}
 use Rattle.std.specs.List.{filter_map}
 use Rattle.std.specs.Result.{IsErrAnd}
@@ -55,6 +55,10 @@ kept_next {D} user asked given i one start old new inside is grown was =
 pub made_next : {X Y : Type 0} (f : X → Option Y) (xs : List X) (i : ℕ) (x : X) (old new : List Y) → i < length xs → x ≡ get_or xs i x → new ≡ old ++ filter_map f (x ∷ []) → old ≡ filter_map f (take i xs) → new ≡ filter_map f (take (i + 1) xs)
 made_next f xs i x old new inside is grown was =
     grown ∙ ap (λ ys. ys ++ filter_map f (x ∷ [])) was ∙ sym (ap (filter_map f) (next_item xs i x inside is) ∙ filter_map-append f (take i xs) (x ∷ []))
+
+pub mapped_next : {X Y : Type 0} (f : X → Y) (xs : List X) (i : ℕ) (x : X) (old new : List Y) → i < length xs → x ≡ get_or xs i x → new ≡ old ++ f x ∷ [] → old ≡ map f (take i xs) → new ≡ map f (take (i + 1) xs)
+mapped_next f xs i x old new inside is grown was =
+    grown ∙ ap (λ ys. ys ++ f x ∷ []) was ∙ sym (ap (map f) (next_item xs i x inside is) ∙ map-append f (take i xs) (x ∷ []))
 
 module _ (gids : Name → Option ℕ) where
   fault_append : (xs ys : List (Given UserSpec)) → user_fault gids (given_accounts xs) (given_ids xs) ≡ None → user_fault gids (given_accounts (xs ++ ys)) (given_ids (xs ++ ys)) ≡ user_fault gids (given_accounts ys) (given_ids ys)

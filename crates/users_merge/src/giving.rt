@@ -78,6 +78,30 @@ fn choose<R: Named + Numbered, D: Declaration>(
     taken.free(account.is_system())
 }
 
+/// Gives each account its id, up to the first that gets none.
+fn give_each<'a, R: Named + Numbered, D: Declaration>(
+    alloc: Global,
+    rows: &ByName<'_, R>,
+    known: &IdMap,
+    taken: &mut Taken,
+    accounts: &'a [D],
+) -> Result<Vec<Given<'a, D>>, AllocError>
+    requires { (used : List ℕ) × AreTaken used (map (λ row. row.id) (rows_of known.now)) taken.old }
+    ensures ids { (used : List ℕ) → AreTaken used (map (λ row. row.id) (rows_of known.now)) taken.old
+        → IfOk result (λ given. given_ids given.items ≡ give (λ name. option_map R.id_of (found_in rows.now.rows name)) known.now used (map D.asked accounts.now)) }
+    ensures accounts { IfOk result (λ given. given_accounts given.items ≡ take (length given.items) accounts.now) }
+{
+    let mut given = Vec::with_capacity(alloc, accounts.len())?;
+    for account in accounts {
+        let Some(id) = choose(rows, known, taken, account) else {
+            return Ok(given);
+        };
+        taken.take(id)?;
+        given.push(Given { account, id })?;
+    }
+    Ok(given)
+}
+
 /// The ids of declared accounts, in the order of declaration, up to the first that gets none.
 ///
 /// An account keeps the id of its row. Else it gets the one that is asked for, else the one that is
@@ -98,13 +122,5 @@ pub fn give<'a, R: Named + Numbered, D: Declaration>(
 {
     let rows = ByName::of(alloc, table)?;
     let mut taken = Taken::of(alloc, table, accounts, known)?;
-    let mut given = Vec::with_capacity(alloc, accounts.len())?;
-    for account in accounts {
-        let Some(id) = choose(&rows, known, &taken, account) else {
-            return Ok(given);
-        };
-        taken.take(id)?;
-        given.push(Given { account, id })?;
-    }
-    Ok(given)
+    give_each(alloc, &rows, known, &mut taken, accounts)
 }

@@ -8,12 +8,14 @@ ghost use Rattle.account_text.specs.Order.{IsInOrder, group_key, passwd_key};
 ghost use Rattle.account_text.specs.Passwd.{IsSoundPasswd, passwd_name};
 ghost use Rattle.account_text.specs.Shadow.{IsSoundShadow};
 ghost use Rattle.account_text.specs.Table.{are_distinct};
-ghost use Rattle.users_spec.specs.Spec.{group_names, user_names};
-ghost use Rattle.users_merge.specs.Account.{group_account, user_account};
-ghost use Rattle.users_merge.specs.Given.{given_accounts, given_ids};
+ghost use Rattle.users_spec.specs.Spec.{IsSound, group_names, user_names};
+ghost use Rattle.switch_names.specs.Names.{Name};
+ghost use Rattle.users_merge.specs.Account.{group_account, id_of, user_account};
+ghost use Rattle.users_merge.specs.Given.{IsId, given_accounts, given_ids};
 ghost use Rattle.users_merge.specs.Merge.{IsMerge, fault, kept, kept_of};
 ghost use Rattle.users_merge.specs.Order.{AreInOrder};
 ghost use Rattle.users_merge.specs.ShadowRows.{merged_shadow};
+ghost use Rattle.users_merge.specs.Sides.{AreGroups, AreUsers};
 ghost use Rattle.users_merge.specs.Stored.{merged_of, ordered, stored_of};
 
 use crate::declared_names::Declared;
@@ -26,7 +28,7 @@ use crate::names::{all_names, now_names};
 use crate::remembered::Remembered;
 use crate::remembering::with_ids;
 use crate::shadow::merged_shadow;
-use crate::sides::{merge_groups, merge_users};
+use crate::sides::{Side, merge_groups, merge_users};
 use account_text::{GroupRow, PasswdRow, ShadowRow, Tables, group_in_order, passwd_in_order};
 use std::alloc::{AllocError, Global};
 use switch_names::Listed;
@@ -91,6 +93,61 @@ fn declared_ever(alloc: Global, spec: &Spec, before: &Declared) -> Result<Declar
     })
 }
 
+/// The remembered ids, with those that the declared accounts have now.
+fn ids_now(
+    alloc: Global,
+    remembered: &Remembered,
+    groups: &[Given<'_, GroupSpec>],
+    users: &[Given<'_, UserSpec>],
+) -> Result<Remembered, AllocError>
+    requires groups { AllByRecursion IsId (given_ids groups.now) }
+    requires users { AllByRecursion IsId (given_ids users.now) }
+    ensures uids { IfOk result (λ ids. (name : Name) → get ids.uids name ≡ option_or (id_of (map user_account (given_accounts users.now)) (given_ids users.now) name) (get remembered.now.uids name)) }
+    ensures gids { IfOk result (λ ids. (name : Name) → get ids.gids name ≡ option_or (id_of (map group_account (given_accounts groups.now)) (given_ids groups.now) name) (get remembered.now.gids name)) }
+{
+    let uids = with_ids(alloc, &remembered.uids, users)?;
+    let gids = with_ids(alloc, &remembered.gids, groups)?;
+    Ok(Remembered { uids, gids })
+}
+
+/// The outcome of a merge by its groups and its users.
+fn merged(
+    alloc: Global,
+    spec: &Spec,
+    tables: &Tables,
+    remembered: &Remembered,
+    declared: &Declared,
+    groups: Side<'_, GroupSpec, GroupRow>,
+    users: Side<'_, UserSpec, PasswdRow>,
+) -> Result<Merged, AllocError>
+    requires groups { AreGroups spec.now (stored_of tables.now remembered.now declared.now) groups.given.items groups.rows.items }
+    requires users { AreUsers spec.now (stored_of tables.now remembered.now declared.now) users.given.items users.rows.items }
+    requires sound { IsSound spec.now }
+    requires shadow { IsSoundShadow tables.now.shadow }
+    ensures merged { IfOk result (λ merged. IsMerge spec.now (stored_of tables.now remembered.now declared.now) (merged_of merged)) }
+    ensures order { IfOk result AreInOrder }
+    ensures sound { IfOk result (λ merged. IsSoundGroup merged.tables.group × IsSoundPasswd merged.tables.passwd × IsSoundShadow merged.tables.shadow) }
+    ensures kept { IfOk result (λ merged. merged.kept ≡ kept spec.now (stored_of tables.now remembered.now declared.now)) }
+{
+    let remembered = ids_now(
+        alloc,
+        remembered,
+        groups.given.as_slice(),
+        users.given.as_slice(),
+    )?;
+    let kept = kept_accounts(alloc, groups.given.as_slice(), users.given.as_slice())?;
+    let group = groups.into_rows();
+    let passwd = users.into_rows();
+    let tables = ordered_tables(alloc, spec, group, passwd, tables.shadow.as_slice())?;
+    Ok(Merged {
+        tables,
+        remembered,
+        union: declared_ever(alloc, spec, declared)?,
+        declared: declared_now(alloc, spec)?,
+        kept,
+    })
+}
+
 /// Merges the accounts that a specification declares with those that stand.
 ///
 /// A declared account keeps the id of its row; else it gets the specified id, the one that is
@@ -117,16 +174,5 @@ pub fn merge(
 {
     let groups = merge_groups(alloc, spec, tables, remembered, declared)?;
     let users = merge_users(alloc, spec, tables, remembered, declared, &groups)?;
-    let uids = with_ids(alloc, &remembered.uids, users.given.as_slice())?;
-    let gids = with_ids(alloc, &remembered.gids, groups.given.as_slice())?;
-    let kept = kept_accounts(alloc, groups.given.as_slice(), users.given.as_slice())?;
-    let group = groups.into_rows();
-    let passwd = users.into_rows();
-    Ok(Merged {
-        tables: ordered_tables(alloc, spec, group, passwd, tables.shadow.as_slice())?,
-        remembered: Remembered { uids, gids },
-        union: declared_ever(alloc, spec, declared)?,
-        declared: declared_now(alloc, spec)?,
-        kept,
-    })
+    Ok(merged(alloc, spec, tables, remembered, declared, groups, users)?)
 }

@@ -2,12 +2,15 @@
 ghost use Rattle.std.specs.Prelude.{◌≡◌, ◌⊎◌, ◌≤◌, None, Some, length, map, option_map, IfOk, IfErr, OnOk};
 ghost use Rattle.account_text.specs.Group.{IsSoundGroup};
 ghost use Rattle.account_text.specs.Passwd.{IsSoundPasswd};
-ghost use Rattle.users_spec.specs.Spec.{IsSound};
+ghost use Rattle.users_spec.specs.Spec.{IsSound, group_names, user_names};
 ghost use Rattle.users_merge.specs.Account.{first_without, group_accounts};
-ghost use Rattle.users_merge.specs.Given.{given_ids};
+ghost use Rattle.users_merge.specs.Given.{given_accounts, given_ids};
+ghost use Rattle.users_merge.specs.GroupRows.{merged_groups};
 ghost use Rattle.users_merge.specs.Merge.{gid_of, group_ids, user_fault, user_ids};
 ghost use Rattle.users_merge.specs.Sides.{AreGroups, AreUsers};
+ghost use Rattle.users_merge.specs.Staying.{undeclared};
 ghost use Rattle.users_merge.specs.Stored.{stored_of};
+ghost use Rattle.users_merge.specs.UserRows.{gid_named, merged_users};
 
 use crate::declaration::Declaration;
 use crate::declared_names::Declared;
@@ -68,6 +71,24 @@ fn check_given<D: Declaration>(
     }
 }
 
+/// The rows of all groups.
+fn group_rows(
+    alloc: Global,
+    spec: &Spec,
+    declared: &Declared,
+    table: &[GroupRow],
+    given: &[Given<'_, GroupSpec>],
+) -> Result<Vec<GroupRow>, AllocError>
+    ensures { IfOk result (λ rows. rows.items ≡ merged_groups (undeclared spec.now.mutable (group_names spec.now) declared.now.groups)
+        (undeclared spec.now.mutable (user_names spec.now) declared.now.users) given.now table.now) }
+{
+    let group_names = Names::of(alloc, spec.groups().as_slice(), declared.groups.as_slice())?;
+    let user_names = Names::of(alloc, spec.users().as_slice(), declared.users.as_slice())?;
+    let groups = group_names.staying(spec.mutable());
+    let users = user_names.staying(spec.mutable());
+    merged_groups(alloc, table, given, groups, users)
+}
+
 /// The groups.
 pub fn merge_groups<'a>(
     alloc: Global,
@@ -85,12 +106,25 @@ pub fn merge_groups<'a>(
     let table = tables.group.as_slice();
     let given = give(alloc, table, &remembered.gids, accounts)?;
     check_given(alloc, accounts, given.as_slice())?;
-    let group_names = Names::of(alloc, accounts, declared.groups.as_slice())?;
-    let user_names = Names::of(alloc, spec.users().as_slice(), declared.users.as_slice())?;
-    let groups = group_names.staying(spec.mutable());
-    let users = user_names.staying(spec.mutable());
-    let rows = merged_groups(alloc, table, given.as_slice(), groups, users)?;
+    let rows = group_rows(alloc, spec, declared, table, given.as_slice())?;
     Ok(Side { given, rows })
+}
+
+/// The rows of all users, by the rows of the groups.
+fn user_rows(
+    alloc: Global,
+    spec: &Spec,
+    declared: &Declared,
+    table: &[PasswdRow],
+    group: &[GroupRow],
+    given: &[Given<'_, UserSpec>],
+) -> Result<Vec<PasswdRow>, MergeFault>
+    ensures ok { IfOk result (λ rows. rows.items ≡ merged_users (undeclared spec.now.mutable (user_names spec.now) declared.now.users) (gid_named group.now) given.now table.now) }
+    ensures fine { OnOk result (user_fault (gid_named group.now) (given_accounts given.now) (given_ids given.now) ≡ None) }
+    ensures fault { IfErr result (λ why. (why ≡ MergeFault.Memory) ⊎ (user_fault (gid_named group.now) (given_accounts given.now) (given_ids given.now) ≡ Some why)) }
+{
+    let names = Names::of(alloc, spec.users().as_slice(), declared.users.as_slice())?;
+    merged_users(alloc, table, group, given, names.staying(spec.mutable()))
 }
 
 /// The users, by the rows of the groups.
@@ -112,15 +146,8 @@ pub fn merge_users<'a>(
     let accounts = spec.users().as_slice();
     let table = tables.passwd.as_slice();
     let given = give(alloc, table, &remembered.uids, accounts)?;
-    let names = Names::of(alloc, accounts, declared.users.as_slice())?;
-    let users = names.staying(spec.mutable());
-    let rows = merged_users(
-        alloc,
-        table,
-        groups.rows.as_slice(),
-        given.as_slice(),
-        users,
-    )?;
+    let group = groups.rows.as_slice();
+    let rows = user_rows(alloc, spec, declared, table, group, given.as_slice())?;
     check_given(alloc, accounts, given.as_slice())?;
     Ok(Side { given, rows })
 }

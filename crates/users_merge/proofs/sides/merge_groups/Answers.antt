@@ -1,15 +1,14 @@
-use Rattle.std.proofs.Common.{◌≤◌, List, length, map, option_map, inl, inr, sym, ap, subst, ◌∙◌}
+use Rattle.std.proofs.Common.{◌≤◌, List, length, map, option_map, inl, inr, refl, sym, ap, subst, ◌∙◌}
 use Rattle.std.proofs.lemmas.List.{take_all}
-use Rattle.switch_names.specs.Names.{Name, has}
+use Rattle.users_spec.specs.Spec.{group_names, user_names}
 use Rattle.users_spec.specs.declared.group_spec.GroupSpec.{GroupSpec}
-use Rattle.users_spec.specs.declared.user_spec.UserSpec.{UserSpec}
 use Rattle.users_merge.specs.Account.{first_without, group_account}
 use Rattle.users_merge.specs.Given.{given_ids}
 use Rattle.users_merge.specs.GroupRows.{merged_groups}
-use Rattle.users_merge.specs.Staying.{stays_by}
+use Rattle.users_merge.specs.Staying.{undeclared}
 use Rattle.users_merge.specs.declared.giving.Given.{Given}
 use Rattle.users_merge.specs.declared.merge_fault.MergeFault.TheVariants.{NoFreeId}
-use Rattle.users_merge.proofs.CollectedLemmas.{handed, stays_are}
+use Rattle.users_merge.proofs.CollectedLemmas.{handed}
 use Rattle.users_merge.proofs.SideLemmas.{are_groups, group_ids_are, group_rows_bounded, groups_asked}
 use Rattle.users_merge.proofs.sides.merge_groups.Goals as goal
 
@@ -34,17 +33,14 @@ returns-clause-ok c =
     accounts c.as_slice-table.ensures c.requires c.in_ok-given.ensures.ids in
     let all : length c.as_slice-accounts.result.now ≤ length given =
     subst (λ (items : List (Given GroupSpec)). length c.as_slice-accounts.result.now ≤ length items) c.as_slice.ensures.value c.in_ok-check_given.ensures.all in
-    are_groups spec c.args.tables.now c.args.remembered.now c.args.declared.now given c.in_ok-rows.rows.items (stays_by c.staying-groups.result) (stays_by c.staying-users.result) c.groups.ensures.sound c.requires
+    are_groups spec c.args.tables.now c.args.remembered.now c.args.declared.now given c.in_ok-rows.rows.items
+    (undeclared spec.mutable (group_names spec) c.args.declared.now.groups) (undeclared spec.mutable (user_names spec) c.args.declared.now.users) c.groups.ensures.sound c.requires
     ((λ i. first_without (map group_account (sym accounts i)) (given_ids (sym c.as_slice.ensures.value i))) ∙ c.in_ok-check_given.ensures.ok)
     (c.in_ok-given.ensures.accounts ∙ take_all (length given) c.as_slice-accounts.result.now all ∙ accounts)
     ids
     (c.in_ok-given.ensures.bounded (group_rows_bounded spec c.args.tables.now c.args.remembered.now c.args.declared.now c.as_slice-table.result.now c.as_slice-table.ensures c.requires)
     (groups_asked spec c.args.tables.now c.args.remembered.now c.args.declared.now c.as_slice-accounts.result.now accounts c.groups.ensures.sound))
-    (c.in_ok-rows.ensures ∙ (λ i. merged_groups (stays_by c.staying-groups.result) (stays_by c.staying-users.result) (c.as_slice-5.ensures.value i) (c.as_slice-table.ensures i)))
-    (λ name. c.staying-groups.ensures name
-    ∙ stays_are _ _ _ _ _ _ name c.mutable.ensures (c.in_ok-group_names.ensures.declared name ∙ ap (λ (groups : List GroupSpec). has (map (λ group. group.name) groups) name) accounts)
-    (c.in_ok-group_names.ensures.earlier name ∙ ap (λ (names : List Name). has names name) c.as_slice-2.ensures))
-    (λ name. c.staying-users.ensures name
-    ∙ stays_are _ _ _ _ _ _ name c.mutable-2.ensures
-    (c.in_ok-user_names.ensures.declared name ∙ ap (λ (users : List UserSpec). has (map (λ user. user.name) users) name) (c.as_slice-3.ensures ∙ c.users.ensures.users))
-    (c.in_ok-user_names.ensures.earlier name ∙ ap (λ (names : List Name). has names name) c.as_slice-4.ensures))
+    (c.in_ok-rows.ensures
+    ∙ (λ i.
+    merged_groups (undeclared spec.mutable (group_names spec) c.args.declared.now.groups) (undeclared spec.mutable (user_names spec) c.args.declared.now.users) (c.as_slice-2.ensures.value i) (c.as_slice-table.ensures i)))
+    (λ name. refl) (λ name. refl)
