@@ -1,8 +1,8 @@
 -- After some of the stops the same is owed.
-use Rattle.std.proofs.Common.{◌≡◌, ◌⊎◌, ◌&&◌, Bool, true, IsTrue, inl, inr, refl, sym, ◌∙◌, ap}
+use Rattle.std.proofs.Common.{◌≡◌, ◌⊎◌, ◌&&◌, Bool, true, IsTrue, inl, inr, sym, ◌∙◌, ap}
 use Rattle.std.proofs.lemmas.Bool.{and_from, and_parts, or_cases, or_left, or_right}
 use Rattle.host_trait.specs.declared.unit_state.State.{State}
-use Rattle.host_trait.specs.declared.unit_state.State.TheVariants.{Active, Inactive, Failed}
+use Rattle.host_trait.specs.declared.unit_state.State.TheVariants.{Active}
 use Rattle.owed_plan.specs.Law.{IsSound, SameOwed}
 use Rattle.host_trait.specs.Manager.{is_active}
 use Rattle.host_trait.proofs.NameOrder.{passes_among}

@@ -1,11 +1,13 @@
 -- What a loop over items has found, with one item more.
-use Rattle.std.proofs.Common.{◌≡◌, ◌<◌, ◌+◌, ◌&&◌, ◌||◌, ◌++◌, ◌∷◌, [], ℕ, Bool, true, false, cond, List, filter, get_or, length, map, refl, sym, take, ap, ◌∙◌}
+use Rattle.std.proofs.Common.{◌≡◌, ◌<◌, ◌≤◌, ◌+◌, ◌&&◌, ◌||◌, ◌++◌, ◌∷◌, [], ℕ, Bool, true, false, cond, List, filter, get_or, length, map, refl, sym, subst, take, ap, ◌∙◌}
 use Rattle.std.specs.List.{list_any}
-use Rattle.std.proofs.lemmas.List.{append-nil, map-append}
+use Rattle.std.specs.List.Sorted.{IsStrictlySortedBy}
+use Rattle.std.proofs.lemmas.List.{append-nil, map-append, take_all}
 use Rattle.std.proofs.lemmas.List.Elements.{filter_more}
 use Rattle.std.proofs.lemmas.List.Folds.{list_any_more}
 use Rattle.std.proofs.Math.Bool.{or_assoc, and-false}
-use Rattle.owed_plan.specs.Collected.{is_socketed}
+use Rattle.host_trait.specs.World.{bytes_cmp}
+use Rattle.owed_plan.specs.Collected.{IsListBy, is_socketed}
 use Rattle.owed_plan.specs.Systems.{Systems}
 use Rattle.switch_names.specs.Names.{Name, has, is_name}
 use Rattle.switch_names.specs.declared.unit_kind.UnitKind.TheVariants.{Service}
@@ -52,6 +54,17 @@ pub given_more :
     old ≡ list_any p (take i xs) → new ≡ (old || p x) → new ≡ list_any p (take (i + 1) xs)
 given_more p xs i x old new inside is was grown =
     grown ∙ ap (λ b. b || p x) was ∙ ap (λ y. list_any p (take i xs) || p y) is ∙ sym (list_any_more p xs i x inside)
+
+-- all items have given what they give
+pub given_all : {X : Type 0} (p : X → Bool) (xs : List X) (i : ℕ) (found : Bool) → length xs ≤ i → found ≡ list_any p (take i xs) → found ≡ list_any p xs
+given_all p xs i found outside was = was ∙ ap (list_any p) (take_all i xs outside)
+
+-- the names of a set are a list by what the set has
+pub list_by : (names set : List Name) (test : Name → Bool) → names ≡ set → IsStrictlySortedBy bytes_cmp set → ((unit : Name) → has set unit ≡ test unit) → IsListBy names test
+list_by names set test same sorted exact = record {
+  sorted = subst (IsStrictlySortedBy bytes_cmp) (sym same) sorted;
+  exact = λ unit. ap (λ (ns : List Name). has ns unit) same ∙ exact unit;
+}
 
 has_chosen : (b : Bool) (name unit : Name) → has (cond b (name ∷ []) []) unit ≡ (b && is_name unit name)
 has_chosen true name unit = by (is_name unit name)

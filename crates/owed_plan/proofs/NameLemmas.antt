@@ -1,18 +1,14 @@
 -- Names in lists, and tests that hold of one of them.
-use Rattle.std.proofs.Common.{◌≡◌, ◌&&◌, ◌||◌, ◌++◌, ◌∷◌, ℕ, zero, suc, Bool, true, false, not, List, [], filter, take, inl, inr, refl, sym, ap, ◌∙◌}
-use Rattle.std.specs.BTreeMap.{is_at}
-use Rattle.std.specs.Cmp.Lexicographic.{slice_cmp}
+use Rattle.std.proofs.Common.{◌≡◌, ◌&&◌, ◌||◌, ◌++◌, ◌∷◌, ℕ, zero, suc, Bool, true, false, not, List, [], filter, take, inl, inr, refl, ◌∙◌}
 use Rattle.std.specs.List.{list_any}
-use Rattle.std.specs.Ordering.{nat_cmp}
 use Rattle.std.proofs.lemmas.Bool.{or_cases, or_left, or_right}
 use Rattle.std.proofs.lemmas.List.Folds.{list_any-append}
-use Rattle.std.proofs.lemmas.Map.Views.{any-filter_same}
 use Rattle.owed_plan.specs.Owed.{sockets_first}
 use Rattle.switch_names.specs.declared.unit_kind.UnitKind.{UnitKind}
 use Rattle.switch_names.specs.declared.unit_kind.UnitKind.TheVariants.{Socket}
 use Rattle.switch_names.specs.Names.{Name, has, is_name}
 use Rattle.unit_decide.specs.Kinds.{is_kind}
-use Rattle.host_trait.proofs.NameOrder.{name_exact, name_itself, passes_among, has_filter}
+use Rattle.host_trait.proofs.NameOrder.{name_itself, has_filter}
 
 -- a weaker test holds of one of the names too
 pub any_more : (test weaker : Name → Bool) (names : List Name) → ((unit : Name) → has names unit ≡ true → test unit ≡ true → weaker unit ≡ true) → list_any test names ≡ true → list_any weaker names ≡ true

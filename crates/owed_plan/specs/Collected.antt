@@ -9,7 +9,6 @@ use Rattle.owed_plan.specs.Decisions.{Situation, leaves, reloads, restarts, star
 use Rattle.owed_plan.specs.Systems.{Systems}
 use Rattle.owed_plan.specs.declared.owed.Owed.{Owed}
 use Rattle.owed_plan.specs.declared.deciding.UnitDecision.{UnitDecision}
-use Rattle.owed_plan.specs.declared.sets.OwedSets.{OwedSets}
 use Rattle.switch_names.specs.Names.{Name, has}
 use Rattle.switch_names.specs.declared.unit_kind.UnitKind.TheVariants.{Service}
 use Rattle.unit_decide.specs.Kinds.{is_kind}
@@ -32,21 +31,16 @@ pub record IsListBy (names : List Name) (test : Name → Bool) : Type 0 where
   pub sorted : IsStrictlySortedBy bytes_cmp names
   pub exact : (unit : Name) → has names unit ≡ test unit
 
--- the sets have what these decisions give, each its kind
-pub record AreDecided (situation : Situation) (decisions : List UnitDecision) (sets : OwedSets) : Type 0 where
-  pub stops : (unit : Name) → has sets.stops unit ≡ list_any (stops situation unit) decisions
-  pub reloads : (unit : Name) → has sets.reloads unit ≡ list_any (reloads unit) decisions
-  pub restarts : (unit : Name) → has sets.restarts unit ≡ list_any (restarts unit) decisions
-  pub starts : (unit : Name) → has sets.starts unit ≡ list_any (starts unit) decisions
-  pub left : (unit : Name) → has sets.left unit ≡ list_any (leaves unit) decisions
-
--- each of the sets is in byte order
-pub record AreSorted (sets : OwedSets) : Type 0 where
-  pub stops : IsStrictlySortedBy bytes_cmp sets.stops
-  pub reloads : IsStrictlySortedBy bytes_cmp sets.reloads
-  pub restarts : IsStrictlySortedBy bytes_cmp sets.restarts
-  pub starts : IsStrictlySortedBy bytes_cmp sets.starts
-  pub left : IsStrictlySortedBy bytes_cmp sets.left
+-- the lists are the names of these sets, which are in byte order, and these names
+pub record AreListed (stop_set reload_set restart_set start_names left_names : List Name) (owed : Owed) : Type 0 where
+  pub stops : owed.stops ≡ stop_set
+  pub stops_sorted : IsStrictlySortedBy bytes_cmp stop_set
+  pub reloads : owed.reloads ≡ reload_set
+  pub reloads_sorted : IsStrictlySortedBy bytes_cmp reload_set
+  pub restarts : owed.restarts ≡ restart_set
+  pub restarts_sorted : IsStrictlySortedBy bytes_cmp restart_set
+  pub starts : owed.starts ≡ start_names
+  pub left : owed.left ≡ left_names
 
 -- the lists have what the decisions give, what is listed and defined, and what is pulled and comes up by no other way
 pub record IsCollected (situation : Situation) (decisions : List UnitDecision) (lists : Lists) (pulled : List Name) (owed : Owed) : Type 0 where

@@ -11,6 +11,7 @@ mod owed;
 mod planning;
 mod sets;
 mod steady;
+mod touched;
 
 pub use duty::{Duty, calls};
 pub use owed::Owed;
