@@ -1,5 +1,6 @@
 //! The places that a set of the profile writes.
-ghost use Rattle.std.specs.Prelude.{◌≡◌, ◌++◌, false, IfOk, OnOk};
+ghost use Rattle.std.specs.Prelude.{◌≡◌, ◌++◌, false, IfOk, OnOk, option_map};
+ghost use Rattle.std.specs.Option.{option_to_list};
 ghost use Rattle.host_trait.specs.World.{Leaves};
 ghost use Rattle.tree_put.specs.WrittenPlace.{AreApartFromStage, written};
 ghost use Rattle.generations.specs.Gens.{IsGensOf};
@@ -26,6 +27,16 @@ fn new_link(alloc: Global, gens: &Gens, system: &SystemName) -> Result<Option<Pa
     Ok(Some(generation_path(alloc, number)?))
 }
 
+/// Adds the place of a new generation's link, where there is one.
+fn add_link(places: &mut Listed<WrittenPlace>, link: Option<Path>) -> Result<(), AllocError>
+    ensures { OnOk result (places.new ≡ places.old ++ option_to_list (option_map (written false) link)) }
+{
+    match link {
+        Some(link) => places.push(unread(link)),
+        None => Ok(()),
+    }
+}
+
 /// Adds the profile's link, the new generation's where there is one, and the stage.
 fn add_places(
     alloc: Global,
@@ -36,9 +47,7 @@ fn add_places(
     ensures { OnOk result (places.new ≡ places.old ++ places_in gens.now.list system.now) }
 {
     places.push(unread(profile_path(alloc)?))?;
-    if let Some(link) = new_link(alloc, gens, system)? {
-        places.push(unread(link))?;
-    }
+    add_link(places, new_link(alloc, gens, system)?)?;
     places.push(unread(stage_path(alloc)?))
 }
 
