@@ -1,8 +1,7 @@
 -- The puts of accounts, one after the other.
-use Rattle.std.proofs.Common.{◌≡◌, ◌&&◌, ◌||◌, not, Bool, true, false, List, [], ◌∷◌, ◌++◌, Option, None, Some, Result, Ok, Err, OnOk, refl, sym, ap, ◌∙◌, inl, inr}
+use Rattle.std.proofs.Common.{◌≡◌, ◌&&◌, ◌||◌, not, Bool, true, false, List, [], ◌∷◌, ◌++◌, Option, None, Some, Ok, Err, append_assoc, refl, sym, ap, ◌∙◌, inl, inr}
 use Rattle.std.proofs.lemmas.Bool.{and_parts, both_ways, cases_Bool, not-true}
 use Rattle.std.proofs.lemmas.Option.{none-some}
-use Rattle.std.proofs.lemmas.Result.{on_ok_weaker}
 use Rattle.std.specs.Cmp.Lexicographic.{same_text}
 use Rattle.std.specs.List.{AllByRecursion, list_all}
 use Rattle.host_trait.specs.World.{IsClear, Leaves, WorldState, is_in_line, is_path, stage}
@@ -69,6 +68,16 @@ answer_is m answer is =
     ap (λ (tables : Tables). nine_puts answer.union answer.remembered tables answer.declared)
     (λ i. record { group = is.order.group i; passwd = is.order.passwd i; shadow = is.order.shadow i })
     ∙ ap account_puts is.merged
+
+-- puts that are added one after the other are added as one list
+pub two_added : (old one two : List LeafPut) (a b x y : LeafPut) → one ≡ old ++ a ∷ [] → two ≡ one ++ b ∷ [] → a ≡ x → b ≡ y → two ≡ old ++ x ∷ y ∷ []
+two_added old one two a b x y added more is_a is_b =
+    more ∙ ap (λ puts. puts ++ b ∷ []) added ∙ append_assoc old (a ∷ []) (b ∷ []) ∙ (λ i. old ++ is_a i ∷ is_b i ∷ [])
+
+pub three_added :
+    (old one two three : List LeafPut) (a b d x y z : LeafPut) → one ≡ old ++ a ∷ [] → two ≡ one ++ b ∷ [] → three ≡ two ++ d ∷ [] → a ≡ x → b ≡ y → d ≡ z → three ≡ old ++ x ∷ y ∷ z ∷ []
+three_added old one two three a b d x y z added more last is_a is_b is_d =
+    last ∙ ap (λ puts. puts ++ d ∷ []) (two_added old one two a b x y added more is_a is_b) ∙ append_assoc old (x ∷ y ∷ []) (d ∷ []) ∙ ap (λ put. old ++ x ∷ y ∷ put ∷ []) is_d
 
 -- the puts of an answer, one list after another
 pub answer_made :
