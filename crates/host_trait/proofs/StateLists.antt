@@ -1,16 +1,12 @@
 -- Lists of units in order, and the maps of states that they give.
-use Rattle.std.proofs.Common.{◌≡◌, ◌≢◌, ◌⊎◌, ℕ, ◌+◌, ◌<◌, ◌≤◌, Bool, true, false, cond, List, [], ◌∷◌, ◌++◌, length, get_or, take, drop, set, map, Option, None, Some, IsSome, unwrap_or, Result, IfOk, OnOk, refl, sym, ap, ◌∙◌, subst, inl, inr, suc, rules, arith}
-use Rattle.std.proofs.lemmas.Bool.{both_ways}
-use Rattle.std.proofs.lemmas.List.{map-append, length-take-le, take-append-drop, drop_more, set_at}
-use Rattle.std.proofs.lemmas.Option.{get_or_from_slice_get, slice_get_within, slice_get-map}
+use Rattle.std.proofs.Common.{◌≡◌, ◌≢◌, ℕ, ◌<◌, true, false, cond, List, [], ◌∷◌, ◌++◌, length, get_or, take, drop, set, map, Option, None, Some, unwrap_or, refl, sym, ap, ◌∙◌, subst, inl, inr, suc, rules, arith}
+use Rattle.std.proofs.lemmas.List.{map-append, length-take-le, take-append-drop, set_at}
+use Rattle.std.proofs.lemmas.Option.{get_or_from_slice_get, slice_get_within}
 use Rattle.std.specs.BTreeMap.{is_at}
 use Rattle.std.specs.Cmp.{eq_by_cmp_equiv}
 use Rattle.std.specs.FinMap.{get, insert, remove, gets, get_tied}
 use Rattle.std.specs.List.{AllByRecursion, slice_get}
 use Rattle.std.specs.List.Sorted.{IsStrictlySortedBy}
-use Rattle.std.specs.Map.{lookup, keys_of}
-use Rattle.std.specs.Ordering.{eq_by_cmp}
-use Rattle.std.specs.declared.cmp.Ordering.TheVariants.{Less}
 use Rattle.switch_names.specs.UnitName.{IsUnitName}
 use Rattle.switch_names.proofs.Lists.{all_join, all_front, all_back}
 use Rattle.host_trait.specs.Bytes.{bytes_cmp}
@@ -18,10 +14,10 @@ use Rattle.host_trait.specs.declared.unit_state.State.{State}
 use Rattle.host_trait.specs.declared.unit_state.State.TheVariants.{Active, Inactive, Failed}
 use Rattle.host_trait.specs.declared.unit_state.UnitState.{UnitState}
 use Rattle.host_trait.specs.States.{AreStates, IsPlaceFor, IsSortedList, UnitStates, listed_states, state_of, states_of, units_of, with_state}
-use Rattle.host_trait.proofs.Orders.{AreAbove, AreBelow, less_other, none_sorted, sorted_above, sorted_below, sorted_insert, sorted_remove}
+use Rattle.host_trait.proofs.Orders.{AreAbove, AreBelow, none_sorted, sorted_above, sorted_below, sorted_remove}
 use Rattle.host_trait.proofs.SortedLists as lists
 use Rattle.host_trait.proofs.SortedLists.{split_at}
-use Rattle.host_trait.proofs.Places.{bytes_total, alike, found, given, gone, ordered_entries, same_or_other, some_of}
+use Rattle.host_trait.proofs.Places.{bytes_total, alike, found, gone, ordered_entries, same_or_other, some_of}
 
 abbrev pub pair_of : UnitState → List ℕ × State
 pair_of one = (one.unit, one.state)

@@ -1,19 +1,15 @@
 -- Rows in order, and the ids that they give.
-use Rattle.std.proofs.Common.{◌≡◌, ℕ, ◌<◌, ◌≤◌, Bool, true, false, cond, List, [], ◌∷◌, ◌++◌, length, get_or, take, drop, set, map, option_map, Option, None, Some, IfSome, refl, sym, ap, ◌∙◌, subst, inl, inr, suc, arith}
-use Rattle.std.proofs.lemmas.Bool.{both_ways}
+use Rattle.std.proofs.Common.{◌≡◌, ℕ, ◌<◌, ◌≤◌, Bool, true, false, cond, List, [], ◌∷◌, ◌++◌, length, get_or, take, drop, set, map, Option, None, Some, IfSome, refl, sym, ap, ◌∙◌, subst, suc, arith}
 use Rattle.std.proofs.lemmas.List.{map-append, length-take-le, take-append-drop, set_at}
-use Rattle.std.proofs.lemmas.Option.{get_or_from_slice_get, slice_get_within, slice_get-map}
+use Rattle.std.proofs.lemmas.Option.{get_or_from_slice_get, slice_get_within}
 use Rattle.std.specs.BTreeMap.{is_at}
-use Rattle.std.specs.Cmp.{eq_by_cmp_equiv}
 use Rattle.std.specs.FinMap.{get, insert}
 use Rattle.std.specs.List.{AllByRecursion, slice_get}
 use Rattle.std.specs.List.Sorted.{IsStrictlySortedBy}
-use Rattle.std.specs.Map.{lookup, keys_of}
 use Rattle.std.specs.Ordering.{eq_by_cmp}
-use Rattle.std.specs.declared.cmp.Ordering.TheVariants.{Less}
 use Rattle.host_trait.specs.Bytes.{bytes_cmp}
-use Rattle.host_trait.proofs.Orders.{AreAbove, AreBelow, less_other, none_sorted, sorted_below, sorted_insert}
-use Rattle.host_trait.proofs.Places.{bytes_total, found, given, ordered_entries, same_or_other}
+use Rattle.host_trait.proofs.Orders.{AreAbove, AreBelow, none_sorted}
+use Rattle.host_trait.proofs.Places.{found, given, ordered_entries}
 use Rattle.host_trait.proofs.SortedLists as lists
 use Rattle.host_trait.proofs.SortedLists.{split_at}
 use Rattle.id_memory.specs.declared.id_row.IdRow.{IdRow}

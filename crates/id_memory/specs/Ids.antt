@@ -1,8 +1,6 @@
 -- Remembered ids of users and groups: passwd(5) and group(5).
 use Rattle.std.specs.Prelude.{◌≡◌, ℕ, ◌≤◌, List, length, map, take, drop, IfSome}
-use Rattle.std.specs.Coded.{Coded, coded_list, coded_ℕ}
-use Rattle.std.specs.FinMap.{FinMap, get, entries, from_entries}
-use Rattle.std.specs.FinMap as map_of
+use Rattle.std.specs.FinMap.{get, entries, from_entries}
 use Rattle.std.specs.List.{AllByRecursion}
 use Rattle.std.specs.List.Sorted.{IsStrictlySortedBy}
 use Rattle.std.specs.declared.cmp.Ordering.TheVariants.{Less}

@@ -1,5 +1,5 @@
 -- Paths below one another, as texts that are cut at a slash.
-use Rattle.std.proofs.Common.{suc, ◌≡◌, ◌⊎◌, ℕ, ◌<◌, ◌&&◌, ◌||◌, ◌==◌, ◌+◌, Bool, true, false, cond, nat_lt, nat_eq, slice_index, List, [], ◌∷◌, ◌++◌, length, take, drop, Bor, Option, None, Some, IfSome, MatchOption, option_copied, ◌≢◌, arith, refl, sym, ap, ◌∙◌, inl, inr, ⊎_elim, lit<, length-append, append_assoc}
+use Rattle.std.proofs.Common.{suc, ◌≡◌, ◌⊎◌, ℕ, ◌<◌, ◌&&◌, ◌==◌, ◌+◌, Bool, true, false, cond, nat_lt, nat_eq, slice_index, List, [], ◌∷◌, ◌++◌, length, take, drop, Bor, Option, None, Some, IfSome, MatchOption, option_copied, ◌≢◌, arith, refl, sym, ap, ◌∙◌, inl, inr, ⊎_elim, lit<, length-append, append_assoc}
 use Rattle.std.proofs.Math.Seq.{drop-cons, get_or-append_seam}
 use Rattle.std.proofs.lemmas.Bool.{cases_Bool, both_ways, and_parts}
 use Rattle.std.proofs.lemmas.Bool.Decides.{Decides-eqb}

@@ -1,5 +1,5 @@
 -- Endings of unit names: each kind has its own.
-use Rattle.std.proofs.Common.{◌≡◌, ℕ, ◌<◌, ◌&&◌, ◌||◌, ◌==◌, Bool, true, false, List, [], ◌∷◌, ◌++◌, length, drop, take, find, Some, cond, nat_eq, nat_lt, Decides, arith, sym, ap, refl, ◌∙◌, ◌-◌, length-append}
+use Rattle.std.proofs.Common.{◌≡◌, ℕ, ◌<◌, ◌&&◌, ◌==◌, Bool, true, false, List, [], ◌∷◌, ◌++◌, length, drop, take, find, Some, nat_eq, nat_lt, Decides, arith, sym, ap, refl, ◌∙◌, ◌-◌, length-append}
 use Rattle.std.specs.List.{list_any, ends_with}
 use Rattle.std.specs.Str.{bytes_eq}
 use Rattle.std.proofs.lemmas.Bool.Decides.{Decides-eqb, same_from_decides}

@@ -1,6 +1,5 @@
-use Rattle.std.proofs.Common.{◌≡◌, ◌+◌, ◌∷◌, List, ℕ, length, ap, ◌∙◌, arith}
+use Rattle.std.proofs.Common.{◌≡◌, length, arith}
 use Rattle.account_text.specs.Field.{fields}
-use Rattle.account_text.specs.Group.{group_row}
 use Rattle.account_text.proofs.RowLemmas.{other_group}
 use Rattle.account_text.proofs.group.group_fields.Goals as goal
 

@@ -1,4 +1,4 @@
-use Rattle.std.proofs.Common.{Result, OnOk, OnErr, Ok, Err, sym, subst}
+use Rattle.std.proofs.Common.{sym, subst}
 use Rattle.std.proofs.lemmas.Result.{on_ok_weaker}
 use Rattle.host_trait.specs.States.{IsSortedList}
 use Rattle.host_trait.proofs.StateLists.{place_within, put_at_place, set_at_place}
