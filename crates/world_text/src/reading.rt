@@ -25,19 +25,28 @@ fn put_manager(alloc: Global, world: &mut World, text: &[u8]) -> Result<(), Fail
     Ok(())
 }
 
-/// Puts a leaf into a folder of a system: a link where the text begins with `->`, and else a file.
+/// The leaf of a text: a link where it begins with `->`, and else a file.
+fn leaf_of(alloc: Global, text: &[u8]) -> Result<Leaf, Fail> {
+    match text {
+        [b'-', b'>', target @ ..] => Ok(Leaf::link(alloc, std::str::from_utf8(target)?)?),
+        _ => Ok(Leaf::file(Bytes::from_slice(alloc, text)?, 420, 0, 0)),
+    }
+}
+
+/// The path of a name in a folder of a system.
+fn path_in(alloc: Global, folder: &str, name: &str) -> Result<Path, Fail> {
+    let at = format!(in alloc; "nix/store/{folder}/{name}")?;
+    Ok(Path::parse(alloc, at.as_str())?)
+}
+
+/// Puts the leaf of a text into a folder of a system.
 fn put_file(
     alloc: Global,
     world: &mut World,
     folder: &str,
     (name, text): (&str, &[u8]),
 ) -> Result<(), Fail> {
-    let leaf = match text {
-        [b'-', b'>', target @ ..] => Leaf::link(alloc, std::str::from_utf8(target)?)?,
-        _ => Leaf::file(Bytes::from_slice(alloc, text)?, 420, 0, 0),
-    };
-    let at = format!(in alloc; "nix/store/{folder}/{name}")?;
-    world.set_leaf(Path::parse(alloc, at.as_str())?, leaf)?;
+    world.set_leaf(path_in(alloc, folder, name)?, leaf_of(alloc, text)?)?;
     Ok(())
 }
 
@@ -49,22 +58,45 @@ fn put_states(alloc: Global, world: &mut World, units: &[u8], state: State) -> R
     Ok(())
 }
 
+/// Puts a leaf into the folder of a system, or of both, by the word for it.
+fn put_in(alloc: Global, world: &mut World, system: &str, file: (&str, &[u8])) -> Result<(), Fail> {
+    match system {
+        "old" => put_file(alloc, world, OLD_UNITS, file),
+        "new" => put_file(alloc, world, NEW_UNITS, file),
+        "both" => {
+            put_file(alloc, world, OLD_UNITS, file)?;
+            put_file(alloc, world, NEW_UNITS, file)
+        }
+        "wants" => put_file(alloc, world, "a-sys/etc", file),
+        _ => misread(),
+    }
+}
+
+/// Gives a world what a word says of its manager.
+fn put_word(alloc: Global, world: &mut World, word: &str, text: &[u8]) -> Result<(), Fail> {
+    match word {
+        "manager" => put_manager(alloc, world, text),
+        "active" => put_states(alloc, world, text, State::Active),
+        "failed" => put_states(alloc, world, text, State::Failed),
+        _ => misread(),
+    }
+}
+
 /// Puts what stands at a place.
 fn put_place(alloc: Global, world: &mut World, place: &str, text: &[u8]) -> Result<(), Fail> {
     if let Some(at) = place.strip_prefix("tree/") {
         return put_node(alloc, world, at, text);
     }
     match place.split_once(' ') {
-        Some(("old", name)) => put_file(alloc, world, OLD_UNITS, (name, text)),
-        Some(("new", name)) => put_file(alloc, world, NEW_UNITS, (name, text)),
-        Some(("both", name)) => {
-            put_file(alloc, world, OLD_UNITS, (name, text))?;
-            put_file(alloc, world, NEW_UNITS, (name, text))
-        }
-        Some(("wants", name)) => put_file(alloc, world, "a-sys/etc", (name, text)),
-        None if place == "manager" => put_manager(alloc, world, text),
-        None if place == "active" => put_states(alloc, world, text, State::Active),
-        None if place == "failed" => put_states(alloc, world, text, State::Failed),
+        Some((system, name)) => put_in(alloc, world, system, (name, text)),
+        None => put_word(alloc, world, place, text),
+    }
+}
+
+/// Puts what stands at a place, which stands before its text.
+fn put_pair(alloc: Global, world: &mut World, pair: &[Bytes]) -> Result<(), Fail> {
+    match pair {
+        [place, text] => put_place(alloc, world, text_of(place)?, text.as_slice()),
         _ => misread(),
     }
 }
@@ -74,10 +106,7 @@ fn put_place(alloc: Global, world: &mut World, place: &str, text: &[u8]) -> Resu
 /// Fails where a place or a text can't be read, and where a leaf is in the way of another.
 pub fn put_places(alloc: Global, world: &mut World, places: &[Bytes]) -> Result<(), Fail> {
     for pair in places.chunks(2) {
-        let [place, text] = pair else {
-            return misread();
-        };
-        put_place(alloc, world, text_of(place)?, text.as_slice())?;
+        put_pair(alloc, world, pair)?;
     }
     Ok(())
 }
