@@ -7,17 +7,19 @@ mod steps;
 mod troubles;
 mod works;
 
+use self::failing::Failing;
 use self::outputs::{show_interrupted, show_output};
 use self::starts::show_opened;
 use self::troubles::show_troubles;
 use self::works::{show_second_name, show_steps, show_work};
+use std::cell::Cell;
 use std::test::Fail;
 use switch_names::Bytes;
 use world_text::{Lines, misread, text_of};
 
 /// Shows what a command over a root gives.
 fn show_root(
-    rt: &HostRuntime,
+    rt: &Failing<'_>,
     lines: &mut Lines,
     command: &str,
     root: &str,
@@ -32,6 +34,20 @@ fn show_root(
     }
 }
 
+/// Shows what a command over folders gives.
+fn show_in_folders(
+    rt: &Failing<'_>,
+    lines: &mut Lines,
+    command: &str,
+    fields: &[Bytes],
+) -> Result<(), Fail> {
+    match (command, fields) {
+        ("failing calls", _) => show_troubles(rt, lines, fields),
+        (_, [root, fields @ ..]) => show_root(rt, lines, command, text_of(root)?, fields),
+        _ => misread(),
+    }
+}
+
 /// Shows what a command of folders and outputs gives.
 pub fn show_folder_case(
     rt: &HostRuntime,
@@ -40,11 +56,12 @@ pub fn show_folder_case(
     fields: &[Bytes],
 ) -> Result<(), Fail> {
     match (command, fields) {
-        ("failing calls", _) => show_troubles(rt, lines, fields),
         ("output", [bytes]) => show_output(rt, lines, bytes.as_slice()),
         ("interrupted output", [bytes]) => show_interrupted(lines, false, bytes.as_slice()),
         ("full output", [bytes]) => show_interrupted(lines, true, bytes.as_slice()),
-        (_, [root, fields @ ..]) => show_root(rt, lines, command, text_of(root)?, fields),
-        _ => misread(),
+        _ => {
+            let left = Cell::new(None);
+            show_in_folders(&Failing::new(rt, &left), lines, command, fields)
+        }
     }
 }

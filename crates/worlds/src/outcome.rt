@@ -1,8 +1,7 @@
 //! How calls on hosts end, and what hosts tell of units.
 use crate::fields::no_memory;
 use crate::writing::show_value;
-use host_trait::{HostFault, Manager};
-use std::alloc::Global;
+use host_trait::{HostFault, States};
 use std::test::Fail;
 use switch_names::UnitName;
 use world_text::Lines;
@@ -22,15 +21,14 @@ pub fn show_faults(lines: &mut Lines, faults: u64) {
     show_value(lines, &faults);
 }
 
-/// Shows the state that a host tells of a unit, or the fault.
-pub fn show_told<M: Manager>(
-    alloc: Global,
+/// Shows the state that a host has told of a unit, or the fault.
+pub fn show_told(
     lines: &mut Lines,
-    host: &mut M,
+    told: &Result<States, HostFault>,
     unit: &UnitName,
 ) -> Result<(), Fail> {
     lines.add_word("told");
-    match host.units(alloc) {
+    match told {
         Ok(states) => lines.add_value(&states.of(unit)),
         Err(HostFault::Device) => lines.add_word("Device"),
         Err(HostFault::Memory) => return no_memory(),

@@ -1,4 +1,5 @@
-//! A runtime of which one call on files fails.
+//! A runtime of which one call on files may fail.
+use host_folder::FolderHost;
 use std::alloc::{AllocError, Allocator, Global};
 use std::cell::Cell;
 use std::fs::{Metadata, OpenOptions};
@@ -13,26 +14,41 @@ pub struct Failing<'a> {
     left: &'a Cell<Option<u64>>,
 }
 
+/// A host over a folder, with such a runtime.
+pub type Host<'a> = FolderHost<Failing<'a>>;
+
 impl<'a> Failing<'a> {
     /// The runtime with this count of calls, which is shared.
     pub fn new(rt: &'a HostRuntime, left: &'a Cell<Option<u64>>) -> Failing<'a> {
         Failing { rt, left }
     }
 
-    /// Counts a call, and fails where it is its turn.
-    fn count(&self) -> io::Result<()> {
-        match self.left.get() {
-            Some(0) => {
-                self.left.set(None);
-                Err(io::Error::from(ErrorKind::PermissionDenied))
-            }
-            Some(left) => {
-                self.left.set(Some(left.saturating_sub(1)));
-                Ok(())
-            }
-            None => Ok(()),
-        }
+    /// Has a call fail, after so many others.
+    pub fn fail_after(&self, calls: u64) {
+        self.left.set(Some(calls));
     }
+
+    /// Whether a call is still to fail.
+    pub fn is_to_fail(&self) -> bool {
+        self.left.get().is_some()
+    }
+
+    /// The runtime itself.
+    pub fn runtime(&self) -> &HostRuntime {
+        self.rt
+    }
+
+    /// Counts a call, and says whether it is the one that fails.
+    fn is_failing(&self) -> bool {
+        let left = self.left.get();
+        self.left.set(left.and_then(|left| left.checked_sub(1)));
+        left == Some(0)
+    }
+}
+
+/// The answer of a call that fails.
+fn refused<T>() -> io::Result<T> {
+    Err(io::Error::from(ErrorKind::PermissionDenied))
 }
 
 impl Clone for Failing<'_> {
@@ -64,52 +80,72 @@ impl Files for Failing<'_> {
     type Dir = <HostRuntime as Files>::Dir;
 
     fn open_file(&self, how: &OpenOptions, path: &str) -> io::Result<Self::File> {
-        self.count()?;
+        if self.is_failing() {
+            return refused();
+        }
         self.rt.open_file(how, path)
     }
 
     fn open_dir(&self, path: &str) -> io::Result<Self::Dir> {
-        self.count()?;
+        if self.is_failing() {
+            return refused();
+        }
         self.rt.open_dir(path)
     }
 
     fn metadata(&self, path: &str) -> io::Result<Metadata> {
-        self.count()?;
+        if self.is_failing() {
+            return refused();
+        }
         self.rt.metadata(path)
     }
 
     fn symlink_metadata(&self, path: &str) -> io::Result<Metadata> {
-        self.count()?;
+        if self.is_failing() {
+            return refused();
+        }
         self.rt.symlink_metadata(path)
     }
 
     fn copy(&self, from: &str, to: &str) -> io::Result<u64> {
-        self.count()?;
+        if self.is_failing() {
+            return refused();
+        }
         self.rt.copy(from, to)
     }
 
     fn rename(&self, from: &str, to: &str) -> io::Result<()> {
-        self.count()?;
+        if self.is_failing() {
+            return refused();
+        }
         self.rt.rename(from, to)
     }
 
     fn remove_file(&self, path: &str) -> io::Result<()> {
-        self.count()?;
+        if self.is_failing() {
+            return refused();
+        }
         self.rt.remove_file(path)
     }
 
     fn create_dir(&self, path: &str) -> io::Result<()> {
-        self.count()?;
+        if self.is_failing() {
+            return refused();
+        }
         self.rt.create_dir(path)
     }
 
     fn remove_dir(&self, path: &str) -> io::Result<()> {
-        self.count()?;
+        if self.is_failing() {
+            return refused();
+        }
         self.rt.remove_dir(path)
     }
 
     fn remove_dir_all<B: Allocator>(&self, alloc: B, path: &str) -> io::Result<()> {
-        self.count()?;
+        if self.is_failing() {
+            return refused();
+        }
         self.rt.remove_dir_all(alloc, path)
     }
 }

@@ -1,4 +1,5 @@
 //! What a folder's host reads, and what another one's acts have left.
+use super::failing::{Failing, Host};
 use super::files::show_manager;
 use crate::outcome::{show_faults, show_told, word_of};
 use host_folder::FolderHost;
@@ -9,11 +10,7 @@ use switch_names::{Bytes, UnitName};
 use world_text::{Lines, text_of};
 
 /// Loads definitions, and starts a unit.
-fn load_and_start<M: Manager>(
-    alloc: Global,
-    host: &mut M,
-    unit: &UnitName,
-) -> Result<(), HostFault> {
+fn load_and_start(alloc: Global, host: &mut Host<'_>, unit: &UnitName) -> Result<(), HostFault> {
     host.daemon_reload(alloc)?;
     host.start(alloc, unit)
 }
@@ -22,11 +19,11 @@ fn load_and_start<M: Manager>(
 fn show_start(
     alloc: Global,
     lines: &mut Lines,
-    host: &mut FolderHost<HostRuntime>,
+    host: &mut Host<'_>,
     unit: &UnitName,
 ) -> Result<(), Fail> {
     show_faults(lines, host.faults());
-    show_told(alloc, lines, host, unit)?;
+    show_told(lines, &host.units(alloc), unit)?;
     show_faults(lines, host.faults());
     lines.add_word("start");
     lines.add_word(word_of(&load_and_start(alloc, host, unit))?);
@@ -36,7 +33,7 @@ fn show_start(
 
 /// Shows the start of a unit over a root, and the text of the manager's state that is left there.
 pub fn show_opened(
-    rt: &HostRuntime,
+    rt: &Failing<'_>,
     lines: &mut Lines,
     root: &str,
     unit: &Bytes,

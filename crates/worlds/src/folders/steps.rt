@@ -1,20 +1,14 @@
 //! Steps on a host over a folder: leaves are put and removed, definitions loaded, and units called.
-use host_folder::FolderHost;
+use super::failing::Host;
 use host_trait::{HostFault, Leaf, Manager, Tree, stage_path};
 use node_text::read_node;
 use std::alloc::Global;
-use std::rt::Files;
 use std::test::Fail;
 use switch_names::{Bytes, Path, UnitName};
 use world_text::{misread, text_of};
 
 /// Puts a leaf at a path by way of the stage, which is no such path.
-fn put<R: Files + AllocGlobal + Clone + Drop>(
-    alloc: Global,
-    host: &mut FolderHost<R>,
-    leaf: &Leaf,
-    at: &Path,
-) -> Result<(), HostFault> {
+fn put(alloc: Global, host: &mut Host<'_>, leaf: &Leaf, at: &Path) -> Result<(), HostFault> {
     let stage = stage_path(alloc)?;
     if *at == stage {
         return Err(HostFault::Device);
@@ -24,9 +18,9 @@ fn put<R: Files + AllocGlobal + Clone + Drop>(
 }
 
 /// Puts the leaf of a node's text at a path.
-fn put_at<R: Files + AllocGlobal + Clone + Drop>(
+fn put_at(
     alloc: Global,
-    host: &mut FolderHost<R>,
+    host: &mut Host<'_>,
     at: &str,
     text: &Bytes,
 ) -> Result<Result<(), HostFault>, Fail> {
@@ -36,29 +30,21 @@ fn put_at<R: Files + AllocGlobal + Clone + Drop>(
 }
 
 /// Writes the leaf of a node's text to the stage.
-fn stage<R: Files + AllocGlobal + Clone + Drop>(
-    alloc: Global,
-    host: &mut FolderHost<R>,
-    text: &Bytes,
-) -> Result<Result<(), HostFault>, Fail> {
+fn stage(alloc: Global, host: &mut Host<'_>, text: &Bytes) -> Result<Result<(), HostFault>, Fail> {
     let leaf = read_node(alloc, text.as_slice())?;
     Ok(host.write_stage(alloc, &leaf))
 }
 
 /// Removes the leaf at a path.
-fn remove<R: Files + AllocGlobal + Clone + Drop>(
-    alloc: Global,
-    host: &mut FolderHost<R>,
-    at: &Bytes,
-) -> Result<Result<(), HostFault>, Fail> {
+fn remove(alloc: Global, host: &mut Host<'_>, at: &Bytes) -> Result<Result<(), HostFault>, Fail> {
     let at = Path::parse(alloc, text_of(at)?)?;
     Ok(host.remove(alloc, &at))
 }
 
 /// Does the act of a word to a unit.
-fn act<R: Files + AllocGlobal + Clone + Drop>(
+fn act(
     alloc: Global,
-    host: &mut FolderHost<R>,
+    host: &mut Host<'_>,
     word: &str,
     unit: &Bytes,
 ) -> Result<Result<(), HostFault>, Fail> {
@@ -74,9 +60,9 @@ fn act<R: Files + AllocGlobal + Clone + Drop>(
 
 /// Takes a step that is no put: a leaf is written to the stage or removed, definitions are loaded, or a unit
 /// is called.
-fn take_other<R: Files + AllocGlobal + Clone + Drop>(
+fn take_other(
     alloc: Global,
-    host: &mut FolderHost<R>,
+    host: &mut Host<'_>,
     word: &str,
     given: &Bytes,
 ) -> Result<Result<(), HostFault>, Fail> {
@@ -89,9 +75,9 @@ fn take_other<R: Files + AllocGlobal + Clone + Drop>(
 }
 
 /// Takes a step: its word, and what that is about. After `tree/` it is a path, where a leaf is put.
-pub fn take<R: Files + AllocGlobal + Clone + Drop>(
+pub fn take(
     alloc: Global,
-    host: &mut FolderHost<R>,
+    host: &mut Host<'_>,
     step: &[Bytes],
 ) -> Result<Result<(), HostFault>, Fail> {
     let [word, given] = step else {
@@ -105,9 +91,9 @@ pub fn take<R: Files + AllocGlobal + Clone + Drop>(
 }
 
 /// Takes steps in turn, as far as none fails.
-pub fn take_all<R: Files + AllocGlobal + Clone + Drop>(
+pub fn take_all(
     alloc: Global,
-    host: &mut FolderHost<R>,
+    host: &mut Host<'_>,
     steps: &[Bytes],
 ) -> Result<Result<(), HostFault>, Fail> {
     for step in steps.chunks(2) {

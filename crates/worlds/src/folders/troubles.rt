@@ -1,12 +1,11 @@
 //! Steps of which each call on files fails in turn.
-use super::failing::Failing;
+use super::failing::{Failing, Host};
+use super::files::manager_of;
 use super::steps::{take, take_all};
 use host_folder::FolderHost;
 use host_trait::{HostFault, Manager};
 use std::alloc::Global;
-use std::cell::Cell;
 use std::fs;
-use std::rt::Files;
 use std::test::Fail;
 use switch_names::Bytes;
 use world_text::{Lines, misread};
@@ -15,35 +14,45 @@ use world_text::{Lines, misread};
 const CALLS_MAX: u64 = 10_000;
 
 /// Whether two hosts tell the same of all units.
-fn tell_the_same<M: Manager, N: Manager>(
-    alloc: Global,
-    one: &mut M,
-    other: &mut N,
-) -> Result<bool, Fail> {
+fn tell_the_same(alloc: Global, one: &mut Host<'_>, other: &mut Host<'_>) -> Result<bool, Fail> {
     let told = one.units(alloc)?;
     Ok(told.same(&other.units(alloc)?))
 }
 
+/// Makes a root with the manager's file of another one, where there is one.
+fn make_twin(rt: &Failing<'_>, root: &str, twin: &str) -> Result<(), Fail> {
+    fs::create_dir(rt, twin)?;
+    let place = format!(in rt.alloc(); "{root}/manager")?;
+    if fs::exists(rt, place.as_str())? {
+        fs::copy(rt, place, format!(in rt.alloc(); "{twin}/manager")?)?;
+    }
+    Ok(())
+}
+
+/// Takes a step on a new host.
+fn take_anew(rt: &Failing<'_>, root: &str, step: &[Bytes]) -> Result<(), Fail> {
+    let mut host = FolderHost::open(rt, root)?;
+    Ok(take(rt.alloc(), &mut host, step)??)
+}
+
+/// Whether the manager's files of two roots have the same text.
+fn has_the_same(rt: &Failing<'_>, one: &str, other: &str) -> Result<bool, Fail> {
+    Ok(manager_of(rt, one)?.as_str() == manager_of(rt, other)?.as_str())
+}
+
 /// Whether a host goes on from what stands in its root: one more step leaves the manager's file that a new host
 /// leaves where it begins with the same one.
-fn goes_on<R: Files + AllocGlobal + Clone + Drop>(
-    rt: &HostRuntime,
+fn goes_on(
+    rt: &Failing<'_>,
     root: &str,
-    host: &mut FolderHost<R>,
+    host: &mut Host<'_>,
     next: &[Bytes],
 ) -> Result<bool, Fail> {
     let twin = format!(in rt.alloc(); "{root}-twin")?;
-    let place = format!(in rt.alloc(); "{root}/manager")?;
-    let twin_place = format!(in rt.alloc(); "{twin}/manager")?;
-    fs::create_dir(rt, twin.as_str())?;
-    if fs::exists(rt, place.as_str())? {
-        fs::copy(rt, place.as_str(), twin_place.as_str())?;
-    }
+    make_twin(rt, root, twin.as_str())?;
     take(rt.alloc(), host, next)??;
-    take(rt.alloc(), &mut FolderHost::open(rt, twin.as_str())?, next)??;
-    let left = fs::read_to_string(rt, place.as_str())?;
-    let wanted = fs::read_to_string(rt, twin_place.as_str())?;
-    Ok(left.as_str() == wanted.as_str())
+    take_anew(rt, twin.as_str(), next)?;
+    has_the_same(rt, root, twin.as_str())
 }
 
 /// Shows what is wrong where this call has failed.
@@ -56,11 +65,11 @@ fn show_wrong(lines: &mut Lines, call: u64, what: &str) {
 
 /// Shows what is wrong in a root where this call has failed: states of units that are others than those in the
 /// file, a next step that doesn't go on from the file, steps that can't be taken again.
-fn show_left<R: Files + AllocGlobal + Clone + Drop>(
-    rt: &HostRuntime,
+fn show_left(
+    rt: &Failing<'_>,
     lines: &mut Lines,
     (root, call): (&str, u64),
-    host: &mut FolderHost<R>,
+    host: &mut Host<'_>,
     (next, steps): (&[Bytes], &[Bytes]),
 ) -> Result<(), Fail> {
     let mut reader = FolderHost::open(rt, root)?;
@@ -80,16 +89,16 @@ fn show_left<R: Files + AllocGlobal + Clone + Drop>(
 /// Takes steps in a new root with a call that fails, and shows what is wrong then: a fault that isn't given or
 /// counted, or what is left. It answers whether a call has failed.
 fn show_trouble(
-    rt: &HostRuntime,
+    rt: &Failing<'_>,
     lines: &mut Lines,
     call: u64,
     (next, steps): (&[Bytes], &[Bytes]),
 ) -> Result<bool, Fail> {
     let root = format!(in rt.alloc(); "root-{call}")?;
-    let left = Cell::new(Some(call));
-    let mut host = FolderHost::open(&Failing::new(rt, &left), root.as_str())?;
+    let mut host = FolderHost::open(rt, root.as_str())?;
+    rt.fail_after(call);
     let answer = take_all(rt.alloc(), &mut host, steps)?;
-    if left.get().is_some() {
+    if rt.is_to_fail() {
         return Ok(false);
     }
     if answer != Err(HostFault::Device) || host.faults() != 1 {
@@ -100,7 +109,7 @@ fn show_trouble(
 }
 
 /// Shows the same of each call of the steps after the first one, which is the next step then.
-pub fn show_troubles(rt: &HostRuntime, lines: &mut Lines, fields: &[Bytes]) -> Result<(), Fail> {
+pub fn show_troubles(rt: &Failing<'_>, lines: &mut Lines, fields: &[Bytes]) -> Result<(), Fail> {
     let Some((next, steps)) = fields.split_at_checked(2) else {
         return misread();
     };

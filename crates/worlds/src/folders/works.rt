@@ -1,4 +1,5 @@
 //! What steps on a host leave in its folder.
+use super::failing::{Failing, Host};
 use super::files::show_manager;
 use super::steps::{take, take_all};
 use host_folder::FolderHost;
@@ -10,10 +11,10 @@ use switch_names::{Bytes, Path};
 use world_text::{Lines, misread, show_file, text_of};
 
 /// Shows the paths of the leaves below one.
-fn show_paths<T: Tree>(
+fn show_paths(
     alloc: Global,
     lines: &mut Lines,
-    host: &mut T,
+    host: &mut Host<'_>,
     under: &str,
 ) -> Result<(), Fail> {
     let under = Path::parse(alloc, under)?;
@@ -27,7 +28,7 @@ fn show_paths<T: Tree>(
 
 /// Takes steps in a root, and shows the paths of the leaves then, and the manager's file.
 pub fn show_work(
-    rt: &HostRuntime,
+    rt: &Failing<'_>,
     lines: &mut Lines,
     root: &str,
     steps: &[Bytes],
@@ -41,10 +42,10 @@ pub fn show_work(
 
 /// Takes a step in a root, and shows the manager's file then, below the step.
 fn show_step(
-    rt: &HostRuntime,
+    rt: &Failing<'_>,
     lines: &mut Lines,
     root: &str,
-    host: &mut FolderHost<HostRuntime>,
+    host: &mut Host<'_>,
     step: &[Bytes],
 ) -> Result<(), Fail> {
     take(rt.alloc(), host, step)??;
@@ -58,7 +59,7 @@ fn show_step(
 
 /// Takes steps in a root, and shows the manager's file after each.
 pub fn show_steps(
-    rt: &HostRuntime,
+    rt: &Failing<'_>,
     lines: &mut Lines,
     root: &str,
     steps: &[Bytes],
@@ -72,7 +73,7 @@ pub fn show_steps(
 
 /// Gives a file of a root a second name, takes steps, and shows what each name has then.
 pub fn show_second_name(
-    rt: &HostRuntime,
+    rt: &Failing<'_>,
     lines: &mut Lines,
     root: &str,
     fields: &[Bytes],
@@ -81,7 +82,7 @@ pub fn show_second_name(
         return misread();
     };
     let file = format!(in rt.alloc(); "{root}/{}", text_of(file)?)?;
-    fs::hard_link(rt, file.as_str(), text_of(name)?)?;
+    fs::hard_link(rt.runtime(), file.as_str(), text_of(name)?)?;
     let mut host = FolderHost::open(rt, root)?;
     take_all(rt.alloc(), &mut host, steps)??;
     show_file(rt, lines, file.as_str())?;

@@ -41,7 +41,7 @@ fn show_act_on(
     lines.end_line();
     show_states(lines, host.world());
     show_journal(lines, host.world());
-    show_told(alloc, lines, host, unit)
+    show_told(lines, &host.units(alloc), unit)
 }
 
 /// Shows the same of a host that is cut after so many calls with a pick, or isn't cut.

@@ -2,4 +2,4 @@ use Rattle.worlds.proofs.Silence.{silent_told}
 use Rattle.worlds.proofs.folders.steps.act.Goals as goal
 
 pub reload-requires : goal.reload-requires
-reload-requires g c = silent_told _ _
+reload-requires c = silent_told _ _
