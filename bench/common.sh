@@ -167,7 +167,10 @@ make_whole() {
     make_accounts "$1" old-sys "$4" 10
     make_accounts "$1" new-sys "$4" 0
     from=${EPOCHREALTIME/./}
-    "$program" "$1" dry-activate nix/store/old-sys >"$work/stdout" 2>"$work/stderr"
+    if ! "$program" "$1" dry-activate nix/store/old-sys >"$work/stdout" 2>"$work/stderr"; then
+        echo "the root with $2 units, $3 entries and $4 users can't be planned: $(cat "$work/stderr")" >&2
+        exit 1
+    fi
     first_planned=$((${EPOCHREALTIME/./} - from))
     from=${EPOCHREALTIME/./}
     if ! "$program" "$1" switch nix/store/old-sys >"$work/stdout" 2>"$work/stderr"; then
