@@ -17,3 +17,9 @@ returns-in_default c =
 
 pub returns-in-Ok : goal.returns-in-Ok
 returns-in-Ok c = search rules steps 500000
+
+pub returns-then-not-starts_with : goal.returns-then-not-starts_with
+returns-then-not-starts_with c = search rules steps 500000
+
+pub returns-in-Err : goal.returns-in-Err
+returns-in-Err c = search rules steps 500000

@@ -2,7 +2,7 @@ use Rattle.std.proofs.Common.{rules}
 use Rattle.host_trait.proofs.world.World.take_leaf.Goals as goal
 
 pub returns-clause-was : goal.returns-clause-was
-returns-clause-was c = search rules
+returns-clause-was c = search rules steps 500000
 
 pub returns-clause-taken : goal.returns-clause-taken
-returns-clause-taken c = search rules
+returns-clause-taken c = search rules steps 500000
