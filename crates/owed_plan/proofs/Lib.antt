@@ -12,6 +12,7 @@ pub mod PartLemmas
 pub mod PlanLemmas
 pub mod PrefixLemmas
 pub mod ReachLemmas
+pub mod SetLemmas
 pub mod SteadyLemmas
 pub mod StoreLemmas
 pub mod SystemLemmas

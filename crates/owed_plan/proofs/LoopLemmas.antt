@@ -1,8 +1,8 @@
 -- What a loop over items has found, with one item more.
-use Rattle.std.proofs.Common.{◌≡◌, ◌<◌, ◌≤◌, ◌+◌, ◌&&◌, ◌||◌, ◌++◌, ◌∷◌, [], ℕ, Bool, true, false, cond, List, filter, get_or, length, map, refl, sym, subst, take, ap, ◌∙◌}
+use Rattle.std.proofs.Common.{◌≡◌, ◌<◌, ◌+◌, ◌&&◌, ◌||◌, ◌++◌, ◌∷◌, [], ℕ, Bool, true, false, cond, List, filter, get_or, length, map, refl, sym, subst, take, ap, ◌∙◌}
 use Rattle.std.specs.List.{list_any}
 use Rattle.std.specs.List.Sorted.{IsStrictlySortedBy}
-use Rattle.std.proofs.lemmas.List.{append-nil, map-append, take_all}
+use Rattle.std.proofs.lemmas.List.{append-nil, map-append}
 use Rattle.std.proofs.lemmas.List.Elements.{filter_more}
 use Rattle.std.proofs.lemmas.List.Folds.{list_any_more}
 use Rattle.std.proofs.Math.Bool.{or_assoc, and-false}
@@ -47,17 +47,6 @@ module _ {X : Type 0} (p : X → Bool) (xs : List X) (i : ℕ) (x : X) where
   -- none passes so far, and neither does this one
   pub none_more : i < length xs → x ≡ get_or xs i x → p x ≡ false → list_any p (take i xs) ≡ false → list_any p (take (i + 1) xs) ≡ false
   none_more inside is fails was = list_any_more p xs i x inside ∙ ap (λ y. list_any p (take i xs) || p y) (sym is) ∙ (λ k. was k || fails k)
-
--- an item adds what it gives
-pub given_more :
-    {X : Type 0} (p : X → Bool) (xs : List X) (i : ℕ) (x : X) (old new : Bool) → i < length xs → x ≡ get_or xs i x →
-    old ≡ list_any p (take i xs) → new ≡ (old || p x) → new ≡ list_any p (take (i + 1) xs)
-given_more p xs i x old new inside is was grown =
-    grown ∙ ap (λ b. b || p x) was ∙ ap (λ y. list_any p (take i xs) || p y) is ∙ sym (list_any_more p xs i x inside)
-
--- all items have given what they give
-pub given_all : {X : Type 0} (p : X → Bool) (xs : List X) (i : ℕ) (found : Bool) → length xs ≤ i → found ≡ list_any p (take i xs) → found ≡ list_any p xs
-given_all p xs i found outside was = was ∙ ap (list_any p) (take_all i xs outside)
 
 -- the names of a set are a list by what the set has
 pub list_by : (names set : List Name) (test : Name → Bool) → names ≡ set → IsStrictlySortedBy bytes_cmp set → ((unit : Name) → has set unit ≡ test unit) → IsListBy names test

@@ -5,7 +5,7 @@ use Rattle.std.proofs.lemmas.Bool.{and_from, and_parts, false_from_ne_true, both
 use Rattle.host_trait.specs.States.{UnitStates, state_of}
 use Rattle.host_trait.specs.declared.unit_state.State.TheVariants.{Active}
 use Rattle.owed_lists.specs.declared.lists.Lists.{Lists}
-use Rattle.owed_plan.specs.Collected.{AreListed, IsCollected, IsListBy, comes_up, defined, is_socketed}
+use Rattle.owed_plan.specs.Collected.{IsCollected, IsListBy, comes_up, defined, is_socketed}
 use Rattle.host_trait.specs.Manager.{is_active}
 use Rattle.owed_plan.specs.Lists.{is_live}
 use Rattle.owed_plan.specs.Owed.{Activates, Decides, IsLeft, IsPlan, Reloads, Restarts, Starts, Stops, has_live}
@@ -15,7 +15,6 @@ use Rattle.owed_plan.specs.Systems.{IsSocketed, Systems}
 use Rattle.owed_plan.specs.declared.owed.Owed.{Owed}
 use Rattle.owed_plan.specs.declared.deciding.UnitDecision.{UnitDecision}
 use Rattle.owed_plan.proofs.ActiveLemmas.{one_of, decision_from, decision_to}
-use Rattle.owed_plan.proofs.LoopLemmas.{list_by}
 use Rattle.switch_names.specs.Names.{IsListOf, Name, has, is_name}
 use Rattle.switch_names.specs.declared.unit_kind.UnitKind.TheVariants.{Service, Target}
 use Rattle.unit_decide.specs.Decision.{decide}
@@ -325,23 +324,3 @@ planned systems states lists waiting pulled decisions owed is_pulled same made i
     is_plan systems states lists pulled owed is_pulled
     (subst (λ situation. IsCollected situation (decisions_of situation states) lists pulled owed) (seen systems states lists waiting same)
     (subst (λ all. IsCollected (record { systems = systems; states = state_of states; waits = has waiting }) all lists pulled owed) made is))
-
--- the sets that are collected, and the lists beside them, are what is collected
-pub collected :
-    (situation : Situation) (decisions : List UnitDecision) (lists : Lists) (pulled : List Name) (owed : Owed) (stopped reloaded restarted started left reload_list restart_list start_list : List Name) →
-    reload_list ≡ lists.reloads → restart_list ≡ lists.restarts → start_list ≡ lists.starts →
-    ((unit : Name) → has stopped unit ≡ list_any (stops situation unit) decisions) →
-    ((unit : Name) → has reloaded unit ≡ (list_any (reloads unit) decisions || has (defined situation reload_list) unit)) →
-    ((unit : Name) → has restarted unit ≡ (list_any (restarts unit) decisions || has (defined situation restart_list) unit)) →
-    IsListBy started (λ unit. (list_any (starts unit) decisions || has (defined situation start_list) unit) || has (filter (comes_up situation stopped reloaded restarted) pulled) unit) →
-    IsListBy left (λ unit. list_any (leaves unit) decisions) → AreListed stopped reloaded restarted started left owed → IsCollected situation decisions lists pulled owed
-collected situation decisions lists pulled owed stopped reloaded restarted started left reload_list restart_list start_list reload_same restart_same start_same stopping reloading restarting starting leaving is =
-    record {
-      stops = list_by owed.stops stopped _ is.stops is.stops_sorted stopping;
-      reloads = list_by owed.reloads reloaded _ is.reloads is.reloads_sorted (λ unit. reloading unit ∙ ap (λ names. list_any (reloads unit) decisions || has (defined situation names) unit) reload_same);
-      restarts = list_by owed.restarts restarted _ is.restarts is.restarts_sorted (λ unit. restarting unit ∙ ap (λ names. list_any (restarts unit) decisions || has (defined situation names) unit) restart_same);
-      starts = list_by owed.starts started _ is.starts starting.sorted (λ unit. starting.exact unit
-          ∙ ap (λ names. (list_any (starts unit) decisions || has (defined situation names) unit) || has (filter (comes_up situation stopped reloaded restarted) pulled) unit) start_same
-          ∙ (λ i. (list_any (starts unit) decisions || has (defined situation lists.starts) unit) || has (filter (comes_up situation (sym is.stops i) (sym is.reloads i) (sym is.restarts i)) pulled) unit));
-      left = list_by owed.left left _ is.left leaving.sorted leaving.exact;
-    }

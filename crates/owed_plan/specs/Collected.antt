@@ -1,5 +1,5 @@
 -- The lists of what is owed, told of each unit by tests: NixOS manual, "Unit handling".
-use Rattle.std.specs.Prelude.{◌≡◌, ◌&&◌, ◌||◌, Bool, List, filter, not}
+use Rattle.std.specs.Prelude.{◌≡◌, ◌&&◌, ◌||◌, [], Bool, List, filter, not}
 use Rattle.std.specs.List.{list_any}
 use Rattle.std.specs.List.Sorted.{IsStrictlySortedBy}
 use Rattle.host_trait.specs.World.{bytes_cmp}
@@ -9,6 +9,7 @@ use Rattle.owed_plan.specs.Decisions.{Situation, leaves, reloads, restarts, star
 use Rattle.owed_plan.specs.Systems.{Systems}
 use Rattle.owed_plan.specs.declared.owed.Owed.{Owed}
 use Rattle.owed_plan.specs.declared.deciding.UnitDecision.{UnitDecision}
+use Rattle.owed_plan.specs.declared.sets.OwedSets.{OwedSets}
 use Rattle.switch_names.specs.Names.{Name, has}
 use Rattle.switch_names.specs.declared.unit_kind.UnitKind.TheVariants.{Service}
 use Rattle.unit_decide.specs.Kinds.{is_kind}
@@ -31,16 +32,46 @@ pub record IsListBy (names : List Name) (test : Name → Bool) : Type 0 where
   pub sorted : IsStrictlySortedBy bytes_cmp names
   pub exact : (unit : Name) → has names unit ≡ test unit
 
--- the lists are the names of these sets, which are in byte order, and these names
-pub record AreListed (stop_set reload_set restart_set start_names left_names : List Name) (owed : Owed) : Type 0 where
-  pub stops : owed.stops ≡ stop_set
-  pub stops_sorted : IsStrictlySortedBy bytes_cmp stop_set
-  pub reloads : owed.reloads ≡ reload_set
-  pub reloads_sorted : IsStrictlySortedBy bytes_cmp reload_set
-  pub restarts : owed.restarts ≡ restart_set
-  pub restarts_sorted : IsStrictlySortedBy bytes_cmp restart_set
-  pub starts : owed.starts ≡ start_names
-  pub left : owed.left ≡ left_names
+-- sets without a unit
+abbrev pub no_sets : OwedSets
+no_sets = record { stops = []; reloads = []; restarts = []; starts = []; left = [] }
+
+-- each of the sets has what it had, and what these decisions give
+pub record AddsDecided (situation : Situation) (decisions : List UnitDecision) (old new : OwedSets) : Type 0 where
+  pub stops : (unit : Name) → has new.stops unit ≡ (has old.stops unit || list_any (stops situation unit) decisions)
+  pub reloads : (unit : Name) → has new.reloads unit ≡ (has old.reloads unit || list_any (reloads unit) decisions)
+  pub restarts : (unit : Name) → has new.restarts unit ≡ (has old.restarts unit || list_any (restarts unit) decisions)
+  pub starts : (unit : Name) → has new.starts unit ≡ (has old.starts unit || list_any (starts unit) decisions)
+  pub left : (unit : Name) → has new.left unit ≡ (has old.left unit || list_any (leaves unit) decisions)
+
+-- three of the sets have what they had, and what is listed and defined
+pub record AddsListed (situation : Situation) (lists : Lists) (old new : OwedSets) : Type 0 where
+  pub stops : new.stops ≡ old.stops
+  pub reloads : (unit : Name) → has new.reloads unit ≡ (has old.reloads unit || has (defined situation lists.reloads) unit)
+  pub restarts : (unit : Name) → has new.restarts unit ≡ (has old.restarts unit || has (defined situation lists.restarts) unit)
+  pub starts : (unit : Name) → has new.starts unit ≡ (has old.starts unit || has (defined situation lists.starts) unit)
+  pub left : new.left ≡ old.left
+
+-- the starts have what they had, and what is pulled and comes up by no other way
+pub record AddsPulled (situation : Situation) (pulled : List Name) (old new : OwedSets) : Type 0 where
+  pub stops : new.stops ≡ old.stops
+  pub reloads : new.reloads ≡ old.reloads
+  pub restarts : new.restarts ≡ old.restarts
+  pub starts : (unit : Name) → has new.starts unit ≡ (has old.starts unit || has (filter (comes_up situation old.stops old.reloads old.restarts) pulled) unit)
+  pub left : new.left ≡ old.left
+
+-- the lists are the names of these sets, which are in byte order
+pub record AreListed (sets : OwedSets) (owed : Owed) : Type 0 where
+  pub stops : owed.stops ≡ sets.stops
+  pub stops_sorted : IsStrictlySortedBy bytes_cmp sets.stops
+  pub reloads : owed.reloads ≡ sets.reloads
+  pub reloads_sorted : IsStrictlySortedBy bytes_cmp sets.reloads
+  pub restarts : owed.restarts ≡ sets.restarts
+  pub restarts_sorted : IsStrictlySortedBy bytes_cmp sets.restarts
+  pub starts : owed.starts ≡ sets.starts
+  pub starts_sorted : IsStrictlySortedBy bytes_cmp sets.starts
+  pub left : owed.left ≡ sets.left
+  pub left_sorted : IsStrictlySortedBy bytes_cmp sets.left
 
 -- the lists have what the decisions give, what is listed and defined, and what is pulled and comes up by no other way
 pub record IsCollected (situation : Situation) (decisions : List UnitDecision) (lists : Lists) (pulled : List Name) (owed : Owed) : Type 0 where

@@ -11,8 +11,7 @@ ghost use Rattle.switch_names.specs.Names.{IsListOf};
 use crate::deciding::{UnitDecision, decide_units};
 use crate::known::Known;
 use crate::owed::Owed;
-use crate::sets::{into_owed, left_of, reloads_of, restarts_of, starts_of, stops_of};
-use crate::touched::Touched;
+use crate::sets::OwedSets;
 use host_trait::{States, UnitSet};
 use owed_lists::Lists;
 use std::alloc::{AllocError, Global};
@@ -29,18 +28,11 @@ fn collect(
 ) -> Result<Owed, AllocError>
     ensures { IfOk result (IsCollected (situation_of known.entry) decisions.now lists.now pulled.now) }
 {
-    let stops = stops_of(alloc, known, decisions)?;
-    let reloads = reloads_of(alloc, known, decisions, lists.reloads.as_slice())?;
-    let restarts = restarts_of(alloc, known, decisions, lists.restarts.as_slice())?;
-    let touched = Touched {
-        stops: &stops,
-        reloads: &reloads,
-        restarts: &restarts,
-    };
-    let listed = lists.starts.as_slice();
-    let starts = starts_of(alloc, known, decisions, listed, touched, pulled)?;
-    let left = left_of(alloc, decisions)?;
-    into_owed(alloc, stops, reloads, restarts, starts, left)
+    let mut sets = OwedSets::new(alloc);
+    sets.add_decided(alloc, known, decisions)?;
+    sets.add_listed(alloc, known, lists)?;
+    sets.add_pulled(alloc, known, pulled)?;
+    sets.into_owed(alloc)
 }
 
 /// What a switch from one system to another owes the units, given their states, the lists that a

@@ -1,9 +1,7 @@
-//! The sets of units that are owed something, each collected by itself.
-ghost use Rattle.std.specs.Prelude.{◌≡◌, ◌||◌, List, ℕ, IfOk, filter};
-ghost use Rattle.std.specs.List.{list_any};
-ghost use Rattle.owed_plan.specs.Collected.{AreListed, IsListBy, comes_up, defined};
-ghost use Rattle.owed_plan.specs.Decisions.{leaves, reloads, restarts, situation_of, starts, stops};
-ghost use Rattle.switch_names.specs.Names.{has};
+//! The sets of units that are owed something, as they are collected.
+ghost use Rattle.std.specs.Prelude.{◌≡◌, ◌∷◌, [], IfOk, OnOk};
+ghost use Rattle.owed_plan.specs.Collected.{AddsDecided, AddsListed, AddsPulled, AreListed, no_sets};
+ghost use Rattle.owed_plan.specs.Decisions.{situation_of};
 
 use crate::collecting::{add_defined, add_if, add_reloads, add_restarts, add_starts, add_stops};
 use crate::deciding::UnitDecision;
@@ -11,123 +9,130 @@ use crate::known::Known;
 use crate::owed::Owed;
 use crate::touched::{Touched, add_pulled};
 use host_trait::UnitSet;
+use owed_lists::Lists;
 use std::alloc::{AllocError, Global};
-use switch_names::{Listed, UnitName};
+use switch_names::UnitName;
 
-/// What these decisions stop.
-pub fn stops_of(
-    alloc: Global,
-    known: Known<'_>,
-    decisions: &[UnitDecision],
-) -> Result<UnitSet, AllocError>
-    ensures { IfOk result (λ set. (unit : List ℕ) → has set unit ≡ list_any (stops (situation_of known.entry) unit) decisions.now) }
-{
-    let mut stops = UnitSet::new(alloc);
-    for decided in decisions {
-        add_stops(alloc, known, &mut stops, decided)?;
+/// The units to stop, reload, restart and start, and the changed units that get nothing.
+pub struct OwedSets {
+    pub stops: UnitSet,
+    pub reloads: UnitSet,
+    pub restarts: UnitSet,
+    pub starts: UnitSet,
+    pub left: UnitSet,
+}
+
+/// One call: a derived drop is proved anew in each function that lets one go.
+impl Drop for OwedSets {
+    fn drop(self) {
+        let OwedSets {
+            stops: _,
+            reloads: _,
+            restarts: _,
+            starts: _,
+            left: _,
+        } = self;
     }
-    Ok(stops)
 }
 
-/// What these decisions reload, and what is listed and defined.
-pub fn reloads_of(
-    alloc: Global,
-    known: Known<'_>,
-    decisions: &[UnitDecision],
-    listed: &[UnitName],
-) -> Result<UnitSet, AllocError>
-    ensures { IfOk result (λ set. (unit : List ℕ) → has set unit ≡ (list_any (reloads unit) decisions.now || has (defined (situation_of known.entry) listed.now) unit)) }
-{
-    let mut reloads = UnitSet::new(alloc);
-    for decided in decisions {
-        add_reloads(alloc, &mut reloads, decided)?;
+impl OwedSets {
+    /// Sets without a unit.
+    pub fn new(alloc: Global) -> OwedSets
+        ensures { result ≡ no_sets }
+    {
+        OwedSets {
+            stops: UnitSet::new(alloc),
+            reloads: UnitSet::new(alloc),
+            restarts: UnitSet::new(alloc),
+            starts: UnitSet::new(alloc),
+            left: UnitSet::new(alloc),
+        }
     }
-    add_defined(alloc, known, &mut reloads, listed)?;
-    Ok(reloads)
-}
 
-/// What these decisions restart, and what is listed and defined.
-pub fn restarts_of(
-    alloc: Global,
-    known: Known<'_>,
-    decisions: &[UnitDecision],
-    listed: &[UnitName],
-) -> Result<UnitSet, AllocError>
-    ensures { IfOk result (λ set. (unit : List ℕ) → has set unit ≡ (list_any (restarts unit) decisions.now || has (defined (situation_of known.entry) listed.now) unit)) }
-{
-    let mut restarts = UnitSet::new(alloc);
-    for decided in decisions {
-        add_restarts(alloc, &mut restarts, decided)?;
+    /// Adds what is decided on one unit, each kind to its set.
+    fn add(
+        &mut self,
+        alloc: Global,
+        known: Known<'_>,
+        decided: &UnitDecision,
+    ) -> Result<(), AllocError>
+        ensures { OnOk result (AddsDecided (situation_of known.entry) (decided.now ∷ []) self.old self.new) }
+    {
+        add_stops(alloc, known, &mut self.stops, decided)?;
+        add_reloads(alloc, &mut self.reloads, decided)?;
+        add_restarts(alloc, &mut self.restarts, decided)?;
+        add_starts(alloc, &mut self.starts, decided)?;
+        add_if(alloc, &mut self.left, &decided.unit, decided.is_left)
     }
-    add_defined(alloc, known, &mut restarts, listed)?;
-    Ok(restarts)
-}
 
-/// What these decisions start, and what is listed and defined.
-fn own_starts(
-    alloc: Global,
-    known: Known<'_>,
-    decisions: &[UnitDecision],
-    listed: &[UnitName],
-) -> Result<UnitSet, AllocError>
-    ensures { IfOk result (λ set. (unit : List ℕ) → has set unit ≡ (list_any (starts unit) decisions.now || has (defined (situation_of known.entry) listed.now) unit)) }
-{
-    let mut starts = UnitSet::new(alloc);
-    for decided in decisions {
-        add_starts(alloc, &mut starts, decided)?;
+    /// Adds what these decisions give.
+    pub fn add_decided(
+        &mut self,
+        alloc: Global,
+        known: Known<'_>,
+        decisions: &[UnitDecision],
+    ) -> Result<(), AllocError>
+        ensures { OnOk result (AddsDecided (situation_of known.entry) decisions.now self.old self.new) }
+    {
+        for decided in decisions {
+            self.add(alloc, known, decided)?;
+        }
+        Ok(())
     }
-    add_defined(alloc, known, &mut starts, listed)?;
-    Ok(starts)
-}
 
-/// What these decisions start, what is listed and defined, and what is pulled and comes up by no other
-/// way, in byte order.
-pub fn starts_of(
-    alloc: Global,
-    known: Known<'_>,
-    decisions: &[UnitDecision],
-    listed: &[UnitName],
-    touched: Touched<'_>,
-    pulled: &[UnitName],
-) -> Result<Listed<UnitName>, AllocError>
-    ensures { IfOk result (λ names. IsListBy names (λ unit. (list_any (starts unit) decisions.now || has (defined (situation_of known.entry) listed.now) unit)
-        || has (filter (comes_up (situation_of known.entry) touched.entry.stops.now touched.entry.reloads.now touched.entry.restarts.now) pulled.now) unit)) }
-{
-    let mut starts = own_starts(alloc, known, decisions, listed)?;
-    add_pulled(alloc, known, touched, &mut starts, pulled)?;
-    starts.into_names(alloc)
-}
-
-/// What these decisions leave as it is though it has changed, in byte order.
-pub fn left_of(alloc: Global, decisions: &[UnitDecision]) -> Result<Listed<UnitName>, AllocError>
-    ensures { IfOk result (λ names. IsListBy names (λ unit. list_any (leaves unit) decisions.now)) }
-{
-    let mut left = UnitSet::new(alloc);
-    for decided in decisions {
-        add_if(alloc, &mut left, &decided.unit, decided.is_left)?;
+    /// Adds what is listed and defined.
+    pub fn add_listed(
+        &mut self,
+        alloc: Global,
+        known: Known<'_>,
+        lists: &Lists,
+    ) -> Result<(), AllocError>
+        ensures { OnOk result (AddsListed (situation_of known.entry) lists.now self.old self.new) }
+    {
+        add_defined(alloc, known, &mut self.reloads, lists.reloads.as_slice())?;
+        add_defined(alloc, known, &mut self.restarts, lists.restarts.as_slice())?;
+        add_defined(alloc, known, &mut self.starts, lists.starts.as_slice())
     }
-    left.into_names(alloc)
-}
 
-/// The names in these sets, in byte order, beside those to start and those that are left.
-pub fn into_owed(
-    alloc: Global,
-    stops: UnitSet,
-    reloads: UnitSet,
-    restarts: UnitSet,
-    starts: Listed<UnitName>,
-    left: Listed<UnitName>,
-) -> Result<Owed, AllocError>
-    ensures { IfOk result (AreListed stops reloads restarts starts left) }
-{
-    let stops = stops.into_names(alloc)?;
-    let reloads = reloads.into_names(alloc)?;
-    let restarts = restarts.into_names(alloc)?;
-    Ok(Owed {
-        stops,
-        reloads,
-        restarts,
-        starts,
-        left,
-    })
+    /// Adds what is pulled and comes up by no other way.
+    pub fn add_pulled(
+        &mut self,
+        alloc: Global,
+        known: Known<'_>,
+        pulled: &[UnitName],
+    ) -> Result<(), AllocError>
+        ensures { OnOk result (AddsPulled (situation_of known.entry) pulled.now self.old self.new) }
+    {
+        let touched = Touched {
+            stops: &self.stops,
+            reloads: &self.reloads,
+            restarts: &self.restarts,
+        };
+        add_pulled(alloc, known, touched, &mut self.starts, pulled)
+    }
+
+    /// The names in each set, in byte order.
+    pub fn into_owed(self, alloc: Global) -> Result<Owed, AllocError>
+        ensures { IfOk result (AreListed self) }
+    {
+        let OwedSets {
+            stops,
+            reloads,
+            restarts,
+            starts,
+            left,
+        } = self;
+        let stops = stops.into_names(alloc)?;
+        let reloads = reloads.into_names(alloc)?;
+        let restarts = restarts.into_names(alloc)?;
+        let starts = starts.into_names(alloc)?;
+        let left = left.into_names(alloc)?;
+        Ok(Owed {
+            stops,
+            reloads,
+            restarts,
+            starts,
+            left,
+        })
+    }
 }

@@ -1,5 +1,4 @@
-use Rattle.std.proofs.Common.{refl}
-use Rattle.owed_plan.proofs.sets.into_owed.Goals as goal
+use Rattle.owed_plan.proofs.sets.OwedSets.into_owed.Goals as goal
 
 pub returns : goal.returns
 returns c = record {
@@ -9,6 +8,8 @@ returns c = record {
   reloads_sorted = c.into_names-2.ensures.sorted;
   restarts = c.in_ok-restarts.ensures.names;
   restarts_sorted = c.into_names-3.ensures.sorted;
-  starts = refl;
-  left = refl;
+  starts = c.in_ok-starts.ensures.names;
+  starts_sorted = c.into_names-4.ensures.sorted;
+  left = c.in_ok-left.ensures.names;
+  left_sorted = c.into_names-5.ensures.sorted;
 }
