@@ -77,6 +77,14 @@ named name plain some = and_from _ _ plain (ap not some)
 abbrev pub passwd_with : List ℕ → List ℕ → ℕ → ℕ → List ℕ → List ℕ → List ℕ → PasswdRow
 passwd_with name password uid gid gecos home shell = record { name = name; password = password; uid = uid; gid = gid; gecos = gecos; home = home; shell = shell }
 
+-- a line whose fields are those of a row is that row
+pub passwd_joined : (line name password rest u v more gecos home shell : List ℕ) (uid gid : ℕ) → fields line ≡ name ∷ password ∷ fields rest → fields rest ≡ u ∷ v ∷ fields more
+    → fields more ≡ gecos ∷ home ∷ shell ∷ [] → is_empty name ≡ false → Some uid ≡ id_of u → Some gid ≡ id_of v
+    → passwd_row (fields line) ≡ Some (passwd_with name password uid gid gecos home shell)
+passwd_joined line name password rest u v more gecos home shell uid gid first second third some is_uid is_gid =
+    ap passwd_row (first ∙ ap (λ parts. name ∷ password ∷ parts) (second ∙ ap (λ parts. u ∷ v ∷ parts) third))
+    ∙ (λ i. cond (some i) None (option_and_then (λ x. option_map (λ y. passwd_with name password x y gecos home shell) (sym is_gid i)) (sym is_uid i)))
+
 module _ (name password u v gecos home shell : List ℕ) (row : PasswdRow) where
   abbrev read_with : Bool → Option ℕ → Option ℕ → Option PasswdRow
   read_with empty uid gid = cond empty None (option_and_then (λ x. option_map (λ y. passwd_with name password x y gecos home shell) gid) uid)

@@ -1,4 +1,4 @@
-use Rattle.std.proofs.Common.{◌≡◌, Some, sym, ap, subst, ◌∙◌}
+use Rattle.std.proofs.Common.{◌≡◌, Some, sym, ap, subst, ◌∙◌, rules}
 use Rattle.account_text.specs.Reading.{lines_left}
 use Rattle.account_text.proofs.LineLemmas.{IsReadUpTo, all_read, line_read, wrong_here}
 use Rattle.account_text.proofs.table.all_rows.Goals as goal
@@ -26,3 +26,6 @@ pub returns-clause-ok : goal.returns-clause-ok
 returns-clause-ok g c =
     let none = subst (λ o. IsReadUpTo g.R.Row.row_of c.args.text.now c.loop-left.rows.items c.loop-left.number (lines_left o)) c.in_default.is c.loop-left.invariant in
     (all_read g.R.Row.row_of c.args.text.now c.loop-left.rows.items c.loop-left.number none).0
+
+pub loop-left-init : goal.loop-left-init
+loop-left-init g c = search rules steps 300000
