@@ -3,7 +3,7 @@ use Rattle.std.proofs.Common.{◌≡◌, ℕ, ◌+◌, ◌<◌, Bool, true, fals
 use Rattle.std.specs.List.{insert, slice_get}
 use Rattle.std.specs.List.Sorted.{IsStrictlySortedBy, IsStableBy}
 use Rattle.std.proofs.lemmas.Bool.{ne_eqb}
-use Rattle.std.proofs.lemmas.List.{append-nil, append_assoc, map-append, length-take-le, length-map, length_push, get_or-map, set_at, take-append-drop, take-map, drop-map, drop_more}
+use Rattle.std.proofs.lemmas.List.{append-nil, append_assoc, map-append, length-take-le, length-map, length_push, get_or-map, set_at, take-append-drop, take-map, drop-map, drop_more, take_more}
 use Rattle.std.proofs.lemmas.List.Folds.{list_any-append}
 use Rattle.std.proofs.lemmas.Option.{get_or_from_slice_get, slice_get_within}
 use Rattle.unit_text.specs.declared.assignment.Assignment.{Assignment}
@@ -33,6 +33,13 @@ split_at_place xs at x lt e =
     let next : at + 1 ≡ suc at = omega arith in
     sym (take-append-drop at xs)
     ∙ ap (λ ys. take at xs ++ ys) (drop_more xs at x lt ∙ (λ i. get_or_from_slice_get xs at x x e i ∷ drop (next i) xs))
+
+-- a copy of one more element
+pub copied_more : {X : Type 0} (start xs : List X) (i : ℕ) (x copied : X) (before after : List X) → i < length xs → x ≡ get_or xs i x → before ≡ start ++ take i xs → copied ≡ x
+    → after ≡ before ++ copied ∷ [] → after ≡ start ++ take (i + 1) xs
+copied_more start xs i x copied before after lt item so_far same pushed =
+    pushed ∙ (λ j. so_far j ++ same j ∷ []) ∙ append_assoc start (take i xs) (x ∷ [])
+    ∙ ap (λ ys. start ++ ys) (ap (λ y. take i xs ++ y ∷ []) item ∙ sym (take_more xs i x lt))
 
 -- which keys a list has round one of its keys
 has_parts : (front back : List UnitKey) (key : UnitKey) → has_key (front ++ back) key ≡ (has_key front key || has_key back key)

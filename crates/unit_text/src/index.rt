@@ -145,14 +145,22 @@ pub fn find_key(keys: &[UnitKey], section: &str, key: &str) -> Result<usize, usi
     keys.binary_search_by(|other| other.compare(section, key))
 }
 
+/// Adds copies of these values.
+fn push_copies(alloc: Global, values: &mut Vec<Text>, others: &[Text]) -> Result<(), AllocError>
+    ensures { OnOk result (values.new.items ≡ values.old.items ++ others.now) }
+{
+    for one in others {
+        values.push(one.copy(alloc)?)?;
+    }
+    Ok(())
+}
+
 /// Copies of these values, and one more.
 fn with_value(alloc: Global, before: &[Text], value: Text) -> Result<Listed<Text>, AllocError>
     ensures { IfOk result (λ values. values ≡ before.now ++ value ∷ []) }
 {
     let mut values = Vec::with_capacity(alloc, before.len() + 1)?;
-    for one in before {
-        values.push(one.copy(alloc)?)?;
-    }
+    push_copies(alloc, &mut values, before)?;
     values.push(value)?;
     Ok(Listed::from_vec(values))
 }

@@ -1,9 +1,12 @@
 //! Unit texts.
-ghost use Rattle.std.specs.Prelude.{◌≡◌, ◌≢◌, ◌⊎◌, ◌++◌, ◌∷◌, [], ℕ, true, List, None, OnOk, OnErr, IfOk, IfErr};
+ghost use Rattle.std.specs.Prelude.{◌≡◌, ◌≢◌, ◌⊎◌, ◌++◌, ◌∷◌, [], ℕ, true, List, None, length, OnOk, OnErr, IfOk, IfErr, vec_len};
+ghost use Rattle.std.specs.List.Sorted.{IsStrictlySortedBy};
+ghost use Rattle.unit_text.specs.declared.assignment.Assignment.{Assignment};
 ghost use Rattle.unit_text.specs.declared.text_fault.TextFault.{TextFault};
 ghost use Rattle.unit_text.specs.Parts.{AreParts};
 ghost use Rattle.unit_text.specs.TextFault.{IsFault, IsFirstFault, IsRefusedBy, text_fault};
-ghost use Rattle.unit_text.specs.UnitKey.{key_of};
+ghost use Rattle.unit_text.specs.UnitKey.{key_cmp, key_of};
+ghost use Rattle.unit_text.specs.Index.{IsIndexOf};
 ghost use Rattle.unit_text.specs.UnitText.{HasFrontOf, assignments, flag_of, values_of};
 
 use crate::assignment::Assignment;
@@ -88,6 +91,23 @@ pub fn parse_beside(
     UnitText::from_bytes(alloc, bytes, other)
 }
 
+/// Applies one more assignment to the index of those that stand after a file.
+fn apply_after(
+    changes: &mut Index,
+    alloc: Global,
+    front: &Front,
+    assignment: &Assignment,
+) -> Result<(), AllocError>
+    requires sorted { IsStrictlySortedBy key_cmp changes.old.keys }
+    requires as_many { vec_len changes.old.values ≡ length changes.old.keys }
+    ensures ok { (later : List Assignment) → IsIndexOf front.now later changes.old → OnOk result (IsIndexOf front.now (later ++ assignment.now ∷ []) changes.new) }
+    ensures err { (later : List Assignment) → IsIndexOf front.now later changes.old → OnErr result (IsIndexOf front.now later changes.new) }
+{
+    let UnitKey { section, key } = &assignment.at;
+    let before = front.values(section.as_str(), key.as_str());
+    changes.apply(alloc, before, assignment.copy(alloc)?)
+}
+
 impl UnitText {
     /// The text without assignments.
     pub fn empty(alloc: Global) -> UnitText
@@ -129,10 +149,7 @@ impl UnitText {
         ensures err { OnErr result (self.new ≡ self.old) }
     {
         self.later.reserve(1)?;
-        let copied = assignment.copy(alloc)?;
-        let UnitKey { section, key } = &assignment.at;
-        let before = self.front.values(section.as_str(), key.as_str());
-        self.changes.apply(alloc, before, copied)?;
+        apply_after(&mut self.changes, alloc, &self.front, &assignment)?;
         self.later.push_reserved(assignment);
         Ok(())
     }
