@@ -1,4 +1,4 @@
-use Rattle.std.proofs.Common.{true≢false, sym, ◌∙◌}
+use Rattle.std.proofs.Common.{true≢false, sym, ◌∙◌, rules}
 use Rattle.std.proofs.lemmas.Result.{IfOk-weaker}
 use Rattle.serde_json.specs.View.{view}
 use Rattle.id_memory.proofs.MemberLemmas.{members_are, no_members_are}
@@ -12,3 +12,6 @@ returns-in-Ok-clause-ok c =
 pub returns-else-is_memory-clause-form : goal.returns-else-is_memory-clause-form
 returns-else-is_memory-clause-form c = λ is.
     no_members_are c.args.bytes.now (c.in-Err.ensures.err (λ memory. true≢false (sym (c.is_memory.ensures.1 memory) ∙ c.if-is_memory.false)))
+
+pub returns-then-is_memory-clause-form : goal.returns-then-is_memory-clause-form
+returns-then-is_memory-clause-form c = search rules steps 300000
