@@ -4,7 +4,7 @@ use Rattle.manager_core.proofs.Results.{on_err_of_ok, on_ok_of_err}
 use Rattle.manager_core.proofs.stepping.act_on.Goals as goal
 
 pub returns-then-is_err-clause-err : goal.returns-then-is_err-clause-err
-returns-then-is_err-clause-err c = grind (arith, common_steps)
+returns-then-is_err-clause-err c = grind (arith, common_steps) steps 3000000
 
 pub remove-entry-requires : goal.remove-entry-requires
 remove-entry-requires c = grind (arith, common_steps)

@@ -2,4 +2,4 @@ use Rattle.std.proofs.Common.{rules}
 use Rattle.manager_core.proofs.stepping.load.Goals as goal
 
 pub returns-clause-ok : goal.returns-clause-ok
-returns-clause-ok c = search rules
+returns-clause-ok c = search rules steps 300000
