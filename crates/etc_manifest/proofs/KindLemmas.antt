@@ -1,6 +1,5 @@
 -- How a copy is made of its parts.
 use Rattle.std.proofs.Common.{◌≡◌, ℕ, ◌⊎◌, List, Option, None, Some, Err, ⊎_elim, ap, refl}
-use Rattle.etc_manifest.specs.declared.item.ItemKind.{ItemKind}
 use Rattle.etc_manifest.specs.declared.manifest_fault.ManifestFault.TheVariants.{Entry}
 use Rattle.etc_manifest.specs.declared.reading.Parts.{Parts}
 use Rattle.etc_manifest.specs.Kind.{copied_by, copied_kind, owned_kind}

@@ -1,19 +1,16 @@
 -- The names of the leaves below a folder.
-use Rattle.std.proofs.Common.{◌≡◌, ℕ, ◌||◌, ◌&&◌, not, Bool, true, false, List, [], ◌∷◌, ◌++◌, get_or, codes, refl, sym, ap, subst, ◌∙◌, append_assoc, arith}
+use Rattle.std.proofs.Common.{◌≡◌, ℕ, ◌&&◌, not, true, List, [], ◌∷◌, ◌++◌, get_or, codes, sym, ap, subst, ◌∙◌, append_assoc, arith}
 use Rattle.std.specs.FinMap.{contains_key-keys, keys}
 use Rattle.std.specs.List.{filter_map}
 use Rattle.std.specs.List.Sorted.{IsStrictlySortedBy}
 use Rattle.std.proofs.lemmas.List.Kept.{IsStrictlySortedBy-filter}
 use Rattle.std.proofs.lemmas.Map.Views.{any-filter_same}
-use Rattle.std.proofs.lemmas.Slice.Eq.{bytes_eq-Decides}
-use Rattle.std.proofs.lemmas.Bool.{false_from_ne_true}
 use Rattle.switch_names.specs.Names.{has, is_name}
-use Rattle.switch_names.specs.Path.{is_below, slash}
+use Rattle.switch_names.specs.Path.{slash}
 use Rattle.switch_names.specs.SystemName.{IsSystemPath, store_folder, store_name}
-use Rattle.switch_names.proofs.Below.{below_front}
 use Rattle.switch_names.proofs.StorePaths.{IsStorePath, IsStorePath-from_named, store_path_is}
 use Rattle.host_trait.specs.Bytes.{bytes_cmp}
-use Rattle.host_trait.specs.World.{Leaves, is_listed, is_path, listed, stage}
+use Rattle.host_trait.specs.World.{Leaves, is_listed, listed, stage}
 use Rattle.host_trait.proofs.KeyOrder.{keys_sorted}
 use Rattle.etc_manifest.specs.Companion.{is_companion}
 use Rattle.etc_manifest.specs.Entries.{entries_of, has_leaf, leaf_names}

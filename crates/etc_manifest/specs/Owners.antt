@@ -1,12 +1,10 @@
 -- Who owns a copied file: passwd(5), group(5), and NixOS manual, `environment.etc.<name>.user` and `.uid`.
 use Rattle.std.specs.Prelude.{◌≡◌, ℕ, List, codes, Option, None, Some, option_map, if◌then◌else◌, refl}
 use Rattle.std.specs.BTreeMap.{BTreeMap}
-use Rattle.std.specs.Coded.{Coded, code_by, coded×, coded_list, coded_ℕ}
-use Rattle.std.specs.FinMap.{FinMap, from_entries, get}
-use Rattle.std.specs.FinMap as map_of
+use Rattle.std.specs.Coded.{Coded, code_by, coded×}
+use Rattle.std.specs.FinMap.{from_entries, get}
 use Rattle.std.specs.Str.{is_utf8}
 use Rattle.switch_names.specs.Names.{Name}
-use Rattle.host_trait.specs.Bytes.{bytes_cmp}
 use Rattle.host_trait.specs.Ids.{Ids, ids_code}
 use Rattle.account_text.specs.declared.tables.Tables.{Tables}
 use Rattle.account_text.specs.Field.{id_of}

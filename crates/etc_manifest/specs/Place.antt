@@ -1,6 +1,6 @@
 -- Places below /etc: NixOS manual, `environment.etc`.
-use Rattle.std.specs.Prelude.{ℕ, ◌==◌, Bool, List, [], ◌∷◌, ◌++◌, length, drop, codes, nat_eq, Option, None, Some, if◌then◌else◌}
-use Rattle.std.specs.List.{starts_with, before_first}
+use Rattle.std.specs.Prelude.{ℕ, Bool, List, [], ◌∷◌, ◌++◌, codes}
+use Rattle.std.specs.List.{before_first}
 use Rattle.switch_names.specs.Names.{Name, has}
 use Rattle.switch_names.specs.Path.{slash, is_slash}
 
