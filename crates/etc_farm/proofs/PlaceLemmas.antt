@@ -1,9 +1,9 @@
 -- The places of a farm, and what could be in their way.
-use Rattle.std.proofs.Common.{◌≡◌, ◌≢◌, ◌&&◌, ◌||◌, Bool, true, false, cond, List, [], ◌∷◌, None, Some, option_map, refl, ap, subst, ◌∙◌}
+use Rattle.std.proofs.Common.{◌≡◌, ◌≢◌, ◌||◌, Bool, true, false, cond, List, [], ◌∷◌, None, Some, option_map, refl, ap, subst, ◌∙◌}
 use Rattle.std.proofs.lemmas.Bool.{and_parts, both_ways, or_left, or_parts, or_right, and_from, or_from}
 use Rattle.std.specs.List.{find}
 use Rattle.switch_names.specs.Names.{Name}
-use Rattle.host_trait.specs.World.{IsClear, Leaves, is_in_line, is_path, stage}
+use Rattle.host_trait.specs.World.{IsClear, Leaves, is_in_line, stage}
 use Rattle.host_trait.proofs.Sound.{not_in_line}
 use Rattle.tree_put.specs.declared.written_place.WrittenPlace.{WrittenPlace}
 use Rattle.tree_put.specs.Put.{AreApart, is_blocked}

@@ -1,14 +1,9 @@
 -- A plan of /etc is made by what is read of a host.
-use Rattle.std.proofs.Common.{◌≡◌, Some, Result, Ok, Err, IsErrOf, refl, sym, ap, ◌∙◌}
-use Rattle.host_trait.specs.declared.tree.HostFault.{HostFault}
-use Rattle.host_trait.specs.declared.tree.HostFault.TheVariants.{Device}
+use Rattle.std.proofs.Common.{◌≡◌, Some, Err, IsErrOf, refl, ap, ◌∙◌}
 use Rattle.host_trait.specs.Host.{HostState, Told}
 use Rattle.host_trait.proofs.Moments.{told_as}
 use Rattle.switch_names.specs.Names.{Name}
-use Rattle.switch_parts.specs.declared.plan_fault.PlanFault.{PlanFault}
-use Rattle.switch_parts.specs.declared.plan_fault.PlanFault.TheVariants.{Host, Refused}
 use Rattle.switch_parts.specs.declared.refusal.Refusal.{Refusal}
-use Rattle.switch_parts.proofs.Faults.{handed}
 use Rattle.etc_manifest.specs.declared.manifest_fault.ManifestFault.{ManifestFault}
 use Rattle.etc_manifest.specs.declared.manifest_fault.ManifestFault as faults
 use Rattle.etc_manifest.specs.Entries.{manifest_of}

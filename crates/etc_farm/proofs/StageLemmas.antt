@@ -1,14 +1,14 @@
 -- A farm in the making, from what is put first to the removals.
-use Rattle.std.proofs.Common.{◌≡◌, ◌⊎◌, ℕ, zero, suc, ◌&&◌, ◌||◌, ◌==◌, not, Bool, true, false, cond, List, [], ◌∷◌, map, filter, take, Option, None, Some, refl, sym, ap, ◌∙◌, inl, inr, ⊎_elim}
+use Rattle.std.proofs.Common.{◌≡◌, ℕ, zero, suc, ◌&&◌, ◌||◌, ◌==◌, not, Bool, true, false, cond, List, [], ◌∷◌, map, filter, take, Option, None, Some, refl, sym, ap, ◌∙◌, ⊎_elim}
 use Rattle.std.proofs.lemmas.Bool.{and_parts, both_ways, or_left, or_right, or_cases, not-true}
 use Rattle.std.specs.List.{AllByRecursion, slice_split}
 use Rattle.std.specs.Cmp.{both_ways as same_test}
 use Rattle.switch_names.specs.Names.{Name, has, is_name}
 use Rattle.host_trait.specs.declared.leaf.LeafKind.TheVariants.{Link}
 use Rattle.host_trait.specs.World.{Leaves, WorldState, content_of, seen, with_leaf}
-use Rattle.host_trait.proofs.Places.{at_same, itself, same_or_other}
+use Rattle.host_trait.proofs.Places.{at_same, itself}
 use Rattle.host_trait.proofs.Sound.{not_in_line}
-use Rattle.host_trait.proofs.NameOrder.{has_filter, name_exact}
+use Rattle.host_trait.proofs.NameOrder.{has_filter}
 use Rattle.tree_put.specs.Put.{CanPut}
 use Rattle.tree_put.specs.Sequence.{ArePutsApart, CanPutAll, IsPutting, with_puts}
 use Rattle.tree_put.specs.WrittenPlace.{in_the_way}

@@ -1,5 +1,5 @@
 -- Each step of putting a farm leaves a moment of it.
-use Rattle.std.proofs.Common.{◌≡◌, ◌≢◌, ℕ, ◌&&◌, ◌||◌, Bool, true, false, List, [], Option, is_none, is_some, refl, sym, ap, subst, ◌∙◌, inl, inr, ⊎_elim}
+use Rattle.std.proofs.Common.{◌≡◌, ◌≢◌, ℕ, ◌&&◌, Bool, true, false, List, [], Option, is_none, is_some, refl, sym, ap, subst, ◌∙◌, inl, inr, ⊎_elim}
 use Rattle.std.proofs.lemmas.Bool.{both_ways, or_right}
 use Rattle.std.specs.FinMap.{get, insert, remove}
 use Rattle.std.specs.Ordering.{eq_by_cmp}

@@ -19,3 +19,6 @@ pub returns-clause-moments : goal.returns-clause-moments
 returns-clause-moments g c =
     passes_as c.apply.ensures.moments (IsMomentOf (etc_part c.args.system.now c.args.plan.now.owners))
     (λ w m is moment. moment_as c.args.system.now c.args.plan.now w (c.requires.has w is) c.path-path.ensures.names m moment)
+
+pub returns-clause-cause : goal.returns-clause-cause
+returns-clause-cause g c = c.apply.ensures.cause
