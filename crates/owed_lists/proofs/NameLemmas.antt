@@ -1,13 +1,10 @@
 -- Names among lines.
-use Rattle.std.proofs.Common.{◌≡◌, ◌<◌, ℕ, true, false, List, Option, None, Some, is_none, refl, sym, ap, ◌∙◌, arith}
+use Rattle.std.proofs.Common.{◌≡◌, ℕ, false, List, None, Some, is_none, sym, ap, ◌∙◌}
 use Rattle.std.specs.Prelude.{if◌then◌else◌}
 use Rattle.std.specs.Str.{IsUtf8}
 use Rattle.std.proofs.lemmas.Bool.{false_from_ne_true}
-use Rattle.std.proofs.lemmas.Bool.Decides.{nat_tests}
-use Rattle.std.proofs.lemmas.Str.{IsUtf8-from_ascii}
-use Rattle.std.proofs.lemmas.Str.Ascii.{IsAscii-from_all}
 use Rattle.switch_names.specs.declared.name_fault.NameFault.{NameFault}
-use Rattle.switch_names.specs.UnitName.{is_no_unit_byte, unit_fault, is_unit}
+use Rattle.switch_names.specs.UnitName.{unit_fault, is_unit}
 use Rattle.switch_names.proofs.UnitNames.{unit_utf8}
 use Rattle.switch_names.proofs.Outcomes.{none_from_test}
 

@@ -1,15 +1,10 @@
 -- The names in a map of names stand in byte order.
-use Rattle.std.proofs.Common.{T, ◌≡◌, ◌&&◌, ◌||◌, ◌∷◌, Bool, true, false, cond, List, [], Option, Some, is_some, map, refl, sym, ap, ◌∙◌}
-use Rattle.std.specs.FinMap.{FinMap, contains_key-keys, empty, entries, entries_sorted, get, get-empty, get-insert, insert, keys}
-use Rattle.std.specs.FinMap.Entries.{below_all, is_sorted}
-use Rattle.std.specs.List.{AllByRecursion}
+use Rattle.std.proofs.Common.{◌≡◌, ◌||◌, ◌∷◌, Bool, true, false, cond, List, [], Option, Some, is_some, map, refl, sym, ap, ◌∙◌}
+use Rattle.std.specs.FinMap.{FinMap, contains_key-keys, empty, get, get-empty, get-insert, insert, keys}
 use Rattle.std.specs.List.Sorted.{IsStrictlySortedBy}
-use Rattle.std.specs.Ordering.{is_lt}
-use Rattle.std.specs.declared.cmp.Ordering.{Ordering}
-use Rattle.std.specs.declared.cmp.Ordering.TheVariants.{Less, Equal, Greater}
 use Rattle.host_trait.specs.World.{bytes_cmp}
 use Rattle.host_trait.proofs.Places.{bytes_total}
-use Rattle.host_trait.proofs.KeyOrder.{left_of, right_of, less_from, keys_sorted}
+use Rattle.host_trait.proofs.KeyOrder.{keys_sorted}
 use Rattle.switch_names.specs.Names.{Name, has, is_name}
 
 module _ {X : Type 0} where

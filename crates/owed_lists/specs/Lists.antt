@@ -1,9 +1,9 @@
 -- The lists of units that a switch which was cut has left: NixOS manual, "Unit handling".
-use Rattle.std.specs.Prelude.{◌≡◌, ◌==◌, ℕ, Bool, List, [], codes, filter, Option, None, Some, is_none}
+use Rattle.std.specs.Prelude.{◌≡◌, ◌==◌, ℕ, List, [], codes, filter, Option, None, Some}
 use Rattle.std.specs.List.{slice_split}
 use Rattle.std.specs.List.Sorted.{IsStrictlySortedBy}
 use Rattle.switch_names.specs.Names.{has}
-use Rattle.switch_names.specs.UnitName.{unit_fault, is_unit}
+use Rattle.switch_names.specs.UnitName.{is_unit}
 use Rattle.host_trait.specs.World.{Leaves, bytes_cmp, content_of}
 use Rattle.owed_lists.specs.declared.lists.Lists.{Lists}
 use Rattle.owed_lists.specs.declared.lists.Which.{Which}
