@@ -1,5 +1,6 @@
 //! Steps on a host over a folder: leaves are put and removed, definitions loaded, and units called.
-use super::failing::Host;
+use super::failing::{Failing, Host};
+use host_folder::FolderHost;
 use host_trait::{HostFault, Leaf, Manager, Tree, stage_path};
 use node_text::read_node;
 use std::alloc::Global;
@@ -102,4 +103,14 @@ pub fn take_all(
         }
     }
     Ok(Ok(()))
+}
+
+/// Takes steps in turn on a new host over a root, as far as none fails.
+pub fn take_anew(
+    rt: &Failing<'_>,
+    root: &str,
+    steps: &[Bytes],
+) -> Result<Result<(), HostFault>, Fail> {
+    let mut host = FolderHost::open(rt, root)?;
+    take_all(rt.alloc(), &mut host, steps)
 }

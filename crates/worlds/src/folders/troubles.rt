@@ -1,7 +1,7 @@
 //! Steps of which each call on files fails in turn.
 use super::failing::{Failing, Host};
 use super::files::manager_of;
-use super::steps::{take, take_all};
+use super::steps::{take, take_all, take_anew};
 use host_folder::FolderHost;
 use host_trait::{HostFault, Manager};
 use std::alloc::Global;
@@ -19,6 +19,12 @@ fn tell_the_same(alloc: Global, one: &mut Host<'_>, other: &mut Host<'_>) -> Res
     Ok(told.same(&other.units(alloc)?))
 }
 
+/// Whether a host tells the same of all units as a new one over its root.
+fn tells_what_is_left(rt: &Failing<'_>, root: &str, host: &mut Host<'_>) -> Result<bool, Fail> {
+    let mut reader = FolderHost::open(rt, root)?;
+    tell_the_same(rt.alloc(), host, &mut reader)
+}
+
 /// Makes a root with the manager's file of another one, where there is one.
 fn make_twin(rt: &Failing<'_>, root: &str, twin: &str) -> Result<(), Fail> {
     fs::create_dir(rt, twin)?;
@@ -27,12 +33,6 @@ fn make_twin(rt: &Failing<'_>, root: &str, twin: &str) -> Result<(), Fail> {
         fs::copy(rt, place, format!(in rt.alloc(); "{twin}/manager")?)?;
     }
     Ok(())
-}
-
-/// Takes a step on a new host.
-fn take_anew(rt: &Failing<'_>, root: &str, step: &[Bytes]) -> Result<(), Fail> {
-    let mut host = FolderHost::open(rt, root)?;
-    Ok(take(rt.alloc(), &mut host, step)??)
 }
 
 /// Whether the manager's files of two roots have the same text.
@@ -51,7 +51,7 @@ fn goes_on(
     let twin = format!(in rt.alloc(); "{root}-twin")?;
     make_twin(rt, root, twin.as_str())?;
     take(rt.alloc(), host, next)??;
-    take_anew(rt, twin.as_str(), next)?;
+    take_anew(rt, twin.as_str(), next)??;
     has_the_same(rt, root, twin.as_str())
 }
 
@@ -72,15 +72,13 @@ fn show_left(
     host: &mut Host<'_>,
     (next, steps): (&[Bytes], &[Bytes]),
 ) -> Result<(), Fail> {
-    let mut reader = FolderHost::open(rt, root)?;
-    if !tell_the_same(rt.alloc(), host, &mut reader)? {
+    if !tells_what_is_left(rt, root, host)? {
         show_wrong(lines, call, "leaves wrong states");
     }
     if !goes_on(rt, root, host, next)? {
         show_wrong(lines, call, "leaves no state to go on from");
     }
-    let mut again = FolderHost::open(rt, root)?;
-    if take_all(rt.alloc(), &mut again, steps)?.is_err() {
+    if take_anew(rt, root, steps)?.is_err() {
         show_wrong(lines, call, "leaves steps that can't be taken again");
     }
     Ok(())

@@ -1,7 +1,7 @@
 //! What steps on a host leave in its folder.
 use super::failing::{Failing, Host};
 use super::files::show_manager;
-use super::steps::{take, take_all};
+use super::steps::{take, take_all, take_anew};
 use host_folder::FolderHost;
 use host_trait::Tree;
 use std::alloc::Global;
@@ -71,7 +71,21 @@ pub fn show_steps(
     Ok(())
 }
 
-/// Gives a file of a root a second name, takes steps, and shows what each name has then.
+/// Gives a file a second name, takes steps in a root, and shows what each name has then.
+fn show_both_names(
+    rt: &Failing<'_>,
+    lines: &mut Lines,
+    root: &str,
+    (file, name): (&str, &str),
+    steps: &[Bytes],
+) -> Result<(), Fail> {
+    fs::hard_link(rt.runtime(), file, name)?;
+    take_anew(rt, root, steps)??;
+    show_file(rt, lines, file)?;
+    show_file(rt, lines, name)
+}
+
+/// Shows the same of a file of the root.
 pub fn show_second_name(
     rt: &Failing<'_>,
     lines: &mut Lines,
@@ -82,9 +96,5 @@ pub fn show_second_name(
         return misread();
     };
     let file = format!(in rt.alloc(); "{root}/{}", text_of(file)?)?;
-    fs::hard_link(rt.runtime(), file.as_str(), text_of(name)?)?;
-    let mut host = FolderHost::open(rt, root)?;
-    take_all(rt.alloc(), &mut host, steps)??;
-    show_file(rt, lines, file.as_str())?;
-    show_file(rt, lines, text_of(name)?)
+    show_both_names(rt, lines, root, (file.as_str(), text_of(name)?), steps)
 }

@@ -33,6 +33,19 @@ fn take_step(
     }
 }
 
+/// Takes a step: a name, and the id that is remembered for it or `?`.
+fn take_pair(
+    alloc: Global,
+    lines: &mut Lines,
+    ids: &mut IdMap,
+    pair: &[Bytes],
+) -> Result<(), Fail> {
+    let [name, id] = pair else {
+        return misread();
+    };
+    take_step(alloc, lines, ids, text_of(name)?, text_of(id)?)
+}
+
 /// Takes steps, and shows how many ids there are then and what is written of a copy.
 fn show_steps(
     alloc: Global,
@@ -41,10 +54,7 @@ fn show_steps(
     steps: &[Bytes],
 ) -> Result<(), Fail> {
     for step in steps.chunks(2) {
-        let [name, id] = step else {
-            return misread();
-        };
-        take_step(alloc, lines, ids, text_of(name)?, text_of(id)?)?;
+        take_pair(alloc, lines, ids, step)?;
     }
     lines.add_value(&ids.rows().as_slice().len());
     show_bytes(lines, &ids.copy(alloc)?.write(alloc)?)

@@ -43,6 +43,14 @@ fn show_item(lines: &mut Lines, item: &Item) -> Result<(), Fail> {
     Ok(())
 }
 
+/// Shows the items of a system.
+fn show_items(lines: &mut Lines, items: &[Item]) -> Result<(), Fail> {
+    for item in items {
+        show_item(lines, item)?;
+    }
+    Ok(())
+}
+
 /// Shows a refused entry, after the word that says why it is.
 fn show_refused(lines: &mut Lines, word: &str, place: &Path) {
     lines.add_word(word);
@@ -77,6 +85,23 @@ fn host_with(alloc: Global, fails: &str, places: &[Bytes]) -> Result<MemoryHost,
     Ok(host)
 }
 
+/// Shows what a system of a host wants, with these owners.
+fn show_wanted(
+    alloc: Global,
+    lines: &mut Lines,
+    host: &mut MemoryHost,
+    owners: &Owners,
+) -> Result<(), Fail> {
+    let system = SystemName::parse(alloc, "nix/store/a-sys")?;
+    match Manifest::read(alloc, host, &system, owners) {
+        Ok(manifest) => show_items(lines, manifest.items().as_slice()),
+        Err(fault) => {
+            show_fault(lines, &fault);
+            Ok(())
+        }
+    }
+}
+
 /// Shows what a system wants, with the users and groups of two tables.
 pub fn show_manifest(alloc: Global, lines: &mut Lines, fields: &[Bytes]) -> Result<(), Fail> {
     let [fails, passwd, group, places @ ..] = fields else {
@@ -84,14 +109,5 @@ pub fn show_manifest(alloc: Global, lines: &mut Lines, fields: &[Bytes]) -> Resu
     };
     let owners = owners_of(alloc, passwd, group)?;
     let mut host = host_with(alloc, text_of(fails)?, places)?;
-    let system = SystemName::parse(alloc, "nix/store/a-sys")?;
-    match Manifest::read(alloc, &mut host, &system, &owners) {
-        Ok(manifest) => {
-            for item in manifest.items().as_slice() {
-                show_item(lines, item)?;
-            }
-        }
-        Err(fault) => show_fault(lines, &fault),
-    }
-    Ok(())
+    show_wanted(alloc, lines, &mut host, &owners)
 }
