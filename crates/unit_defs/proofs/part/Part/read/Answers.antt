@@ -7,3 +7,6 @@ pub returns-in_default : goal.returns-in_default
 returns-in_default c =
     let none = ap (λ o. option_map part_of (option_copied o)) (none_left c.args.content c.in_default.not-Some) in
     search (rules, none) steps 300000
+
+pub returns-in-Ok : goal.returns-in-Ok
+returns-in-Ok c = search rules steps 300000
