@@ -5,10 +5,11 @@
 #
 # Each crate has a line in the table of README.md, a heading in docs/CRATES.md and a row in the table of
 # docs/ARCHITECTURE.md. What each crate may use, in docs/ARCHITECTURE.md, is what crates.txt says, without the crates
-# of the kit: --write writes it anew. No cell of README.md has more than 200 characters. Each wrong body in must-fail/
-# says by which public clause it is forbidden (`# clause: CRATE FUNCTION CLAUSE`, which stands in src/), and for which input
-# the body breaks it (`# why: ..`). No lemma or definition stands in two files, word for word. Each fault is a line, and
-# it ends with 1 where there is one. Needs awk, grep and the coreutils.
+# of the kit: --write writes it anew. No cell of README.md has more than 200 characters. Each wrong body, of the gate
+# (must-fail/) and beside it (must-fail-more/), says by which public clause it is forbidden (`# clause: CRATE FUNCTION
+# CLAUSE`, which stands in src/), and for which input the body breaks it (`# why: ..`); each text that it replaces stands
+# once in its file. No lemma or definition stands in two files, word for word. Each fault is a line, and it ends with 1
+# where there is one. Needs awk, grep and the coreutils.
 cd "$(dirname "$0")/.." || exit 1
 page=docs/ARCHITECTURE.md
 failed=0
@@ -106,7 +107,42 @@ wrong_clauses() {
                     print files[at] ": " (files[at] in named && named[files[at]] == "no" ? "its clause stands nowhere" : "it names no clause")
                 if (!(files[at] in told)) print files[at] ": it does not say why"
             }
-        }' - crates/*/must-fail/*.edit
+        }' - crates/*/must-fail/*.edit crates/*/must-fail-more/*.edit
+}
+
+# The wrong bodies that can't be put in: a text that one replaces stands never or more than once where it is sought.
+misplaced() {
+    awk '
+        function text_of(file,   text, line) {
+            while ((getline line <file) > 0) text = text line "\n"
+            close(file)
+            return text
+        }
+        function count(text, part,   at, found) {
+            while ((at = index(text, part)) > 0) {
+                found++
+                text = substr(text, at + 1)
+            }
+            return found + 0
+        }
+        FNR == 1 { split("", texts) }
+        /^file: / {
+            file = FILENAME
+            sub(/must-fail(-more)?\/.*/, "", file)
+            file = file substr($0, 7)
+            if (!(file in texts)) texts[file] = text_of(file)
+        }
+        /^old: / {
+            old = substr($0, 6)
+            found = count(texts[file], old)
+            if (found != 1) print FILENAME ": a text that it replaces stands " found " times in " file
+        }
+        /^new:/ {
+            new = substr($0, 5)
+            sub(/^ /, "", new)
+            at = index(texts[file], old)
+            if (at) texts[file] = substr(texts[file], 1, at - 1) new substr(texts[file], at + length(old))
+        }' crates/*/must-fail/*.edit crates/*/must-fail-more/*.edit
 }
 
 # The lemmas and definitions that stand in two files, word for word.
@@ -132,4 +168,6 @@ both=$(twice)
 [ -z "$both" ] || fault "$both"
 wrong=$(wrong_clauses)
 [ -z "$wrong" ] || fault "$wrong"
+lost=$(misplaced)
+[ -z "$lost" ] || fault "$lost"
 exit "$failed"

@@ -85,7 +85,7 @@ fn show_both_names(
     show_file(rt, lines, name)
 }
 
-/// Shows the same of a file of the root.
+/// Gives a file of the root a second name, takes steps, and shows what each name has then.
 pub fn show_second_name(
     rt: &Failing<'_>,
     lines: &mut Lines,
