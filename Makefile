@@ -3,7 +3,7 @@ PROGRAM := crates/nixswitch/out/nixswitch
 SOURCES := crates.txt $(shell find crates \( -name '*.rt' -o -name '*.antt' \) -not -path '*/out/*')
 BENCHES := $(filter-out bench/common.sh bench/example.sh bench/steps.sh,$(wildcard bench/*.sh))
 
-.PHONY: help run build test edits check docs bench
+.PHONY: help run build test check docs bench
 
 # What a target does stands behind its name.
 help: ## lists the targets
@@ -21,9 +21,6 @@ $(PROGRAM): $(SOURCES)
 
 test: ## runs the gate: documents, proofs, edits that must fail, tests, and programs as two compilers build them
 	.ci/run
-
-edits: ## tries the wrong bodies that the gate leaves out, of all crates or of one, as make edits CRATE=unit_text
-	.ci/edits $(CRATE)
 
 check: ## proves one crate and those below it that have changed, as make check CRATE=unit_text
 	@test -d "crates/$(CRATE)/src" || { echo "name a crate: make check CRATE=unit_text"; exit 1; }

@@ -5,11 +5,11 @@
 #
 # Each crate has a line in the table of README.md, a heading in docs/CRATES.md and a row in the table of
 # docs/ARCHITECTURE.md. What each crate may use, in docs/ARCHITECTURE.md, is what crates.txt says, without the crates
-# of the kit: --write writes it anew. No cell of README.md has more than 200 characters. Each wrong body, of the gate
-# (must-fail/) and beside it (must-fail-more/), says by which public clause it is forbidden (`# clause: CRATE FUNCTION
-# CLAUSE`, which stands in src/), and for which input the body breaks it (`# why: ..`); each text that it replaces stands
-# once in its file. No lemma or definition stands in two files, word for word. Each fault is a line, and it ends with 1
-# where there is one. Needs awk, grep and the coreutils.
+# of the kit: --write writes it anew. No cell of README.md has more than 200 characters. Each wrong body in must-fail/
+# says by which public clause it is forbidden (`# clause: CRATE FUNCTION CLAUSE`, which stands in src/), and for which input
+# the body breaks it (`# why: ..`); each text that it replaces stands once where it is sought. No lemma or definition
+# stands in two files, word for word. Each fault is a line, and it ends with 1 where there is one. Needs awk, grep and the
+# coreutils.
 cd "$(dirname "$0")/.." || exit 1
 page=docs/ARCHITECTURE.md
 failed=0
@@ -107,7 +107,7 @@ wrong_clauses() {
                     print files[at] ": " (files[at] in named && named[files[at]] == "no" ? "its clause stands nowhere" : "it names no clause")
                 if (!(files[at] in told)) print files[at] ": it does not say why"
             }
-        }' - crates/*/must-fail/*.edit crates/*/must-fail-more/*.edit
+        }' - crates/*/must-fail/*.edit
 }
 
 # The wrong bodies that can't be put in: a text that one replaces stands never or more than once where it is sought.
@@ -128,7 +128,7 @@ misplaced() {
         FNR == 1 { split("", texts) }
         /^file: / {
             file = FILENAME
-            sub(/must-fail(-more)?\/.*/, "", file)
+            sub(/must-fail\/.*/, "", file)
             file = file substr($0, 7)
             if (!(file in texts)) texts[file] = text_of(file)
         }
@@ -142,7 +142,7 @@ misplaced() {
             sub(/^ /, "", new)
             at = index(texts[file], old)
             if (at) texts[file] = substr(texts[file], 1, at - 1) new substr(texts[file], at + length(old))
-        }' crates/*/must-fail/*.edit crates/*/must-fail-more/*.edit
+        }' crates/*/must-fail/*.edit
 }
 
 # The lemmas and definitions that stand in two files, word for word.
