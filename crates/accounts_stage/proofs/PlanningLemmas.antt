@@ -1,22 +1,27 @@
 -- The plan for accounts, of what is read.
-use Rattle.std.proofs.Common.{◌≡◌, Option, None, Some, Ok, Err, option_map, refl, sym, ap, subst, ◌∙◌}
+use Rattle.std.proofs.Common.{◌≡◌, Option, None, Some, Result, Ok, Err, option_and_then, option_map, refl, sym, ap, subst, ◌∙◌}
 use Rattle.std.proofs.lemmas.Option.{none-some}
 use Rattle.std.specs.Option.{option_or}
-use Rattle.account_text.specs.declared.tables.Tables.{Tables}
 use Rattle.host_trait.specs.World.{Leaves}
+use Rattle.switch_parts.specs.declared.plan_fault.PlanFault.{PlanFault}
 use Rattle.switch_parts.specs.declared.refusal.Refusal.{Refusal}
 use Rattle.users_merge.specs.declared.merged.Merged as answered
+use Rattle.users_merge.specs.Merge.{fault}
 use Rattle.users_spec.specs.Fields.{Read}
 use Rattle.users_spec.specs.Spec.{Accounts}
-use Rattle.accounts_stage.specs.AccountsPart.{refusal_of, table_refusal}
-use Rattle.accounts_stage.specs.Answer.{IsMergedBy, IsMergingOf, merging_refusal, spec_refusal, stored_with}
-use Rattle.accounts_stage.specs.Plan.{IsMergePlanned}
-use Rattle.accounts_stage.specs.Standing.{tables_in}
+use Rattle.accounts_stage.specs.declared.accounts_plan.AccountsPlan.{AccountsPlan}
+use Rattle.accounts_stage.specs.declared.stored.Stored.{Stored}
+use Rattle.accounts_stage.specs.All.{all_in, stored_with}
+use Rattle.accounts_stage.specs.AccountsPart.{maps_refusal, merge_refusal, refusal_of, stored_refusal, table_refusal}
+use Rattle.accounts_stage.specs.Answer.{Answers, IsMergedBy, spec_refusal}
+use Rattle.accounts_stage.specs.Plan.{ArePlanned}
+use Rattle.accounts_stage.specs.Standing.{memory_in, stored_in}
 
-or_none : (o : Option Refusal) → option_or o None ≡ o
-or_none None = refl
-or_none (Some why) = refl
+or_assoc : (a b d : Option Refusal) → option_or a (option_or b d) ≡ option_or (option_or a b) d
+or_assoc None b d = refl
+or_assoc (Some why) b d = refl
 
+-- of two that are sought one after the other neither is refused
 pub both_fine : (a b : Option Refusal) → a ≡ None → b ≡ None → option_or a b ≡ None
 both_fine a b first second = ap (λ o. option_or o b) first ∙ second
 
@@ -27,22 +32,27 @@ module _ (leaves : Leaves) where
   spec_first (Some (Ok spec)) why is = absurd (none-some why is)
   spec_first (Some (Err fault)) why is = is
 
-  -- then the tables
-  pub tables_second : (declared : Option (Read Accounts)) (spec : Option Accounts) (why : Refusal) → declared ≡ option_map Ok spec → table_refusal leaves ≡ Some why → refusal_of leaves declared ≡ Some why
-  tables_second declared None why is refused = ap (refusal_of leaves) is ∙ refused
-  tables_second declared (Some spec) why is refused = ap (refusal_of leaves) is ∙ ap (λ o. option_or o (merging_refusal leaves (tables_in leaves) (Some spec))) refused
+  -- what is planned for declarations that were read is planned for those of the system
+  pub planned_for : (declared : Option (Read Accounts)) (spec : Option Accounts) (result : Result AccountsPlan PlanFault) → declared ≡ option_map Ok spec → Answers (refusal_of leaves (option_map Ok spec)) (ArePlanned leaves (option_map Ok spec)) result → Answers (refusal_of leaves declared) (ArePlanned leaves declared) result
+  planned_for declared spec result is = subst (λ d. Answers (refusal_of leaves d) (ArePlanned leaves d) result) (sym is)
 
-  -- what else is refused is the tables and the merge
-  pub refusal_is : (declared : Option (Read Accounts)) (spec : Option Accounts) (tables : Tables) → declared ≡ option_map Ok spec → tables ≡ tables_in leaves → refusal_of leaves declared ≡ option_or (table_refusal leaves) (merging_refusal leaves tables spec)
-  refusal_is declared None tables is same = ap (refusal_of leaves) is ∙ sym (or_none (table_refusal leaves))
-  refusal_is declared (Some spec) tables is same =
-      ap (refusal_of leaves) is ∙ ap (λ t. option_or (table_refusal leaves) (merging_refusal leaves t (Some spec))) (sym same)
+  module _ (spec : Accounts) where
+    abbrev rest : Option Refusal
+    rest = option_and_then merge_refusal (fault spec (stored_in leaves))
 
-  -- the merge that is planned
-  pub merge_planned : (declared : Option (Read Accounts)) (spec : Option Accounts) (tables : Tables) (answer : Option answered.Merged) → declared ≡ option_map Ok spec → tables ≡ tables_in leaves → IsMergingOf leaves tables spec answer → IsMergePlanned leaves declared answer
-  merge_planned declared None tables answer is same merge = subst (λ d. IsMergePlanned leaves d answer) (sym is) merge
-  merge_planned declared (Some spec) tables None is same merge = absurd merge
-  merge_planned declared (Some spec) tables (Some answer) is same merge = subst (λ d. IsMergePlanned leaves d (Some answer)) (sym is)
-      (let stored = ap (stored_with leaves) same in
-      let there = subst (λ s. IsMergedBy spec s answer) stored merge in
-      (there.is, there.kept))
+    -- what stands comes first
+    stored_or_rest : refusal_of leaves (Some (Ok spec)) ≡ option_or (stored_refusal leaves) rest
+    stored_or_rest = or_assoc (table_refusal leaves) (maps_refusal (memory_in leaves)) rest
+
+    pub stored_first : (why : Refusal) → stored_refusal leaves ≡ Some why → refusal_of leaves (Some (Ok spec)) ≡ Some why
+    stored_first why is = stored_or_rest ∙ ap (λ o. option_or o rest) is
+
+    -- then the merge
+    pub merge_last : (stored : Stored) → stored ≡ all_in leaves → stored_refusal leaves ≡ None → refusal_of leaves (Some (Ok spec)) ≡ option_and_then merge_refusal (fault spec (stored_with stored))
+    merge_last stored same fine = stored_or_rest ∙ ap (λ o. option_or o rest) fine ∙ ap (λ s. option_and_then merge_refusal (fault spec (stored_with s))) (sym same)
+
+    -- the merge that is planned
+    pub merge_planned : (stored : Stored) (answer : answered.Merged) → stored ≡ all_in leaves → IsMergedBy spec (stored_with stored) answer → ArePlanned leaves (Some (Ok spec)) (record { tables = stored.tables; merged = Some answer })
+    merge_planned stored answer same merged =
+        let there = subst (λ s. IsMergedBy spec (stored_with s) answer) same merged in
+        record { tables = ap (λ (s : Stored). s.tables) same; merged = (there.is, there.kept) }

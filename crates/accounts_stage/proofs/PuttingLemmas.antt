@@ -24,9 +24,9 @@ use Rattle.tree_put.specs.Sequence.{ArePutsApart, CanPutAll}
 use Rattle.tree_put.proofs.SequenceLemmas.{apart_by}
 use Rattle.accounts_stage.specs.Files.{account_puts, ids_puts, names_puts, nine_puts, table_puts}
 use Rattle.accounts_stage.specs.Places.{account_names, account_places, gids_place, group_place, groups_place, memory_places, owns_accounts, passwd_place, shadow_place, table_places, uids_place, users_place}
-use Rattle.accounts_stage.specs.Plan.{CanSetAccounts, IsAccountsPlanOf, IsAnswerOf, IsMergePlanned, puts_by, puts_of}
+use Rattle.accounts_stage.specs.Plan.{IsAccountsPlanOf, IsAnswerOf, IsMergePlanned, puts_by, puts_of}
 use Rattle.accounts_stage.specs.AccountsPart.{merged_by, tables_by}
-use Rattle.accounts_stage.specs.Puts.{AreAtAccounts, answer_puts, plan_puts, puts_if_any}
+use Rattle.accounts_stage.specs.Puts.{AreAtAccounts, answer_puts}
 use Rattle.accounts_stage.specs.Standing.{declared_by, stored_in, tables_in}
 
 -- ---- the places
@@ -56,7 +56,7 @@ module _ (p : Name) (own : owns_accounts p ≡ true) where
   pub places_apart : (q : Name) → owns_accounts q ≡ true → is_in_line p q ≡ false
   places_apart q other = not-true _ (all_among (λ q. not (is_in_line p q)) account_names (and_parts (not (is_in_line stage p)) (list_all (λ q. not (is_in_line p q)) account_names) parts.1).1 q other)
 
--- ---- what a plan puts
+-- ---- what is put
 
 pub answer_at_places : (answer : answered.Merged) → AreAtAccounts (answer_puts answer)
 unfolding answer_puts account_names group_place passwd_place shadow_place groups_place users_place gids_place uids_place
@@ -89,17 +89,27 @@ answer_made none first second third last answer is_none is_first is_second is_th
     ∙ ap (λ puts. puts ++ names_puts answer.declared)
     (is_third ∙ ap (λ puts. puts ++ table_puts answer.tables) (is_second ∙ ap (λ puts. puts ++ ids_puts answer.remembered) (is_first ∙ ap (λ puts. puts ++ names_puts answer.union) is_none)))
 
--- a plan makes the puts of the switch
-pub plan_puts_are : (system : Name) (leaves : Leaves) (plan : AccountsPlan) → IsAccountsPlanOf system leaves plan → plan_puts plan ≡ puts_of system leaves
-plan_puts_are system leaves plan is = by (declared_by system leaves) plan.merged is.merged
-  where
-    by : (declared : Option (Read Accounts)) (answer : Option answered.Merged) → IsMergePlanned leaves declared answer → puts_if_any answer ≡ puts_by (merged_by leaves declared)
-    by None answer is = ap puts_if_any is
-    by (Some (Err why)) answer is = absurd is
-    by (Some (Ok spec)) None is = absurd is
-    by (Some (Ok spec)) (Some answer) is = answer_is (merge_of spec (stored_in leaves)) answer is.0
+-- the puts of an answer that is planned, where there is one
+abbrev puts_if_any : Option answered.Merged → List LeafPut
+puts_if_any None = []
+puts_if_any (Some answer) = answer_puts answer
 
--- ---- where a plan can be carried out
+plan_puts_are : (leaves : Leaves) (declared : Option (Read Accounts)) (answer : Option answered.Merged) → IsMergePlanned leaves declared answer → puts_if_any answer ≡ puts_by (merged_by leaves declared)
+plan_puts_are leaves None answer is = ap puts_if_any is
+plan_puts_are leaves (Some (Err why)) answer is = absurd is
+plan_puts_are leaves (Some (Ok spec)) None is = absurd is
+plan_puts_are leaves (Some (Ok spec)) (Some answer) is = answer_is (merge_of spec (stored_in leaves)) answer is.0
+
+module _ (system : Name) (leaves : Leaves) (plan : AccountsPlan) (is : IsAccountsPlanOf system leaves plan) where
+  -- a merge that is planned makes the puts of the switch
+  pub merge_puts : (answer : answered.Merged) → plan.merged ≡ Some answer → answer_puts answer ≡ puts_of system leaves
+  merge_puts answer some = ap puts_if_any (sym some) ∙ plan_puts_are leaves (declared_by system leaves) plan.merged is.merged
+
+  -- and without one there are none
+  pub no_puts : plan.merged ≡ None → puts_of system leaves ≡ []
+  no_puts none = sym (plan_puts_are leaves (declared_by system leaves) plan.merged is.merged) ∙ ap puts_if_any none
+
+-- ---- where leaves can be put
 
 -- no leaf stands above or below the stage or a place of accounts
 record CanPutAccounts (w : WorldState) : Type 0 where
@@ -119,8 +129,8 @@ each_clear : (w : WorldState) → CanPutAccounts w → (puts : List LeafPut) →
 each_clear w can [] at = tt
 each_clear w can (put ∷ puts) at = (can.places put.at at.0, each_clear w can puts at.1)
 
-pub can_of_set : (system : Name) (plan : AccountsPlan) (w : WorldState) (puts : List LeafPut) → AreAtAccounts puts → CanSetAccounts system plan w → CanPutAll puts w
-can_of_set system plan w puts at can = let clear = way_clear w can.free.way in record { stage = clear.stage; places = each_clear w clear puts at }
+pub can_put : (w : WorldState) (puts : List LeafPut) → AreAtAccounts puts → in_the_way account_places w.leaves ≡ None → CanPutAll puts w
+can_put w puts at none = let clear = way_clear w none in record { stage = clear.stage; places = each_clear w clear puts at }
 
 pub accounts_apart : (puts : List LeafPut) → AreAtAccounts puts → ArePutsApart puts
 accounts_apart puts at = apart_by (λ p. owns_accounts p ≡ true) (λ p own. place_apart p own) (λ p q one other. places_apart p one q other) puts at

@@ -54,6 +54,10 @@ ids_refusal file content = if is_none (ids_of content) then Some (IdMap file) el
 abbrev pub maps_refusal : MemoryTexts → Option Refusal
 maps_refusal texts = option_or (ids_refusal Uid texts.uids) (ids_refusal Gid texts.gids)
 
+-- why what stands of accounts can't be read, or nothing
+abbrev pub stored_refusal : Leaves → Option Refusal
+stored_refusal leaves = option_or (table_refusal leaves) (maps_refusal (memory_in leaves))
+
 -- a fault of a merge as a refusal; want of memory is none
 abbrev pub merge_refusal : MergeFault → Option Refusal
 merge_refusal (faults.TheVariants.NoFreeId name) = Some (NoFreeId name)

@@ -1,11 +1,8 @@
 -- What each step of planning accounts answers: nixpkgs, update-users-groups.pl.
-use Rattle.std.specs.Prelude.{◌≡◌, Option, None, Some, Result, Ok, Err, IfOk, IsErrOf, OnOk, option_and_then}
-use Rattle.std.specs.Option.{option_or}
+use Rattle.std.specs.Prelude.{◌≡◌, Option, None, Some, Result, Ok, Err, IfOk, IsErrOf, OnOk}
 use Rattle.account_text.specs.declared.row_fault.RowFault.{RowFault}
 use Rattle.account_text.specs.declared.row_fault.RowFault as rows
-use Rattle.account_text.specs.declared.tables.Tables.{Tables}
 use Rattle.host_trait.specs.declared.tree.HostFault.TheVariants.{Memory}
-use Rattle.host_trait.specs.World.{Leaves}
 use Rattle.switch_parts.specs.declared.plan_fault.PlanFault.{PlanFault}
 use Rattle.switch_parts.specs.declared.plan_fault.PlanFault.TheVariants.{Host, Refused}
 use Rattle.switch_parts.specs.declared.refusal.Refusal.{Refusal}
@@ -14,15 +11,13 @@ use Rattle.switch_parts.specs.declared.refusal.TableFile.{TableFile}
 use Rattle.users_merge.specs.declared.merge_fault.MergeFault.{MergeFault}
 use Rattle.users_merge.specs.declared.merge_fault.MergeFault as merges
 use Rattle.users_merge.specs.declared.merged.Merged as answered
-use Rattle.users_merge.specs.Merge.{fault, kept, merge_of}
-use Rattle.users_merge.specs.Stored.{Stored, stored_of}
+use Rattle.users_merge.specs.Merge.{kept, merge_of}
+use Rattle.users_merge.specs.Stored.{Stored}
 use Rattle.users_spec.specs.declared.spec_fault.SpecFault.{SpecFault}
 use Rattle.users_spec.specs.declared.spec_fault.SpecFault as spec_faults
 use Rattle.users_spec.specs.Fields.{Read}
 use Rattle.users_spec.specs.Spec.{Accounts}
-use Rattle.accounts_stage.specs.AccountsPart.{maps_refusal, merge_refusal}
 use Rattle.accounts_stage.specs.Plan.{IsAnswerOf}
-use Rattle.accounts_stage.specs.Standing.{declared_of, memory_in, remembered_of}
 
 -- a step goes well where nothing is refused, and tells why where it is; the host may fail at any time
 pub record Answers {X : Type 0} (refusal : Option Refusal) (P : X → Type 0) (result : Result X PlanFault) : Type 0 where
@@ -56,18 +51,3 @@ spec_refusal (Some (Err why)) = Some (UsersSpec why)
 pub record IsMergedBy (spec : Accounts) (s : Stored) (answer : answered.Merged) : Type 0 where
   pub is : IsAnswerOf (merge_of spec s) answer
   pub kept : answer.kept ≡ kept spec s
-
--- all that stands of accounts, of which these are the tables
-abbrev pub stored_with : Leaves → Tables → Stored
-stored_with leaves tables = stored_of tables (remembered_of (memory_in leaves)) (declared_of (memory_in leaves))
-
--- why what is declared isn't merged with what stands, or nothing
-abbrev pub merging_refusal : Leaves → Tables → Option Accounts → Option Refusal
-merging_refusal leaves tables None = None
-merging_refusal leaves tables (Some spec) = option_or (maps_refusal (memory_in leaves)) (option_and_then merge_refusal (fault spec (stored_with leaves tables)))
-
--- an answer is the merge of what is declared with what stands, and there is none where nothing is declared
-abbrev pub IsMergingOf : Leaves → Tables → Option Accounts → Option answered.Merged → Type 0
-IsMergingOf leaves tables None answer = answer ≡ None
-IsMergingOf leaves tables (Some spec) None = ⊥
-IsMergingOf leaves tables (Some spec) (Some answer) = IsMergedBy spec (stored_with leaves tables) answer

@@ -1,4 +1,5 @@
 pub mod AccountsPart
+pub mod All
 pub mod Answer
 pub mod Files
 pub mod Laws

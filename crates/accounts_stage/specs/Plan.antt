@@ -28,10 +28,14 @@ IsMergePlanned leaves (Some (Err why)) answer = ⊥
 IsMergePlanned leaves (Some (Ok spec)) None = ⊥
 IsMergePlanned leaves (Some (Ok spec)) (Some answer) = IsAnswerOf (merge_of spec (stored_in leaves)) answer × (answer.kept ≡ kept spec (stored_in leaves))
 
--- the plan for the accounts of a system: the tables as they stand, and the merge where it declares accounts
-pub record IsAccountsPlanOf (system : Name) (leaves : Leaves) (plan : AccountsPlan) : Type 0 where
+-- the plan for accounts that are declared so: the tables as they stand, and the merge where accounts are declared
+pub record ArePlanned (leaves : Leaves) (declared : Option (Read Accounts)) (plan : AccountsPlan) : Type 0 where
   pub tables : plan.tables ≡ tables_in leaves
-  pub merged : IsMergePlanned leaves (declared_by system leaves) plan.merged
+  pub merged : IsMergePlanned leaves declared plan.merged
+
+-- the plan for the accounts that a system declares
+abbrev pub IsAccountsPlanOf : Name → Leaves → AccountsPlan → Type 0
+IsAccountsPlanOf system leaves plan = ArePlanned leaves (declared_by system leaves) plan
 
 -- a plan can be carried out: it is that of these leaves, and nothing is in its way
 pub record CanSetAccounts (system : Name) (plan : AccountsPlan) (w : WorldState) : Type 0 where

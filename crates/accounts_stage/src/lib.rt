@@ -10,9 +10,11 @@ mod planning;
 mod puts;
 mod reading;
 mod setting;
+mod stored;
 
 pub use accounts_plan::AccountsPlan;
 pub use laws::{account_plans_stay, setting_accounts_is_a_part};
 pub use planning::plan_accounts;
 pub use reading::read_tables;
-pub use setting::set_accounts;
+pub use setting::{apply, set_accounts};
+pub use stored::{Stored, read_all};

@@ -1,32 +1,27 @@
 //! Plans what is done to the accounts.
 ghost use Rattle.std.specs.Prelude.{◌≡◌, None, Ok, Some, IfOk, IsErrOf, OnOk, option_and_then, option_map};
-ghost use Rattle.std.specs.Option.{option_or};
-ghost use Rattle.account_text.specs.Group.{IsSoundGroup};
-ghost use Rattle.account_text.specs.Passwd.{IsSoundPasswd};
-ghost use Rattle.account_text.specs.Shadow.{IsSoundShadow};
 ghost use Rattle.host_trait.specs.declared.tree.HostFault.TheVariants.{Device};
 ghost use Rattle.host_trait.specs.Host.{Told};
 ghost use Rattle.host_trait.specs.Reading.{IsReadingOf};
 ghost use Rattle.switch_parts.specs.declared.plan_fault.PlanFault.TheVariants.{Host, Refused};
 ghost use Rattle.switch_parts.specs.declared.refusal.Refusal.{Refusal};
 ghost use Rattle.users_merge.specs.Merge.{fault};
-ghost use Rattle.users_merge.specs.Stored.{stored_of};
 ghost use Rattle.users_spec.specs.Spec.{accounts_of};
-ghost use Rattle.accounts_stage.specs.AccountsPart.{accounts_refusal, maps_refusal, merge_refusal};
-ghost use Rattle.accounts_stage.specs.Answer.{Answers, IsMergedBy, IsMergingOf, merge_fault, merging_refusal, spec_fault, spec_refusal, stored_with};
-ghost use Rattle.accounts_stage.specs.Plan.{IsAccountsPlanOf};
-ghost use Rattle.accounts_stage.specs.Standing.{declared_by, declared_of, remembered_of};
+ghost use Rattle.accounts_stage.specs.All.{HasSoundTables, stored_with};
+ghost use Rattle.accounts_stage.specs.AccountsPart.{accounts_refusal, merge_refusal, refusal_of};
+ghost use Rattle.accounts_stage.specs.Answer.{Answers, IsMergedBy, merge_fault, spec_fault, spec_refusal};
+ghost use Rattle.accounts_stage.specs.Plan.{ArePlanned, IsAccountsPlanOf};
+ghost use Rattle.accounts_stage.specs.Standing.{declared_by};
 
 use crate::accounts_plan::AccountsPlan;
-use crate::memory::{MemoryTexts, declared_of, read_memory, remembered_of};
 use crate::places::spec_path;
 use crate::reading::read_tables;
-use account_text::Tables;
+use crate::stored::{Stored, read_all};
 use host_trait::{HostFault, Tree, content};
 use std::alloc::Global;
 use switch_names::{Bytes, SystemName};
 use switch_parts::{PlanFault, Refusal};
-use users_merge::{Declared, MergeFault, Merged, Remembered, merge};
+use users_merge::{MergeFault, Merged, merge};
 use users_spec::{Spec, SpecFault};
 
 /// What comes of a fault of a specification.
@@ -89,79 +84,60 @@ fn merge_fault(fault: MergeFault) -> PlanFault
 }
 
 /// Merges what is declared with what stands.
-fn merge_stored(
-    alloc: Global,
-    spec: &Spec,
-    tables: &Tables,
-    remembered: &Remembered,
-    declared: &Declared,
-) -> Result<Merged, PlanFault>
-    requires group { IsSoundGroup tables.now.group }
-    requires passwd { IsSoundPasswd tables.now.passwd }
-    requires shadow { IsSoundShadow tables.now.shadow }
-    ensures merged { Answers (option_and_then merge_refusal (fault spec.now (stored_of tables.now remembered.now declared.now)))
-        (IsMergedBy spec.now (stored_of tables.now remembered.now declared.now)) result }
+fn merge_stored(alloc: Global, spec: &Spec, stored: &Stored) -> Result<Merged, PlanFault>
+    requires { HasSoundTables stored.now }
+    ensures merged { Answers (option_and_then merge_refusal (fault spec.now (stored_with stored.now))) (IsMergedBy spec.now (stored_with stored.now)) result }
     ensures cause { IsErrOf result (Host Device) → ⊥ }
 {
-    match merge(alloc, spec, tables, remembered, declared) {
+    match merge(
+        alloc,
+        spec,
+        &stored.tables,
+        &stored.remembered,
+        &stored.declared,
+    ) {
         Ok(merged) => Ok(merged),
         Err(fault) => Err(merge_fault(fault)),
     }
 }
 
-/// Merges what is declared with the tables and what these texts say.
-fn merge_texts(
-    alloc: Global,
-    spec: &Spec,
-    tables: &Tables,
-    texts: &MemoryTexts,
-) -> Result<Merged, PlanFault>
-    requires group { IsSoundGroup tables.now.group }
-    requires passwd { IsSoundPasswd tables.now.passwd }
-    requires shadow { IsSoundShadow tables.now.shadow }
-    ensures merged { Answers (option_or (maps_refusal texts.now) (option_and_then merge_refusal (fault spec.now (stored_of tables.now (remembered_of texts.now) (declared_of texts.now)))))
-        (IsMergedBy spec.now (stored_of tables.now (remembered_of texts.now) (declared_of texts.now))) result }
-    ensures cause { IsErrOf result (Host Device) → ⊥ }
-{
-    let remembered = remembered_of(alloc, texts)?;
-    let declared = declared_of(alloc, texts)?;
-    merge_stored(alloc, spec, tables, &remembered, &declared)
-}
-
-/// Merges what is declared with the tables and what is remembered.
-fn read_merged<T: Tree>(
-    alloc: Global,
-    host: &mut T,
-    spec: &Spec,
-    tables: &Tables,
-) -> Result<Merged, PlanFault>
-    requires group { IsSoundGroup tables.now.group }
-    requires passwd { IsSoundPasswd tables.now.passwd }
-    requires shadow { IsSoundShadow tables.now.shadow }
-    ensures merged { Told (T.host host.old) (λ w. Answers
-        (merging_refusal w.leaves tables.now (Some spec.now)) (IsMergedBy spec.now (stored_with w.leaves tables.now)) result) }
+/// Plans accounts that are declared so: what stands is read and merged with them.
+fn plan_merge<T: Tree>(alloc: Global, host: &mut T, spec: &Spec) -> Result<AccountsPlan, PlanFault>
+    ensures plan { Told (T.host host.old) (λ w. Answers (refusal_of w.leaves (Some (Ok spec.now))) (ArePlanned w.leaves (Some (Ok spec.now))) result) }
     ensures reads { IsReadingOf (T.host host.old) (T.host host.new) (IsErrOf result (Host Device)) }
 {
-    let texts = read_memory(alloc, host)?;
-    merge_texts(alloc, spec, tables, &texts)
+    let stored = read_all(alloc, host)?;
+    let merged = merge_stored(alloc, spec, &stored)?;
+    Ok(AccountsPlan {
+        tables: stored.into_tables(),
+        merged: Some(merged),
+    })
 }
 
-/// Merges what a system declares, where it does.
-fn read_merge<T: Tree>(
+/// Plans accounts where none are declared: the tables stay as they stand.
+fn plan_tables<T: Tree>(alloc: Global, host: &mut T) -> Result<AccountsPlan, PlanFault>
+    ensures plan { Told (T.host host.old) (λ w. Answers (refusal_of w.leaves None) (ArePlanned w.leaves None) result) }
+    ensures reads { IsReadingOf (T.host host.old) (T.host host.new) (IsErrOf result (Host Device)) }
+{
+    let tables = read_tables(alloc, host)?;
+    Ok(AccountsPlan {
+        tables,
+        merged: None,
+    })
+}
+
+/// Plans the accounts that are declared, where any are.
+fn plan_declared<T: Tree>(
     alloc: Global,
     host: &mut T,
     spec: &Option<Spec>,
-    tables: &Tables,
-) -> Result<Option<Merged>, PlanFault>
-    requires group { IsSoundGroup tables.now.group }
-    requires passwd { IsSoundPasswd tables.now.passwd }
-    requires shadow { IsSoundShadow tables.now.shadow }
-    ensures merged { Told (T.host host.old) (λ w. Answers (merging_refusal w.leaves tables.now spec.now) (IsMergingOf w.leaves tables.now spec.now) result) }
+) -> Result<AccountsPlan, PlanFault>
+    ensures plan { Told (T.host host.old) (λ w. Answers (refusal_of w.leaves (option_map Ok spec.now)) (ArePlanned w.leaves (option_map Ok spec.now)) result) }
     ensures reads { IsReadingOf (T.host host.old) (T.host host.new) (IsErrOf result (Host Device)) }
 {
     match spec {
-        Some(spec) => Ok(Some(read_merged(alloc, host, spec, tables)?)),
-        None => Ok(None),
+        Some(spec) => plan_merge(alloc, host, spec),
+        None => plan_tables(alloc, host),
     }
 }
 
@@ -183,7 +159,5 @@ pub fn plan_accounts<T: Tree>(
     ensures reads { IsReadingOf (T.host host.old) (T.host host.new) (IsErrOf result (Host Device)) }
 {
     let spec = read_spec(alloc, host, system)?;
-    let tables = read_tables(alloc, host)?;
-    let merged = read_merge(alloc, host, &spec, &tables)?;
-    Ok(AccountsPlan { tables, merged })
+    plan_declared(alloc, host, &spec)
 }

@@ -1,11 +1,10 @@
-//! The files that a plan for accounts puts.
+//! The files that a merge of accounts puts.
 ghost use Rattle.std.specs.Prelude.{◌≡◌, ◌++◌, IfOk, OnOk};
 ghost use Rattle.tree_put.specs.Sequence.{put_at};
 ghost use Rattle.accounts_stage.specs.Files.{closed_file, ids_puts, names_puts, names_text, open_file, table_puts};
-ghost use Rattle.accounts_stage.specs.Puts.{AreAtAccounts, answer_puts, plan_puts};
+ghost use Rattle.accounts_stage.specs.Puts.{AreAtAccounts, answer_puts};
 ghost use Rattle.id_memory.specs.Json.{ids_text};
 
-use crate::accounts_plan::AccountsPlan;
 use crate::names::write_names;
 use crate::places::{
     gids_path, group_path, groups_path, passwd_path, shadow_path, uids_path, users_path,
@@ -87,8 +86,9 @@ fn add_tables(alloc: Global, puts: &mut Listed<LeafPut>, tables: &Tables) -> Res
 }
 
 /// The nine files of a merge, in the order in which they are put.
-fn answer_puts(alloc: Global, merged: &Merged) -> Result<Listed<LeafPut>, AllocError>
-    ensures { IfOk result (λ puts. puts ≡ answer_puts merged.now) }
+pub fn answer_puts(alloc: Global, merged: &Merged) -> Result<Listed<LeafPut>, AllocError>
+    ensures puts { IfOk result (λ puts. puts ≡ answer_puts merged.now) }
+    ensures places { IfOk result AreAtAccounts }
 {
     let mut puts = Listed::new(alloc);
     add_names(alloc, &mut puts, &merged.union)?;
@@ -96,15 +96,4 @@ fn answer_puts(alloc: Global, merged: &Merged) -> Result<Listed<LeafPut>, AllocE
     add_tables(alloc, &mut puts, &merged.tables)?;
     add_names(alloc, &mut puts, &merged.declared)?;
     Ok(puts)
-}
-
-/// The files that a plan puts, in the order in which it does.
-pub fn plan_puts(alloc: Global, plan: &AccountsPlan) -> Result<Listed<LeafPut>, AllocError>
-    ensures puts { IfOk result (λ puts. puts ≡ plan_puts plan.now) }
-    ensures places { IfOk result AreAtAccounts }
-{
-    match &plan.merged {
-        Some(merged) => answer_puts(alloc, merged),
-        None => Ok(Listed::new(alloc)),
-    }
 }

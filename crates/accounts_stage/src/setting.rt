@@ -1,21 +1,42 @@
 //! Sets the accounts that are planned.
-ghost use Rattle.std.specs.Prelude.{OnOk};
-ghost use Rattle.host_trait.specs.Host.{HasCause, Leads, Passes, Told};
+ghost use Rattle.std.specs.Prelude.{◌≡◌, None, OnOk};
+ghost use Rattle.host_trait.specs.Host.{Comes, HasCause, Leads, Passes, Told};
+ghost use Rattle.tree_put.specs.Sequence.{IsPutting, with_puts};
+ghost use Rattle.tree_put.specs.WrittenPlace.{in_the_way};
+ghost use Rattle.accounts_stage.specs.Places.{account_places};
 ghost use Rattle.accounts_stage.specs.Plan.{AreAccountsSet, CanSetAccounts, IsSettingAccounts};
+ghost use Rattle.accounts_stage.specs.Puts.{answer_puts};
 
 use crate::accounts_plan::AccountsPlan;
-use crate::puts::plan_puts;
+use crate::puts::answer_puts;
 use host_trait::{HostFault, Tree};
 use std::alloc::Global;
 use switch_names::SystemName;
 use tree_put::put_all;
+use users_merge::Merged;
 
-/// Sets the accounts that are planned: the names that were ever declared, the ids, the tables, and
-/// last the names that are declared now.
+/// Puts the nine files of a merge, in this order: the names that were ever declared, the ids, the
+/// tables, and the names that are declared now.
 ///
 /// A leaf that stands already is left alone. All memory but that of host calls is taken before the
 /// first change. At each moment the world is, but for the stage, the one after the first so many of
 /// the nine puts.
+///
+/// Source: nixpkgs, update-users-groups.pl.
+pub fn apply<T: Tree>(alloc: Global, host: &mut T, merged: &Merged) -> Result<(), HostFault>
+    requires { Told (T.host host.old) (λ w. in_the_way account_places w.leaves ≡ None) }
+    ensures ok { OnOk result (Comes (T.host host.old) (T.host host.new) (with_puts (answer_puts merged.now))) }
+    ensures moments { Passes (T.host host.old) (T.host host.new) (IsPutting (answer_puts merged.now)) }
+    ensures cause { HasCause (T.host host.old) (T.host host.new) result }
+{
+    let puts = answer_puts(alloc, merged)?;
+    put_all(alloc, host, puts.as_slice())
+}
+
+/// Sets the accounts that are planned, where the system declares any.
+///
+/// At each moment the world is, but for the stage, the one after the first so many of the puts of
+/// the merge, and a moment is enough to plan the same again.
 ///
 /// Source: nixpkgs, update-users-groups.pl.
 pub fn set_accounts<T: Tree>(
@@ -29,6 +50,8 @@ pub fn set_accounts<T: Tree>(
     ensures moments { Passes (T.host host.old) (T.host host.new) (IsSettingAccounts system.now) }
     ensures cause { HasCause (T.host host.old) (T.host host.new) result }
 {
-    let puts = plan_puts(alloc, plan)?;
-    put_all(alloc, host, puts.as_slice())
+    match &plan.merged {
+        Some(merged) => apply(alloc, host, merged),
+        None => Ok(()),
+    }
 }

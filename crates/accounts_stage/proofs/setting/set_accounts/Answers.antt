@@ -1,35 +1,37 @@
-use Rattle.std.proofs.Common.{List, sym, ap, subst, ◌∙◌}
+use Rattle.std.proofs.Common.{◌≡◌, List, None, ap, sym, subst, ◌∙◌}
 use Rattle.std.proofs.lemmas.Result.{on_ok_weaker}
 use Rattle.host_trait.specs.World.{seen}
 use Rattle.host_trait.proofs.Moments.{leads_as, passes_as, started, told_as}
 use Rattle.tree_put.specs.declared.leaf_put.LeafPut.{LeafPut}
-use Rattle.tree_put.specs.Sequence.{CanPutAll, IsPutting, with_puts}
+use Rattle.tree_put.specs.Sequence.{IsPutting, with_puts}
+use Rattle.tree_put.specs.WrittenPlace.{in_the_way}
 use Rattle.tree_put.proofs.SequenceLemmas.{putting_none}
+use Rattle.accounts_stage.specs.Places.{account_places}
 use Rattle.accounts_stage.specs.Plan.{AreAccountsSet, IsSettingAccounts, puts_of}
-use Rattle.accounts_stage.specs.Puts.{AreAtAccounts}
-use Rattle.accounts_stage.proofs.PuttingLemmas.{accounts_apart, can_of_set, plan_puts_are}
+use Rattle.accounts_stage.proofs.PuttingLemmas.{merge_puts, no_puts}
 use Rattle.accounts_stage.proofs.setting.set_accounts.Goals as goal
 
-pub returns-in_err-puts-clause-moments : goal.returns-in_err-puts-clause-moments
-returns-in_err-puts-clause-moments g c = started (IsSettingAccounts c.args.system.now) (λ w is. putting_none (puts_of c.args.system.now w.leaves) w)
+pub apply-requires : goal.apply-requires
+apply-requires g c = told_as c.requires (λ w. in_the_way account_places w.leaves ≡ None) (λ w is can. can.free.way)
 
-pub put_all-requires-clause-can : goal.put_all-requires-clause-can
-put_all-requires-clause-can g c =
-    told_as c.requires (CanPutAll c.as_slice.result.now)
-    (λ w is can. can_of_set c.args.system.now c.args.plan.now w c.as_slice.result.now (subst AreAtAccounts (sym c.as_slice.ensures) c.in_ok-puts.ensures.places) can)
+pub returns-in-Some-clause-ok : goal.returns-in-Some-clause-ok
+returns-in-Some-clause-ok g c =
+    let system = c.args.system.now in
+    on_ok_weaker c.apply.result
+    (λ led. leads_as led (AreAccountsSet system)
+    (λ w v is now. now ∙ ap (λ (ps : List LeafPut). seen (with_puts ps w)) (merge_puts system w.leaves c.args.plan.now (c.requires.has w is).planned c.in-Some.merged c.in-Some.is)))
+    c.apply.ensures.ok
 
-pub put_all-requires-clause-apart : goal.put_all-requires-clause-apart
-put_all-requires-clause-apart g c = accounts_apart c.as_slice.result.now (subst AreAtAccounts (sym c.as_slice.ensures) c.in_ok-puts.ensures.places)
+pub returns-in-Some-clause-moments : goal.returns-in-Some-clause-moments
+returns-in-Some-clause-moments g c =
+    let system = c.args.system.now in
+    passes_as c.apply.ensures.moments (IsSettingAccounts system)
+    (λ w m is moment. subst (λ (ps : List LeafPut). IsPutting ps w m) (merge_puts system w.leaves c.args.plan.now (c.requires.has w is).planned c.in-Some.merged c.in-Some.is) moment)
 
-pub returns-clause-ok : goal.returns-clause-ok
-returns-clause-ok g c =
-    let system = c.args.system.now in let plan = c.args.plan.now in let puts = c.as_slice.ensures ∙ c.in_ok-puts.ensures.puts in
-    on_ok_weaker c.put_all.result
-    (λ led. leads_as led (AreAccountsSet system) (λ w v is now. now ∙ ap (λ (ps : List LeafPut). seen (with_puts ps w)) (puts ∙ plan_puts_are system w.leaves plan (c.requires.has w is).planned)))
-    c.put_all.ensures.ok
+pub returns-in-None-clause-ok : goal.returns-in-None-clause-ok
+returns-in-None-clause-ok g c = record {
+  to = λ w is. (w, is, ap (λ (ps : List LeafPut). seen (with_puts ps w)) (sym (no_puts c.args.system.now w.leaves c.args.plan.now (c.requires.has w is).planned c.in-None.is)));
+}
 
-pub returns-clause-moments : goal.returns-clause-moments
-returns-clause-moments g c =
-    let system = c.args.system.now in let plan = c.args.plan.now in let puts = c.as_slice.ensures ∙ c.in_ok-puts.ensures.puts in
-    passes_as c.put_all.ensures.moments (IsSettingAccounts system)
-    (λ w m is moment. subst (λ (ps : List LeafPut). IsPutting ps w m) (puts ∙ plan_puts_are system w.leaves plan (c.requires.has w is).planned) moment)
+pub returns-in-None-clause-moments : goal.returns-in-None-clause-moments
+returns-in-None-clause-moments g c = started (IsSettingAccounts c.args.system.now) (λ w is. putting_none (puts_of c.args.system.now w.leaves) w)
