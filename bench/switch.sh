@@ -13,6 +13,7 @@
 #   switched      those of the switch to it, which puts each entry and account and starts each unit
 #   planned       milliseconds of the quickest of three dry runs of the second system, of which a tenth is another
 #   milliseconds  those of the switch to it, without strace
+#   share         what the planning takes of the time that the acts take: planned / (milliseconds - planned)
 #   peak KiB      the most memory that a switch had at once
 #   calls         all system calls of a switch
 #   opens         the most calls that open one unit file
@@ -21,6 +22,10 @@
 # and then the growth. It ends with 1 where a run fails, where the report doesn't have as many lines of each kind as it
 # should, where the units, the entries or the users that are left aren't the ones expected, where a list or the stage is
 # left, or where a unit file is opened more than once. It is no part of the gate.
+#
+# The roots are made on a disk, as a machine's is, since in memory the acts wait for nothing: in TMPDIR, and without one in
+# /var/tmp. The largest takes some four minutes.
+export TMPDIR="${TMPDIR:-/var/tmp}"
 . "$(dirname "$0")/common.sh"
 find_program "$@"
 [ $# -eq 0 ] || shift
@@ -88,14 +93,14 @@ END { print calls + 0, opens + 0, puts + 0 }
 AWK
 
 find_tools
-form='%6s %8s %6s %9s %10s %10s %13s %9s %9s %6s %7s %6s\n'
+form='%6s %8s %6s %9s %10s %10s %13s %6s %9s %9s %6s %7s %6s\n'
 
-# milliseconds MICROS: prints them.
-milliseconds() {
+# thousandths NUMBER: prints so many of them, as a number with three places.
+thousandths() {
     printf '%d.%03d' $(($1 / 1000)) $(($1 % 1000))
 }
 # shellcheck disable=SC2059
-printf "$form" units entries users first switched planned milliseconds 'peak KiB' calls opens puts acts
+printf "$form" units entries users first switched planned milliseconds share 'peak KiB' calls opens puts acts
 for size in "$@"; do
     IFS=, read -r units entries users <<<"$size"
     make_root "$units" "$entries" "$users"
@@ -123,8 +128,9 @@ for size in "$@"; do
         [ "$opens" = 1 ] || wrong "a unit file was opened $opens times"
     fi
     # shellcheck disable=SC2059
-    printf "$form" "$units" "$entries" "$users" "$(milliseconds "$first_planned")" "$(milliseconds "$first")" \
-        "$(milliseconds "$planned")" "$(milliseconds "$micros")" "$peak" "$calls" "$opens" "$puts" "$acts"
+    printf "$form" "$units" "$entries" "$users" "$(thousandths "$first_planned")" "$(thousandths "$first")" \
+        "$(thousandths "$planned")" "$(thousandths "$micros")" "$(thousandths $((1000 * planned / (micros - planned))))" \
+        "$peak" "$calls" "$opens" "$puts" "$acts"
     grow $((units + entries + users)) "$micros" 'units, entries and users'
 done
 printf '%s' "$grown"
