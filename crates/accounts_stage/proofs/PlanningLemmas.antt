@@ -3,6 +3,7 @@ use Rattle.std.proofs.Common.{◌≡◌, Option, None, Some, Result, Ok, Err, op
 use Rattle.std.proofs.lemmas.Option.{none-some}
 use Rattle.std.specs.Option.{option_or}
 use Rattle.host_trait.specs.World.{Leaves}
+use Rattle.switch_names.proofs.Outcomes.{option_or_assoc}
 use Rattle.switch_parts.specs.declared.plan_fault.PlanFault.{PlanFault}
 use Rattle.switch_parts.specs.declared.refusal.Refusal.{Refusal}
 use Rattle.users_merge.specs.declared.merged.Merged as answered
@@ -16,14 +17,6 @@ use Rattle.accounts_stage.specs.AccountsPart.{maps_refusal, merge_refusal, refus
 use Rattle.accounts_stage.specs.Answer.{Answers, IsMergedBy, spec_refusal}
 use Rattle.accounts_stage.specs.Plan.{ArePlanned}
 use Rattle.accounts_stage.specs.Standing.{memory_in, stored_in}
-
-or_assoc : (a b d : Option Refusal) → option_or a (option_or b d) ≡ option_or (option_or a b) d
-or_assoc None b d = refl
-or_assoc (Some why) b d = refl
-
--- of two that are sought one after the other neither is refused
-pub both_fine : (a b : Option Refusal) → a ≡ None → b ≡ None → option_or a b ≡ None
-both_fine a b first second = ap (λ o. option_or o b) first ∙ second
 
 module _ (leaves : Leaves) where
   -- a specification that is refused is what is refused
@@ -42,7 +35,7 @@ module _ (leaves : Leaves) where
 
     -- what stands comes first
     stored_or_rest : refusal_of leaves (Some (Ok spec)) ≡ option_or (stored_refusal leaves) rest
-    stored_or_rest = or_assoc (table_refusal leaves) (maps_refusal (memory_in leaves)) rest
+    stored_or_rest = sym (option_or_assoc (table_refusal leaves) (maps_refusal (memory_in leaves)) rest)
 
     pub stored_first : (why : Refusal) → stored_refusal leaves ≡ Some why → refusal_of leaves (Some (Ok spec)) ≡ Some why
     stored_first why is = stored_or_rest ∙ ap (λ o. option_or o rest) is
