@@ -1,5 +1,5 @@
 -- What a call leaves that was admitted, where no cut fell on it.
-use Rattle.std.proofs.Common.{◌≡◌, ◌≤◌, ◌↔◌, ℕ, true, false, cond, List, length, Option, None, Some, Result, Ok, Err, IsErrOf, IsErrAnd, IfOk, IsTrue, refl, sym, ap, subst, ◌∙◌, inl, arith}
+use Rattle.std.proofs.Common.{◌≡◌, ◌≤◌, ◌↔◌, ◌&&◌, ℕ, true, false, cond, List, length, Option, None, Some, Result, Ok, Err, IsErrOf, IsErrAnd, IfOk, IsTrue, is_none, refl, sym, ap, subst, ◌∙◌, inl, arith}
 use Rattle.std.proofs.lemmas.Bool.{both_ways}
 use Rattle.std.specs.Option.{ForSome}
 use Rattle.host_memory.proofs.Hosts.{host_at, becomes, refused_cause, stands}
@@ -8,7 +8,7 @@ use Rattle.host_memory.specs.declared.history.DoneCall.{DoneCall}
 use Rattle.host_memory.specs.declared.history.History.{History}
 use Rattle.host_memory.specs.declared.memory_host.MemoryHost.{MemoryHost}
 use Rattle.host_memory.specs.MemoryHost.{Does, Keeps, Refused, after_read, clock_of, cut_or_admitted, is_refusing, verdict}
-use Rattle.host_memory.specs.Troubles.{IsWithin, TroublesState, admitted, due, is_refused, is_sure, last_moment, refused}
+use Rattle.host_memory.specs.Troubles.{IsWithin, TroublesState, admitted, changed, due, is_empty, is_refused, last_moment, refused}
 use Rattle.host_trait.specs.Change.{Change}
 use Rattle.host_trait.specs.declared.tree.HostFault.{HostFault}
 use Rattle.host_trait.specs.declared.tree.HostFault.TheVariants.{Memory, Device}
@@ -34,26 +34,37 @@ no_answer (Err fault) P is = tt
 
 caused :
     {T : Type 0} (old new : History) (now then : TroublesState) (result : Result T HostFault) →
-    then ≡ admitted now → (IsErrOf result Device → ⊥) → HasCause (host_at old now) (host_at new then) result
-caused old new now then result first never =
-    let counts = ap (λ (t : TroublesState). t.faults) first in
-    record {
-      later = omega arith;
-      rose = λ device. absurd (never device);
-      stays_sure = λ sure. subst (λ (t : TroublesState). IsTrue (is_sure t)) (sym first) sure;
-      never_sure = λ sure device. never device;
-      same_last = ap (λ (t : TroublesState). last_moment t.cut) first;
-    }
+    then.faults ≡ now.faults → then.cut ≡ now.cut → then.failing ≡ now.failing → (IsErrOf result Device → ⊥) → HasCause (host_at old now) (host_at new then) result
+caused old new now then result counts cut failing never = record {
+  later = omega arith;
+  rose = λ device. absurd (never device);
+  stays_sure = λ sure. subst (λ b. IsTrue b) (sym (λ i. is_none (cut i) && is_empty (failing i))) sure;
+  never_sure = λ sure device. never device;
+  same_last = ap last_moment cut;
+}
 
--- a call that finished has its cause
-pub done_cause : {T : Type 0} (old new : History) (now then : TroublesState) (x : T) → then ≡ admitted now → HasCause (host_at old now) (host_at new then) (Ok x)
-done_cause old new now then x first = caused old new now then (Ok x) first (ok_no_device x)
+counted_cause :
+    {T : Type 0} (old new : History) (now then : TroublesState) (result : Result T HostFault) →
+    then ≡ admitted now → (IsErrOf result Device → ⊥) → HasCause (host_at old now) (host_at new then) result
+counted_cause old new now then result first never =
+    caused old new now then result (ap (λ (t : TroublesState). t.faults) first) (ap (λ (t : TroublesState). t.cut) first) (ap (λ (t : TroublesState). t.failing) first) never
+
+-- a call that reads and finished has its cause
+done_cause : {T : Type 0} (old new : History) (now then : TroublesState) (x : T) → then ≡ admitted now → HasCause (host_at old now) (host_at new then) (Ok x)
+done_cause old new now then x first = counted_cause old new now then (Ok x) first (ok_no_device x)
+
+-- and so has one that changes and finished
+pub changed_cause :
+    {T : Type 0} (old new : History) (now counts then : TroublesState) (x : T) → counts ≡ admitted now → then ≡ changed counts → HasCause (host_at old now) (host_at new then) (Ok x)
+changed_cause old new now counts then x first last =
+    let after = last ∙ ap changed first in
+    caused old new now then (Ok x) (ap (λ (t : TroublesState). t.faults) after) (ap (λ (t : TroublesState). t.cut) after) (ap (λ (t : TroublesState). t.failing) after) (ok_no_device x)
 
 -- and so has one that wanted memory
 pub starved_cause :
     {T : Type 0} (old new : History) (now then : TroublesState) (result : Result T HostFault) →
     then ≡ admitted now → Starves result → HasCause (host_at old now) (host_at new then) result
-starved_cause old new now then result first is = caused old new now then result first (no_device result is)
+starved_cause old new now then result first is = counted_cause old new now then result first (no_device result is)
 
 -- a call that reads and finishes, wants memory or is refused
 pub done_reads : {T : Type 0} (history : History) (now then : TroublesState) (x : T) → then ≡ admitted now → IsReading (host_at history now) (host_at history then) (Ok x)

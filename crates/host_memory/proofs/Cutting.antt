@@ -1,5 +1,5 @@
 -- What a cut in a call leaves is a moment of the call.
-use Rattle.std.proofs.Common.{◌≡◌, ◌==◌, ℕ, if◌then◌else◌, Result, Ok, Err, OnOk, refl, sym, ap, ◌∙◌, inl, inr, ⊎_elim, arith, rules}
+use Rattle.std.proofs.Common.{◌≡◌, [], ◌==◌, ℕ, if◌then◌else◌, Result, Ok, Err, OnOk, refl, sym, ap, ◌∙◌, inl, inr, ⊎_elim, arith, rules}
 use Rattle.std.specs.FinMap.{insert, remove, gets}
 use Rattle.host_memory.proofs.Histories.{unchanged}
 use Rattle.host_memory.specs.declared.history.History.{History}
@@ -41,7 +41,7 @@ any_leaf written leaf w m moment =
     ⊎_elim
     (λ before. inl before)
     (λ rest. inr (inr (⊎_elim
-    (λ after. ap (λ (x : WorldState). seen x) after ∙ ap (λ (n : Leaves). record w { leaves = n }) (unseen w.leaves written))
+    (λ after. ap (λ (x : WorldState). seen x) after ∙ ap (λ (n : Leaves). record w { leaves = n; written = [] }) (unseen w.leaves written))
     (λ middle. middle)
     rest)))
     moment

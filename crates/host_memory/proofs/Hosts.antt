@@ -11,7 +11,7 @@ use Rattle.host_memory.specs.Cuts.{left_by}
 use Rattle.host_memory.specs.declared.memory_host.MemoryHost.{MemoryHost}
 use Rattle.host_memory.specs.History.{state_of, Makes}
 use Rattle.host_memory.specs.MemoryHost.{Admitted, Cut, Does, Refused, clock_of, cut_or_admitted, verdict}
-use Rattle.host_memory.specs.Troubles.{IsWithin, TroublesState, admitted, due, fallen, has_fallen, is_empty, is_refused, is_sure, last_moment, refused}
+use Rattle.host_memory.specs.Troubles.{IsWithin, TroublesState, admitted, changed, due, fallen, has_fallen, is_empty, is_refused, is_sure, last_moment, refused}
 use Rattle.host_trait.specs.Change.{Change, IsMoment, IsSame, finished}
 use Rattle.host_trait.specs.declared.tree.HostFault.{HostFault}
 use Rattle.host_trait.specs.declared.tree.HostFault.TheVariants.{Device}
@@ -76,7 +76,7 @@ refused_cause history now then result is_refused after later =
 -- and so has one that is cut
 pub cut_cause :
     {T : Type 0} (old new : History) (now counted then : TroublesState) (cut : ArmedCut) (clock : ℕ) (result : Result T HostFault) →
-    counted ≡ admitted now → due counted.cut clock ≡ Some cut → then ≡ record (refused counted) { next = counted.next; cut = Some (fallen cut) } →
+    counted ≡ admitted now → due counted.cut clock ≡ Some cut → then ≡ record (refused counted) { next = counted.next; calls = counted.calls; cut = Some (fallen cut) } →
     counted.faults ≤ then.faults → HasCause (host_at old now) (host_at new then) result
 cut_cause old new now counted then cut clock result first falls after later =
     let before = ap (λ (t : TroublesState). t.faults) first in
@@ -105,7 +105,7 @@ due_at (Some cut) clock one is =
 pub within_fallen :
     (now counts then : TroublesState) (cut : ArmedCut) (clock was later : ℕ) →
     ForSome now.cut (λ one. IsWithin one was) → clock ≡ was → counts ≡ admitted now → due counts.cut clock ≡ Some cut →
-    then ≡ record (refused counts) { next = counts.next; cut = Some (fallen cut) } → was ≤ later → later ≤ was + 1 →
+    then ≡ record (refused counts) { next = counts.next; calls = counts.calls; cut = Some (fallen cut) } → was ≤ later → later ≤ was + 1 →
     ForSome then.cut (λ one. IsWithin one later)
 within_fallen now counts then cut clock was later within time first falls after more most =
     let armed : now.cut ≡ Some cut = sym (ap (λ (t : TroublesState). t.cut) first) ∙ due_is counts.cut clock cut falls in
@@ -163,10 +163,10 @@ within_admitted now counts clock was later within time calm first none (more, le
 pub admitted_does :
     (old new : MemoryHost) (change : Change) (counts : TroublesState) (clock : ℕ) →
     false ≡ is_refused old.troubles → counts ≡ admitted old.troubles → due counts.cut clock ≡ None → clock ≡ clock_of old →
-    new.history.world ≡ finished change old.history.world → clock_of new ≡ clock_of old + 1 → new.troubles ≡ counts →
+    new.history.world ≡ finished change old.history.world → clock_of new ≡ clock_of old + 1 → new.troubles ≡ changed counts →
     Does change (verdict old) old new (Ok tt)
 admitted_does old new change counts clock calm first none time world grown after =
     let is : verdict old ≡ Admitted =
     ap (λ b. cond b Refused (cut_or_admitted (due old.troubles.cut (clock_of old)))) (sym calm)
     ∙ ap cut_or_admitted ((λ i. due (sym first i).cut (sym time i)) ∙ none) in
-    subst (λ v. Does change v old new (Ok tt)) (sym is) (inr (refl, record { world = world; clock = grown; troubles = after ∙ first }))
+    subst (λ v. Does change v old new (Ok tt)) (sym is) (inr (refl, record { world = world; clock = grown; troubles = after ∙ ap changed first }))

@@ -32,7 +32,7 @@ unit_back states unit state are = alike _ _ (λ q.
       | inr other ↦ ap (λ b. cond b (listed (state_of states unit)) (cond b (listed state) (get states q))) other
     ])
 
-shorter : {X : Type 0} (items : List X) (x : X) → without_last (items ++ x ∷ []) ≡ items
+pub shorter : {X : Type 0} (items : List X) (x : X) → without_last (items ++ x ∷ []) ≡ items
 shorter items x =
     let long = length-append items (x ∷ []) in
     let size : length (items ++ x ∷ []) - 1 ≡ length items = omega arith in

@@ -1,11 +1,12 @@
 -- A world with the record of the calls that changed it, from which its earlier worlds follow.
 use Rattle.std.specs.Prelude.{◌≡◌, ◌≤◌, ◌+◌, ◌-◌, ℕ, Bool, List, [], ◌∷◌, length, drop, take, Option, None, Some}
-use Rattle.std.specs.FinMap.{insert, remove}
+use Rattle.std.specs.FinMap.{get, insert, remove}
 use Rattle.host_memory.specs.declared.history.DoneCall.{DoneCall}
-use Rattle.host_memory.specs.declared.history.DoneCall.TheVariants.{Staged, Renamed, Removed, Performed, Halted, Loaded}
+use Rattle.host_memory.specs.declared.history.DoneCall.TheVariants.{Staged, Renamed, Removed, Appended, Replaced, Performed, Halted, Loaded}
 use Rattle.host_memory.specs.declared.history.History.{History}
 use Rattle.host_trait.specs.Change.{Change, IsMoment}
 use Rattle.host_trait.specs.declared.leaf.LeafKind.{LeafKind}
+use Rattle.host_trait.specs.declared.leaf.LeafKind.TheVariants.{File, Link}
 use Rattle.host_trait.specs.Host.{HostState, Passes}
 use Rattle.host_trait.specs.declared.manager_state.ManagerState.{ManagerState}
 use Rattle.host_trait.specs.declared.unit_state.State.{State}
@@ -26,11 +27,22 @@ with_unit unit state manager = record manager { states = with_state unit state m
 abbrev pub without_last : {X : Type 0} → List X → List X
 without_last items = take (length items - 1) items
 
+-- a file cut to its first bytes
+abbrev pub shortened : ℕ → LeafKind → LeafKind
+shortened count (File bytes mode uid gid) = File (take count bytes) mode uid gid
+shortened count (Link target) = Link target
+
+abbrev pub with_shortened : Leaves → List ℕ → ℕ → Option LeafKind → Leaves
+with_shortened leaves at count None = leaves
+with_shortened leaves at count (Some leaf) = insert leaves at (shortened count leaf)
+
 -- the world before a call, from the world after it
 abbrev pub undone : DoneCall → WorldState → WorldState
 undone (Staged was) w = record w { leaves = with_at w.leaves stage was }
-undone (Renamed to was) w = record w { leaves = with_at (moved w.leaves to stage) to was }
-undone (Removed at was) w = record w { leaves = with_at w.leaves at was }
+undone (Renamed to was) w = record w { leaves = with_at (moved w.leaves to stage) to was; written = without_last w.written }
+undone (Removed at was) w = record w { leaves = with_at w.leaves at was; written = without_last w.written }
+undone (Appended at count) w = record w { leaves = with_shortened w.leaves at count (get w.leaves at); written = without_last w.written }
+undone (Replaced at was) w = record w { leaves = with_at w.leaves at was }
 undone (Performed unit was) w = with_manager (record (with_unit unit was w.manager) { journal = without_last w.manager.journal }) w
 undone (Halted unit was) w = with_manager (with_unit unit was w.manager) w
 undone (Loaded was) w = with_manager (loading was w.manager) w

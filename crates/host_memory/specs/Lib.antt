@@ -1,8 +1,10 @@
 pub mod ChangingCall
 pub mod Cuts
 pub mod Failures
+pub mod Files
 pub mod History
 pub mod Laws
 pub mod MemoryHost
 pub mod MemorySink
+pub mod Reboots
 pub mod Troubles

@@ -4,7 +4,7 @@ use Rattle.host_memory.specs.Cuts.{left_by}
 use Rattle.host_memory.specs.declared.cuts.ArmedCut.{ArmedCut}
 use Rattle.host_memory.specs.declared.memory_host.MemoryHost.{MemoryHost}
 use Rattle.host_memory.specs.History.{state_of}
-use Rattle.host_memory.specs.Troubles.{TroublesState, admitted, due, fallen, is_refused, is_sure, last_moment, refused}
+use Rattle.host_memory.specs.Troubles.{TroublesState, admitted, changed, due, fallen, is_refused, is_sure, last_moment, refused}
 use Rattle.host_trait.specs.Change.{Change, finished}
 use Rattle.host_trait.specs.declared.tree.HostFault.{HostFault}
 use Rattle.host_trait.specs.declared.tree.HostFault.TheVariants.{Memory, Device}
@@ -55,7 +55,7 @@ pub record Keeps (old new : MemoryHost) (to_come : TroublesState) : Type 0 where
 pub record Finishes (change : Change) (old new : MemoryHost) : Type 0 where
   pub world : new.history.world ≡ finished change old.history.world
   pub clock : clock_of new ≡ clock_of old + 1
-  pub troubles : new.troubles ≡ admitted old.troubles
+  pub troubles : new.troubles ≡ changed (admitted old.troubles)
 
 -- a cut fell on a call: it left what its pick gives
 pub record Falls (change : Change) (cut : ArmedCut) (old new : MemoryHost) : Type 0 where

@@ -1,4 +1,4 @@
--- What is to go wrong on a host: a cut that is armed, and the calls that are listed.
+-- What is to go wrong on a host: a cut that is armed, and the calls that are listed. And how many calls it has had.
 use Rattle.std.specs.Prelude.{◌≡◌, ◌≤◌, ℕ, ◌+◌, ◌==◌, ◌&&◌, ◌||◌, Bool, true, false, List, [], Option, None, Some, is_none, if◌then◌else◌}
 use Rattle.host_memory.specs.declared.cuts.ArmedCut.{ArmedCut}
 use Rattle.host_memory.specs.Failures.{counted, is_listed}
@@ -12,6 +12,10 @@ pub record TroublesState : Type 0 where
   pub next : ℕ
   -- how many calls have failed
   pub faults : ℕ
+  -- how many calls there have been
+  pub calls : ℕ
+  -- how many changing calls have finished
+  pub changes : ℕ
 
 -- a cut once it has fallen
 abbrev pub fallen : ArmedCut → ArmedCut
@@ -51,11 +55,15 @@ due (Some cut) clock = if cut.from + cut.after == clock then Some cut else None
 
 -- after a call that wasn't refused
 abbrev pub admitted : TroublesState → TroublesState
-admitted troubles = record troubles { next = counted troubles.next }
+admitted troubles = record troubles { next = counted troubles.next; calls = counted troubles.calls }
 
 -- after a call that was refused
 abbrev pub refused : TroublesState → TroublesState
-refused troubles = record troubles { next = counted troubles.next; faults = counted troubles.faults }
+refused troubles = record troubles { next = counted troubles.next; faults = counted troubles.faults; calls = counted troubles.calls }
+
+-- after a changing call that finished
+abbrev pub changed : TroublesState → TroublesState
+changed troubles = record troubles { changes = counted troubles.changes }
 
 -- the clock is where this cut lets it be: past the last call before it only once it has fallen
 pub record IsWithin (cut : ArmedCut) (clock : ℕ) : Type 0 where

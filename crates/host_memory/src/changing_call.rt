@@ -11,6 +11,8 @@ pub(crate) enum ChangingCall<'a> {
     Rename(&'a Path),
     /// Remove the leaf at this path.
     Remove(&'a Path),
+    /// Append these bytes to the file at this path.
+    Append(&'a Path, &'a [u8]),
     /// Do this to this unit.
     Perform(Act, &'a UnitName),
     /// Load the definitions to which the link at their place leads.

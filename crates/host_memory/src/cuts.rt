@@ -3,15 +3,15 @@ ghost use Rattle.std.specs.Prelude.{◌≡◌, ◌≤◌, ◌+◌, ◌%◌, ◌=
 ghost use Rattle.host_memory.specs.ChangingCall.{CanHappen, change_of};
 ghost use Rattle.host_memory.specs.Cuts.{left_by};
 ghost use Rattle.host_memory.specs.History.{Cuts};
-ghost use Rattle.host_trait.specs.Change.{finished, Stage, Perform};
+ghost use Rattle.host_trait.specs.Change.{finished, Stage, Append, Perform};
 ghost use Rattle.host_trait.specs.declared.entry.Act.TheVariants.{Restart};
-ghost use Rattle.host_trait.specs.World.{IsClear, stage};
+ghost use Rattle.host_trait.specs.World.{IsClear, IsFileAt, stage};
 
 use crate::changing_call::ChangingCall;
 use crate::history::History;
 use host_trait::{Act, Leaf};
 use std::alloc::{AllocError, Global};
-use switch_names::{Bytes, UnitName};
+use switch_names::{Bytes, Path, UnitName};
 
 /// A cut that is armed, or that has fallen.
 #[derive(Clone, Copy)]
@@ -69,6 +69,25 @@ fn cut_restart(
     }
 }
 
+/// Leaves what a cut leaves of a call that appends bytes: the first of them.
+fn cut_append(
+    history: &mut History,
+    alloc: Global,
+    at: &Path,
+    bytes: &[u8],
+    pick: u64,
+) -> Result<(), AllocError>
+    requires { IsFileAt history.old.world.leaves at.now }
+    ensures ok { OnOk result (Cuts (Append at.now bytes.now) (left_by (Append at.now bytes.now) pick history.old.world) history.old history.new) }
+    ensures err { OnErr result ((history.new.world ≡ history.old.world) × (history.new.calls.items ≡ history.old.calls.items)) }
+{
+    let count = (pick % (bytes.len() as u64 + 1)) as usize;
+    if count == bytes.len() {
+        return history.append(alloc, at, bytes);
+    }
+    history.append_part(alloc, at, &bytes[..count])
+}
+
 /// Leaves what a cut leaves of a call that has no moment in its middle.
 fn cut_at_once(
     history: &mut History,
@@ -99,6 +118,7 @@ pub(crate) fn cut_call(
 {
     match call {
         ChangingCall::Stage(leaf) => cut_stage(history, alloc, leaf, pick),
+        ChangingCall::Append(at, bytes) => cut_append(history, alloc, at, bytes, pick),
         ChangingCall::Perform(Act::Restart, unit) => cut_restart(history, alloc, unit, pick),
         _ => cut_at_once(history, alloc, call, pick),
     }

@@ -4,11 +4,15 @@ ghost use Rattle.host_trait.specs.States.{AreStates, state_of};
 ghost use Rattle.host_trait.specs.World.{IsSound};
 ghost use Rattle.std.proofs.Props.{props};
 ghost use Rattle.host_trait.specs.Plain.{bad_is_plain_once, entry_is_plain_once};
-ghost use Rattle.std.specs.Prelude.{◌≡◌};
+ghost use Rattle.std.specs.FinMap.{get, insert};
+ghost use Rattle.host_trait.specs.World.{IsFileAt, with_more};
+ghost use Rattle.host_memory.specs.Files.{file_length};
+ghost use Rattle.std.specs.Prelude.{◌≡◌, Some, IfOk};
 
 use crate::calls::{call_of, halt_of, load_of, step_world};
 use crate::changing_call::ChangingCall;
-use host_trait::{Act, Leaf, State, World, WorldFault, stage_path};
+use crate::rebooting::reboot_world;
+use host_trait::{Act, Leaf, LeafKind, State, World, WorldFault, stage_path};
 use manager_core::Call;
 use std::alloc::{AllocError, Global};
 use switch_names::{Path, Text, UnitName};
@@ -21,6 +25,10 @@ pub(crate) enum DoneCall {
     Renamed(Path, Option<Leaf>),
     /// The leaf at this path was removed.
     Removed(Path, Option<Leaf>),
+    /// Bytes were appended to the file at this path, which had so many.
+    Appended(Path, usize),
+    /// The leaf at this path was replaced.
+    Replaced(Path, Option<Leaf>),
     /// Something was done to this unit, which had been in this state.
     Performed(UnitName, State),
     /// This unit was stopped half way through a restart.
@@ -36,6 +44,8 @@ impl Drop for DoneCall {
             DoneCall::Staged(_) => {}
             DoneCall::Renamed(_, _) => {}
             DoneCall::Removed(_, _) => {}
+            DoneCall::Appended(_, _) => {}
+            DoneCall::Replaced(_, _) => {}
             DoneCall::Performed(_, _) => {}
             DoneCall::Halted(_, _) => {}
             DoneCall::Loaded(_) => {}
@@ -60,14 +70,15 @@ impl Drop for History {
 }
 
 impl History {
-    ghost use Rattle.std.specs.Prelude.{◌≡◌, ◌≢◌, ◌++◌, ◌∷◌, [], length, IsSome, OnOk, OnErr};
+    ghost use Rattle.std.specs.Prelude.{◌≡◌, ◌≢◌, ◌++◌, ◌∷◌, ℕ, List, take, [], length, IsSome, OnOk, OnErr};
     ghost use Rattle.std.specs.FinMap.{get};
     ghost use Rattle.host_memory.specs.ChangingCall.{CanHappen, change_of};
-    ghost use Rattle.host_memory.specs.History.{Makes};
-    ghost use Rattle.host_trait.specs.Change.{finished, Stage, Rename, Remove, Perform, DaemonReload};
+    ghost use Rattle.host_memory.specs.History.{Cuts, Makes};
+    ghost use Rattle.host_memory.specs.Reboots.{IsRebooted};
+    ghost use Rattle.host_trait.specs.Change.{finished, Stage, Rename, Remove, Append, Perform, DaemonReload};
     ghost use Rattle.host_trait.specs.declared.entry.Act.TheVariants.{Restart};
     ghost use Rattle.host_trait.specs.Manager.{halted};
-    ghost use Rattle.host_trait.specs.World.{IsClear, stage, with_manager};
+    ghost use Rattle.host_trait.specs.World.{IsClear, IsFileAt, stage, with_manager, with_more};
     ghost use Rattle.manager_core.specs.Call.{IsPlainCall, done};
 
     /// A world that no call has changed.
@@ -93,6 +104,29 @@ impl History {
         &self.world
     }
 
+    /// Reboots the world, and begins the record anew.
+    pub(crate) fn reboot(&mut self, alloc: Global, pick: u64) -> Result<(), AllocError>
+        ensures world { OnOk result (IsRebooted pick self.old.world self.new.world) }
+        ensures calls { OnOk result (self.new.calls.items ≡ []) }
+        ensures err { OnErr result ((self.new.world ≡ self.old.world) × (self.new.calls.items ≡ self.old.calls.items)) }
+    {
+        reboot_world(&mut self.world, alloc, pick)?;
+        // These are asked for what they say of the world, as when a record begins.
+        let _count = self.world.leaf_count();
+        let _loaded = self.world.loaded();
+        let _states = self.world.states();
+        self.calls.clear();
+        Ok(())
+    }
+
+    /// The present world, without the record.
+    pub(crate) fn into_world(self) -> World
+        ensures { result ≡ self.world }
+    {
+        let History { world, calls: _ } = self;
+        world
+    }
+
     /// How many calls have changed the world.
     pub(crate) fn clock(&self) -> usize
         ensures { result ≡ length self.now.calls.items }
@@ -109,7 +143,7 @@ impl History {
         self.calls.reserve(1)?;
         let at = stage_path(alloc)?;
         let copy = leaf.copy(alloc)?;
-        match self.world.set_leaf(at, copy) {
+        match self.world.set_leaf(alloc, at, copy) {
             Ok(was) => {
                 self.calls.push_reserved(DoneCall::Staged(was));
                 Ok(())
@@ -142,9 +176,48 @@ impl History {
     {
         self.calls.reserve(1)?;
         let place = at.copy(alloc)?;
-        let was = self.world.take_leaf(at);
+        let was = self.world.take_leaf(alloc, at)?;
         self.calls.push_reserved(DoneCall::Removed(place, was));
         Ok(())
+    }
+
+    /// Appends bytes to the file at a path.
+    pub fn append(&mut self, alloc: Global, at: &Path, bytes: &[u8]) -> Result<(), AllocError>
+        requires { IsFileAt self.old.world.leaves at.now }
+        ensures ok { OnOk result (Makes (Append at.now bytes.now) (finished (Append at.now bytes.now) self.old.world) self.old self.new) }
+        ensures err { OnErr result ((self.new.world ≡ self.old.world) × (self.new.calls.items ≡ self.old.calls.items)) }
+    {
+        self.calls.reserve(1)?;
+        let place = at.copy(alloc)?;
+        let count = file_len(&self.world, at);
+        self.world.extend_leaf(alloc, at, bytes)?;
+        self.calls.push_reserved(DoneCall::Appended(place, count));
+        Ok(())
+    }
+
+    /// Appends the first of some bytes to the file at a path, as a cut leaves it: the path doesn't count as written.
+    pub(crate) fn append_part(
+        &mut self,
+        alloc: Global,
+        at: &Path,
+        part: &[u8],
+    ) -> Result<(), AllocError>
+        requires { IsFileAt self.old.world.leaves at.now }
+        ensures ok { OnOk result ((whole : List ℕ) (count : ℕ) → part.now ≡ take count whole → Cuts (Append at.now whole) (record self.old.world { leaves = with_more self.old.world.leaves at.now (take count whole) }) self.old self.new) }
+        ensures err { OnErr result ((self.new.world ≡ self.old.world) × (self.new.calls.items ≡ self.old.calls.items)) }
+    {
+        self.calls.reserve(1)?;
+        let place = at.copy(alloc)?;
+        let key = at.copy(alloc)?;
+        let longer = longer_at(alloc, &self.world, at, part)?;
+        match self.world.set_leaf(alloc, key, longer) {
+            Ok(was) => {
+                self.calls.push_reserved(DoneCall::Replaced(place, was));
+                Ok(())
+            }
+            Err(WorldFault::Memory) => Err(AllocError),
+            Err(WorldFault::Blocked) => unreachable!(),
+        }
     }
 
     /// Makes a call on the manager, and enters it.
@@ -207,9 +280,46 @@ impl History {
             ChangingCall::Stage(leaf) => self.stage(alloc, leaf),
             ChangingCall::Rename(to) => self.rename(alloc, to),
             ChangingCall::Remove(at) => self.remove(alloc, at),
+            ChangingCall::Append(at, bytes) => self.append(alloc, at, bytes),
             ChangingCall::Perform(act, unit) => self.perform(alloc, act, unit),
             ChangingCall::DaemonReload => self.load(alloc),
         }
+    }
+}
+
+/// How many bytes the file at a path has.
+fn file_len(world: &World, at: &Path) -> usize
+    ensures { result ≡ file_length (get world.now.leaves at.now) }
+{
+    match world.leaf(at) {
+        Some(leaf) => leaf_len(leaf),
+        None => 0,
+    }
+}
+
+/// How many bytes a file has.
+fn leaf_len(leaf: &Leaf) -> usize
+    ensures { result ≡ file_length (Some leaf.now) }
+{
+    match leaf.kind() {
+        LeafKind::File {
+            bytes,
+            mode: _,
+            uid: _,
+            gid: _,
+        } => bytes.as_slice().len(),
+        LeafKind::Link { target: _ } => 0,
+    }
+}
+
+/// The file at a path with more bytes at its end.
+fn longer_at(alloc: Global, world: &World, at: &Path, more: &[u8]) -> Result<Leaf, AllocError>
+    requires { IsFileAt world.now.leaves at.now }
+    ensures { IfOk result (λ leaf. insert world.now.leaves at.now leaf ≡ with_more world.now.leaves at.now more.now) }
+{
+    match world.leaf(at) {
+        Some(leaf) => leaf.longer(alloc, more),
+        None => unreachable!(),
     }
 }
 

@@ -8,6 +8,7 @@ mod failures;
 mod history;
 mod memory_host;
 mod memory_sink;
+mod rebooting;
 mod troubles;
 
 pub use memory_host::MemoryHost;

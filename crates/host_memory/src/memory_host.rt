@@ -8,8 +8,8 @@ use crate::cuts::cut_call;
 use crate::history::History;
 use crate::troubles::Troubles;
 use host_trait::{Act, HostFault, Leaf, Manager, States, Tree, World};
-use std::alloc::Global;
-use switch_names::{Listed, Path, UnitName};
+use std::alloc::{AllocError, Global};
+use switch_names::{Listed, Path, Text, UnitName};
 
 /// A host in memory, with a record of the calls that changed its world. It fails where it is told to.
 pub struct MemoryHost {
@@ -29,11 +29,12 @@ impl Drop for MemoryHost {
 }
 
 impl MemoryHost {
-    ghost use Rattle.std.specs.Prelude.{◌≡◌, ◌+◌, ◌&&◌, [], None, Some, IsTrue, is_none, false};
-    ghost use Rattle.host_memory.specs.MemoryHost.{host_of, troubles_of};
+    ghost use Rattle.std.specs.Prelude.{◌≡◌, ◌+◌, ◌&&◌, [], None, Some, OnErr, OnOk, IsTrue, is_none, false};
+    ghost use Rattle.host_memory.specs.MemoryHost.{Keeps, host_of, troubles_of};
+    ghost use Rattle.host_memory.specs.Reboots.{IsRebooted};
     ghost use Rattle.host_memory.specs.Troubles.{armed, is_empty};
     ghost use Rattle.host_trait.specs.Change.{IsSame};
-    ghost use Rattle.host_trait.specs.Host.{Passes};
+    ghost use Rattle.host_trait.specs.Host.{Leads, Passes};
 
     /// A host with this world, on which nothing fails.
     pub fn new(alloc: Global, world: World) -> MemoryHost
@@ -42,7 +43,7 @@ impl MemoryHost {
         ensures last { (host_of result).last ≡ None }
         ensures faults { (host_of result).faults ≡ 0 }
         ensures sure { IsTrue (host_of result).is_sure }
-        ensures troubles { troubles_of result ≡ record { cut = None; failing = []; next = 0; faults = 0 } }
+        ensures troubles { troubles_of result ≡ record { cut = None; failing = []; next = 0; faults = 0; calls = 0; changes = 0 } }
     {
         MemoryHost {
             history: History::new(alloc, world),
@@ -62,6 +63,48 @@ impl MemoryHost {
         ensures { result ≡ (host_of self.now).faults }
     {
         self.troubles.faults()
+    }
+
+    /// How many calls of its traits it has had since it was made, those among them that failed.
+    pub fn calls(&self) -> u64
+        ensures { result ≡ (troubles_of self.now).calls }
+    {
+        self.troubles.calls()
+    }
+
+    /// How many changing calls have answered `Ok` since it was made.
+    pub fn changes(&self) -> u64
+        ensures { result ≡ (troubles_of self.now).changes }
+    {
+        self.troubles.changes()
+    }
+
+    /// Its world, of which no record is kept any more.
+    pub fn into_world(self) -> World
+        ensures { (host_of self).world ≡ Some result }
+    {
+        let MemoryHost {
+            history,
+            troubles: _,
+        } = self;
+        history.into_world()
+    }
+
+    /// Reboots its world, takes back what `arm` and `fail` have done, and begins its record anew.
+    ///
+    /// An odd `pick` leaves an empty file at the stage, where nothing stands above or below it.
+    pub fn reboot(&mut self, alloc: Global, pick: u64) -> Result<(), AllocError>
+        ensures world { OnOk result (Leads (host_of self.old) (host_of self.new) (IsRebooted pick)) }
+        ensures clock { OnOk result ((host_of self.new).clock ≡ 0) }
+        ensures last { OnOk result ((host_of self.new).last ≡ None) }
+        ensures sure { OnOk result (IsTrue (host_of self.new).is_sure) }
+        ensures troubles { OnOk result (troubles_of self.new ≡ record (troubles_of self.old) { cut = None; failing = []; next = 0 }) }
+        ensures err { OnErr result (Keeps self.old self.new (troubles_of self.old)) }
+        ensures err_moments { OnErr result (Passes (host_of self.old) (host_of self.new) IsSame) }
+    {
+        self.history.reboot(alloc, pick)?;
+        self.troubles.clear();
+        Ok(())
     }
 
     /// Cuts the next changing call after so many more that finish.
@@ -103,24 +146,27 @@ impl MemoryHost {
         ensures last { (host_of self.new).last ≡ None }
         ensures faults { (host_of self.new).faults ≡ (host_of self.old).faults }
         ensures sure { IsTrue (host_of self.new).is_sure }
-        ensures troubles { troubles_of self.new ≡ record { cut = None; failing = []; next = 0; faults = (troubles_of self.old).faults } }
+        ensures troubles { troubles_of self.new ≡ record (troubles_of self.old) { cut = None; failing = []; next = 0 } }
     {
         self.troubles.clear();
     }
 }
 
 impl Tree for MemoryHost {
-    ghost use Rattle.std.specs.Prelude.{◌≡◌, ◌≢◌, ◌↔◌, IfOk, OnOk, IsErrOf, IsSome, IsTrue};
+    ghost use Rattle.std.specs.Prelude.{◌≡◌, ◌≢◌, ◌<◌, [], length, ◌↔◌, Ok, IfOk, OnOk, IsErrOf, IsSome, IsTrue};
     ghost use Rattle.std.specs.FinMap.{get};
     ghost use Rattle.host_memory.specs.Laws.{memory_is_host};
     ghost use Rattle.host_memory.specs.MemoryHost.{Does, after_read, host_of, is_refusing, troubles_of, verdict};
-    ghost use Rattle.host_trait.specs.Change.{finished, IsMoment, Stage, Rename, Remove};
+    ghost use Rattle.host_trait.specs.Change.{finished, IsMoment, Stage, Rename, Remove, Append};
     ghost use Rattle.host_trait.specs.declared.tree.HostFault.TheVariants.{Device};
     ghost use Rattle.host_trait.specs.Host.{Told, Becomes, Passes, HasCause};
     ghost use Rattle.host_trait.specs.Reading.{IsReading};
-    ghost use Rattle.host_trait.specs.World.{IsClear, listed, stage};
+    ghost use Rattle.host_trait.specs.Waiting.{StaysWithin};
+    ghost use Rattle.host_trait.specs.World.{AreTops, IsClear, IsFileAt, listed, stage};
 
     ghost host = { host_of };
+
+    ghost waiting = { λ host. [] };
 
     fn read(&mut self, alloc: Global, at: &Path) -> Result<Option<Leaf>, HostFault>
         ensures device { IsErrOf result Device ↔ IsTrue (is_refusing self.old) }
@@ -128,6 +174,7 @@ impl Tree for MemoryHost {
         ensures leaf { IfOk result (λ leaf. Told (host_of self.old) (λ w. leaf ≡ get w.leaves at.now)) }
         ensures same { Becomes (host_of self.old) (host_of self.new) (λ w. w) }
         ensures reads { IsReading (host_of self.old) (host_of self.new) result }
+        ensures waits { StaysWithin [] [] }
     {
         self.troubles.admit()?;
         match self.history.world().leaf(at) {
@@ -142,9 +189,33 @@ impl Tree for MemoryHost {
         ensures paths { IfOk result (λ paths. Told (host_of self.old) (λ w. paths ≡ listed under.now w.leaves)) }
         ensures same { Becomes (host_of self.old) (host_of self.new) (λ w. w) }
         ensures reads { IsReading (host_of self.old) (host_of self.new) result }
+        ensures waits { StaysWithin [] [] }
     {
         self.troubles.admit()?;
         Ok(self.history.world().list(alloc, under)?)
+    }
+
+    fn tops(&mut self, alloc: Global) -> Result<Listed<Path>, HostFault>
+        ensures device { IsErrOf result Device ↔ IsTrue (is_refusing self.old) }
+        ensures troubles { troubles_of self.new ≡ after_read self.old }
+        ensures tops { IfOk result (λ tops. Told (host_of self.old) (λ w. AreTops w.leaves tops)) }
+        ensures same { Becomes (host_of self.old) (host_of self.new) (λ w. w) }
+        ensures reads { IsReading (host_of self.old) (host_of self.new) result }
+        ensures waits { StaysWithin [] [] }
+    {
+        self.troubles.admit()?;
+        Ok(self.history.world().tops(alloc)?)
+    }
+
+    /// A world in memory outlasts no loss of power, so this does nothing.
+    fn sync(&mut self, _alloc: Global) -> Result<(), HostFault>
+        ensures ok { result ≡ Ok tt }
+        ensures troubles { troubles_of self.new ≡ troubles_of self.old }
+        ensures same { Becomes (host_of self.old) (host_of self.new) (λ w. w) }
+        ensures reads { IsReading (host_of self.old) (host_of self.new) result }
+        ensures waits { StaysWithin [] [] }
+    {
+        Ok(())
     }
 
     fn write_stage(&mut self, alloc: Global, leaf: &Leaf) -> Result<(), HostFault>
@@ -153,6 +224,7 @@ impl Tree for MemoryHost {
         ensures ok { OnOk result (Becomes (host_of self.old) (host_of self.new) (finished (Stage leaf.now))) }
         ensures moments { Passes (host_of self.old) (host_of self.new) (IsMoment (Stage leaf.now)) }
         ensures cause { HasCause (host_of self.old) (host_of self.new) result }
+        ensures waits { StaysWithin [] [] }
     {
         self.change(alloc, ChangingCall::Stage(leaf))
     }
@@ -165,6 +237,7 @@ impl Tree for MemoryHost {
         ensures ok { OnOk result (Becomes (host_of self.old) (host_of self.new) (finished (Rename to.now))) }
         ensures moments { Passes (host_of self.old) (host_of self.new) (IsMoment (Rename to.now)) }
         ensures cause { HasCause (host_of self.old) (host_of self.new) result }
+        ensures waits { StaysWithin [] [] }
     {
         self.change(alloc, ChangingCall::Rename(to))
     }
@@ -174,8 +247,22 @@ impl Tree for MemoryHost {
         ensures ok { OnOk result (Becomes (host_of self.old) (host_of self.new) (finished (Remove at.now))) }
         ensures moments { Passes (host_of self.old) (host_of self.new) (IsMoment (Remove at.now)) }
         ensures cause { HasCause (host_of self.old) (host_of self.new) result }
+        ensures waits { StaysWithin [] [] }
     {
         self.change(alloc, ChangingCall::Remove(at))
+    }
+
+    fn append(&mut self, alloc: Global, at: &Path, bytes: &[u8]) -> Result<(), HostFault>
+        requires file { Told (host_of self.old) (λ w. IsFileAt w.leaves at.now) }
+        requires other { at.now ≢ stage }
+        requires some { 0 < length bytes.now }
+        ensures does { Does (Append at.now bytes.now) (verdict self.old) self.old self.new result }
+        ensures ok { OnOk result (Becomes (host_of self.old) (host_of self.new) (finished (Append at.now bytes.now))) }
+        ensures moments { Passes (host_of self.old) (host_of self.new) (IsMoment (Append at.now bytes.now)) }
+        ensures cause { HasCause (host_of self.old) (host_of self.new) result }
+        ensures waits { StaysWithin [] [] }
+    {
+        self.change(alloc, ChangingCall::Append(at, bytes))
     }
 
     ghost is_host = { memory_is_host };
@@ -200,6 +287,7 @@ impl MemoryHost {
         match self.troubles.due(self.history.clock()) {
             None => {
                 self.history.make(alloc, call)?;
+                self.troubles.finish();
                 Ok(())
             }
             Some(cut) => {
@@ -229,6 +317,16 @@ impl Manager for MemoryHost {
     {
         self.troubles.admit()?;
         Ok(self.history.world().states().copy(alloc)?)
+    }
+
+    fn loaded(&mut self, alloc: Global) -> Result<Text, HostFault>
+        ensures device { IsErrOf result Device ↔ IsTrue (is_refusing self.old) }
+        ensures troubles { troubles_of self.new ≡ after_read self.old }
+        ensures loaded { IfOk result (λ text. Told (host_of self.old) (λ w. text ≡ w.manager.loaded)) }
+        ensures reads { IsReading (host_of self.old) (host_of self.new) result }
+    {
+        self.troubles.admit()?;
+        Ok(self.history.world().loaded().copy(alloc)?)
     }
 
     fn stop(&mut self, alloc: Global, unit: &UnitName) -> Result<(), HostFault>

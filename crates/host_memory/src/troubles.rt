@@ -1,8 +1,8 @@
-//! What is to go wrong on a host.
+//! What is to go wrong on a host, and how many calls it has had.
 ghost use Rattle.std.specs.Prelude.{◌≡◌, ◌≤◌, ℕ, [], None, Some, IfErr, is_err, if◌then◌else◌};
 ghost use Rattle.std.specs.Option.{ForSome};
 ghost use Rattle.host_memory.specs.Failures.{counted};
-ghost use Rattle.host_memory.specs.Troubles.{armed, fallen, has_fallen, is_refused, due, admitted, refused};
+ghost use Rattle.host_memory.specs.Troubles.{armed, fallen, has_fallen, is_refused, due, admitted, changed, refused};
 
 use crate::cuts::ArmedCut;
 use crate::failures::Failures;
@@ -11,11 +11,14 @@ use std::alloc::Global;
 use std::marker::Model;
 use switch_names::Listed;
 
-/// A cut, the calls that are to fail, and the count of those that have failed.
+/// A cut, the calls that are to fail, and the counts of all calls, of those that have failed, and
+/// of the changing ones that have finished.
 pub(crate) struct Troubles {
     cut: Option<ArmedCut>,
     failures: Failures,
     faults: u64,
+    calls: u64,
+    changes: u64,
 }
 
 /// One call: a derived drop is proved anew in each function that lets one go.
@@ -25,6 +28,8 @@ impl Drop for Troubles {
             cut: _,
             failures: _,
             faults: _,
+            calls: _,
+            changes: _,
         } = self;
     }
 }
@@ -34,7 +39,7 @@ impl Model for Troubles {
 
     ghost Value = { TroublesState };
 
-    ghost view = { λ troubles. record { cut = troubles.cut; failing = troubles.failures.numbers.items; next = troubles.failures.next; faults = troubles.faults } };
+    ghost view = { λ troubles. record { cut = troubles.cut; failing = troubles.failures.numbers.items; next = troubles.failures.next; faults = troubles.faults; calls = troubles.calls; changes = troubles.changes } };
 }
 
 impl Troubles {
@@ -42,12 +47,14 @@ impl Troubles {
 
     /// Nothing goes wrong.
     pub(crate) fn new(alloc: Global) -> Troubles
-        ensures { result ≡ record { cut = None; failing = []; next = 0; faults = 0 } }
+        ensures { result ≡ record { cut = None; failing = []; next = 0; faults = 0; calls = 0; changes = 0 } }
     {
         Troubles {
             cut: None,
             failures: Failures::new(alloc),
             faults: 0,
+            calls: 0,
+            changes: 0,
         }
     }
 
@@ -74,7 +81,7 @@ impl Troubles {
 
     /// Nothing goes wrong any more.
     pub(crate) fn clear(&mut self)
-        ensures { self.new ≡ record { cut = None; failing = []; next = 0; faults = self.old.faults } }
+        ensures { self.new ≡ record self.old { cut = None; failing = []; next = 0 } }
     {
         self.cut = None;
         self.failures.clear();
@@ -87,6 +94,27 @@ impl Troubles {
         self.faults
     }
 
+    /// How many calls there have been.
+    pub(crate) fn calls(&self) -> u64
+        ensures { result ≡ self.now.calls }
+    {
+        self.calls
+    }
+
+    /// How many changing calls have finished.
+    pub(crate) fn changes(&self) -> u64
+        ensures { result ≡ self.now.changes }
+    {
+        self.changes
+    }
+
+    /// Counts a changing call that has finished.
+    pub(crate) fn finish(&mut self)
+        ensures { self.new ≡ changed self.old }
+    {
+        self.changes = self.changes.saturating_add(1);
+    }
+
     /// Counts a call, and refuses it where it is listed and where the cut has fallen.
     pub(crate) fn admit(&mut self) -> Result<(), HostFault>
         ensures answer { is_err result ≡ is_refused self.old }
@@ -94,6 +122,7 @@ impl Troubles {
         ensures new { self.new ≡ (if is_err result then refused self.old else admitted self.old) }
         ensures later { self.old.faults ≤ self.new.faults }
     {
+        self.calls = self.calls.saturating_add(1);
         let is_listed = self.failures.next_fails();
         if is_listed || has_fallen(&self.cut) {
             return Err(self.fault());

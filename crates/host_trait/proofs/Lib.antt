@@ -1,5 +1,11 @@
+pub mod Above
+pub mod BelowKeys
 pub mod Causes
+pub mod Copies
+pub mod FirstNames
+pub mod Fronts
 pub mod KeyOrder
+pub mod KeyTests
 pub mod Listings
 pub mod Moments
 pub mod NameOrder
@@ -7,6 +13,7 @@ pub mod Orders
 pub mod Places
 pub mod Plain
 pub mod Readings
+pub mod Reboots
 pub mod SameLeaves
 pub mod Seen
 pub mod SortedLists
@@ -15,3 +22,4 @@ pub mod StateLists
 pub mod StateMaps
 pub mod StoreTexts
 pub mod UnitSets
+pub mod Written

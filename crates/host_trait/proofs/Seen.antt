@@ -1,5 +1,5 @@
 -- Worlds that are equal but for the stage.
-use Rattle.std.proofs.Common.{◌≡◌, ◌≢◌, ℕ, true, false, List, Some, sym, ap, subst, ◌∙◌, inl, inr, rules, None}
+use Rattle.std.proofs.Common.{◌≡◌, ◌≢◌, ℕ, true, false, List, [], Some, sym, ap, subst, ◌∙◌, inl, inr, rules, None}
 use Rattle.std.proofs.lemmas.Bool.{both_ways}
 use Rattle.std.specs.FinMap.{get, insert, remove, get_tied, gets}
 use Rattle.std.specs.Ordering.{eq_by_cmp}
@@ -10,6 +10,10 @@ use Rattle.host_trait.proofs.Sound.{not_in_line}
 
 world_of : (m n : Leaves) (w : WorldState) → m ≡ n → record w { leaves = m } ≡ record w { leaves = n }
 world_of m n w is = ap (λ (l : Leaves). record w { leaves = l }) is
+
+-- whatever was written
+seen_of : (m n : Leaves) (w : WorldState) → m ≡ n → record w { leaves = m; written = [] } ≡ record w { leaves = n; written = [] }
+seen_of m n w is = ap (λ (l : Leaves). record w { leaves = l; written = [] }) is
 
 leaves_of_world : (v w : WorldState) → v ≡ w → v.leaves ≡ w.leaves
 leaves_of_world v w is = ap (λ (x : WorldState). x.leaves) is
@@ -41,7 +45,7 @@ stage_clear_seen v w is clear q line = seen_at v w is q (line_not_same q stage l
 
 -- a leaf at the stage isn't seen
 pub seen_staged : (leaf : LeafKind) (w : WorldState) → seen (with_leaf stage leaf w) ≡ seen w
-seen_staged leaf w = world_of _ _ w (alike _ _ (λ q. grind (gets, rules)))
+seen_staged leaf w = seen_of _ _ w (alike _ _ (λ q. grind (gets, rules)))
 
 pub unfolded_move : (m : Leaves) (from to : List ℕ) (leaf : LeafKind) → get m from ≡ Some leaf → moved m from to ≡ insert (remove m from) to leaf
 unfolded_move m from to leaf is = ap (with_moved m from to) is
@@ -54,7 +58,7 @@ pub renamed : (at : List ℕ) (leaf : LeafKind) (w : WorldState) → at ≢ stag
     seen (record w { leaves = moved (insert w.leaves stage leaf) stage at }) ≡ seen (with_leaf at leaf w)
 renamed at leaf w ne =
     let other = other_of at stage ne in
-    world_of _ _ w (ap (λ (l : Leaves). remove l stage) (unfolded_move (insert w.leaves stage leaf) stage at leaf (at_stage w.leaves stage leaf))
+    seen_of _ _ w (ap (λ (l : Leaves). remove l stage) (unfolded_move (insert w.leaves stage leaf) stage at leaf (at_stage w.leaves stage leaf))
     ∙ alike _ _ (λ q. let tied = get_tied bytes_total w.leaves q at in grind (gets, rules)))
 
 put_again : (m : Leaves) (at : List ℕ) (leaf : LeafKind) → get m at ≡ Some leaf → insert m at leaf ≡ m
@@ -81,4 +85,4 @@ pub seen_with_leaf : (at : List ℕ) (leaf : LeafKind) (v w : WorldState) → se
 seen_with_leaf at leaf v w is =
     let leaves = seen_put v.leaves w.leaves at leaf (leaves_of_world _ _ is) in
     let manager = ap (λ (x : WorldState). x.manager) is in
-    λ i. record { leaves = leaves i; manager = manager i }
+    λ i. record { leaves = leaves i; manager = manager i; written = [] }

@@ -1,15 +1,12 @@
 -- No leaf stands above or below another: kept by each change of a world.
-use Rattle.std.proofs.Common.{◌≡◌, ◌≢◌, ◌⊎◌, ℕ, ◌<◌, ◌≤◌, Bool, true, false, cond, ◌&&◌, ◌||◌, not, nat_lt, nat_eq, List, [], ◌∷◌, ◌++◌, length, Option, None, Some, IsSome, IsTrue, Result, Ok, Err, OnOk, MatchBool, refl, sym, ap, subst, ◌∙◌, inl, inr, rules, arith}
-use Rattle.std.proofs.lemmas.Bool.{cases_Bool, both_ways}
-use Rattle.std.specs.BTreeMap.{is_at}
-use Rattle.std.specs.FinMap.{get, insert, remove, from_entries, gets, get-empty, get_tied, empty}
-use Rattle.std.specs.List.{list_any}
-use Rattle.std.specs.Map.{lookup, keys_of}
+use Rattle.std.proofs.Common.{◌≡◌, ◌≢◌, ℕ, Bool, true, false, ◌||◌, nat_lt, List, length, Option, None, Some, IsSome, Result, Ok, OnOk, refl, sym, ap, subst, ◌∙◌, inl, inr, rules, arith}
+use Rattle.std.proofs.lemmas.Bool.{both_ways}
+use Rattle.std.specs.FinMap.{get, insert, remove, gets, get-empty, get_tied, empty}
 use Rattle.std.specs.Ordering.{eq_by_cmp}
 use Rattle.switch_names.specs.Path.{IsPath, is_below}
 use Rattle.host_trait.specs.declared.leaf.LeafKind.{LeafKind}
 use Rattle.host_trait.specs.World.{Leaves, bytes_cmp, is_in_line, IsClear, IsInTheWay, IsSound, moved, with_moved}
-use Rattle.host_trait.proofs.Places.{bytes_total, alike, found, same_or_other, none_or_present, itself}
+use Rattle.host_trait.proofs.Places.{bytes_total, alike, same_or_other, none_or_present}
 
 or_comm : (a b : Bool) → a || b ≡ b || a
 or_comm true true = refl
@@ -29,40 +26,6 @@ not_longer n = grind arith
 -- no path lies below itself
 pub not_in_line : (p : List ℕ) → is_in_line p p ≡ false
 not_in_line p = rw (not_longer (length p))
-
-module _ {X : Type 0} where
-  -- a key that passes a test has a value
-  pub any_listed :
-      (test : List ℕ → Bool) (es : List (List ℕ × X)) → list_any test (keys_of es) ≡ true →
-      (q : List ℕ) × (test q ≡ true) × IsSome (lookup (is_at (bytes_cmp q)) es)
-  any_listed test [] is = absurd (both_ways false refl is)
-  any_listed test (e ∷ es) is =
-      elim (test e.0) as (λ b. test e.0 ≡ b → b || list_any test (keys_of es) ≡ true → (q : List ℕ) × (test q ≡ true) × IsSome (lookup (is_at (bytes_cmp q)) (e ∷ es))) [
-        | true ↦ λ t h. (e.0, t, ap (λ b. Rattle.std.proofs.Common.is_some (cond b (Some e.1) (lookup (is_at (bytes_cmp e.0)) es))) (itself e.0))
-        | false ↦ λ t h. let rest = any_listed test es h in (rest.0, rest.1, in_either rest.0 (is_at (bytes_cmp rest.0) e.0) rest.2)
-      ] refl is
-    where
-      in_either : (q : List ℕ) (b : Bool) → IsSome (lookup (is_at (bytes_cmp q)) es) → IsSome (cond b (Some e.1) (lookup (is_at (bytes_cmp q)) es))
-      in_either q true h = refl
-      in_either q false h = h
-
-  -- where no key passes a test, what passes has no value
-  pub none_listed :
-      (test : List ℕ → Bool) (es : List (List ℕ × X)) → list_any test (keys_of es) ≡ false →
-      (q : List ℕ) → test q ≡ true → lookup (is_at (bytes_cmp q)) es ≡ None
-  none_listed test [] is q t = refl
-  none_listed test (e ∷ es) is q t =
-      let parts = Rattle.std.proofs.lemmas.Bool.or_parts (test e.0) (list_any test (keys_of es)) is in
-      elim (same_or_other q e.0) [
-        | inl same ↦ absurd (both_ways (test e.0) parts.0 (ap test (sym same) ∙ t))
-        | inr other ↦ ap (λ b. cond b (Some e.1) (lookup (is_at (bytes_cmp q)) es)) other ∙ none_listed test es parts.1 q t
-      ]
-
-pub in_the_way_of : (at : List ℕ) (es : List (List ℕ × LeafKind)) → list_any (λ q. is_in_line q at) (keys_of es) ≡ true → IsInTheWay (from_entries es) at
-in_the_way_of at es is = let one = any_listed (λ q. is_in_line q at) es is in (one.0, one.1, rw (found es one.0) one.2)
-
-pub clear_of : (at : List ℕ) (es : List (List ℕ × LeafKind)) → list_any (λ q. is_in_line q at) (keys_of es) ≡ false → IsClear (from_entries es) at
-clear_of at es is q line = found es q ∙ none_listed (λ q. is_in_line q at) es is q line
 
 pub clear_or_not : (m : Leaves) (at : List ℕ) → IsClear m at → IsInTheWay m at → ⊥
 clear_or_not m at clear way = none_or_present _ (clear way.0 way.1) way.2
@@ -166,11 +129,6 @@ kept_place m after rest from to place again blank first second other new without
 
 pub on_ok_at : {T E P : Type 0} (r : Result T E) (x : T) → r ≡ Ok x → OnOk r P → P
 on_ok_at {P = P} r x is holds = subst (λ v. OnOk v P) is holds
-
--- what a test of all keys says
-pub in_line_cases : (r : Bool) (at : List ℕ) (es : List (List ℕ × LeafKind)) → r ≡ list_any (λ q. is_in_line q at) (keys_of es) → MatchBool r (IsInTheWay (from_entries es) at) (IsClear (from_entries es) at)
-in_line_cases true at es is = in_the_way_of at es (sym is)
-in_line_cases false at es is = clear_of at es (sym is)
 
 pub sound_same : (m n : Leaves) → n ≡ m → IsSound m → IsSound n
 sound_same m n is sound = subst IsSound (sym is) sound

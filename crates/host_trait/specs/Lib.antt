@@ -7,7 +7,9 @@ pub mod LeafMap
 pub mod Manager
 pub mod Plain
 pub mod Reading
+pub mod Reboot
 pub mod Sink
 pub mod States
+pub mod Waiting
 pub mod Words
 pub mod World

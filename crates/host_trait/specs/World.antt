@@ -1,11 +1,12 @@
 -- The world that a run changes: leaves by path, as a file tree without its folders has them, and a service manager.
-use Rattle.std.specs.Prelude.{◌≡◌, ◌≢◌, ℕ, ◌&&◌, ◌||◌, not, Bool, true, IsSome, List, nat_eq, codes, count_by, drop, filter, Option, None, Some, is_none, if◌then◌else◌, refl}
+use Rattle.std.specs.Prelude.{◌≡◌, ◌≢◌, ℕ, ◌&&◌, ◌||◌, not, Bool, true, IsSome, List, nat_eq, codes, count_by, ◌++◌, ◌∷◌, [], drop, filter, Option, None, Some, is_none, slice_get, if◌then◌else◌, refl}
 use Rattle.std.specs.Coded.{Coded, code_by, coded×, coded_list, coded_ℕ}
 use Rattle.std.specs.Cmp.Lexicographic.{pointwise}
 use Rattle.std.specs.FinMap.{FinMap, get, insert, remove, keys}
 use Rattle.std.specs.FinMap as map
 use Rattle.std.specs.List.{starts_with}
-use Rattle.switch_names.specs.Path.{IsPath, is_below, path_fault}
+use Rattle.switch_names.specs.Names.{IsListOf}
+use Rattle.switch_names.specs.Path.{IsPath, is_below, names_of, path_fault}
 pub use Rattle.host_trait.specs.Bytes.{bytes_cmp}
 use Rattle.host_trait.specs.declared.leaf.LeafKind.{LeafKind}
 use Rattle.host_trait.specs.declared.leaf.LeafKind.TheVariants.{File, Link}
@@ -21,15 +22,17 @@ Leaves = FinMap bytes_cmp LeafKind
 pub record WorldState : Type 0 where
   pub leaves : Leaves
   pub manager : ManagerState
+  -- the places to which leaves were moved, of which they were removed, or whose files were extended, the oldest first
+  pub written : List (List ℕ)
 
 abbrev pub world_code : Coded LeafKind → Coded ManagerState → Coded WorldState
 world_code leaf manager =
-    code_by (Leaves × ManagerState) (coded× (map.code (coded_list coded_ℕ) leaf) manager)
-    (λ w. (w.leaves, w.manager)) (λ parts. record { leaves = parts.0; manager = parts.1 }) (λ _. refl)
+    code_by (Leaves × (ManagerState × List (List ℕ))) (coded× (map.code (coded_list coded_ℕ) leaf) (coded× manager (coded_list (coded_list coded_ℕ))))
+    (λ w. (w.leaves, (w.manager, w.written))) (λ parts. record { leaves = parts.0; manager = parts.1.0; written = parts.1.1 }) (λ _. refl)
 
 -- the world without a leaf, with a manager that has done nothing
 abbrev pub empty_world : WorldState
-empty_world = record { leaves = map.empty; manager = empty_manager }
+empty_world = record { leaves = map.empty; manager = empty_manager; written = [] }
 
 -- whether two paths are equal
 abbrev pub is_path : List ℕ → List ℕ → Bool
@@ -64,9 +67,9 @@ moved leaves from to = with_moved leaves from to (get leaves from)
 unfoldable pub stage : List ℕ
 stage = codes "nix/var/nixswitch.stage"
 
--- the world without the leaf at the stage
+-- the world without the leaf at the stage, whatever was written
 abbrev pub seen : WorldState → WorldState
-seen w = record w { leaves = remove w.leaves stage }
+seen w = record w { leaves = remove w.leaves stage; written = [] }
 
 -- what two runs have to leave alike: the leaves but for the stage, the states of units, and what is loaded
 pub record Shown : Type 0 where
@@ -85,9 +88,22 @@ IsSameAt leaves other path = path ≢ stage → get leaves path ≡ get other pa
 abbrev pub with_leaf : List ℕ → LeafKind → WorldState → WorldState
 with_leaf at leaf w = record w { leaves = insert w.leaves at leaf }
 
--- the world without the leaf at a path
+-- the world without the leaf at a path, which counts as written
 abbrev pub without_leaf : List ℕ → WorldState → WorldState
-without_leaf at w = record w { leaves = remove w.leaves at }
+without_leaf at w = record w { leaves = remove w.leaves at; written = w.written ++ at ∷ [] }
+
+-- a file with more bytes at its end
+abbrev pub extended : LeafKind → List ℕ → LeafKind
+extended (File bytes mode uid gid) more = File (bytes ++ more) mode uid gid
+extended (Link target) more = Link target
+
+-- the leaves with more bytes at the end of the file at a path
+abbrev pub with_extended : Leaves → List ℕ → List ℕ → Option LeafKind → Leaves
+with_extended leaves at more None = leaves
+with_extended leaves at more (Some leaf) = insert leaves at (extended leaf more)
+
+abbrev pub with_more : Leaves → List ℕ → List ℕ → Leaves
+with_more leaves at more = with_extended leaves at more (get leaves at)
 
 -- the world with a manager in another state
 abbrev pub with_manager : ManagerState → WorldState → WorldState
@@ -100,6 +116,14 @@ is_listed under q = (is_path q under || is_below q under) && not (is_path q stag
 -- the paths of the leaves at or below a path, in order
 abbrev pub listed : List ℕ → Leaves → List (List ℕ)
 listed under leaves = filter (is_listed under) (keys leaves)
+
+-- a name is the first one of a path with a leaf, the stage's left out
+abbrev pub IsTop : Leaves → List ℕ → Type 0
+IsTop leaves name = (q : List ℕ) × IsSome (get leaves q) × (q ≢ stage) × (slice_get (names_of q) 0 ≡ Some name)
+
+-- these are the first names of all such paths, in order
+abbrev pub AreTops : Leaves → List (List ℕ) → Type 0
+AreTops leaves tops = IsListOf tops (IsTop leaves)
 
 -- whether a path is another than the stage
 unfoldable pub is_elsewhere : List ℕ → Bool
@@ -114,6 +138,10 @@ abbrev pub file_bytes : Option LeafKind → Option (List ℕ)
 file_bytes None = None
 file_bytes (Some (File bytes mode uid gid)) = Some bytes
 file_bytes (Some (Link target)) = None
+
+-- a file stands at a path
+abbrev pub IsFileAt : Leaves → List ℕ → Type 0
+IsFileAt leaves at = IsSome (file_bytes (get leaves at))
 
 -- the path in the store that a link's target names
 abbrev pub store_place : List ℕ → Option (List ℕ)

@@ -80,3 +80,15 @@ impl Entry {
         })
     }
 }
+
+impl Bad {
+    /// An equal one.
+    pub fn copy(&self, alloc: Global) -> Result<Bad, AllocError>
+        ensures { IfOk result (λ copied. copied ≡ self.now) }
+    {
+        Ok(Bad {
+            loaded: self.loaded.copy(alloc)?,
+            unit: self.unit.copy(alloc)?,
+        })
+    }
+}

@@ -82,6 +82,27 @@ fn fault_of(target: &str) -> Option<NameFault>
 
 impl Leaf {
     ghost use Rattle.host_trait.specs.Leaf.{IsLeaf};
+    ghost use Rattle.host_trait.specs.World.{extended};
+
+    /// This file with more bytes at its end, or this link.
+    pub fn longer(&self, alloc: Global, more: &[u8]) -> Result<Leaf, AllocError>
+        ensures { IfOk result (λ leaf. leaf ≡ extended self.now more.now) }
+    {
+        match self.kind() {
+            LeafKind::File {
+                bytes,
+                mode,
+                uid,
+                gid,
+            } => {
+                let mut all = Vec::new(alloc);
+                all.extend_from_slice(bytes.as_slice())?;
+                all.extend_from_slice(more)?;
+                Ok(Leaf::file(Bytes::from_vec(all), *mode, *uid, *gid))
+            }
+            LeafKind::Link { target: _ } => self.copy(alloc),
+        }
+    }
 
     /// A file with these bytes, this mode and these owners.
     pub fn file(bytes: Bytes, mode: u16, uid: u32, gid: u32) -> Leaf

@@ -1,18 +1,19 @@
 //! Leaves by path, in std's ordered map.
-ghost use Rattle.std.specs.Prelude.{◌≡◌, ◌≢◌, ◌↔◌, IfOk, OnOk, OnErr, IsErrOf, IsSome, IsOk, IsTrue, MatchBool};
-ghost use Rattle.std.specs.FinMap.{get, insert, remove};
-ghost use Rattle.std.specs.BTreeMap.{keys};
+ghost use Rattle.std.specs.Prelude.{◌≡◌, ◌≢◌, ◌↔◌, ◌++◌, ◌∷◌, [], None, IfOk, IfSome, OnOk, OnErr, IsErrOf, IsNone, IsSome, IsOk, IsTrue, MatchBool};
+ghost use Rattle.std.specs.BTreeMap as tree;
+ghost use Rattle.std.specs.FinMap.{get, insert, keys, remove};
 ghost use Rattle.std.specs.List.{AllByRecursion, list_any};
 ghost use Rattle.std.specs.Option.{option_copied};
-ghost use Rattle.switch_names.specs.Path.{IsPath};
-ghost use Rattle.host_trait.specs.World.{IsSameAt, IsClear, IsInTheWay, IsSound, is_elsewhere, is_path, is_in_line, is_listed, leaf_count, listed, moved, stage};
+ghost use Rattle.switch_names.specs.Path.{IsPath, is_below, path_fault, slash};
+ghost use Rattle.host_trait.specs.World.{IsSameAt, IsClear, IsInTheWay, IsSound, is_elsewhere, is_path, is_listed, leaf_count, listed, moved, stage, with_more};
 ghost use Rattle.host_trait.specs.LeafMap.{leaves_of};
 
 use crate::leaf::Leaf;
 use crate::world_fault::WorldFault;
 use std::alloc::{AllocError, Global};
 use std::collections::BTreeMap;
-use switch_names::{Bytes, Listed, Path};
+use std::ops::Bound;
+use switch_names::{Bytes, Listed, NameFault, Path};
 
 /// The place at which a leaf is written before it takes its own.
 const STAGE: &str = "nix/var/nixswitch.stage";
@@ -63,6 +64,26 @@ fn is_listed(under: &Path, path: &Path) -> bool
     (path == under || path.is_below(under)) && !is_stage(path)
 }
 
+/// Appends bytes to the file at a path.
+pub fn extend_entry(
+    alloc: Global,
+    leaves: &mut BTreeMap<Path, Leaf>,
+    at: &Path,
+    more: &[u8],
+) -> Result<(), AllocError>
+    ensures ok { OnOk result (leaves_of leaves.new ≡ with_more (leaves_of leaves.old) at.now more.now) }
+    ensures err { OnErr result (leaves_of leaves.new ≡ leaves_of leaves.old) }
+    ensures sound { IsSound (leaves_of leaves.old) → IsSound (leaves_of leaves.new) }
+{
+    let place = at.copy(alloc)?;
+    let Some(leaf) = find_leaf(leaves, at) else {
+        return Ok(());
+    };
+    let longer = leaf.longer(alloc, more)?;
+    let _was = put_leaf(leaves, place, longer)?;
+    Ok(())
+}
+
 /// The paths of the leaves at or below a path, in byte order, without the stage.
 pub fn list_leaves(
     alloc: Global,
@@ -82,7 +103,7 @@ pub fn list_leaves(
 
 /// Whether a path is another than the stage's.
 #[tactic(auto, unfolding(crate::specs::World::is_elsewhere))]
-fn is_elsewhere(path: &Path) -> bool
+pub fn is_elsewhere(path: &Path) -> bool
     ensures { result ≡ is_elsewhere path.now }
 {
     !is_stage(path)
@@ -101,41 +122,84 @@ pub fn count_leaves(leaves: &BTreeMap<Path, Leaf>) -> u64
     count
 }
 
-/// Whether a path lies strictly above or below another.
-fn is_in_line(path: &Path, other: &Path) -> bool
-    ensures { result ≡ is_in_line path.now other.now }
+/// The least path below another, where one can be made.
+fn least_below(alloc: Global, at: &Path) -> Result<Option<Path>, AllocError>
+    ensures some { IfOk result (λ least. IfSome least (λ path. path ≡ at.now ++ slash ∷ 1 ∷ [])) }
+    ensures none { IfOk result (λ least. IsNone least → path_fault (at.now ++ slash ∷ 1 ∷ []) ≢ None) }
 {
-    path.is_below(other) || other.is_below(path)
+    match at.join(alloc, "\u{1}") {
+        Ok(path) => Ok(Some(path)),
+        Err(NameFault::Memory) => Err(AllocError),
+        Err(_) => Ok(None),
+    }
 }
 
-/// Whether some key lies strictly above or below a path.
-fn any_in_line(leaves: &BTreeMap<Path, Leaf>, at: &Path) -> bool
-    ensures { result ≡ list_any (λ q. is_in_line q at.now) (keys leaves.now) }
+/// Whether a leaf stands strictly below a path.
+fn has_leaf_below(
+    alloc: Global,
+    leaves: &BTreeMap<Path, Leaf>,
+    at: &Path,
+) -> Result<bool, AllocError>
+    ensures { IfOk result (λ below. IsSound (leaves_of leaves.now) → below ≡ list_any (λ q. is_below q at.now) (keys (leaves_of leaves.now))) }
 {
-    leaves.keys().any(|path| is_in_line(path, at))
+    let Some(least) = least_below(alloc, at)? else {
+        return Ok(false);
+    };
+    // All that lies below it stands together, from the least path on.
+    match leaves
+        .range((Bound::Included(&least), Bound::Unbounded))
+        .next()
+    {
+        Some((path, _leaf)) => Ok(path.is_below(at)),
+        None => Ok(false),
+    }
+}
+
+/// Whether a leaf stands strictly above a path.
+fn has_leaf_above(
+    alloc: Global,
+    leaves: &BTreeMap<Path, Leaf>,
+    at: &Path,
+) -> Result<bool, AllocError>
+    ensures { IfOk result (λ above. above ≡ list_any (λ q. is_below at.now q) (keys (leaves_of leaves.now))) }
+{
+    let mut next = at.parent(alloc)?;
+    while let Some(place) = next {
+        if find_leaf(leaves, &place).is_some() {
+            return Ok(true);
+        }
+        next = place.parent(alloc)?;
+    }
+    Ok(false)
 }
 
 /// Whether a leaf stands strictly above or below a path.
-fn has_in_line(leaves: &BTreeMap<Path, Leaf>, at: &Path) -> bool
-    ensures { MatchBool result (IsInTheWay (leaves_of leaves.now) at.now) (IsClear (leaves_of leaves.now) at.now) }
+fn has_in_line(alloc: Global, leaves: &BTreeMap<Path, Leaf>, at: &Path) -> Result<bool, AllocError>
+    ensures { IfOk result (λ line. IsSound (leaves_of leaves.now) → MatchBool line (IsInTheWay (leaves_of leaves.now) at.now) (IsClear (leaves_of leaves.now) at.now)) }
 {
-    any_in_line(leaves, at)
+    let below = has_leaf_below(alloc, leaves, at)?;
+    if below {
+        return Ok(below);
+    }
+    let above = has_leaf_above(alloc, leaves, at)?;
+    Ok(above)
 }
 
 /// Puts a leaf at a path where none stands strictly above or below, and answers the one there.
 pub fn set_entry(
+    alloc: Global,
     leaves: &mut BTreeMap<Path, Leaf>,
     at: Path,
     leaf: Leaf,
 ) -> Result<Option<Leaf>, WorldFault>
     ensures was { IfOk result (λ was. was ≡ get (leaves_of leaves.old) at) }
     ensures ok { OnOk result (leaves_of leaves.new ≡ insert (leaves_of leaves.old) at leaf) }
-    ensures blocked { IsErrOf result WorldFault.Blocked → IsInTheWay (leaves_of leaves.old) at }
-    ensures in_the_way { IsInTheWay (leaves_of leaves.old) at → IsErrOf result WorldFault.Blocked }
+    ensures blocked { IsSound (leaves_of leaves.old) → IsErrOf result WorldFault.Blocked → IsInTheWay (leaves_of leaves.old) at }
+    ensures clear { IsSound (leaves_of leaves.old) → OnOk result (IsClear (leaves_of leaves.old) at) }
     ensures err { OnErr result (leaves_of leaves.new ≡ leaves_of leaves.old) }
     ensures sound { IsSound (leaves_of leaves.old) → IsSound (leaves_of leaves.new) }
 {
-    if has_in_line(leaves, &at) {
+    if has_in_line(alloc, leaves, &at)? {
         return Err(WorldFault::Blocked);
     }
     let _path = at.as_str();
@@ -183,7 +247,7 @@ fn is_same_at(leaves: &BTreeMap<Path, Leaf>, other: &BTreeMap<Path, Leaf>, path:
 
 /// Whether two maps have the same at each path of the second.
 fn are_same_at_paths(leaves: &BTreeMap<Path, Leaf>, other: &BTreeMap<Path, Leaf>) -> bool
-    ensures { IsTrue result ↔ AllByRecursion (IsSameAt (leaves_of leaves.now) (leaves_of other.now)) (keys other.now) }
+    ensures { IsTrue result ↔ AllByRecursion (IsSameAt (leaves_of leaves.now) (leaves_of other.now)) (tree.keys other.now) }
 {
     for path in other.keys() {
         if !is_same_at(leaves, other, path) {

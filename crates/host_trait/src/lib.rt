@@ -1,6 +1,7 @@
 //! The world that a run changes, and the host that a run reads and changes it through.
 #![tactic(auto)]
 
+mod copying;
 mod definitions;
 mod entry;
 mod known_path;
@@ -9,8 +10,10 @@ mod leaf_map;
 mod manager;
 mod manager_state;
 mod reading;
+mod rebooting;
 mod sink;
 mod states;
+mod tops;
 mod tree;
 mod unit_set;
 mod unit_state;

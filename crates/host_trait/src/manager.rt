@@ -11,7 +11,7 @@ ghost use Rattle.host_trait.specs.States.{state_of};
 use crate::states::States;
 use crate::tree::{HostFault, Tree};
 use std::alloc::Global;
-use switch_names::UnitName;
+use switch_names::{Text, UnitName};
 
 /// A service manager beside a tree: one world and one clock for both, since a cut takes both at once.
 ///
@@ -21,6 +21,11 @@ pub trait Manager: Tree {
     /// The units that aren't inactive, with their states.
     fn units(&mut self, alloc: Global) -> Result<States, HostFault>
         ensures states { IfOk result (λ states. Told (Self.host self.old) (λ w. states ≡ w.manager.states)) }
+        ensures reads { IsReading (Self.host self.old) (Self.host self.new) result };
+
+    /// Where the definitions lie that the manager has loaded.
+    fn loaded(&mut self, alloc: Global) -> Result<Text, HostFault>
+        ensures loaded { IfOk result (λ text. Told (Self.host self.old) (λ w. text ≡ w.manager.loaded)) }
         ensures reads { IsReading (Self.host self.old) (Self.host self.new) result };
 
     /// Stops a unit.

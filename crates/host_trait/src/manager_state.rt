@@ -1,10 +1,11 @@
 //! The service manager's part of a world.
-ghost use Rattle.std.specs.Prelude.{◌≡◌};
+ghost use Rattle.std.specs.Prelude.{◌≡◌, IfOk};
 ghost use Rattle.host_trait.specs.Manager.{empty_manager};
 
+use crate::copying::{copy_bad, copy_journal};
 use crate::entry::{Bad, Entry};
 use crate::states::States;
-use std::alloc::Global;
+use std::alloc::{AllocError, Global};
 use switch_names::{Listed, Text};
 
 /// What a service manager knows and has done.
@@ -42,5 +43,17 @@ impl ManagerState {
             bad: Listed::new(alloc),
             journal: Listed::new(alloc),
         }
+    }
+
+    /// An equal state.
+    pub fn copy(&self, alloc: Global) -> Result<ManagerState, AllocError>
+        ensures { IfOk result (λ copied. copied ≡ self.now) }
+    {
+        Ok(ManagerState {
+            states: self.states.copy(alloc)?,
+            loaded: self.loaded.copy(alloc)?,
+            bad: copy_bad(alloc, self.bad.as_slice())?,
+            journal: copy_journal(alloc, self.journal.as_slice())?,
+        })
     }
 }

@@ -100,10 +100,13 @@ impl UnitSet {
     }
 }
 
-/// The names of a set in byte order.
-fn listed(alloc: Global, set: BTreeSet<UnitName>) -> Result<Listed<UnitName>, AllocError>
+/// The names of a set in order.
+pub(crate) fn listed<T: Ord + Drop>(
+    alloc: Global,
+    set: BTreeSet<T>,
+) -> Result<Listed<T>, AllocError>
     ensures names { IfOk result (λ names. names ≡ set.keys) }
-    ensures sorted { IsStrictlySortedBy (slice_cmp nat_cmp) set.keys }
+    ensures sorted { IsStrictlySortedBy T.cmp set.keys }
 {
     let mut names = Listed::new(alloc);
     for name in set {

@@ -3,22 +3,28 @@ ghost use Rattle.std.specs.Prelude.{◌≡◌, ◌≢◌, ◌++◌, ◌∷◌, [
 ghost use Rattle.std.specs.FinMap as map;
 ghost use Rattle.std.specs.Option.{option_copied};
 ghost use Rattle.host_trait.specs.Manager.{HasPlainTexts, IsPlain, loading};
+ghost use Rattle.host_trait.specs.Reboot.{rebooted, rebooted_with_blank};
 ghost use Rattle.host_trait.specs.States.{AreStates, with_state};
-ghost use Rattle.host_trait.specs.World.{IsClear, IsInTheWay, IsSound, empty_world, leaf_count, listed, moved, shown, with_leaf, with_manager, without_leaf};
+ghost use Rattle.host_trait.specs.World.{AreTops, IsClear, IsFileAt, IsInTheWay, IsSound, empty_world, leaf_count, listed, moved, shown, stage, with_leaf, with_manager, with_more, without_leaf};
 
+use crate::copying::{copy_leaves, copy_paths};
 use crate::entry::{Bad, Entry};
+use crate::known_path::stage_path;
 use crate::leaf::Leaf;
 use crate::leaf_map::{
-    are_same_leaves, count_leaves, find_leaf, list_leaves, move_entry, remove_leaf, set_entry,
+    are_same_leaves, count_leaves, extend_entry, find_leaf, list_leaves, move_entry, remove_leaf,
+    set_entry,
 };
 use crate::manager_state::ManagerState;
+use crate::rebooting::{drop_lost, drop_run};
 use crate::states::States;
+use crate::tops::top_names;
 use crate::unit_state::State;
 use crate::world_fault::WorldFault;
 use std::alloc::{AllocError, Global};
 use std::collections::BTreeMap;
 use std::marker::Model;
-use switch_names::{Listed, Path, Text, UnitName};
+use switch_names::{Bytes, Listed, Path, Text, UnitName};
 
 /// Leaves at paths, none strictly above or below another, and a service manager.
 ///
@@ -26,6 +32,7 @@ use switch_names::{Listed, Path, Text, UnitName};
 pub struct World {
     leaves: BTreeMap<Path, Leaf>,
     manager: ManagerState,
+    written: Listed<Path>,
 }
 
 /// One call: a derived drop is proved anew in each function that lets one go.
@@ -34,6 +41,7 @@ impl Drop for World {
         let World {
             leaves: _,
             manager: _,
+            written: _,
         } = self;
     }
 }
@@ -49,7 +57,7 @@ impl Model for World {
 
     ghost coded = { world_code kind.the_row.coded service.the_row.coded };
 
-    ghost view = { λ world. record { leaves = leaves_of world.leaves; manager = world.manager } };
+    ghost view = { λ world. record { leaves = leaves_of world.leaves; manager = world.manager; written = world.written } };
 
     ghost invariant = { λ world. IsSound (leaves_of world.leaves) × HasPlainTexts world.manager };
 }
@@ -62,6 +70,7 @@ impl World {
         World {
             leaves: BTreeMap::new(alloc),
             manager: ManagerState::new(alloc),
+            written: Listed::new(alloc),
         }
     }
 
@@ -87,25 +96,65 @@ impl World {
         list_leaves(alloc, &self.leaves, under)
     }
 
+    /// The first name of each path with a leaf other than the stage's, in byte order.
+    pub fn tops(&self, alloc: Global) -> Result<Listed<Path>, AllocError>
+        ensures { IfOk result (AreTops self.now.leaves) }
+    {
+        top_names(alloc, &self.leaves)
+    }
+
     /// Puts a leaf at a path, and answers the one that stood there.
-    pub fn set_leaf(&mut self, at: Path, leaf: Leaf) -> Result<Option<Leaf>, WorldFault>
+    ///
+    /// It looks at each place above the path, and at one below.
+    pub fn set_leaf(
+        &mut self,
+        alloc: Global,
+        at: Path,
+        leaf: Leaf,
+    ) -> Result<Option<Leaf>, WorldFault>
         ensures was { IfOk result (λ was. was ≡ map.get self.old.leaves at) }
         ensures ok { OnOk result (self.new ≡ with_leaf at leaf self.old) }
         ensures blocked { IsErrOf result WorldFault.Blocked → IsInTheWay self.old.leaves at }
-        ensures in_the_way { IsInTheWay self.old.leaves at → IsErrOf result WorldFault.Blocked }
+        ensures clear { OnOk result (IsClear self.old.leaves at) }
         ensures err { OnErr result (self.new ≡ self.old) }
         ensures sound { IsSound self.new.leaves }
     {
-        set_entry(&mut self.leaves, at, leaf)
+        set_entry(alloc, &mut self.leaves, at, leaf)
     }
 
-    /// Takes the leaf at a path out.
-    pub fn take_leaf(&mut self, at: &Path) -> Option<Leaf>
-        ensures was { result ≡ map.get self.old.leaves at.now }
-        ensures taken { self.new ≡ without_leaf at.now self.old }
-        ensures sound { IsSound self.new.leaves }
+    /// Takes the leaf at a path out, which counts as written.
+    pub fn take_leaf(&mut self, alloc: Global, at: &Path) -> Result<Option<Leaf>, AllocError>
+        ensures was { IfOk result (λ was. was ≡ map.get self.old.leaves at.now) }
+        ensures ok { OnOk result (self.new ≡ without_leaf at.now self.old) }
+        ensures err { OnErr result (self.new ≡ self.old) }
+        ensures sound { OnOk result (IsSound self.new.leaves) }
     {
-        remove_leaf(&mut self.leaves, at)
+        let place = at.copy(alloc)?;
+        self.written.push(place)?;
+        Ok(remove_leaf(&mut self.leaves, at))
+    }
+
+    /// The places that were written, the oldest first.
+    pub fn written(&self) -> &Listed<Path>
+        ensures { result.now ≡ self.now.written }
+    {
+        &self.written
+    }
+
+    /// Appends bytes to the file at a path, which counts as written.
+    pub fn extend_leaf(&mut self, alloc: Global, at: &Path, bytes: &[u8]) -> Result<(), AllocError>
+        requires file { IsFileAt self.old.leaves at.now }
+        ensures ok { OnOk result (self.new ≡ record self.old { leaves = with_more self.old.leaves at.now bytes.now; written = self.old.written ++ at.now ∷ [] }) }
+        ensures err { OnErr result (self.new ≡ self.old) }
+        ensures sound { OnOk result (IsSound self.new.leaves) }
+    {
+        let count = self.written.as_slice().len();
+        self.written.push(at.copy(alloc)?)?;
+        let extended = extend_entry(alloc, &mut self.leaves, at, bytes);
+        if extended.is_err() {
+            let _place = self.written.remove(count);
+        }
+        extended
     }
 
     /// Moves the leaf at a path to another, and answers the one that stood there.
@@ -119,12 +168,19 @@ impl World {
         requires clear { IsClear self.old.leaves to.now }
         requires other { to.now ≢ from.now }
         ensures was { IfOk result (λ was. was ≡ map.get self.old.leaves to.now) }
-        ensures ok { OnOk result (self.new ≡ record self.old { leaves = moved self.old.leaves from.now to.now }) }
+        ensures ok { OnOk result (self.new ≡ record self.old { leaves = moved self.old.leaves from.now to.now; written = self.old.written ++ to.now ∷ [] }) }
         ensures err { OnErr result (self.new ≡ self.old) }
-        ensures sound { IsSound self.new.leaves }
+        ensures sound { OnOk result (IsSound self.new.leaves) }
     {
-        move_entry(alloc, &mut self.leaves, from, to)
+        let count = self.written.as_slice().len();
+        self.written.push(to.copy(alloc)?)?;
+        let moved = move_entry(alloc, &mut self.leaves, from, to);
+        if moved.is_err() {
+            let _place = self.written.remove(count);
+        }
+        moved
     }
+
     /// The units that aren't inactive, with their states.
     pub fn states(&self) -> &States
         ensures states { result.now ≡ self.now.manager.states }
@@ -194,5 +250,44 @@ impl World {
         self.manager.loaded == other.manager.loaded
             && self.manager.states.same(&other.manager.states)
             && are_same_leaves(&self.leaves, &other.leaves)
+    }
+
+    /// An equal world.
+    pub fn copy(&self, alloc: Global) -> Result<World, AllocError>
+        ensures { IfOk result (λ copied. copied ≡ self.now) }
+    {
+        Ok(World {
+            leaves: copy_leaves(alloc, &self.leaves)?,
+            manager: self.manager.copy(alloc)?,
+            written: copy_paths(alloc, self.written.as_slice())?,
+        })
+    }
+
+    /// Does what a reboot does: what stands in `run` and at the stage is lost, no unit is active any
+    /// more, and nothing is loaded.
+    ///
+    /// It takes no memory.
+    pub fn reboot(&mut self, alloc: Global)
+        ensures { self.new ≡ rebooted self.old }
+    {
+        drop_lost(&mut self.leaves);
+        self.manager.states = States::new(alloc);
+        self.manager.loaded = Text::new(alloc);
+    }
+
+    /// Does what a reboot does that leaves an empty file at the stage.
+    pub fn reboot_with_blank(&mut self, alloc: Global) -> Result<(), WorldFault>
+        ensures ok { OnOk result (self.new ≡ rebooted_with_blank self.old) }
+        ensures blocked { IsErrOf result WorldFault.Blocked → IsInTheWay self.old.leaves stage }
+        ensures clear { OnOk result (IsClear self.old.leaves stage) }
+        ensures err { OnErr result (self.new ≡ self.old) }
+    {
+        let blank = Leaf::file(Bytes::from_vec(Vec::new(alloc)), 0, 0, 0);
+        let at = stage_path(alloc)?;
+        let _was = set_entry(alloc, &mut self.leaves, at, blank)?;
+        drop_run(&mut self.leaves);
+        self.manager.states = States::new(alloc);
+        self.manager.loaded = Text::new(alloc);
+        Ok(())
     }
 }

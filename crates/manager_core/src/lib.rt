@@ -14,6 +14,6 @@ mod written_state;
 pub use call::Call;
 pub use reading::read_state;
 pub use state_fault::StateFault;
-pub use stepping::step;
+pub use stepping::{enter, step, take_effect};
 pub use writing::write_state;
 pub use written_state::WrittenState;

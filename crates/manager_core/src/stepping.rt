@@ -65,8 +65,8 @@ fn set_state(
     state.states.set(unit, now)
 }
 
-/// Enters an act in the journal.
-fn enter(
+/// Enters an act in the journal, with what is loaded, and changes nothing else.
+pub fn enter(
     alloc: Global,
     state: &mut ManagerState,
     act: Act,
@@ -83,8 +83,8 @@ fn enter(
     state.journal.push(entry)
 }
 
-/// Brings a unit to the state that an act leaves it in.
-fn take_effect(
+/// Brings a unit to the state that an act leaves it in, and enters nothing.
+pub fn take_effect(
     alloc: Global,
     state: &mut ManagerState,
     act: Act,
@@ -97,7 +97,7 @@ fn take_effect(
     set_state(alloc, state, unit, now)
 }
 
-/// Does an act on a unit.
+/// Does an act on a unit: it is entered, and then it takes effect.
 ///
 /// Where memory is wanting for its effect, its entry is taken out again.
 pub fn act_on(

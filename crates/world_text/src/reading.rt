@@ -15,7 +15,7 @@ const NEW_UNITS: &str = "b-sys/etc/systemd/system";
 /// Puts the leaf of a node's text at a path.
 fn put_node(alloc: Global, world: &mut World, at: &str, node: &[u8]) -> Result<(), Fail> {
     let at = Path::parse(alloc, at)?;
-    world.set_leaf(at, read_node(alloc, node)?)?;
+    world.set_leaf(alloc, at, read_node(alloc, node)?)?;
     Ok(())
 }
 
@@ -46,7 +46,7 @@ fn put_file(
     folder: &str,
     (name, text): (&str, &[u8]),
 ) -> Result<(), Fail> {
-    world.set_leaf(path_in(alloc, folder, name)?, leaf_of(alloc, text)?)?;
+    world.set_leaf(alloc, path_in(alloc, folder, name)?, leaf_of(alloc, text)?)?;
     Ok(())
 }
 

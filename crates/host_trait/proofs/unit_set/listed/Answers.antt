@@ -3,4 +3,4 @@ use Rattle.std.proofs.lemmas.Grind.{common_steps}
 use Rattle.host_trait.proofs.unit_set.listed.Goals as goal
 
 pub loop-name-preserved : goal.loop-name-preserved
-loop-name-preserved c = grind (arith, common_steps) steps 500000
+loop-name-preserved g c = grind (arith, common_steps) steps 500000

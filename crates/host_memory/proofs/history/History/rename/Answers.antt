@@ -2,7 +2,7 @@ use Rattle.std.proofs.Common.{sym, subst, ◌∙◌, arith}
 use Rattle.host_memory.proofs.Histories.{kept, one_more}
 use Rattle.host_memory.proofs.Undoing.{renamed}
 use Rattle.host_memory.proofs.history.History.rename.Goals as goal
-use Rattle.host_trait.specs.World.{WorldState}
+use Rattle.host_trait.specs.World.{IsSound, WorldState}
 use Rattle.host_trait.specs.Manager.{HasPlainTexts}
 use Rattle.host_trait.specs.States.{AreStates}
 
@@ -16,14 +16,14 @@ push_reserved-requires c = omega (arith, c.in_ok-reserve.ensures.ok)
 
 pub invariant_of-self-2 : goal.invariant_of-self-2
 invariant_of-self-2 c = record {
-  sound = c.move_leaf.ensures.sound;
+  sound = c.in_ok-was.ensures.sound;
   plain = subst (λ (w : WorldState). HasPlainTexts w.manager) (sym c.in_ok-was.ensures.ok) c.args.self.now.plain;
   states = subst (λ (w : WorldState). AreStates w.manager.states) (sym c.in_ok-was.ensures.ok) c.args.self.now.states;
 }
 
 pub invariant_of-self-in-Break-branch-4 : goal.invariant_of-self-in-Break-branch-4
 invariant_of-self-in-Break-branch-4 c = record {
-  sound = c.move_leaf.ensures.sound;
+  sound = subst (λ (w : WorldState). IsSound w.leaves) (sym c.in_err-was.ensures.err) c.args.self.now.sound;
   plain = subst (λ (w : WorldState). HasPlainTexts w.manager) (sym c.in_err-was.ensures.err) c.args.self.now.plain;
   states = subst (λ (w : WorldState). AreStates w.manager.states) (sym c.in_err-was.ensures.err) c.args.self.now.states;
 }

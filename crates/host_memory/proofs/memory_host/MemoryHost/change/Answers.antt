@@ -1,8 +1,11 @@
-use Rattle.std.proofs.Common.{refl, sym}
-use Rattle.host_memory.proofs.Admitted.{begun_at, done_cause, no_answer, starved_cause, starved_does, within_stood}
+use Rattle.std.proofs.Common.{Option, ap, length, refl, subst, sym}
+use Rattle.std.specs.Option.{ForSome}
+use Rattle.host_memory.proofs.Admitted.{begun_at, changed_cause, no_answer, starved_cause, starved_does, within_stood}
 use Rattle.host_memory.proofs.Hosts.{stands_in, stood, becomes, refused_cause, cut_cause, cut_does, within_fallen, admitted_does, one_at_most, within_admitted}
 use Rattle.host_memory.proofs.memory_host.MemoryHost.change.Goals as goal
 use Rattle.host_memory.specs.ChangingCall.{change_of}
+use Rattle.host_memory.specs.declared.cuts.ArmedCut.{ArmedCut}
+use Rattle.host_memory.specs.Troubles.{IsWithin, TroublesState}
 use Rattle.host_trait.specs.Change.{finished}
 
 pub returns-in_err-admit-clause-moments : goal.returns-in_err-admit-clause-moments
@@ -19,7 +22,7 @@ returns-in_err-make-in-None-clause-moments c =
 
 pub returns-in_ok-make-in-None-clause-ok : goal.returns-in_ok-make-in-None-clause-ok
 returns-in_ok-make-in-None-clause-ok c =
-    becomes c.args.self.now.history c.make.new.self c.args.self.now.troubles c.admit.new.self (finished (change_of c.args.call)) c.in_ok-make-in-None.ensures.ok.world
+    becomes c.args.self.now.history c.make.new.self c.args.self.now.troubles c.finish.new.self (finished (change_of c.args.call)) c.in_ok-make-in-None.ensures.ok.world
 
 pub returns-in_ok-make-in-None-clause-moments : goal.returns-in_ok-make-in-None-clause-moments
 returns-in_ok-make-in-None-clause-moments c = c.in_ok-make-in-None.ensures.ok.moments.passes _ _ _ _ _ _
@@ -51,14 +54,15 @@ invariant_of-self-in-Some c = record {
 pub returns-in_ok-make-in-None-clause-does : goal.returns-in_ok-make-in-None-clause-does
 returns-in_ok-make-in-None-clause-does c =
     admitted_does _ _ (change_of c.args.call) c.admit.new.self c.clock.result c.in_ok-admit.ensures.answer c.in_ok-admit.ensures.new (sym c.in-None.ensures)
-    c.clock.ensures c.in_ok-make-in-None.ensures.ok.world c.in_ok-make-in-None.ensures.ok.clock refl
+    c.clock.ensures c.in_ok-make-in-None.ensures.ok.world c.in_ok-make-in-None.ensures.ok.clock c.finish.ensures
 
 pub invariant_of-self-in-None : goal.invariant_of-self-in-None
 invariant_of-self-in-None c = record {
   within =
-      within_admitted c.args.self.now.troubles c.admit.new.self c.clock.result _ _ c.args.self.now.within c.clock.ensures
+      subst (λ (cut : Option ArmedCut). ForSome cut (λ one. IsWithin one (length c.make.new.self.calls.items))) (sym (ap (λ (t : TroublesState). t.cut) c.finish.ensures))
+      (within_admitted c.args.self.now.troubles c.admit.new.self c.clock.result _ _ c.args.self.now.within c.clock.ensures
       c.in_ok-admit.ensures.answer c.in_ok-admit.ensures.new (sym c.in-None.ensures)
-      (one_at_most c.args.self.now.history c.make.new.self (change_of c.args.call) _ _ c.make.ensures.ok c.make.ensures.err);
+      (one_at_most c.args.self.now.history c.make.new.self (change_of c.args.call) _ _ c.make.ensures.ok c.make.ensures.err));
 }
 
 pub returns-in_err-make-in-None-clause-does : goal.returns-in_err-make-in-None-clause-does
@@ -84,7 +88,8 @@ pub returns-in_err-cut_call-in-Some-clause-ok : goal.returns-in_err-cut_call-in-
 returns-in_err-cut_call-in-Some-clause-ok c = no_answer _ _ c.from_residual-in_err-cut_call-in-Some.ensures.1
 
 pub returns-in_ok-make-in-None-clause-cause : goal.returns-in_ok-make-in-None-clause-cause
-returns-in_ok-make-in-None-clause-cause c = done_cause c.args.self.now.history c.make.new.self c.args.self.now.troubles c.admit.new.self _ c.in_ok-admit.ensures.new
+returns-in_ok-make-in-None-clause-cause c =
+    changed_cause c.args.self.now.history c.make.new.self c.args.self.now.troubles c.admit.new.self c.finish.new.self _ c.in_ok-admit.ensures.new c.finish.ensures
 
 pub due-requires : goal.due-requires
 due-requires c = begun_at c.args.self.now.troubles c.admit.new.self c.clock.result _ c.args.self.now.within c.clock.ensures c.in_ok-admit.ensures.new
