@@ -9,15 +9,15 @@
 # program waits in a call, and has calls fail: interrupted ones, a move to another file system, and want of memory
 # from some call on.
 #
-# For each root it prints whether the status is the wanted one, whether the run ended within ten
-# seconds, and whether all that lies outside the root stayed as it was and unopened. It ends with 1
-# where one row differs. It is no part of the gate.
+# For each root it prints whether the status is the wanted one, whether a fault of the host names its place and its cause,
+# whether the run ended within ten seconds, and whether all that lies outside the root stayed as it was and unopened. It
+# ends with 1 where one row differs. It is no part of the gate.
 . "$(dirname "$0")/common.sh"
 find_program "$@"
 failed=0
 trace=
 if strace -o "$work/opened" true 2>"$work/stderr"; then
-    trace="strace -f -y -e trace=open,openat,openat2,creat,getdents64,rename,write -o $work/opened"
+    trace="strace -f -y -e trace=open,openat,openat2,creat,getdents64,rename,write,fdatasync,fsync -o $work/opened"
 else
     echo "strace isn't there or may not trace: what is opened isn't looked at"
 fi
@@ -39,7 +39,9 @@ outside() {
 
 command=boot
 inject=
+place=$work/root
 output=$work/stdout
+link="a link or a special file"
 
 # judge NAME VERDICT: prints a row, and ends well where it is ok.
 judge() {
@@ -48,25 +50,27 @@ judge() {
     [ "$2" = ok ]
 }
 
-# run NAME STATUS [ROOT]: makes the command with the system in the root and judges the row.
+# run NAME STATUS [FAULT]: makes the command with the system in the root and judges the row. A fault of the host has this
+# pattern as its second line.
 run() {
     before=$(outside)
     : >"$work/opened"
     # shellcheck disable=SC2086
-    timeout 10 $trace $inject "$program" "${3-$work/root}" "$command" nix/store/a-sys >"$output" 2>"$work/stderr"
+    timeout 10 $trace $inject "$program" "$place" "$command" nix/store/a-sys >"$output" 2>"$work/stderr"
     status=$?
     verdict=ok
     [ "$status" = "$2" ] || verdict="status $status, not $2"
+    [ "$status" != 3 ] || [[ "$(cat "$work/stderr")" == "fault: host"$'\n'${3-} ]] || verdict="said: $(tail -n 1 "$work/stderr")"
     [ "$status" != 124 ] || verdict="did not end"
     [ "$before" = "$(outside)" ] || verdict="changed what lies outside"
     ! grep -F "<$work/outside" "$work/opened" | grep -qE '(open|creat|getdents)' || verdict="opened what lies outside"
     judge "$1" "$verdict"
 }
 
-# run_with INJECTION NAME STATUS: the same as strace has these calls end.
+# run_with INJECTION NAME STATUS [FAULT]: the same as strace has these calls end.
 run_with() {
     inject="-e inject=$1"
-    run "$2" "$3"
+    run "$2" "$3" "${4-}"
     inject=
 }
 
@@ -88,63 +92,63 @@ run "the same root again" 0
 rm -rf "$work/root"
 run "no root" 2
 fresh
-run "an empty root text" 3 ""
+place= run "an empty root text" 3 "no root is named"
 fresh && rm -rf "$work/root" && ln -s "$work/nowhere" "$work/root"
 run "a root that is a link to nothing" 2
 fresh && rm -rf "$work/root" && echo text >"$work/root"
 run "a root that is a file" 2
 
 fresh && rm -rf "$tree" && ln -s "$work/outside/tree" "$tree"
-run "the tree is a link" 3
+run "the tree is a link" 3 "tree: $link"
 fresh && rm -rf "$tree/nix/store" && ln -s "$work/outside/tree/nix/store" "$tree/nix/store"
-run "a folder on the way to a read is a link" 3
+run "a folder on the way to a read is a link" 3 "nix/store: $link"
 fresh && ln -s "$work/outside/var" "$tree/nix/var"
-run "a folder on the way to the stage is a link" 3
+run "a folder on the way to the stage is a link" 3 "nix/var: $link"
 fresh && mkdir -p "$tree/nix/var/nix" && ln -s "$work/outside/var" "$profiles"
-run "the profiles' folder is a link" 3
+run "the profiles' folder is a link" 3 "nix/var/nix/profiles: $link"
 fresh && rm "$tree/nix/store/a-sys/nixos-version" && ln -s "$work/outside/file" "$tree/nix/store/a-sys/nixos-version"
-run "a leaf is a link" 3
+run "a leaf is a link" 3 "nix/store/a-sys/nixos-version: $link"
 fresh && mkdir -p "$profiles" && ln -s "$work/outside/file" "$profiles/system"
-run "the profile is a link of the file system" 3
+run "the profile is a link of the file system" 3 "nix/var/nix/profiles/system: $link"
 fresh && mkdir -p "$tree/nix/var" && ln -s "$work/outside/file" "$stage"
-run "the stage is a link" 3
+run "the stage is a link" 3 "nix/var/nixswitch.stage: $link"
 fresh && mkdir -p "$tree/nix/var" && ln -s "$work/outside/new" "$stage"
-run "the stage is a link to nothing" 3
+run "the stage is a link to nothing" 3 "nix/var/nixswitch.stage: $link"
 fresh && mkdir -p "$tree/nix/var" && ln "$work/outside/file" "$stage"
 run "the stage is a second name of a file outside" 0
 fresh && mkdir -p "$stage/a" && ln -s "$work/outside" "$stage/a/b"
-run "the stage is a folder with a link in it" 3
+run "the stage is a folder with a link in it" 3 "nix/var/nixswitch.stage/a/b: $link"
 fresh && mkdir -p "$stage/a/b"
 run "the stage is an empty folder" 0
 
 fresh && rm "$tree/nix/store/a-sys/nixos-version" && mkfifo "$tree/nix/store/a-sys/nixos-version"
-run "a leaf is a pipe" 3
+run "a leaf is a pipe" 3 "nix/store/a-sys/nixos-version: $link"
 fresh && mkdir -p "$profiles" && mkfifo "$profiles/pipe"
-run "a pipe among the profiles" 3
+run "a pipe among the profiles" 3 "nix/var/nix/profiles/pipe: $link"
 fresh && mkdir -p "$tree/nix/var" && mkfifo "$stage"
-run "the stage is a pipe" 3
+run "the stage is a pipe" 3 "nix/var/nixswitch.stage: $link"
 fresh && mkfifo "$tree/nix/var"
-run "a pipe on the way to the stage" 3
+run "a pipe on the way to the stage" 3 "nix/var: $link"
 
 fresh && echo junk >"$tree/nix/store/a-sys/nixos-version"
-run "a text that is no node" 3
+run "a text that is no node" 3 "nix/store/a-sys/nixos-version: not a node file"
 fresh && : >"$tree/nix/store/a-sys/nixos-version"
-run "an empty node" 3
+run "an empty node" 3 "nix/store/a-sys/nixos-version: not a node file"
 fresh && printf 'L /nix/store/../../../../outside/file\n' >"$tree/nix/store/a-sys/nixos-version"
 run "a link of the tree that leads out of it" 2
 fresh && : >"$tree/nix/store/a-sys/nixos-version" && truncate -s 20G "$tree/nix/store/a-sys/nixos-version"
-run "twenty gigabytes that are no node" 3
+run "twenty gigabytes that are no node" 3 "nix/store/a-sys/nixos-version: not a node file"
 fresh && mkdir -p "$profiles" && touch "$profiles/$(printf 'a\377')"
-run "a name that is no UTF-8" 3
+run "a name that is no UTF-8" 3 "nix/var/nix/profiles: holds a name that isn't UTF-8"
 fresh && mkdir -p "$profiles" && touch "$profiles/$(printf 'a\nb')"
-run "a name with a line feed" 3
+run "a name with a line feed" 3 "nix/var/nix/profiles/a?b: not a name of a path"
 
 fresh && mkdir -p "$profiles/system/a/b" "$profiles/system/c"
 run "empty folders where the profile is to stand" 0
 fresh && mkdir -p "$profiles/system/$(printf 'a/%.0s' $(seq 1000))"
 run "folders a thousand deep where the profile is to stand" 0
 fresh && mkdir -p "$profiles/system/$(printf 'aaaa/%.0s' $(seq 2000))"
-run "folders deeper than a path may be" 3
+run "folders deeper than a path may be" 3 "nix/var/nix/profiles/system/aaaa/*/aaaa: a name or a path that is too long"
 fresh && mkdir -p "$profiles/system/a" && printf 'L x\n' >"$profiles/system/a/leaf"
 run "a folder with a leaf where the profile is to stand" 2
 fresh && printf 'L x\n' >"$tree/nix/var"
@@ -152,56 +156,56 @@ run "a leaf where a folder is to stand" 2
 
 menu=$tree/boot/loader
 fresh && ln -s "$work/outside/var" "$tree/boot"
-run "a folder on the way to the boot menu is a link" 3
+run "a folder on the way to the boot menu is a link" 3 "boot: $link"
 fresh && mkdir -p "$menu" && ln -s "$work/outside/var" "$menu/entries"
-run "the folder of the entries is a link" 3
+run "the folder of the entries is a link" 3 "boot/loader/entries: $link"
 fresh && mkdir -p "$menu/entries" && ln -s "$work/outside/file" "$menu/entries/nixos-generation-1.conf"
-run "an entry is a link of the file system" 3
+run "an entry is a link of the file system" 3 "boot/loader/entries/nixos-generation-1.conf: $link"
 fresh && mkdir -p "$menu/entries" && ln "$work/outside/file" "$menu/entries/nixos-generation-1.conf"
-run "an entry is a second name of a file outside" 3
+run "an entry is a second name of a file outside" 3 "boot/loader/entries/nixos-generation-1.conf: not a node file"
 fresh && mkdir -p "$menu/entries" && ln -s "$work/outside/file" "$menu/entries/nixos-generation-7.conf"
-run "an entry that goes is a link of the file system" 3
+run "an entry that goes is a link of the file system" 3 "boot/loader/entries/nixos-generation-7.conf: $link"
 fresh && mkdir -p "$menu/entries" && mkfifo "$menu/entries/pipe"
-run "a pipe among the entries" 3
+run "a pipe among the entries" 3 "boot/loader/entries/pipe: $link"
 fresh && mkdir -p "$menu/entries" && touch "$menu/entries/$(printf 'a\377')"
-run "an entry whose name is no UTF-8" 3
+run "an entry whose name is no UTF-8" 3 "boot/loader/entries: holds a name that isn't UTF-8"
 fresh && mkdir -p "$menu/entries" && echo junk >"$menu/entries/nixos-generation-7.conf"
 run "an entry that goes is no node" 0
 fresh && mkdir -p "$menu" && ln -s "$work/outside/file" "$menu/loader.conf"
-run "what the boot loader reads first is a link" 3
+run "what the boot loader reads first is a link" 3 "boot/loader/loader.conf: $link"
 fresh && mkdir -p "$menu/loader.conf/a/b"
 run "empty folders where the boot loader reads first" 0
 fresh && mkdir -p "$menu/entries/nixos-generation-1.conf" && printf 'L x\n' >"$menu/entries/nixos-generation-1.conf/leaf"
 run "a folder with a leaf where an entry is to stand" 2
 fresh && ln -s "$work/outside/file" "$tree/nix/store/a-sys/kernel-params"
-run "the kernel's parameters are a link of the file system" 3
+run "the kernel's parameters are a link of the file system" 3 "nix/store/a-sys/kernel-params: $link"
 fresh && printf 'L /nix/store/../../../../outside/file\n' >"$tree/nix/store/a-sys/kernel-params"
 run "the kernel's parameters lead out of the tree" 0
 fresh && truncate -s 20G "$tree/nix/store/a-sys/kernel-params"
-run "twenty gigabytes of the kernel's parameters" 3
+run "twenty gigabytes of the kernel's parameters" 3 "nix/store/a-sys/kernel-params: not a node file"
 
 command=dry-activate
 units=$tree/nix/store/a-sys/etc/systemd/system
 fresh
 run "a dry run of a plain root" 0
 fresh && ln -s "$work/outside/file" "$work/root/manager"
-run "the manager's file is a link" 3
+run "the manager's file is a link" 3 "manager: $link"
 fresh && mkdir "$work/root/manager"
-run "the manager's file is a folder" 3
+run "the manager's file is a folder" 3 "manager: a folder"
 fresh && mkfifo "$work/root/manager"
-run "the manager's file is a pipe" 3
+run "the manager's file is a pipe" 3 "manager: $link"
 fresh && echo junk >"$work/root/manager"
-run "the manager's file is no state" 3
+run "the manager's file is no state" 3 "manager: not a manager's state"
 fresh && truncate -s 20G "$work/root/manager"
-run "the manager's file has twenty gigabytes" 3
+run "the manager's file has twenty gigabytes" 3 "manager: not a manager's state"
 fresh && ln -s "$work/outside/file" "$work/root/manager.new"
 run "a link where the next state is written" 0
 fresh && mkdir -p "$tree/nix/store/a-sys/etc" && ln -s "$work/outside" "$tree/nix/store/a-sys/etc/systemd"
-run "a folder on the way to the units is a link" 3
+run "a folder on the way to the units is a link" 3 "nix/store/a-sys/etc/systemd: $link"
 fresh && mkdir -p "$units" && ln -s "$work/outside/file" "$units/a.service"
-run "a unit file is a link of the file system" 3
+run "a unit file is a link of the file system" 3 "nix/store/a-sys/etc/systemd/system/a.service: $link"
 fresh && mkdir -p "$units" && mkfifo "$units/a.service"
-run "a unit file is a pipe" 3
+run "a unit file is a pipe" 3 "nix/store/a-sys/etc/systemd/system/a.service: $link"
 fresh && mkdir -p "$units" && printf 'L /nix/store/../../../../outside/file\n' >"$units/a.service"
 run "a unit that leads out of the tree" 0
 fresh && mkdir -p "$units" && printf 'F 0644 0 0\nA=1\n' >"$units/a.service"
@@ -215,13 +219,13 @@ fresh
 run "a switch on a plain root" 0
 run "the same switch again" 0
 fresh && ln -s "$work/outside/var" "$tree/etc"
-run "a folder on the way to the definitions is a link" 3
+run "a folder on the way to the definitions is a link" 3 "etc: $link"
 fresh && ln -s "$work/outside/var" "$tree/run"
-run "a folder on the way to the lists is a link" 3
+run "a folder on the way to the lists is a link" 3 "run: $link"
 fresh && mkdir -p "$tree/etc" && ln -s "$work/outside/file" "$tree/etc/static"
-run "the definitions are a link of the file system" 3
+run "the definitions are a link of the file system" 3 "etc/static: $link"
 fresh && mkdir -p "$lists" && mkfifo "$lists/start-list"
-run "a list is a pipe" 3
+run "a list is a pipe" 3 "run/nixos/start-list: $link"
 fresh && mkdir -p "$lists" && printf 'L ../../outside/file\n' >"$lists/start-list"
 run "a list that leads out of the tree" 2
 fresh && mkdir -p "$lists/restart-list/a/b"
@@ -233,25 +237,25 @@ run "the manager's next state is a link" 0
 fresh && mkfifo "$work/root/manager.new"
 run "the manager's next state is a pipe" 0
 fresh && mkdir -p "$work/root/manager.new/a"
-run "the manager's next state is a folder" 3
+run "the manager's next state is a folder" 3 "manager.new: a folder"
 
 system=$tree/nix/store/a-sys
 fresh && mkdir -p "$tree/etc" && ln -s "$work/outside/file" "$tree/etc/passwd"
-run "an account table is a link of the file system" 3
+run "an account table is a link of the file system" 3 "etc/passwd: $link"
 fresh && mkdir -p "$tree/etc" && mkfifo "$tree/etc/shadow"
-run "an account table is a pipe" 3
+run "an account table is a pipe" 3 "etc/shadow: $link"
 fresh && mkdir -p "$tree/etc" && printf 'L /nix/store/../../../../outside/file\n' >"$tree/etc/group"
 run "an account table that leads out of the tree" 2
 fresh && ln -s "$work/outside/file" "$system/users-groups.json"
-run "the declared accounts are a link of the file system" 3
+run "the declared accounts are a link of the file system" 3 "nix/store/a-sys/users-groups.json: $link"
 fresh && truncate -s 20G "$system/users-groups.json"
-run "twenty gigabytes of declared accounts" 3
+run "twenty gigabytes of declared accounts" 3 "nix/store/a-sys/users-groups.json: not a node file"
 fresh && mkdir -p "$tree/var/lib" && ln -s "$work/outside" "$tree/var/lib/nixos"
-run "a folder on the way to the ids is a link" 3
+run "a folder on the way to the ids is a link" 3 "var/lib/nixos: $link"
 fresh && mkdir -p "$system/etc/app" "$tree/etc" && printf 'F 0644 0 0\n' >"$system/etc/app/a" && ln -s "$work/outside" "$tree/etc/app"
-run "a folder on the way to an entry of /etc is a link" 3
+run "a folder on the way to an entry of /etc is a link" 3 "etc/app: $link"
 fresh && mkdir -p "$system/etc" "$tree/etc" && printf 'F 0644 0 0\n' >"$system/etc/a" && ln -s "$work/outside/file" "$tree/etc/a"
-run "an entry of /etc is a link of the file system" 3
+run "an entry of /etc is a link of the file system" 3 "etc/a: $link"
 fresh && mkdir -p "$system/etc" "$tree/etc/a/b" && printf 'F 0644 0 0\n' >"$system/etc/a"
 run "empty folders where an entry of /etc is to stand" 0
 fresh && mkdir -p "$system/etc" && printf 'L /nix/store/../../../../outside/file\n' >"$system/etc/a" && printf 'F 0644 0 0\n0644\n' >"$system/etc/a.mode"
@@ -268,7 +272,7 @@ run "the same state again" 0
 fresh && mkdir -p "$lists" && { printf 'F 0644 0 0\n' && long x; } >"$lists/start-list"
 run "a list of seventy megabytes" 0
 fresh && { printf 'loaded \n' && long x; } >"$work/root/manager"
-run "seventy megabytes that are no manager's state" 3
+run "seventy megabytes that are no manager's state" 3 "manager: not a manager's state"
 # How much address space a program may take, in KiB.
 space=$((2 * 1024 * 1024))
 short_of_memory() {
@@ -293,8 +297,7 @@ fi
 if [ -n "$(type -P flock)" ]; then
     fresh
     exec 9<"$work/root" && flock 9
-    run "a root in which another run goes on" 3
-    [ "$(cat "$work/stderr")" = "fault: host" ] || judge "what it says" "$(cat "$work/stderr")"
+    run "a root in which another run goes on" 3 "another run goes on here"
     command=none
     run "words without a command there" 1
     command=test
@@ -318,31 +321,54 @@ swap() {
     mv "$1" "$work/root/away" && ln -s "$2" "$1"
 }
 
-# run_swapped NAME STATUS PLACE FOLDER: makes a boot in whose first move the program waits, while a folder is swapped.
+# run_swapped NAME STATUS PLACE FOLDER FAULT: makes a boot in whose first move the program waits, while a folder is swapped.
 run_swapped() {
     (await test -e "$profiles/system-1-link" && swap "$3" "$4") &
-    run_with rename:delay_exit=1500000:when=1 "$1" "$2"
+    run_with rename:delay_exit=1500000:when=1 "$1" "$2" "$5"
     wait $!
 }
 
 if [ -n "$trace" ]; then
     command=boot
     fresh
-    run_swapped "the profiles' folder becomes a link while it is written in" 3 "$profiles" "$work/outside/var/nix/profiles"
+    run_swapped "the profiles' folder becomes a link while it is written in" 3 "$profiles" "$work/outside/var/nix/profiles" "nix/var/nix/profiles: $link"
     fresh
-    run_swapped "the folder above it becomes a link" 3 "$tree/nix/var/nix" "$work/outside/var/nix"
+    run_swapped "the folder above it becomes a link" 3 "$tree/nix/var/nix" "$work/outside/var/nix" "nix/var/nix/profiles: another folder than before"
     fresh
-    run_swapped "the stage's folder becomes a link" 3 "$tree/nix/var" "$work/outside/var"
+    run_swapped "the stage's folder becomes a link" 3 "$tree/nix/var" "$work/outside/var" "nix/var: $link"
     fresh && mkdir -p "$work/outside/tree/nix/var/nix/profiles"
-    run_swapped "a folder above all that is written becomes a link" 3 "$tree/nix" "$work/outside/tree/nix"
+    run_swapped "a folder above all that is written becomes a link" 3 "$tree/nix" "$work/outside/tree/nix" "nix/var: another folder than before"
     fresh
-    run_with rename:error=EXDEV:when=1 "a place on another file system" 3
+    run_with rename:error=EXDEV:when=1 "a place on another file system" 3 "nix/var/nix/profiles/system-1-link: on another file system"
     run "the same place when it is on the same one" 0
+    fresh
+    run_with write:error=ENOSPC:when=2 "no space for the first file" 3 "nix/var/nixswitch.stage: no space left"
+    fresh
+    run_with fdatasync:error=ENOSPC:when=2 "no space as the second file is synced" 3 "nix/var/nixswitch.stage: no space left"
+    if [ -e "$profiles/system-1-link" ] && [ ! -e "$profiles/system" ]; then
+        judge "that file doesn't take its place" ok
+    else
+        judge "that file doesn't take its place" "it does"
+    fi
+    run "the same root when there is space" 0
+    grep -q '^[0-9 ]*fdatasync' "$work/opened" || judge "what it syncs" "nothing"
+    fresh
+    NIXOS_NO_SYNC=1 run "a plain root without syncs" 0
+    ! grep 'sync(' "$work/opened" || judge "what it syncs then" "something"
+
+    # A folder that planning has looked at is swapped once the report is out, and what is below it wasn't there yet.
+    command=test
+    fresh && mkdir -p "$units" "$tree/etc/systemd" "$work/outside/systemd/system"
+    printf 'F 0644 0 0\n' | tee "$units/a.service" >"$tree/etc/systemd/other"
+    : >"$output"
+    (await test -s "$output" && swap "$tree/etc/systemd" "$work/outside/systemd") &
+    run_with write:delay_exit=1500000:when=1 "a folder above the one that is written to becomes a link" 3 "etc/systemd: $link"
+    wait $!
 
     command=dry-activate
     fresh && mkdir -p "$units" && printf 'F 0644 0 0\n' >"$units/a.service"
     (await grep -q 'getdents64.*system>' "$work/opened" && rm "$units/a.service" && mkfifo "$units/a.service") &
-    run_with getdents64:delay_enter=200000 "a unit file becomes a pipe once its folder was opened" 3
+    run_with getdents64:delay_enter=200000 "a unit file becomes a pipe once its folder was opened" 3 "nix/store/a-sys/etc/systemd/system/a.service: $link"
     wait $!
 
     command=test
@@ -379,9 +405,9 @@ fi
 
 if [ "$(id -u)" != 0 ]; then
     fresh && chmod 000 "$tree/nix/store/a-sys/nixos-version"
-    run "a leaf without leave to read" 3
+    run "a leaf without leave to read" 3 "nix/store/a-sys/nixos-version: no permission"
     fresh && chmod 555 "$tree/nix"
-    run "a folder without leave to write" 3
+    run "a folder without leave to write" 3 "nix/var: no permission"
 else
     echo "run as root: the rows on permissions are left out"
 fi

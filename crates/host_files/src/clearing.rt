@@ -15,7 +15,7 @@ impl Entries for Listed<Text> {
         entry: &DirEntry<R>,
     ) -> io::Result<()> {
         let Found::Folder(_) = kind_of_entry(entry)? else {
-            return Err(foreign());
+            return Err(foreign("stands in a folder that has to go"));
         };
         Ok(self.push(Text::from_str(alloc, entry.path().as_str())?)?)
     }

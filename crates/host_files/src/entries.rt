@@ -1,4 +1,5 @@
 //! The entries of a folder, one after the other.
+use crate::place::{foreign, look};
 use std::alloc::Global;
 use std::fs::{DirEntry, ReadDir};
 use std::io::ErrorKind;
@@ -15,15 +16,26 @@ pub trait Entries {
     ) -> io::Result<()>;
 }
 
+/// The error of an entry that couldn't be read. The folder is looked at once more, as it is the place of the error.
+fn unread(rt: &impl Files, folder: &str, error: io::Error) -> io::Error {
+    match (look(rt, folder), error.kind()) {
+        (Err(other), _) => other,
+        (Ok(_), ErrorKind::InvalidFilename) => foreign("holds a name that isn't UTF-8"),
+        _ => error,
+    }
+}
+
 /// Adds the entry that was read next, if it could be read.
-fn push_next<R: Files + AllocGlobal + Drop, E: Entries>(
+fn push_next<R: Files + AllocGlobal + Clone + Drop, E: Entries>(
+    rt: &R,
     alloc: Global,
     entries: &mut E,
+    folder: &str,
     entry: io::Result<DirEntry<R>>,
 ) -> io::Result<()> {
     match entry {
         Ok(entry) => entries.push_entry(alloc, &entry),
-        Err(error) => Err(error),
+        Err(error) => Err(unread(rt, folder, error)),
     }
 }
 
@@ -49,7 +61,7 @@ pub fn push_entries<R: Files + AllocGlobal + Clone + Drop, E: Entries>(
     folder: &str,
 ) -> io::Result<()> {
     for entry in open_folder(rt, folder)? {
-        push_next(alloc, entries, entry)?;
+        push_next(rt, alloc, entries, folder, entry)?;
     }
     Ok(())
 }

@@ -6,6 +6,7 @@
 //! from being read from a file or written, is tried again.
 #![tactic(auto)]
 
+mod cause;
 mod clearing;
 mod entries;
 mod manager_file;
@@ -13,11 +14,16 @@ mod new_mode;
 mod node_file;
 mod out_sink;
 mod place;
+mod syncing;
+mod watched;
 
+pub use cause::cause_of;
 pub use clearing::clear_folder;
 pub use entries::{Entries, push_entries};
 pub use manager_file::ManagerFile;
 pub use new_mode::make_folder;
-pub use node_file::{read_leaf, write_new};
+pub use node_file::{append_bytes, read_leaf, write_new};
 pub use out_sink::OutSink;
 pub use place::{FolderId, Found, fault_of, foreign, kind_of_entry, look, place_in};
+pub use syncing::{Syncing, sync_folder};
+pub use watched::Watched;

@@ -3,6 +3,7 @@ ghost use Rattle.std.specs.Prelude.{◌≡◌, ◌++◌, codes, IfOk};
 
 use crate::node_file::{read_bytes, write_new};
 use crate::place::{Found, foreign, look, place_in};
+use crate::syncing::Syncing;
 use manager_core::{StateFault, WrittenState};
 use std::alloc::{AllocError, Global};
 use std::io::ErrorKind;
@@ -31,27 +32,38 @@ fn state_of(alloc: Global, bytes: Bytes) -> io::Result<WrittenState> {
     match WrittenState::read(alloc, bytes) {
         Ok(state) => Ok(state),
         Err(StateFault::Memory) => Err(io::Error::from(AllocError)),
-        Err(StateFault::Line(_)) => Err(foreign()),
+        Err(StateFault::Line(_)) => Err(no_state()),
     }
 }
 
+/// The error at a text that is no manager's state.
+fn no_state() -> io::Error {
+    foreign("not a manager's state")
+}
+
 /// Writes a new file in the place of one that a cut run has left.
-fn write_anew<R: Files>(rt: &R, place: &str, bytes: &[u8]) -> io::Result<()> {
-    match write_new(rt, place, bytes) {
+fn write_anew<R: Files>(rt: &R, place: &str, bytes: &[u8], syncing: Syncing) -> io::Result<()> {
+    match write_new(rt, place, bytes, syncing) {
         Err(error) if error.kind() == ErrorKind::AlreadyExists => {
             fs::remove_file(rt, place)?;
-            write_new(rt, place, bytes)
+            write_new(rt, place, bytes, syncing)
         }
         answer => answer,
     }
 }
 
 /// Writes a new file in a root, which is made where it is missing.
-fn write_in<R: Files>(rt: &R, root: &str, place: &str, bytes: &[u8]) -> io::Result<()> {
-    match write_anew(rt, place, bytes) {
+fn write_in<R: Files>(
+    rt: &R,
+    root: &str,
+    place: &str,
+    bytes: &[u8],
+    syncing: Syncing,
+) -> io::Result<()> {
+    match write_anew(rt, place, bytes, syncing) {
         Err(error) if error.kind() == ErrorKind::NotFound => {
             fs::create_dir_all(rt, root)?;
-            write_anew(rt, place, bytes)
+            write_anew(rt, place, bytes, syncing)
         }
         answer => answer,
     }
@@ -74,15 +86,24 @@ impl ManagerFile {
         let place = self.place.as_str();
         match look(rt, place)? {
             Found::Nothing => Ok(WrittenState::new(alloc)?),
-            Found::File(len) => state_of(alloc, read_bytes(rt, alloc, place, len, &STATE_MARKS)?),
-            Found::Folder(_) => Err(foreign()),
+            Found::File(len) => match read_bytes(rt, alloc, place, len, &STATE_MARKS)? {
+                Some(bytes) => state_of(alloc, bytes),
+                None => Err(no_state()),
+            },
+            Found::Folder(_) => Err(foreign("a folder")),
         }
     }
 
     /// Replaces the manager's state in a root, in one step.
-    pub fn write<R: Files>(&self, rt: &R, root: &str, state: &WrittenState) -> io::Result<()> {
+    pub fn write<R: Files>(
+        &self,
+        rt: &R,
+        root: &str,
+        state: &WrittenState,
+        syncing: Syncing,
+    ) -> io::Result<()> {
         let draft = self.draft.as_str();
-        write_in(rt, root, draft, state.text())?;
+        write_in(rt, root, draft, state.text(), syncing)?;
         fs::rename(rt, draft, self.place.as_str())
     }
 }

@@ -1,4 +1,5 @@
 //! What a new file or folder lets its owner do.
+use crate::place::{FolderId, folder_id};
 use std::fs::{Metadata, Permissions};
 use std::os::unix::fs::{MetadataExt, PermissionsExt};
 use std::rt::Files;
@@ -16,12 +17,13 @@ pub fn wider_mode(metadata: &Metadata, owner: u32) -> Option<Permissions> {
     Some(Permissions::from_mode(mode | owner))
 }
 
-/// Makes a folder, in which its owner can do everything.
-pub fn make_folder<R: Files>(rt: &R, place: &str) -> io::Result<()> {
+/// Makes a folder, in which its owner can do everything, and says which one it is.
+pub fn make_folder<R: Files>(rt: &R, place: &str) -> io::Result<FolderId> {
     fs::create_dir(rt, place)?;
     let metadata = fs::symlink_metadata(rt, place)?;
-    match wider_mode(&metadata, 0o700) {
-        Some(wider) => fs::set_permissions(rt, place, wider),
-        None => Ok(()),
+    let id = folder_id(&metadata)?;
+    if let Some(wider) = wider_mode(&metadata, 0o700) {
+        fs::set_permissions(rt, place, wider)?;
     }
+    Ok(id)
 }

@@ -1,6 +1,7 @@
 //! Files that hold one node each.
 use crate::new_mode::wider_mode;
 use crate::place::foreign;
+use crate::syncing::Syncing;
 use host_trait::Leaf;
 use node_text::{NodeFault, read_node};
 use std::alloc::{AllocError, Global};
@@ -51,18 +52,19 @@ fn begins_with<F: Read + Seek>(file: &mut F, marks: &[&str]) -> io::Result<bool>
     Ok(has_mark(&head, marks))
 }
 
-/// The bytes of a regular file, as many as memory takes. `look` tells how many there are, and that no symbolic
-/// link and no special file stands there: what takes the file's place since then is followed, or waited for.
+/// The bytes of a regular file, as many as memory takes. There are none where a long file doesn't begin as one that a
+/// host writes. `look` tells how many there are, and that no symbolic link and no special file stands there: what takes
+/// the file's place since then is followed, or waited for.
 pub fn read_bytes<R: Files>(
     rt: &R,
     alloc: Global,
     place: &str,
     len: u64,
     marks: &[&str],
-) -> io::Result<Bytes> {
+) -> io::Result<Option<Bytes>> {
     let mut file = fs::open(rt, place)?;
     if len > LONG && !begins_with(&mut file, marks)? {
-        return Err(foreign());
+        return Ok(None);
     }
     let Ok(len) = usize::try_from(len) else {
         return Err(io::Error::from(AllocError));
@@ -70,22 +72,34 @@ pub fn read_bytes<R: Files>(
     let mut bytes = vec![in alloc; 0u8; len]?;
     let filled = fill(&mut file, bytes.as_mut_slice())?;
     bytes.truncate(filled);
-    Ok(Bytes::from_vec(bytes))
+    Ok(Some(Bytes::from_vec(bytes)))
+}
+
+/// The leaf that these bytes are the text of. Any other bytes are foreign.
+fn leaf_of(alloc: Global, bytes: &Bytes) -> io::Result<Leaf> {
+    match read_node(alloc, bytes.as_slice()) {
+        Ok(leaf) => Ok(leaf),
+        Err(NodeFault::Memory) => Err(io::Error::from(AllocError)),
+        Err(_) => Err(no_node()),
+    }
+}
+
+/// The error at a text that is no node.
+fn no_node() -> io::Error {
+    foreign("not a node file")
 }
 
 /// The leaf in a regular file of this many bytes, as `look` finds it.
 pub fn read_leaf<R: Files>(rt: &R, alloc: Global, place: &str, len: u64) -> io::Result<Leaf> {
-    let bytes = read_bytes(rt, alloc, place, len, &NODE_MARKS)?;
-    match read_node(alloc, bytes.as_slice()) {
-        Ok(leaf) => Ok(leaf),
-        Err(NodeFault::Memory) => Err(io::Error::from(AllocError)),
-        Err(_) => Err(foreign()),
+    match read_bytes(rt, alloc, place, len, &NODE_MARKS)? {
+        Some(bytes) => leaf_of(alloc, &bytes),
+        None => Err(no_node()),
     }
 }
 
-/// Writes a new file, which its owner can read and write. It fails where anything stands there, a symbolic
-/// link too.
-pub fn write_new<R: Files>(rt: &R, place: &str, bytes: &[u8]) -> io::Result<()> {
+/// Writes a new file, which its owner can read and write, and syncs it. It fails where anything stands there, a
+/// symbolic link too.
+pub fn write_new<R: Files>(rt: &R, place: &str, bytes: &[u8], syncing: Syncing) -> io::Result<()> {
     let mut file = OpenOptions::new()
         .write(true)
         .create_new(true)
@@ -94,5 +108,19 @@ pub fn write_new<R: Files>(rt: &R, place: &str, bytes: &[u8]) -> io::Result<()> 
     if let Some(wider) = wider_mode(&metadata, 0o600) {
         file.set_permissions(wider)?;
     }
-    file.write_all(bytes)
+    file.write_all(bytes)?;
+    syncing.sync_file(&file)
+}
+
+/// Appends bytes to a file, and syncs it. It fails where none stands there. What is read of `read_bytes` holds of what
+/// takes its place since `look`.
+pub fn append_bytes<R: Files>(
+    rt: &R,
+    place: &str,
+    bytes: &[u8],
+    syncing: Syncing,
+) -> io::Result<()> {
+    let mut file = OpenOptions::new().append(true).open(rt, place)?;
+    file.write_all(bytes)?;
+    syncing.sync_file(&file)
 }

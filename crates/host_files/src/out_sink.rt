@@ -1,4 +1,5 @@
 //! Standard output as a sink.
+ghost use Rattle.std.specs.Prelude.{◌≡◌, IfOk};
 
 use host_trait::{Sink, SinkFault};
 use std::alloc::AllocError;
@@ -38,7 +39,9 @@ fn write_all<R: Print + Clone + Drop>(rt: &R, bytes: &[u8]) -> bool {
 
 impl<R: Print + Clone + Drop> OutSink<R> {
     /// The standard output of a runtime.
-    pub fn new(rt: &R) -> Result<OutSink<R>, AllocError> {
+    pub fn new(rt: &R) -> Result<OutSink<R>, AllocError>
+        ensures faults { IfOk result (λ out. out.faults ≡ 0) }
+    {
         Ok(OutSink {
             rt: rt.clone()?,
             faults: 0,

@@ -46,9 +46,9 @@ pub fn place_in(alloc: Global, folder: &str, name: &str) -> Result<Text, AllocEr
     Ok(Text::from_string(place))
 }
 
-/// The error at what no host wrote: a link, a special file, a text that is no node.
-pub fn foreign() -> io::Error {
-    io::Error::from(ErrorKind::InvalidData)
+/// The error at what no host wrote, as a link, a special file or a text that is no node. These words say what it is.
+pub fn foreign(what: &str) -> io::Error {
+    io::Error::new(ErrorKind::InvalidData, what)
 }
 
 /// The fault of a call in which a file call has failed.
@@ -81,7 +81,15 @@ fn kind_of(metadata: &Metadata) -> io::Result<Found> {
     } else if metadata.is_file() {
         Ok(Found::File(metadata.len()))
     } else {
-        Err(foreign())
+        Err(foreign("a link or a special file"))
+    }
+}
+
+/// Which folder these metadata are of. Anything else is foreign.
+pub fn folder_id(metadata: &Metadata) -> io::Result<FolderId> {
+    match kind_of(metadata)? {
+        Found::Folder(id) => Ok(id),
+        _ => Err(foreign("not a folder")),
     }
 }
 

@@ -2,11 +2,14 @@
 ghost use Rattle.std.specs.Prelude.{◌≡◌, ◌++◌, ◌∷◌, codes, IfOk};
 ghost use Rattle.switch_names.specs.Path.{slash};
 
-use host_files::{FolderId, Found, clear_folder, foreign, look, make_folder, place_in};
+use crate::fault::Fault;
+use host_files::{
+    FolderId, Found, Syncing, clear_folder, foreign, look, make_folder, place_in, sync_folder,
+};
 use std::alloc::{AllocError, Global};
-use std::collections::BTreeMap;
+use std::collections::{BTreeMap, BTreeSet};
 use std::rt::Files;
-use std::{fs, io};
+use std::{fs, io, mem};
 use switch_names::{Path, Text};
 
 /// What becomes of a folder on the way that is missing.
@@ -18,14 +21,18 @@ pub enum Missing {
     IsMade,
 }
 
-/// The tree's folder, and the folders in it that were looked at and are no links, each with which one it is.
+/// The tree's folder, the folders in it that were looked at and are no links, each with which one it is, and those in
+/// which something was changed since the last sync, where they are synced.
 ///
 /// What stands in such a folder is read without another look at the way there. Before something changes in it,
-/// it is looked at again.
+/// it is looked at again. A folder is known only where the one that it is in was still the same once it was looked at:
+/// so all those above it were, as far as the tree's own.
 pub struct Folders {
     root: Text,
     tree: Text,
     known: BTreeMap<String, FolderId>,
+    changed: BTreeSet<String>,
+    syncing: Syncing,
 }
 
 /// One call: a derived drop is proved anew in each function that lets one go.
@@ -35,6 +42,8 @@ impl Drop for Folders {
             root: _,
             tree: _,
             known: _,
+            changed: _,
+            syncing: _,
         } = self;
     }
 }
@@ -49,16 +58,43 @@ impl Folders {
             root: Text::from_str(alloc, root)?,
             tree: place_in(alloc, root, "tree")?,
             known: BTreeMap::new(alloc),
+            changed: BTreeSet::new(alloc),
+            syncing: Syncing::On,
         })
+    }
+
+    /// Whether files and folders are synced.
+    pub fn syncing(&self) -> Syncing {
+        self.syncing
+    }
+
+    /// Says whether files and folders are synced from here on.
+    pub fn set_syncing(&mut self, syncing: Syncing) {
+        self.syncing = syncing;
     }
 
     /// The root, below which everything stands. An empty one is no folder.
     pub fn root(&self) -> io::Result<&str> {
         let root = self.root.as_str();
         if root.is_empty() {
-            return Err(foreign());
+            return Err(foreign("no root is named"));
         }
         Ok(root)
+    }
+
+    /// The line of a fault that came from a call on the tree or the root.
+    pub fn line_of(&self, alloc: Global, fault: &Fault) -> Result<Text, AllocError> {
+        fault.line(alloc, self.root.as_str(), self.tree.as_str())
+    }
+
+    /// The place of the tree's own folder, where it stands. An empty root is no folder.
+    pub fn own_place<R: Files>(&mut self, rt: &R, alloc: Global) -> io::Result<Option<Text>> {
+        self.root()?;
+        let place = self.tree.copy(alloc)?;
+        if self.has_folder(rt, alloc, place.as_str(), Missing::Stays)? {
+            return Ok(Some(place));
+        }
+        Ok(None)
     }
 
     /// The place of a path's leaf, below the tree's folder. An empty root is no folder.
@@ -144,25 +180,23 @@ impl Folders {
         let id = match look(rt, folder)? {
             Found::Folder(id) => id,
             _ if matches!(missing, Missing::Stays) => return Ok(false),
-            Found::Nothing => self.make(rt, folder)?,
-            Found::File(_) => return Err(foreign()),
+            Found::Nothing => self.make(rt, alloc, folder)?,
+            Found::File(_) => return Err(foreign("not a folder")),
         };
-        self.remember(alloc, folder, id)?;
+        self.remember(rt, alloc, folder, id)?;
         Ok(true)
     }
 
     /// Makes a folder of the tree, and the root before the tree's own, and says which one it is.
-    fn make<R: Files>(&self, rt: &R, folder: &str) -> io::Result<FolderId> {
+    fn make<R: Files>(&mut self, rt: &R, alloc: Global, folder: &str) -> io::Result<FolderId> {
         if folder == self.tree.as_str() {
             fs::create_dir_all(rt, self.root.as_str())?;
-        } else if let Some((parent, _)) = folder.rsplit_once('/') {
-            self.check_folder(rt, parent)?;
         }
-        make_folder(rt, folder)?;
-        match look(rt, folder)? {
-            Found::Folder(id) => Ok(id),
-            _ => Err(foreign()),
+        if let Some((above, _)) = folder.rsplit_once('/') {
+            self.note_change(alloc, above)?;
         }
+        self.check_above(rt, folder)?;
+        make_folder(rt, folder)
     }
 
     /// Looks once more at a folder that was looked at, by one system call. It is a fault where another one
@@ -170,22 +204,55 @@ impl Folders {
     fn check_folder<R: Files>(&self, rt: &R, folder: &str) -> io::Result<()> {
         match (self.known.get(folder), look(rt, folder)?) {
             (Some(known), Found::Folder(id)) if *known == id => Ok(()),
-            _ => Err(foreign()),
+            _ => Err(foreign("another folder than before")),
         }
+    }
+
+    /// Looks once more at the folder that one of the tree is in. What the tree's own is in isn't looked at.
+    fn check_above<R: Files>(&self, rt: &R, folder: &str) -> io::Result<()> {
+        match folder.rsplit_once('/') {
+            Some((above, _)) if folder != self.tree.as_str() => self.check_folder(rt, above),
+            _ => Ok(()),
+        }
+    }
+
+    /// Whether a folder of the tree stands, after another look at it.
+    fn stands<R: Files>(&mut self, rt: &R, alloc: Global, folder: &str) -> io::Result<bool> {
+        if self.known.contains_key(folder) {
+            self.check_folder(rt, folder)?;
+            return Ok(true);
+        }
+        if !self.lead_to(rt, alloc, folder, Missing::Stays)? {
+            return Ok(false);
+        }
+        self.has_folder(rt, alloc, folder, Missing::Stays)
     }
 
     /// Looks once more at the folder of a place, right before something changes in it.
     pub fn look_again<R: Files>(&mut self, rt: &R, alloc: Global, place: &str) -> io::Result<()> {
         let Some((folder, _)) = place.rsplit_once('/') else {
-            return Err(foreign());
+            return Err(foreign("in no folder"));
         };
-        if self.known.contains_key(folder) {
-            return self.check_folder(rt, folder);
-        }
-        if self.lead_to(rt, alloc, place, Missing::Stays)? {
+        self.note_change(alloc, folder)?;
+        if self.stands(rt, alloc, folder)? {
             return Ok(());
         }
-        Err(foreign())
+        Err(foreign("in a folder that isn't there"))
+    }
+
+    /// Notes that something is to change in a folder, for the next sync.
+    fn note_change(&mut self, alloc: Global, folder: &str) -> Result<(), AllocError> {
+        if !self.changed.contains(folder) {
+            self.changed.insert(String::from_str(alloc, folder)?)?;
+        }
+        Ok(())
+    }
+
+    /// The root, in which something is to change.
+    pub fn changing_root(&mut self, alloc: Global) -> io::Result<&str> {
+        let root = Text::from_str(alloc, self.root()?)?;
+        self.note_change(alloc, root.as_str())?;
+        self.root()
     }
 
     /// Removes a folder of the tree that holds nothing but empty ones. Each folder is then looked at anew.
@@ -200,14 +267,57 @@ impl Folders {
         clear_folder(rt, alloc, place)
     }
 
-    /// Notes which folder it is that was looked at.
-    pub fn remember(
+    /// Notes which folder it is that was looked at, where the one that it is in is still the same.
+    pub fn remember<R: Files>(
         &mut self,
+        rt: &R,
         alloc: Global,
         folder: &str,
         id: FolderId,
-    ) -> Result<(), AllocError> {
+    ) -> io::Result<()> {
+        self.check_above(rt, folder)?;
         self.known.insert(String::from_str(alloc, folder)?, id)?;
         Ok(())
+    }
+
+    /// Syncs a folder in which something was changed. One that was taken away since then has no names to keep.
+    fn sync_folder<R: Files>(&mut self, rt: &R, alloc: Global, folder: &str) -> io::Result<()> {
+        if folder != self.root.as_str() && !self.stands(rt, alloc, folder)? {
+            return Ok(());
+        }
+        sync_folder(rt, folder)
+    }
+
+    /// Syncs each of these folders.
+    fn sync_each<R: Files>(
+        &mut self,
+        rt: &R,
+        alloc: Global,
+        folders: &BTreeSet<String>,
+    ) -> io::Result<()> {
+        for folder in folders.iter() {
+            self.sync_folder(rt, alloc, folder.as_str())?;
+        }
+        Ok(())
+    }
+
+    /// Syncs each folder in which something was changed. Where one fails, all are still to be synced.
+    fn sync_changed<R: Files>(&mut self, rt: &R, alloc: Global) -> io::Result<()> {
+        let changed = mem::replace(&mut self.changed, BTreeSet::new(alloc));
+        let answer = self.sync_each(rt, alloc, &changed);
+        if answer.is_err() {
+            self.changed = changed;
+        }
+        answer
+    }
+
+    /// Syncs each folder in which something was changed since the last sync, where folders are synced. An empty root is
+    /// no folder.
+    pub fn sync<R: Files>(&mut self, rt: &R, alloc: Global) -> io::Result<()> {
+        self.root()?;
+        match self.syncing {
+            Syncing::On => self.sync_changed(rt, alloc),
+            Syncing::Off => Ok(()),
+        }
     }
 }

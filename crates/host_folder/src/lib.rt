@@ -9,6 +9,7 @@
 //! between that look and the change.
 #![tactic(auto)]
 
+mod fault;
 mod folders;
 mod host;
 mod listing;

@@ -1,4 +1,5 @@
 //! The service manager of a root, whose state is kept once it was read.
+ghost use Rattle.std.specs.Prelude.{◌≡◌, ◌++◌, codes, IfOk};
 
 use crate::folders::Folders;
 use host_files::ManagerFile;
@@ -7,7 +8,7 @@ use manager_core::WrittenState;
 use std::alloc::{AllocError, Global};
 use std::io;
 use std::rt::Files;
-use switch_names::UnitName;
+use switch_names::{Text, UnitName};
 
 /// The manager's state, where it is known: not before it is read, and not after a call that has failed.
 pub struct Service {
@@ -24,7 +25,9 @@ impl Drop for Service {
 
 impl Service {
     /// A manager below a root, of which nothing is known yet.
-    pub fn new(alloc: Global, root: &str) -> Result<Service, AllocError> {
+    pub fn new(alloc: Global, root: &str) -> Result<Service, AllocError>
+        ensures { IfOk result (λ service. service.file.place ≡ root.now ++ codes "/manager") }
+    {
         Ok(Service {
             file: ManagerFile::new(alloc, root)?,
             state: None,
@@ -40,8 +43,16 @@ impl Service {
     }
 
     /// Writes the state that a call has led to below the root of a tree. From here on it is known.
-    fn put<R: Files>(&mut self, rt: &R, root: &str, state: WrittenState) -> io::Result<()> {
-        self.file.write(rt, root, &state)?;
+    fn put<R: Files>(
+        &mut self,
+        rt: &R,
+        alloc: Global,
+        tree: &mut Folders,
+        state: WrittenState,
+    ) -> io::Result<()> {
+        let syncing = tree.syncing();
+        let root = tree.changing_root(alloc)?;
+        self.file.write(rt, root, &state, syncing)?;
         self.state = Some(state);
         Ok(())
     }
@@ -55,18 +66,27 @@ impl Service {
         Ok(states?)
     }
 
+    /// Where the definitions lie that the manager below the root of a tree has loaded.
+    pub fn loaded<R: Files>(&mut self, rt: &R, alloc: Global, tree: &Folders) -> io::Result<Text> {
+        tree.root()?;
+        let state = self.take(rt, alloc)?;
+        let loaded = state.state().loaded.copy(alloc);
+        self.state = Some(state);
+        Ok(loaded?)
+    }
+
     /// Does something to a unit below the root of a tree.
     pub fn perform<R: Files>(
         &mut self,
         rt: &R,
         alloc: Global,
-        tree: &Folders,
+        tree: &mut Folders,
         act: Act,
         unit: &UnitName,
     ) -> io::Result<()> {
-        let root = tree.root()?;
+        tree.root()?;
         let state = self.take(rt, alloc)?.act(alloc, act, unit)?;
-        self.put(rt, root, state)
+        self.put(rt, alloc, tree, state)
     }
 
     /// Loads the definitions to which a leaf leads, below the root of a tree.
@@ -74,12 +94,12 @@ impl Service {
         &mut self,
         rt: &R,
         alloc: Global,
-        tree: &Folders,
+        tree: &mut Folders,
         definitions: Option<&Leaf>,
     ) -> io::Result<()> {
-        let root = tree.root()?;
+        tree.root()?;
         let loaded = loaded_text(alloc, definitions)?;
         let state = self.take(rt, alloc)?.load(alloc, &loaded)?;
-        self.put(rt, root, state)
+        self.put(rt, alloc, tree, state)
     }
 }

@@ -69,7 +69,7 @@ fn write_at<R: Files + AllocGlobal + Clone + Drop>(
     make_room(rt, alloc, tree, *stage, place)?;
     *stage = Stage::Unseen;
     tree.look_again(rt, alloc, place)?;
-    write_new(rt, place, text)?;
+    write_new(rt, place, text, tree.syncing())?;
     *stage = Stage::Written;
     Ok(())
 }
@@ -128,7 +128,7 @@ fn move_file<R: Files + AllocGlobal + Clone + Drop>(
     place: &str,
 ) -> io::Result<()> {
     if !is_staged(rt, alloc, tree, *stage, from)? {
-        return Err(foreign());
+        return Err(foreign("no file"));
     }
     make_way(rt, alloc, tree, place)?;
     *stage = Stage::Unseen;

@@ -1,7 +1,7 @@
 //! Makes a built NixOS system the one of a root folder.
 #![tactic(auto)]
 
-use host_files::{OutSink, place_in};
+use host_files::{OutSink, Syncing, place_in};
 use host_folder::FolderHost;
 use std::alloc::Global;
 use std::fs::{File, TryLockError};
@@ -48,58 +48,99 @@ fn read_line(rt: &HostRuntime) -> io::Result<Vec<Text>> {
     Ok(words)
 }
 
+/// How a run ended, and the line that tells of a fault of the host where it was and what it was.
+struct End {
+    status: Status,
+    fault: Option<Text>,
+}
+
+/// One call: a derived drop is proved anew in each function that lets one go.
+impl Drop for End {
+    fn drop(self) {
+        let End {
+            status: _,
+            fault: _,
+        } = self;
+    }
+}
+
+impl End {
+    /// An end that has one line.
+    fn plain(status: Status) -> End {
+        End {
+            status,
+            fault: None,
+        }
+    }
+}
+
+/// Whether a run syncs what it writes: not where the variable `NIXOS_NO_SYNC` is 1.
+fn syncing_of(rt: &HostRuntime) -> Syncing {
+    match env::var(rt, "NIXOS_NO_SYNC") {
+        Ok(value) if value.as_str() == "1" => Syncing::Off,
+        _ => Syncing::On,
+    }
+}
+
 /// Runs the words of a command on a root folder and standard output.
 fn run_on<R: Files + Print + AllocGlobal + Clone + Drop>(
     rt: &R,
     alloc: Global,
     root: &str,
+    syncing: Syncing,
     words: &[Text],
-) -> Status {
+) -> End {
     let Ok(mut host) = FolderHost::open(rt, root) else {
-        return Status::NoMemory;
+        return End::plain(Status::NoMemory);
     };
     let Ok(mut out) = OutSink::new(rt) else {
-        return Status::NoMemory;
+        return End::plain(Status::NoMemory);
     };
-    run(alloc, words, &mut host, &mut out)
+    host.set_syncing(syncing);
+    let status = run(alloc, words, &mut host, &mut out);
+    let fault = host.last_fault(alloc).unwrap_or(None);
+    End { status, fault }
 }
 
 /// Locks a root folder against other runs, until the file that is answered is closed: flock(2).
 ///
 /// A folder that can't be opened or locked is left as it is. So is an empty text, which names none.
-fn lock_root(rt: &HostRuntime, root: &str) -> Result<Option<File>, Status> {
+fn lock_root(rt: &HostRuntime, root: &str) -> Result<Option<File>, End> {
     if root.is_empty() {
         return Ok(None);
     }
     let Ok(folder) = place_in(rt.alloc(), root, ".") else {
-        return Err(Status::NoMemory);
+        return Err(End::plain(Status::NoMemory));
     };
     let Ok(file) = File::open(rt, folder.as_str()) else {
         return Ok(None);
     };
     match file.try_lock() {
-        Err(TryLockError::WouldBlock) => Err(Status::HostFault),
+        Err(TryLockError::WouldBlock) => Err(End {
+            status: Status::HostFault,
+            fault: Text::from_str(rt.alloc(), "another run goes on here").ok(),
+        }),
         _ => Ok(Some(file)),
     }
 }
 
 /// Runs the words of a command on a root folder, unless another run goes on there.
-fn run_alone(rt: &HostRuntime, root: &str, words: &[Text]) -> Status {
+fn run_alone(rt: &HostRuntime, root: &str, words: &[Text]) -> End {
     match lock_root(rt, root) {
-        Ok(_locked) => run_on(rt, rt.alloc(), root, words),
-        Err(status) => status,
+        Ok(_locked) => run_on(rt, rt.alloc(), root, syncing_of(rt), words),
+        Err(end) => end,
     }
 }
 
 /// Runs the words of the command line, whose first names the root folder. Words that give no command need none.
-fn run_line(rt: &HostRuntime, line: &[Text]) -> Status {
+fn run_line(rt: &HostRuntime, line: &[Text]) -> End {
     let [root, words @ ..] = line else {
-        return Status::Usage;
+        return End::plain(Status::Usage);
     };
     match read_words(rt.alloc(), words) {
         Ok(Some(_)) => run_alone(rt, root.as_str(), words),
-        Ok(None) => Status::Usage,
-        Err(_) => Status::NoMemory,
+        Ok(None) => End::plain(Status::Usage),
+        Err(_) => End::plain(Status::NoMemory),
     }
 }
 
@@ -132,6 +173,15 @@ fn finish(rt: &HostRuntime, status: &Status) -> ExitCode {
     ExitCode::from(status.number())
 }
 
+/// Says how a run ended, and of a fault of the host where it was and what it was.
+fn finish_run(rt: &HostRuntime, end: &End) -> ExitCode {
+    let code = finish(rt, &end.status);
+    if let (Status::HostFault, Some(line)) = (&end.status, &end.fault) {
+        tell(rt, line.as_str());
+    }
+    code
+}
+
 /// Prints a text, and ends with 0 where standard output takes it.
 fn show(rt: &HostRuntime, text: &str) -> ExitCode {
     match rt.print(text) {
@@ -145,7 +195,7 @@ fn main(rt: HostRuntime) -> ExitCode {
         Ok(line) => match line.as_slice() {
             [only] if only.as_str() == "--help" => show(&rt, HELP),
             [only] if only.as_str() == "--version" => show(&rt, VERSION),
-            words => finish(&rt, &run_line(&rt, words)),
+            words => finish_run(&rt, &run_line(&rt, words)),
         },
         Err(fault) if fault.kind() == ErrorKind::OutOfMemory => finish(&rt, &Status::NoMemory),
         Err(_) => finish(&rt, &Status::Usage),
