@@ -29,7 +29,8 @@ pub enum Refusal {
     /// The system has no readable `nixos-version`.
     #[error("no such system")]
     NoSystem,
-    /// A leaf stands strictly above or below this place, which the command writes.
+    /// A leaf stands strictly above or below this place, which the command writes; or one without content stands at it, where
+    /// the command reads it first. Of such places the first in byte order is named.
     #[error("a leaf is in the way")]
     InTheWay(Path),
     /// A file of this unit of the new system can't be read.

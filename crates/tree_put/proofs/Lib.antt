@@ -1,4 +1,6 @@
+pub mod AddedLemmas
 pub mod BlockedLemmas
+pub mod FirstLemmas
 pub mod LeftLemmas
 pub mod PutLemmas
 pub mod SequenceLemmas

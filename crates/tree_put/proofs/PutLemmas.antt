@@ -1,5 +1,5 @@
 -- What a put leaves, world by world.
-use Rattle.std.proofs.Common.{◌≡◌, ◌≢◌, ℕ, true, List, IsSome, refl, sym, ap, subst, ◌∙◌, inl, inr, ⊎_elim}
+use Rattle.std.proofs.Common.{◌≡◌, ◌≢◌, ℕ, true, List, [], ◌∷◌, ◌++◌, IsSome, refl, sym, ap, subst, ◌∙◌, inl, inr, ⊎_elim}
 use Rattle.std.proofs.lemmas.Bool.{both_ways}
 use Rattle.std.specs.Cmp.Lexicographic.{nat_list_eq_equiv}
 use Rattle.std.specs.FinMap.{get}
@@ -27,6 +27,10 @@ renamed_moment at leaf w v m ne is moment =
 
 pub renamed_world : (at : List ℕ) (leaf : LeafKind) (w v u : WorldState) → at ≢ stage → v ≡ finished (Stage leaf) w → u ≡ finished (Rename at) v → seen u ≡ seen (with_leaf at leaf w)
 renamed_world at leaf w v u ne is done = ap seen done ∙ ap (λ x. seen (finished (Rename at) x)) is ∙ renamed at leaf w ne
+
+-- the rename writes the place, and what came before it none
+pub renamed_written : (at : List ℕ) (leaf : LeafKind) (w v u : WorldState) → v ≡ finished (Stage leaf) w → u ≡ finished (Rename at) v → u.written ≡ w.written ++ at ∷ []
+renamed_written at leaf w v u is done = ap (λ (x : WorldState). x.written) done ∙ ap (λ (x : WorldState). x.written ++ at ∷ []) is
 
 -- the stage holds what was written
 pub stage_has : (leaf : LeafKind) (w v : WorldState) → v ≡ finished (Stage leaf) w → IsSome (get v.leaves stage)

@@ -1,21 +1,23 @@
 -- Leaves are put one after the other, and removed so.
-use Rattle.std.proofs.Common.{◌≡◌, ℕ, zero, suc, ◌+◌, ◌<◌, false, List, [], ◌∷◌, ◌++◌, length, get_or, take, Result, Err, IsErrAnd, refl, sym, ap, ◌∙◌, ⊎_elim, arith, rules}
+use Rattle.std.proofs.Common.{◌≡◌, ◌≢◌, ℕ, zero, suc, ◌+◌, ◌<◌, Bool, false, List, [], ◌∷◌, ◌++◌, append-nil, append_assoc, Option, Some, MatchBool, length, get_or, take, Result, Err, IsErrAnd, refl, sym, ap, subst, ◌∙◌, ⊎_elim, arith, rules}
 use Rattle.std.proofs.lemmas.List.{take_more}
 use Rattle.std.specs.FinMap.{gets, remove}
 use Rattle.std.specs.List.{AllByRecursion}
+use Rattle.host_trait.specs.declared.leaf.LeafKind.{LeafKind}
 use Rattle.host_trait.specs.declared.tree.HostFault.{HostFault}
 use Rattle.host_trait.specs.Host.{HasCause, HostState}
 use Rattle.host_trait.specs.World.{IsClear, Leaves, WorldState, is_in_line, seen, stage, with_leaf, without_leaf}
 use Rattle.host_trait.proofs.Causes.{cause_on}
 use Rattle.host_trait.proofs.Places.{alike}
 use Rattle.host_trait.proofs.Readings.{handed_on}
-use Rattle.host_trait.proofs.Seen.{clear_seen, seen_with_leaf, stage_clear_seen}
+use Rattle.host_trait.proofs.Seen.{clear_seen, seen_at, seen_with_leaf, stage_clear_seen}
 use Rattle.host_trait.proofs.Sound.{clear_insert, clear_remove, line_turned}
 use Rattle.switch_names.specs.Names.{Name}
 use Rattle.switch_names.proofs.Lists.{all_at}
 use Rattle.tree_put.specs.declared.leaf_put.LeafPut.{LeafPut}
-use Rattle.tree_put.specs.Put.{AreApart, CanPut, IsOldOrGone, IsOldOrNew}
-use Rattle.tree_put.specs.Sequence.{ArePutsApart, CanPutAll, IsPutting, IsRemoving, with_puts, without_places}
+use Rattle.tree_put.specs.Put.{AreApart, CanPut, IsOldOrGone, IsOldOrNew, IsPutIfOther, written_if}
+use Rattle.tree_put.proofs.PutLemmas.{apart_ne}
+use Rattle.tree_put.specs.Sequence.{ArePutsApart, AreWritten, CanPutAll, IsPutting, IsRemoving, WritesOthers, with_puts, without_places}
 
 -- the cause of a fault that is handed on
 pub cause_handed :
@@ -88,11 +90,39 @@ puts_more : (puts : List LeafPut) (one : LeafPut) (w : WorldState) → with_puts
 puts_more [] one w = refl
 puts_more (put ∷ puts) one w = puts_more puts one (with_leaf put.at put.leaf w)
 
+-- and what it writes
+written_more :
+    (puts : List LeafPut) (one : LeafPut) (w : WorldState) (places : List Name) (put : Bool) → AreWritten puts w places →
+    IsPutIfOther one.at one.leaf put (with_puts puts w) → AreWritten (puts ++ one ∷ []) w (places ++ written_if put one.at)
+written_more [] one w places put are other = (put, [], other, ap (λ ps. ps ++ written_if put one.at) are ∙ sym (append-nil (written_if put one.at)), refl)
+written_more (first ∷ puts) one w places put are other = (
+  are.0,
+  are.1 ++ written_if put one.at,
+  are.2,
+  ap (λ ps. ps ++ written_if put one.at) are.3 ∙ append_assoc (written_if are.0 first.at) are.1 (written_if put one.at),
+  written_more puts one (with_leaf first.at first.leaf w) are.1 put are.4 other,
+)
+
+pub none_written : (w : WorldState) → WritesOthers [] w w
+none_written w = record { places = []; are = refl; written = sym (append-nil w.written) }
+
 module _ (puts : List LeafPut) (i : ℕ) (one : LeafPut) (w v : WorldState) (inside : i < length puts) (is : one ≡ get_or puts i one) (before : seen v ≡ seen (with_puts (take i puts) w)) where
   pub put_next : (u : WorldState) → seen u ≡ seen (with_leaf one.at one.leaf v) → seen u ≡ seen (with_puts (take (i + 1) puts) w)
   put_next u now =
       now ∙ seen_with_leaf one.at one.leaf v (with_puts (take i puts) w) before
       ∙ ap seen (sym (puts_more (take i puts) one w) ∙ ap (λ (ps : List LeafPut). with_puts ps w) (sym (take_more puts i one inside ∙ ap (λ k. take i puts ++ k ∷ []) (sym is))))
+
+  pub written_next : (u : WorldState) (put : Bool) → AreApart one.at stage → WritesOthers (take i puts) w v → IsPutIfOther one.at one.leaf put v → u.written ≡ v.written ++ written_if put one.at →
+      WritesOthers (take (i + 1) puts) w u
+  written_next u put apart so_far other now = record {
+    places = so_far.places ++ written_if put one.at;
+    are = subst (λ (ps : List LeafPut). AreWritten ps w (so_far.places ++ written_if put one.at))
+        (sym (take_more puts i one inside ∙ ap (λ k. take i puts ++ k ∷ []) (sym is)))
+        (written_more (take i puts) one w so_far.places put so_far.are
+        (subst (λ (leaf : Option LeafKind). MatchBool put (leaf ≢ Some one.leaf) (leaf ≡ Some one.leaf))
+        (seen_at v (with_puts (take i puts) w) before one.at (apart_ne one.at stage apart)) other));
+    written = now ∙ ap (λ ps. ps ++ written_if put one.at) so_far.written ∙ append_assoc w.written so_far.places (written_if put one.at);
+  }
 
   pub putting_next : (m : WorldState) → IsOldOrNew one.at one.leaf v m → IsPutting puts w m
   putting_next m moment = ⊎_elim
@@ -135,7 +165,7 @@ seen_without_leaf at v w is =
     let leaves : remove (remove v.leaves at) stage ≡ remove (remove w.leaves at) stage =
     swap v.leaves ∙ ap (λ (l : Leaves). remove l at) (ap (λ (x : WorldState). x.leaves) is) ∙ sym (swap w.leaves) in
     let manager = ap (λ (x : WorldState). x.manager) is in
-    λ i. record { leaves = leaves i; manager = manager i }
+    λ i. record { leaves = leaves i; manager = manager i; written = [] }
   where
     swap : (l : Leaves) → remove (remove l at) stage ≡ remove (remove l stage) at
     swap l = alike _ _ (λ q. grind (gets, rules))

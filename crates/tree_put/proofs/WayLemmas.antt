@@ -1,26 +1,12 @@
 -- What stands in the way of places, from one to the next.
-use Rattle.std.proofs.Common.{◌≡◌, ◌&&◌, ℕ, ◌<◌, ◌+◌, Bool, true, false, cond, List, [], ◌∷◌, None, Some, option_map, suc, length, get_or, drop, add-one, refl, sym, ap, subst, ◌∙◌}
-use Rattle.std.proofs.Math.Seq.{drop-cons}
+use Rattle.std.proofs.Common.{◌≡◌, ◌&&◌, true, false, cond, List, [], ◌∷◌, None, Some, option_map, refl}
 use Rattle.std.proofs.lemmas.Bool.{or_parts}
 use Rattle.std.specs.List.{AllByRecursion, find}
 use Rattle.host_trait.specs.World.{IsClear, Leaves}
 use Rattle.tree_put.specs.declared.written_place.WrittenPlace.{WrittenPlace}
 use Rattle.tree_put.specs.Put.{is_blocked}
-use Rattle.tree_put.specs.WrittenPlace.{AreApartFromStage, in_the_way, is_in_the_way, lacks_content}
+use Rattle.tree_put.specs.WrittenPlace.{in_the_way, is_in_the_way, lacks_content}
 use Rattle.tree_put.proofs.BlockedLemmas.{clear_of_free}
-
--- the places from one on begin with it
-from_here : (places : List WrittenPlace) (i : ℕ) (place : WrittenPlace) → i < length places → place ≡ get_or places i place → drop i places ≡ place ∷ drop (i + 1) places
-from_here places i place inside is = drop-cons places i place inside ∙ ap (λ p. p ∷ drop (suc i) places) (sym is) ∙ ap (λ k. place ∷ drop k places) (sym (add-one i))
-
-pub apart_next : (places : List WrittenPlace) (i : ℕ) (place : WrittenPlace) → i < length places → place ≡ get_or places i place → AreApartFromStage (drop i places) → AreApartFromStage (drop (i + 1) places)
-apart_next places i place inside is apart =
-    let both : AreApartFromStage (place ∷ drop (i + 1) places) = subst AreApartFromStage (from_here places i place inside is) apart in both.1
-
-pub first_next : (test : WrittenPlace → Bool) (places : List WrittenPlace) (i : ℕ) (place : WrittenPlace) → i < length places → place ≡ get_or places i place → test place ≡ false →
-    find test (drop (i + 1) places) ≡ find test (drop i places)
-first_next test places i place inside is free =
-    sym (ap (find test) (from_here places i place inside is) ∙ ap (λ b. cond b (Some place) (find test (drop (i + 1) places))) free)
 
 -- where nothing is in the way of some places, the first is clear, and nothing is in the way of the others
 pub clear_first : (leaves : Leaves) (place : WrittenPlace) (places : List WrittenPlace) → in_the_way (place ∷ places) leaves ≡ None →

@@ -1,3 +1,4 @@
+pub mod First
 pub mod Put
 pub mod Sequence
 pub mod WrittenPlace

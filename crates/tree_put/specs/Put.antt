@@ -1,5 +1,5 @@
 -- A leaf takes its place in one step: rename(2), "there is no point at which another process finds it missing".
-use Rattle.std.specs.Prelude.{◌≡◌, ◌≢◌, ◌⊎◌, ℕ, Bool, false, List, Some, MatchBool}
+use Rattle.std.specs.Prelude.{◌≡◌, ◌≢◌, ◌⊎◌, ◌∷◌, [], ℕ, Bool, false, List, Some, MatchBool, if◌then◌else◌}
 use Rattle.std.specs.FinMap.{get, keys}
 use Rattle.std.specs.List.{list_any}
 use Rattle.host_trait.specs.declared.leaf.LeafKind.{LeafKind}
@@ -26,6 +26,10 @@ IsOldOrGone at w m = (m ≡ w) ⊎ (m ≡ without_leaf at w)
 -- whether the leaf was put, since another one or none stood there
 abbrev pub IsPutIfOther : List ℕ → LeafKind → Bool → WorldState → Type 0
 IsPutIfOther at leaf put w = MatchBool put (get w.leaves at ≢ Some leaf) (get w.leaves at ≡ Some leaf)
+
+-- what is written where a leaf is put, or isn't
+abbrev pub written_if : Bool → List ℕ → List (List ℕ)
+written_if put at = if put then at ∷ [] else []
 
 -- whether a leaf stands strictly above or below a path
 abbrev pub is_blocked : Leaves → List ℕ → Bool

@@ -1,5 +1,5 @@
 //! Leaves that stand in the way of a put.
-ghost use Rattle.std.specs.Prelude.{◌≡◌, false, IfOk, List, ℕ};
+ghost use Rattle.std.specs.Prelude.{◌≡◌, false, IfOk};
 ghost use Rattle.std.specs.FinMap.{keys};
 ghost use Rattle.std.specs.List.{list_any};
 ghost use Rattle.switch_names.specs.Path.{is_below};

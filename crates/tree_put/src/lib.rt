@@ -2,13 +2,16 @@
 #![tactic(auto)]
 
 mod blocked;
+mod first;
+pub mod laws;
 mod leaf_put;
 mod places;
 mod sequence;
 mod written_place;
 
 pub use blocked::is_blocked;
+pub use first::first_in_the_way;
 pub use leaf_put::LeafPut;
 pub use places::{drop_leaf, put, put_if_other};
 pub use sequence::{drop_all, put_all};
-pub use written_place::{WrittenPlace, first_in_the_way, is_in_the_way, unread};
+pub use written_place::{WrittenPlace, add_stage, is_in_the_way, read_before, unread};

@@ -1,10 +1,9 @@
 //! Puts and removals of one leaf.
-ghost use Rattle.std.specs.Prelude.{◌≡◌, ◌≢◌, OnOk, IfOk, MatchBool, Some, false};
-ghost use Rattle.std.specs.FinMap.{get};
+ghost use Rattle.std.specs.Prelude.{◌≡◌, ◌≢◌, ◌++◌, ◌∷◌, [], OnOk, IfOk, MatchBool, Some, false};
 ghost use Rattle.host_trait.specs.Change.{IsSame};
-ghost use Rattle.host_trait.specs.Host.{Told, Becomes, Comes, Passes, HasCause};
+ghost use Rattle.host_trait.specs.Host.{Told, Leads, Becomes, Comes, Passes, HasCause};
 ghost use Rattle.host_trait.specs.World.{stage, with_leaf, without_leaf};
-ghost use Rattle.tree_put.specs.Put.{AreApart, CanPut, IsOldOrNew, IsOldOrGone, IsPutIfOther};
+ghost use Rattle.tree_put.specs.Put.{AreApart, CanPut, IsOldOrNew, IsOldOrGone, IsPutIfOther, written_if};
 
 use host_trait::{HostFault, Leaf, Tree};
 use std::alloc::Global;
@@ -18,6 +17,7 @@ pub fn put<T: Tree>(alloc: Global, host: &mut T, at: &Path, leaf: &Leaf) -> Resu
     requires apart { AreApart at.now stage }
     requires can { Told (T.host host.old) (CanPut at.now) }
     ensures ok { OnOk result (Comes (T.host host.old) (T.host host.new) (with_leaf at.now leaf.now)) }
+    ensures written { OnOk result (Leads (T.host host.old) (T.host host.new) (λ w v. v.written ≡ w.written ++ at.now ∷ [])) }
     ensures moments { Passes (T.host host.old) (T.host host.new) (IsOldOrNew at.now leaf.now) }
     ensures cause { HasCause (T.host host.old) (T.host host.new) result }
 {
@@ -49,6 +49,7 @@ pub fn put_if_other<T: Tree>(
     requires can { Told (T.host host.old) (CanPut at.now) }
     ensures ok { OnOk result (Comes (T.host host.old) (T.host host.new) (with_leaf at.now leaf.now)) }
     ensures put { IfOk result (λ put. Told (T.host host.old) (IsPutIfOther at.now leaf.now put)) }
+    ensures written { IfOk result (λ put. Leads (T.host host.old) (T.host host.new) (λ w v. v.written ≡ w.written ++ written_if put at.now)) }
     ensures still { IfOk result (λ put. put ≡ false → Passes (T.host host.old) (T.host host.new) IsSame) }
     ensures moments { Passes (T.host host.old) (T.host host.new) (IsOldOrNew at.now leaf.now) }
     ensures cause { HasCause (T.host host.old) (T.host host.new) result }

@@ -1,7 +1,7 @@
 //! Puts and removals of several leaves, one after the other.
 ghost use Rattle.std.specs.Prelude.{OnOk};
-ghost use Rattle.host_trait.specs.Host.{Becomes, Comes, HasCause, Passes, Told};
-ghost use Rattle.tree_put.specs.Sequence.{ArePutsApart, CanPutAll, IsPutting, IsRemoving, with_puts, without_places};
+ghost use Rattle.host_trait.specs.Host.{Becomes, Comes, HasCause, Leads, Passes, Told};
+ghost use Rattle.tree_put.specs.Sequence.{ArePutsApart, CanPutAll, IsPutting, IsRemoving, WritesOthers, with_puts, without_places};
 
 use crate::leaf_put::LeafPut;
 use crate::places::{drop_leaf, put_if_other};
@@ -11,11 +11,13 @@ use switch_names::Path;
 
 /// Puts leaves, one after the other, where other ones or none stand.
 ///
-/// A cut leaves the world after the first of them, but for the stage.
+/// A leaf that stands as its turn comes isn't written. A cut leaves the world after the first of
+/// them, but for the stage.
 pub fn put_all<T: Tree>(alloc: Global, host: &mut T, puts: &[LeafPut]) -> Result<(), HostFault>
     requires apart { ArePutsApart puts.now }
     requires can { Told (T.host host.old) (CanPutAll puts.now) }
     ensures ok { OnOk result (Comes (T.host host.old) (T.host host.new) (with_puts puts.now)) }
+    ensures written { OnOk result (Leads (T.host host.old) (T.host host.new) (WritesOthers puts.now)) }
     ensures moments { Passes (T.host host.old) (T.host host.new) (IsPutting puts.now) }
     ensures cause { HasCause (T.host host.old) (T.host host.new) result }
 {

@@ -1,14 +1,14 @@
-//! Places that a run writes, and the first that a leaf stands in the way of.
-ghost use Rattle.std.specs.Prelude.{◌≡◌, false, IfOk};
+//! Places that a run writes, and whether a leaf stands in the way of one.
+ghost use Rattle.std.specs.Prelude.{◌≡◌, ◌++◌, ◌∷◌, [], false, true, IfOk, OnOk};
 ghost use Rattle.host_trait.specs.Host.{Told};
 ghost use Rattle.host_trait.specs.Reading.{IsReading};
 ghost use Rattle.host_trait.specs.World.{is_in_line, stage};
-ghost use Rattle.tree_put.specs.WrittenPlace.{AreApartFromStage, in_the_way, is_in_the_way, lacks_content, written};
+ghost use Rattle.tree_put.specs.WrittenPlace.{is_in_the_way, lacks_content, written};
 
 use crate::blocked::is_blocked;
-use host_trait::{HostFault, Tree, content};
-use std::alloc::Global;
-use switch_names::Path;
+use host_trait::{HostFault, Tree, content, stage_path};
+use std::alloc::{AllocError, Global};
+use switch_names::{Listed, Path};
 
 /// A place that a run writes.
 pub struct WrittenPlace {
@@ -29,6 +29,20 @@ pub fn unread(at: Path) -> WrittenPlace
     ensures { result ≡ written false at }
 {
     WrittenPlace { at, is_read: false }
+}
+
+/// A place whose content is read before it is written.
+pub fn read_before(at: Path) -> WrittenPlace
+    ensures { result ≡ written true at }
+{
+    WrittenPlace { at, is_read: true }
+}
+
+/// Adds the stage, by way of which leaves are put.
+pub fn add_stage(alloc: Global, places: &mut Listed<WrittenPlace>) -> Result<(), AllocError>
+    ensures { OnOk result (places.new ≡ places.old ++ written false stage ∷ []) }
+{
+    places.push(unread(stage_path(alloc)?))
 }
 
 /// Whether a leaf without content stands at a place.
@@ -61,22 +75,4 @@ pub fn is_in_the_way<T: Tree>(
         return Ok(false);
     }
     lacks_content(alloc, host, &place.at)
-}
-
-/// The first of these places that a leaf stands in the way of.
-pub fn first_in_the_way<T: Tree>(
-    alloc: Global,
-    host: &mut T,
-    places: &[WrittenPlace],
-) -> Result<Option<Path>, HostFault>
-    requires { AreApartFromStage places.now }
-    ensures first { IfOk result (λ at. Told (T.host host.old) (λ w. at ≡ in_the_way places.now w.leaves)) }
-    ensures reads { IsReading (T.host host.old) (T.host host.new) result }
-{
-    for place in places {
-        if is_in_the_way(alloc, host, place)? {
-            return Ok(Some(place.at.copy(alloc)?));
-        }
-    }
-    Ok(None)
 }

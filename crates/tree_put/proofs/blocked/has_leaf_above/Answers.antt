@@ -4,7 +4,9 @@ use Rattle.std.specs.List.{list_any}
 use Rattle.switch_names.specs.Path.{is_below}
 use Rattle.switch_names.proofs.Outcomes.{none_there}
 use Rattle.host_trait.proofs.Moments.{told_as}
-use Rattle.tree_put.proofs.BlockedLemmas.{IsFreeBut, above_is_left, parent_above, next_above, free_next, free_last, one_passes}
+use Rattle.tree_put.proofs.BlockedLemmas.{IsEmptyAt, none_above}
+use Rattle.host_trait.proofs.Above.{IsFreeBut, above_is_left, free_next, next_above, parent_above}
+use Rattle.host_trait.proofs.KeyTests.{one_passes}
 use Rattle.host_trait.proofs.Readings.{nothing_read, nothing_read_ok, no_device, read_handed, read_ok, read_starved, read_then, told_read}
 use Rattle.tree_put.proofs.blocked.has_leaf_above.Goals as goal
 
@@ -35,8 +37,8 @@ loop-next-preserved g c =
       above = next_above c.args.at.now c.in-Some.place c.in_ok-next-2.next above c.in_ok-next-2.ensures.some;
       free = record {
         has = λ w is.
-            free_next c.args.at.now c.in-Some.place c.in_ok-next-2.next w.leaves
-            (subst (λ o. IsFreeBut c.args.at.now o w.leaves) c.in-Some.is (c.loop-next.invariant.free.has w is))
+            free_next (IsEmptyAt w.leaves) c.args.at.now c.in-Some.place c.in_ok-next-2.next
+            (subst (λ o. IsFreeBut (IsEmptyAt w.leaves) c.args.at.now o) c.in-Some.is (c.loop-next.invariant.free.has w is))
             (sym (read.has w is) ∙ is_none) c.in_ok-next-2.ensures.none c.in_ok-next-2.ensures.some;
       };
     }
@@ -44,7 +46,7 @@ loop-next-preserved g c =
 pub returns-clause-above : goal.returns-clause-above
 returns-clause-above g c =
     told_as c.loop-next.invariant.free (λ w. false ≡ list_any {X = List ℕ} (λ q. is_below c.args.at.now q) (keys w.leaves))
-    (λ w is free. sym (free_last c.args.at.now w.leaves (subst (λ o. IsFreeBut c.args.at.now o w.leaves) c.in_default.is free)))
+    (λ w is free. sym (none_above c.args.at.now w.leaves (subst (λ o. IsFreeBut (IsEmptyAt w.leaves) c.args.at.now o) c.in_default.is free)))
 
 pub returns-in_err-leaf-clause-reads : goal.returns-in_err-leaf-clause-reads
 returns-in_err-leaf-clause-reads g c = read_handed (read_then c.loop-next.invariant.reads c.in_err-leaf.ensures.reads) _ c.from_residual-in_err-leaf.ensures.1

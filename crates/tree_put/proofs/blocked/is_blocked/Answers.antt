@@ -1,11 +1,12 @@
 use Rattle.std.proofs.Common.{sym, ◌∙◌}
-use Rattle.tree_put.proofs.BlockedLemmas.{blocked_below, blocked_above}
+use Rattle.std.specs.FinMap.{keys}
+use Rattle.host_trait.proofs.KeyTests.{line_above, line_below}
 use Rattle.host_trait.proofs.Readings.{read_handed, read_ok, read_then, told_read}
 use Rattle.tree_put.proofs.blocked.is_blocked.Goals as goal
 
 pub returns-then-below-clause-blocked : goal.returns-then-below-clause-blocked
 returns-then-below-clause-blocked g c = record {
-  has = λ w is. c.if-below.true ∙ blocked_below w.leaves c.args.at.now (sym (c.in_ok-below.ensures.below.has w is) ∙ c.if-below.true);
+  has = λ w is. c.if-below.true ∙ line_below (keys w.leaves) c.args.at.now (sym (c.in_ok-below.ensures.below.has w is) ∙ c.if-below.true);
 }
 
 pub returns-clause-blocked : goal.returns-clause-blocked
@@ -13,7 +14,7 @@ returns-clause-blocked g c =
     let above = told_read c.has_leaf_below.ensures.reads c.in_ok-above.ensures.above in
     record {
       has = λ w is.
-          above.has w is ∙ blocked_above w.leaves c.args.at.now (sym (c.in_ok-below.ensures.below.has w is) ∙ c.if-below.false);
+          above.has w is ∙ line_above (keys w.leaves) c.args.at.now (sym (c.in_ok-below.ensures.below.has w is) ∙ c.if-below.false);
     }
 
 pub returns-in_err-above-clause-reads : goal.returns-in_err-above-clause-reads

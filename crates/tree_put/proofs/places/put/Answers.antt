@@ -4,10 +4,10 @@ use Rattle.host_trait.specs.World.{IsClear, stage}
 use Rattle.host_trait.specs.World.{seen, with_leaf}
 use Rattle.host_trait.proofs.Moments.{passes_as, goes_on, leads_then, told_after, told_as}
 use Rattle.tree_put.specs.Put.{IsOldOrNew}
-use Rattle.tree_put.proofs.PutLemmas.{apart_ne, staged_moment, renamed_moment, renamed_world, stage_has, place_clear}
+use Rattle.tree_put.proofs.PutLemmas.{apart_ne, staged_moment, renamed_moment, renamed_world, renamed_written, stage_has, place_clear}
 use Rattle.host_trait.proofs.Causes.{cause_ok, cause_then}
 use Rattle.tree_put.proofs.places.put.Goals as goal
-use Rattle.std.proofs.Common.{◌≡◌, inl}
+use Rattle.std.proofs.Common.{◌≡◌, ◌∷◌, ◌++◌, [], inl}
 
 pub write_stage-requires : goal.write_stage-requires
 write_stage-requires g c = told_as c.requires.can (λ w. IsClear w.leaves stage) (λ w is can. can.stage)
@@ -39,6 +39,11 @@ pub returns-clause-ok : goal.returns-clause-ok
 returns-clause-ok g c =
     leads_then c.in_ok-write_stage.ensures.ok c.in_ok-rename_stage.ensures.ok (λ w v. seen v ≡ seen (with_leaf c.args.at.now c.args.leaf.now w))
     (λ w v u is_w is_v done renamed. renamed_world c.args.at.now c.args.leaf.now w v u (apart_ne _ _ c.requires.apart) done renamed)
+
+pub returns-clause-written : goal.returns-clause-written
+returns-clause-written g c =
+    leads_then c.in_ok-write_stage.ensures.ok c.in_ok-rename_stage.ensures.ok (λ w v. v.written ≡ w.written ++ c.args.at.now ∷ [])
+    (λ w v u is_w is_v done renamed. renamed_written c.args.at.now c.args.leaf.now w v u done renamed)
 
 pub returns-clause-moments : goal.returns-clause-moments
 returns-clause-moments g c =
