@@ -1,4 +1,5 @@
 pub mod AnsweringLemmas
+pub mod ApartLemmas
 pub mod BackLemmas
 pub mod ContentLemmas
 pub mod EndLemmas

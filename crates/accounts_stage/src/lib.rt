@@ -11,6 +11,7 @@ mod puts;
 mod reading;
 mod setting;
 mod stored;
+mod written_places;
 
 pub use accounts_plan::AccountsPlan;
 pub use laws::{account_plans_stay, setting_accounts_is_a_part};
@@ -18,3 +19,4 @@ pub use planning::plan_accounts;
 pub use reading::read_tables;
 pub use setting::{apply, set_accounts};
 pub use stored::{Stored, read_all};
+pub use written_places::add_account_places;

@@ -1,11 +1,11 @@
 -- What holds of an activation at each moment.
-use Rattle.std.proofs.Common.{◌≡◌, length, Option, None, Some, refl, sym, ap, subst, ◌∙◌, arith}
+use Rattle.std.proofs.Common.{◌≡◌, length, Option, None, Some, refl, sym, ap, subst, ◌∙◌, inl, inr, ⊎_elim, arith}
 use Rattle.std.proofs.lemmas.Bool.{or_left, or_right}
 use Rattle.std.proofs.lemmas.List.{take_all}
 use Rattle.std.specs.Option.{option_or}
 use Rattle.switch_names.specs.Names.{Name}
 use Rattle.switch_names.specs.SystemName.{IsSystemPath}
-use Rattle.host_trait.specs.Host.{HostState, Leads}
+use Rattle.host_trait.specs.Host.{HostState, Leads, Passes}
 use Rattle.host_trait.specs.World.{Leaves, WorldState, seen}
 use Rattle.host_trait.proofs.Moments.{one_world}
 use Rattle.switch_parts.specs.declared.refusal.Refusal.{Refusal}
@@ -14,6 +14,7 @@ use Rattle.switch_parts.proofs.Parts.{both_part, first_free, first_moment, momen
 use Rattle.etc_manifest.specs.Entries.{manifest_of}
 use Rattle.etc_manifest.specs.Owners.{OwnerIds}
 use Rattle.etc_farm.specs.EtcPart.{CanPutEtc, IsEtcPlanOf, etc_part, refusal_in}
+use Rattle.etc_farm.specs.Making.{IsMakingEtc}
 use Rattle.etc_farm.proofs.EtcLemmas.{etc_frame, etc_is, etc_plan_law}
 use Rattle.accounts_stage.specs.AccountsPart.{accounts_part, accounts_refusal, tables_after}
 use Rattle.tree_put.specs.Sequence.{with_puts}
@@ -83,7 +84,7 @@ pub activation_moment_law : ActivationMomentLaw
 activation_moment_law system w m named free (Setting setting) =
     setting_moment system named (owners_after system w.leaves) w m
     (moment_law system w m named (first_free (accounts_part system) (etc_part system (owners_after system w.leaves)) w.leaves free) setting)
-activation_moment_law system w m named free (Making u set making) =
+activation_moment_law system w m named free (Making u set making step) =
     let owners = owners_after system w.leaves in
     let accounts_free = first_free (accounts_part system) (etc_part system owners) w.leaves free in
     moment_then (activation_part system owners) (activation_is system named owners) w u m
@@ -134,8 +135,10 @@ module _ (system : Name) (named : IsSystemPath system) (plan : ActivationPlan) (
           ((etc_is system owners named).stays_free w u (etc_frame system owners named w u farm_still) (second_free (accounts_part system) (etc_part system owners) w.leaves can.free));
     }
 
-    pub making : (m : WorldState) → IsMomentOf (etc_part system plan.etc.owners) u m → IsActivating system w m
-    making m moment = Making u set (subst (λ ids. IsMomentOf (etc_part system ids) u m) can.planned.owners moment)
+    pub making : (m : WorldState) → IsMomentOf (etc_part system plan.etc.owners) u m → IsMakingEtc system plan.etc.owners u m → IsActivating system w m
+    making m moment step = Making u set
+        (subst (λ ids. IsMomentOf (etc_part system ids) u m) can.planned.owners moment)
+        (subst (λ ids. IsMakingEtc system ids u m) can.planned.owners step)
 
     pub activated : (v : WorldState) → IsAtEnd (etc_part system plan.etc.owners) u v → IsMomentOf (etc_part system plan.etc.owners) u v → IsActivated system w v
     activated v end moment =
@@ -175,4 +178,25 @@ module _ {a b d : HostState} where
     to = λ w is.
         let there = first.to w is in let then = second.to there.0 there.1 in let told = also.to there.0 there.1 in
         (then.0, then.1, all w there.0 then.0 is there.2 then.2 (subst (λ v. S there.0 v) (one_world d.world told.0 then.0 told.1 then.1) told.2));
+  }
+
+-- ---- two relations that the moments of one call have are one
+
+module _ {a b : HostState} where
+  pub passes_both : {P Q : WorldState → WorldState → Type 0} → Passes a b P → Passes a b Q → Passes a b (λ w m. P w m × Q w m)
+  passes_both {P = P} {Q = Q} first second = record {
+    later = first.later;
+    nothing_else = λ t m early left.
+        ⊎_elim (λ before. inl before)
+        (λ now. ⊎_elim (λ before. inl before)
+        (λ other. inr (now.0, now.1, (now.2, subst (λ x. Q x m) (one_world a.world other.0 now.0 other.1 now.1) other.2)))
+        (second.nothing_else t m early left))
+        (first.nothing_else t m early left);
+    keeps = first.keeps;
+    tells = record {
+      to = λ w is.
+          let there = first.tells.to w is in let other = second.tells.to w is in
+          (there.0, there.1, (there.2, subst (λ v. Q w v) (one_world b.world other.0 there.0 other.1 there.1) other.2));
+    };
+    silent = first.silent;
   }

@@ -1,4 +1,3 @@
 pub mod ActivationLemmas
 pub mod OwnerLemmas
 pub mod PartedLemmas
-pub mod PlaceLemmas

@@ -3,6 +3,7 @@ use Rattle.std.specs.Prelude.{◌≡◌}
 use Rattle.accounts_stage.specs.AccountsPart.{accounts_part}
 use Rattle.accounts_stage.specs.Plan.{AreAccountsSet, IsAccountsPlanOf, IsSettingAccounts}
 use Rattle.etc_farm.specs.EtcPart.{IsEtcPlanOf, etc_part}
+use Rattle.etc_farm.specs.Making.{IsMakingEtc}
 use Rattle.etc_manifest.specs.Owners.{OwnerIds}
 use Rattle.host_trait.specs.World.{Leaves, WorldState}
 use Rattle.switch_names.specs.Names.{Name}
@@ -30,10 +31,12 @@ pub record CanActivate (system : Name) (plan : ActivationPlan) (w : WorldState) 
   pub planned : IsActivationPlanOf system w.leaves plan
   pub free : IsFree (activation_in system w.leaves) w.leaves
 
--- a moment of an activation: the accounts are being set, or they are set, and /etc is being made
+-- a moment of an activation: the accounts are being set, or they are set, and /etc is being made, step by step
 pub data IsActivating (system : Name) (w m : WorldState) : Type 0 where
   Setting : IsSettingAccounts system w m → IsActivating system w m
-  Making : (u : WorldState) → AreAccountsSet system w u → IsMomentOf (etc_part system (owners_after system w.leaves)) u m → IsActivating system w m
+  Making :
+      (u : WorldState) → AreAccountsSet system w u → IsMomentOf (etc_part system (owners_after system w.leaves)) u m →
+      IsMakingEtc system (owners_after system w.leaves) u m → IsActivating system w m
 
 -- each place of an activation is at its end, and nothing else has changed
 pub record IsActivated (system : Name) (w v : WorldState) : Type 0 where

@@ -1,3 +1,2 @@
 pub mod ActivationPart
 pub mod Owners
-pub mod Places

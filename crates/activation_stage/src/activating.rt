@@ -12,7 +12,8 @@ use switch_names::SystemName;
 
 /// Sets the accounts of a system as planned, and then makes `/etc` what it wants.
 ///
-/// A cut leaves the accounts after some of their puts, or all of them and `/etc` in the making.
+/// A cut leaves the accounts after some of their puts, or all of them and `/etc` after some of its
+/// steps.
 /// Source: NixOS manual, "What happens during a system switch?".
 pub fn activate<T: Tree>(
     alloc: Global,

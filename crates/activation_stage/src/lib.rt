@@ -4,11 +4,9 @@
 mod activating;
 mod activation_plan;
 mod laws;
-mod places;
 mod planning;
 
 pub use activating::activate;
 pub use activation_plan::ActivationPlan;
 pub use laws::{an_activation_is_a_part, owners_stay, plans_stay};
-pub use places::{add_etc_places, add_memory_places};
 pub use planning::plan_activation;

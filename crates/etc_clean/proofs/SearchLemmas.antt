@@ -1,31 +1,25 @@
 -- Searches among names in byte order.
-use Rattle.std.proofs.Common.{◌≡◌, ◌⊎◌, ℕ, zero, suc, ◌||◌, Bool, true, false, nat_eq, List, [], ◌∷◌, ◌++◌, length, take, drop, map, Option, None, Some, IsNone, IfSome, Result, Ok, Err, refl, sym, ap, subst, ◌∙◌, inl, inr, ⊎_elim, append_assoc}
+use Rattle.std.proofs.Common.{◌≡◌, ◌⊎◌, ℕ, zero, suc, ◌||◌, Bool, true, false, List, [], ◌∷◌, ◌++◌, length, take, drop, map, Option, None, Some, IsNone, IfSome, Result, Ok, Err, refl, sym, ap, subst, ◌∙◌, inl, inr, ⊎_elim}
 use Rattle.std.proofs.lemmas.Bool.{both_ways, cases_Bool, or_left, or_right}
-use Rattle.std.proofs.lemmas.Bool.Decides.{Decides-eqb}
-use Rattle.std.proofs.lemmas.Cmp.{nat_cmp_total, tied_itself}
+use Rattle.std.proofs.lemmas.Cmp.{tied_itself}
 use Rattle.std.proofs.lemmas.List.{append-nil}
 use Rattle.std.proofs.lemmas.Option.{slice_get_past, slice_get_read}
 use Rattle.std.specs.Borrow.{Bor}
 use Rattle.std.specs.Slice.{IsItemAt}
-use Rattle.std.proofs.lemmas.Slice.Eq.{starts_is}
-use Rattle.std.specs.List.{AllByRecursion, list_any, slice_get, starts_with}
+use Rattle.std.specs.List.{AllByRecursion, list_any, slice_get}
 use Rattle.std.specs.List.Sorted.{IsBinarySearchResult, IsSearchInRange, IsStrictlySortedBy}
-use Rattle.std.specs.FinMap.{nat_cmp-IsAntisymmetric}
-use Rattle.std.specs.Ordering.{nat_cmp, ordering_reverse, ordering_then}
 use Rattle.std.specs.Option.{option_copied}
 use Rattle.std.specs.Result.{is_ok}
-use Rattle.std.specs.declared.cmp.Ordering.{Ordering}
-use Rattle.std.specs.declared.cmp.Ordering.TheVariants.{Less, Equal, Greater}
-use Rattle.std.specs.Cmp.{both_ways as same_test}
+use Rattle.std.specs.declared.cmp.Ordering.TheVariants.{Less}
 use Rattle.switch_names.specs.Names.{Name, has, is_name}
 use Rattle.switch_names.specs.Path.{IsParentOf, is_below, slash}
-use Rattle.switch_names.proofs.Below.{below_front, rest_below}
 use Rattle.host_trait.specs.World.{bytes_cmp}
+use Rattle.host_trait.proofs.Fronts.{begins, begins_there, begins_with, below_is_front, between, lower_begins}
 use Rattle.host_trait.proofs.Orders.{AreAbove, AreBelow, found_name, missing_name}
 use Rattle.host_trait.proofs.Places.{bytes_total, itself}
 use Rattle.host_trait.proofs.Seen.{other_of}
 use Rattle.host_trait.proofs.NameOrder.{passes_among, less_not_equal}
-use Rattle.tree_put.proofs.BlockedLemmas.{IsLeft, above_is_left}
+use Rattle.host_trait.proofs.Above as above
 use Rattle.etc_clean.proofs.ListLemmas.{none_among}
 
 -- ---- a name among others
@@ -69,48 +63,6 @@ searched_name names name r sorted within is =
     searched (λ x. x) names name r (subst (IsStrictlySortedBy bytes_cmp) (sym (map_self names)) sorted) within is ∙ ap (λ (ns : List Name). has ns name) (map_self names)
 
 -- ---- names that begin with a text
-
-abbrev pub begins : List ℕ → Name → Bool
-begins front q = starts_with nat_eq q front
-
-begins_with : (front q : List ℕ) → begins front q ≡ true → (rest : List ℕ) × (q ≡ front ++ rest)
-begins_with front q is = (drop (length front) q, (starts_is Decides-eqb q front (starts_with nat_eq q front) refl).0 is)
-
-begins_there : (front rest : List ℕ) → begins front (front ++ rest) ≡ true
-begins_there front rest = (starts_is Decides-eqb (front ++ rest) front (starts_with nat_eq (front ++ rest) front) refl).1 rest refl
-
--- what begins with a text isn't lower than it
-not_lower : (front rest : List ℕ) → bytes_cmp (front ++ rest) front ≡ Less → ⊥
-not_lower [] [] less = absurd (cc)
-not_lower [] (x ∷ rest) less = absurd (cc)
-not_lower (x ∷ front) rest less = not_lower front rest (sym (ap (λ r. ordering_then r (bytes_cmp (front ++ rest) front)) (tied_itself nat_cmp_total x)) ∙ less)
-
-pub lower_begins : (front q : List ℕ) → bytes_cmp q front ≡ Less → begins front q ≡ false
-lower_begins front q less = elim (cases_Bool (begins front q)) [
-  | inl is ↦ let with = begins_with front q is in absurd (not_lower front with.0 (subst (λ x. bytes_cmp x front ≡ Less) with.1 less))
-  | inr other ↦ other
-]
-
-greater_not_less : Greater ≡ Less → ⊥
-greater_not_less is = absurd (cc)
-
-between_step : (x y : ℕ) (front a rest : List ℕ) (r : Ordering) → nat_cmp x y ≡ r → (bytes_cmp front a ≡ Less → bytes_cmp a (front ++ rest) ≡ Less → begins front a ≡ true) →
-    ordering_then r (bytes_cmp front a) ≡ Less → ordering_then (nat_cmp y x) (bytes_cmp a (front ++ rest)) ≡ Less → begins (x ∷ front) (y ∷ a) ≡ true
-between_step x y front a rest Less is more low high =
-    let greater : nat_cmp y x ≡ Greater = nat_cmp_total.antisymm y x ∙ ap ordering_reverse is in
-    absurd (greater_not_less (sym (ap (λ r. ordering_then r (bytes_cmp a (front ++ rest))) greater) ∙ high))
-between_step x y front a rest Greater is more low high = absurd (cc)
-between_step x y front a rest Equal is more low high =
-    let same : x ≡ y = nat_cmp-IsAntisymmetric x y is in
-    let tied : nat_cmp y x ≡ Equal = nat_cmp_total.antisymm y x ∙ ap ordering_reverse is in
-    let with = begins_with front a (more low (sym (ap (λ r. ordering_then r (bytes_cmp a (front ++ rest))) tied) ∙ high)) in
-    subst (λ z. begins (x ∷ front) (z ∷ a) ≡ true) same (subst (λ b. begins (x ∷ front) (x ∷ b) ≡ true) (sym with.1) (begins_there (x ∷ front) with.0))
-
--- what stands between a text and one that begins with it begins with it too
-between : (front a rest : List ℕ) → bytes_cmp front a ≡ Less → bytes_cmp a (front ++ rest) ≡ Less → begins front a ≡ true
-between [] a rest low high = begins_there [] a
-between (x ∷ front) [] rest low high = absurd (cc)
-between (x ∷ front) (y ∷ a) rest low high = between_step x y front a rest (nat_cmp x y) refl (between front a rest) low high
 
 -- whether the first of some names begins with a text
 abbrev pub first_begins : List ℕ → List Name → Bool
@@ -176,11 +128,6 @@ module _ (front : List ℕ) (names : List Name) (sorted : IsStrictlySortedBy byt
 
 -- ---- names below another
 
-below_is_front : (name q : Name) → begins (name ++ slash ∷ []) q ≡ is_below q name
-below_is_front name q = same_test (begins (name ++ slash ∷ []) q) (is_below q name)
-    (λ is. let with = begins_with (name ++ slash ∷ []) q is in subst (λ x. is_below x name ≡ true) (sym (with.1 ∙ append_assoc name (slash ∷ []) with.0)) (below_front name with.0))
-    (λ is. let rest = rest_below q name is in subst (λ x. begins (name ++ slash ∷ []) x ≡ true) (sym (rest.1 ∙ sym (append_assoc name (slash ∷ []) rest.0))) (begins_there (name ++ slash ∷ []) rest.0))
-
 pub any_below : (name : Name) (names : List Name) → list_any (begins (name ++ slash ∷ [])) names ≡ list_any (λ q. is_below q name) names
 any_below name names = λ i. list_any (λ q. below_is_front name q i) names
 
@@ -188,14 +135,11 @@ any_below name names = λ i. list_any (λ q. below_is_front name q i) names
 
 -- above a path, there are names at most where it is left to look
 abbrev pub IsFreeBut : List Name → Name → Option Name → Type 0
-IsFreeBut names name next = (q : Name) → is_below name q ≡ true → (has names q ≡ false) ⊎ IsLeft next q
+IsFreeBut names name next = above.IsFreeBut (λ q. has names q ≡ false) name next
 
 pub free_next : (names : List Name) (name place : Name) (next : Option Name) → IsFreeBut names name (Some place) → has names place ≡ false →
     (IsNone next → (q : Name) → is_below place q ≡ false) → IfSome next (IsParentOf place) → IsFreeBut names name next
-free_next names name place next free gone none some q line = ⊎_elim
-    (λ empty. inl empty)
-    (λ left. ⊎_elim (λ same. inl (ap (has names) same ∙ gone)) (λ below. inr (above_is_left place next none some q below)) left)
-    (free q line)
+free_next names name place next free gone none some = above.free_next (λ q. has names q ≡ false) name place next free gone none some
 
 pub free_last : (names : List Name) (name : Name) → IsFreeBut names name None → list_any (λ q. is_below name q) names ≡ false
 free_last names name free = none_among (λ q. is_below name q) names (λ q there. elim (cases_Bool (is_below name q)) [

@@ -19,7 +19,8 @@ use Rattle.etc_clean.specs.Names.{etc_folder, name_of, place}
 use Rattle.etc_clean.proofs.FarmLemmas.{blocked_to, none_at_known, none_at_none, none_at_reserved, not_placed}
 use Rattle.etc_clean.proofs.KeepsLemmas.{IsAllBut, inserted, listed_there, other_name, removed, static_not_clean}
 use Rattle.etc_clean.proofs.NameLemmas.{clean_reserved, in_etc, not_reserved_other, static_reserved}
-use Rattle.etc_farm.specs.Steps.{AreGone, IsNoneGone}
+use Rattle.etc_farm.specs.Steps.{IsNoneGone}
+use Rattle.etc_farm.proofs.FarmMoment.{AreGone}
 use Rattle.etc_farm.proofs.LineLemmas.{line_in_etc, line_place, line_reserved}
 use Rattle.etc_farm.proofs.PlaceLemmas.{IsWayFree}
 

@@ -1,17 +1,13 @@
 -- Entries are put one after the other.
-use Rattle.std.proofs.Common.{◌≡◌, ℕ, zero, suc, ◌+◌, ◌<◌, ◌||◌, Bool, true, false, cond, List, [], ◌∷◌, ◌++◌, length, get_or, take, Option, Some, is_some, option_map, refl, sym, ap, ◌∙◌, inl, inr, ⊎_elim, arith}
+use Rattle.std.proofs.Common.{◌≡◌, ℕ, zero, suc, ◌<◌, ◌||◌, Bool, true, false, cond, List, [], ◌∷◌, length, get_or, Option, Some, is_some, option_map, refl, sym, ap, ◌∙◌, inl, inr, ⊎_elim, arith}
 use Rattle.std.proofs.lemmas.Bool.{both_ways}
-use Rattle.std.proofs.lemmas.List.{map-append, take_more}
-use Rattle.std.proofs.lemmas.List.Folds.{list_any-append}
-use Rattle.std.proofs.Math.Bool.{or-false}
-use Rattle.std.specs.FinMap.{insert}
 use Rattle.std.specs.List.{AllByRecursion, find}
 use Rattle.std.specs.List.Sorted.{IsStrictlySortedBy}
 use Rattle.std.specs.declared.cmp.Ordering.TheVariants.{Less}
 use Rattle.switch_names.specs.Names.{Name, has, is_name}
 use Rattle.host_trait.specs.declared.leaf.LeafKind.{LeafKind}
 use Rattle.host_trait.specs.World.{Leaves, WorldState, bytes_cmp, seen, with_leaf}
-use Rattle.host_trait.proofs.Places.{at_same, itself, same_or_other}
+use Rattle.host_trait.proofs.Places.{itself, same_or_other}
 use Rattle.host_trait.proofs.Seen.{seen_at}
 use Rattle.tree_put.specs.Put.{CanPut, IsOldOrNew}
 use Rattle.etc_manifest.specs.declared.item.Item.{Item}
@@ -19,19 +15,20 @@ use Rattle.etc_manifest.specs.declared.item.ItemKind.{ItemKind}
 use Rattle.etc_manifest.specs.Manifest.{IsManifest, entry, places}
 use Rattle.etc_manifest.specs.Place.{is_reserved}
 use Rattle.etc_clean.specs.CleanList.{clean_name}
-use Rattle.etc_clean.specs.Etc.{is_owned, leaf_of, static_name}
+use Rattle.etc_clean.specs.Etc.{is_owned, static_name}
 use Rattle.etc_clean.specs.Farm.{at, is_blocked, is_entry, is_gone}
 use Rattle.etc_clean.specs.Keeps.{AreAlike, AreFree}
 use Rattle.etc_clean.specs.Names.{place}
 use Rattle.etc_clean.proofs.FarmLemmas.{blocked_kept, entry_is, placed_kept}
-use Rattle.etc_clean.proofs.KeepsLemmas.{inserted, other_name, owned_name}
+use Rattle.etc_clean.proofs.KeepsLemmas.{inserted, owned_name}
 use Rattle.etc_clean.proofs.NameLemmas.{clean_reserved, not_reserved_other, static_reserved}
 use Rattle.etc_clean.proofs.SearchLemmas.{lower_other}
-use Rattle.etc_farm.specs.Steps.{AllListed, AreGone, ArePut, CanPutEntries, IsFarmMoment, IsInnerMoment, IsNoneGone}
+use Rattle.etc_farm.specs.Steps.{AllListed, CanPutEntries, IsNoneGone}
+use Rattle.etc_farm.proofs.FarmMoment.{AreGone, IsFarmMoment, IsInnerMoment}
 use Rattle.etc_farm.proofs.ClearLemmas.{entry_clear, gone_put, gone_same, reserved_not_gone}
 use Rattle.etc_farm.proofs.PartLemmas.{frame_alike, static_owned}
 use Rattle.etc_farm.proofs.PlaceLemmas.{not_stage, owned_place, owned_read, way_free}
-use Rattle.etc_farm.proofs.StepLemmas.{farm_with, moment_put, moment_seen, put_entry}
+use Rattle.etc_farm.proofs.StepLemmas.{farm_with, moment_put, moment_seen, moment_self, put_entry}
 
 -- ---- items of a manifest
 
@@ -148,42 +145,8 @@ module _ (items : List Item) (blocked : List Name) (w : WorldState) (can : CanPu
       entries_then items blocked w m (moment_seen items free w (with_leaf (place x) leaf w) m new put_moment)
       (none_gone_seen items free (with_leaf (place x) leaf w) m new (gone_put items w.leaves x leaf (not_reserved_other x clean_name (free x known) clean_reserved) known can.none_gone)) can
 
--- ---- what is put
-
-has_next : (items : List Item) (i : ℕ) (item : Item) (q : Name) → i < length items → item ≡ get_or items i item → has (places (take (i + 1) items)) q ≡ (has (places (take i items)) q || is_name q item.place)
-has_next items i item q inside is =
-    ap (λ (list : List Item). has (places list) q) (take_more items i item inside ∙ ap (λ k. take i items ++ k ∷ []) (sym is))
-    ∙ ap (λ (names : List Name). has names q) (map-append (λ (i : Item). i.place) (take i items) (item ∷ []))
-    ∙ list_any-append (is_name q) (places (take i items)) (item.place ∷ [])
-    ∙ ap (λ b. has (places (take i items)) q || b) (or-false (is_name q item.place))
-
-some_same : (k l : ItemKind) → Some k ≡ Some l → k ≡ l
-some_same k l is = cc
-
-only_before : (a b : Bool) → a || b ≡ true → b ≡ false → a ≡ true
-only_before true b is none = refl
-only_before false b is none = absurd (both_ways b none is)
-
-module _ (items : List Item) (blocked : List Name) (i : ℕ) (item : Item) (inside : i < length items) (is : item ≡ get_or items i item) (w : WorldState) (can : CanPutEntries items blocked w) (put : ArePut items (places (take i items)) w.leaves) where
-  -- an entry that is blocked isn't put
-  pub skipped : has blocked item.place ≡ true → ArePut items (places (take (i + 1) items)) w.leaves
-  skipped is_blocked_there q kind there wanted unblocked = elim (same_or_other q item.place) [
-    | inl same ↦ absurd (both_ways _ (ap (λ p. is_blocked items w.leaves p) (sym same) ∙ unblocked) (sym (can.blocked_are item.place (known_item items i item can.manifest inside is)) ∙ is_blocked_there))
-    | inr other ↦ put q kind (only_before _ _ (sym (has_next items i item q inside is) ∙ there) other) wanted unblocked
-  ]
-
-  pub put_more : (m : WorldState) → has blocked item.place ≡ false → seen m ≡ seen (with_leaf (place item.place) (leaf_of item.place item.kind) w) → ArePut items (places (take (i + 1) items)) m.leaves
-  put_more m free_there new q kind there wanted unblocked =
-      let known = known_item items i item can.manifest inside is in
-      let leaf = leaf_of item.place item.kind in
-      let own = owned_name q (manifest_free items can.manifest q (sym (entry_is items q) ∙ ap (λ (o : Option ItemKind). is_some o) wanted)) in
-      let moment = (put_inner items blocked w can item.place leaf known free_there m (inr new)).moment in
-      at_seen (with_leaf (place item.place) leaf w) m q own new
-      ∙ elim (same_or_other q item.place) [
-        | inl same ↦
-            let kinds : item.kind ≡ kind = some_same item.kind kind (sym (entry_of_item items i item can.manifest inside is) ∙ ap (entry items) (sym same) ∙ wanted) in
-            ap (λ p. at (insert w.leaves (place item.place) leaf) p) same ∙ at_same w.leaves (place item.place) leaf ∙ ap Some (ap (leaf_of item.place) kinds ∙ ap (λ p. leaf_of p kind) (sym same))
-        | inr other ↦
-            (inserted w.leaves item.place leaf).others q (other_name q item.place other)
-            ∙ put q kind (only_before _ _ (sym (has_next items i item q inside is) ∙ there) other) wanted (sym (blocked_kept items w.leaves m.leaves moment.keeps.keeps.foreign q) ∙ unblocked)
-      ]
+-- entries can be put in every world that is alike but for the stage
+pub entries_seen : (items : List Item) (blocked : List Name) (u m : WorldState) → seen m ≡ seen u → CanPutEntries items blocked u → CanPutEntries items blocked m
+entries_seen items blocked u m is can =
+    let free = manifest_free items can.manifest in
+    entries_then items blocked u m (moment_seen items free u u m is (moment_self items u)) (none_gone_seen items free u m is can.none_gone) can

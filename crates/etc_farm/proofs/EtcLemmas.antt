@@ -3,7 +3,8 @@ use Rattle.std.proofs.Common.{◌≡◌, ◌&&◌, Bool, true, false, cond, List
 use Rattle.std.proofs.lemmas.Bool.{both_ways, cases_Bool}
 use Rattle.switch_names.specs.Names.{IsListOf, Name, has}
 use Rattle.switch_names.specs.SystemName.{IsSystemPath}
-use Rattle.host_trait.specs.World.{Leaves, WorldState}
+use Rattle.std.specs.List.Sorted.{IsStrictlySortedBy}
+use Rattle.host_trait.specs.World.{Leaves, WorldState, bytes_cmp}
 use Rattle.switch_parts.specs.Part.{IsAtEnd, IsMomentOf, IsPart, IsSameFor}
 use Rattle.etc_manifest.specs.declared.item.Item.{Item}
 use Rattle.etc_manifest.specs.declared.item.ItemKind.{ItemKind}
@@ -11,9 +12,11 @@ use Rattle.etc_manifest.specs.declared.manifest_fault.ManifestFault.{ManifestFau
 use Rattle.etc_manifest.specs.declared.manifest_fault.ManifestFault.TheVariants.{Reserved}
 use Rattle.etc_manifest.specs.Entries.{entries_of, has_leaf, kind_in, manifest_of, with_place}
 use Rattle.etc_manifest.specs.Kind.{kind_of}
+use Rattle.etc_manifest.specs.Manifest.{IsManifest, places}
 use Rattle.etc_manifest.specs.Owners.{OwnerIds}
 use Rattle.etc_manifest.specs.Place.{etc_folder, is_reserved}
-use Rattle.etc_manifest.proofs.WantedLemmas.{entry_is}
+use Rattle.etc_manifest.proofs.LeafLemmas.{entries_sorted}
+use Rattle.etc_manifest.proofs.WantedLemmas.{entry_is, places_are}
 use Rattle.etc_clean.specs.declared.sorting.Sorted.{Sorted}
 use Rattle.etc_clean.specs.CleanList.{clean_of}
 use Rattle.etc_clean.specs.Etc.{etc}
@@ -27,7 +30,11 @@ use Rattle.etc_clean.proofs.KeepsLemmas.{alike_law, end_law, owned_name}
 use Rattle.etc_farm.specs.declared.etc_plan.EtcPlan.{EtcPlan}
 use Rattle.etc_farm.specs.EtcPart.{CanPutEtc, EtcPartLaw, EtcPlanLaw, KeepsEtc, etc_part, items_in, items_of, refusal_in}
 use Rattle.etc_farm.specs.FarmPart.{CanApply, KeepsFarm, farm_of, farm_part}
+use Rattle.etc_farm.specs.Making.{IsMaking}
+use Rattle.etc_farm.specs.Runs.{EtcRunLaw}
 use Rattle.etc_farm.proofs.ClearLemmas.{gone_same, reserved_not_gone}
+use Rattle.etc_farm.proofs.MomentLemmas.{making_law}
+use Rattle.etc_farm.proofs.StageLemmas.{all_free}
 use Rattle.etc_farm.proofs.PartLemmas.{farm_is, frame_alike, keeps_farm_self, keeps_farm_then}
 use Rattle.etc_farm.proofs.PlaceLemmas.{owned_read, place_of_owned, stage_unread, store_read}
 use Rattle.switch_parts.proofs.StoreLemmas.{store_not_stage}
@@ -51,6 +58,13 @@ wanted_free leaves system owners items is q known = elim (cases_Bool (is_reserve
       absurd (both_ways _ (ap (λ (kind : Option ItemKind). is_some kind) none) (farm.entry_is items q ∙ known))
   | inr free ↦ free
 ]
+
+-- and its entries stand in byte order, each once
+wanted_manifest : (leaves : Leaves) (system : Name) (owners : OwnerIds) (items : List Item) → manifest_of leaves system owners ≡ Ok items → IsManifest items
+wanted_manifest leaves system owners items is = record {
+  sorted = subst (IsStrictlySortedBy bytes_cmp) (sym (places_are leaves system owners items is)) (entries_sorted leaves system);
+  free = all_free (places items) (wanted_free leaves system owners items is);
+}
 
 free_in : (leaves : Leaves) (system : Name) (owners : OwnerIds) (r : Result (List Item) ManifestFault) → manifest_of leaves system owners ≡ r → AreFree (items_in r)
 free_in leaves system owners (Ok items) is = wanted_free leaves system owners items is
@@ -137,7 +151,7 @@ module _ (system : Name) (plan : EtcPlan) (w : WorldState) (can : CanPutEtc syst
   pub end_as : (v : WorldState) → IsAtEnd (farm_part (farm_of system plan.manifest)) w v → IsAtEnd (etc_part system plan.owners) w v
   end_as v end q own = end q own ∙ sym (ap (λ items. etc (farm_of system items) w.leaves (name_of q)) wanted_is)
 
-  pub moment_as : IsSystemPath system → (m : WorldState) → IsMomentOf (farm_part (farm_of system plan.manifest)) w m → IsMomentOf (etc_part system plan.owners) w m
+  moment_as : IsSystemPath system → (m : WorldState) → IsMomentOf (farm_part (farm_of system plan.manifest)) w m → IsMomentOf (etc_part system plan.owners) w m
   moment_as named m moment = record {
     keeps = record {
       manifest = manifest_same w.leaves m.leaves (λ path inside. moment.only.leaves path (store_not_owned path inside) (store_not_stage path inside)) system named plan.owners;
@@ -145,3 +159,19 @@ module _ (system : Name) (plan : EtcPlan) (w : WorldState) (can : CanPutEtc syst
     };
     only = record { leaves = moment.only.leaves; manager = moment.only.manager };
   }
+
+  -- a step of it is a moment of the part
+  pub making_as : IsSystemPath system → (m : WorldState) → IsMaking (farm_of system plan.manifest) w m → IsMomentOf (etc_part system plan.owners) w m
+  making_as named m step =
+      moment_as named m
+      (making_law (farm_of system plan.manifest) plan.sorted w m (wanted_manifest w.leaves system plan.owners plan.manifest can.planned.wanted) can_apply step)
+
+pub etc_run_law : EtcRunLaw
+etc_run_law system plan w v can making =
+    let same = sym (wanted_is system plan w can) in
+    record {
+      manifest = subst IsManifest same (wanted_manifest w.leaves system plan.owners plan.manifest can.planned.wanted);
+      found = plan.sorted;
+      can = subst (λ (items : List Item). CanApply (farm_of system items) plan.sorted w) same (can_apply system plan w can);
+      making = making;
+    }

@@ -15,7 +15,8 @@ use Rattle.etc_clean.specs.Names.{place}
 use Rattle.etc_clean.proofs.FarmLemmas.{gone_not_foreign}
 use Rattle.etc_clean.proofs.KeepsLemmas.{removed}
 use Rattle.etc_clean.proofs.NameLemmas.{clean_reserved, not_reserved_other, static_reserved}
-use Rattle.etc_farm.specs.Steps.{AreGone, IsFarmMoment, IsInnerMoment, IsNoneGone, IsOwn, without_names}
+use Rattle.etc_farm.specs.Steps.{IsNoneGone, without_names}
+use Rattle.etc_farm.proofs.FarmMoment.{AreGone, IsFarmMoment, IsInnerMoment, IsOwn}
 use Rattle.etc_farm.proofs.ClearLemmas.{gone_removed}
 use Rattle.etc_farm.proofs.StepLemmas.{moment_self, moment_then, remove_own}
 

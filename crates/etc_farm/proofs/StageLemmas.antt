@@ -2,10 +2,11 @@
 use Rattle.std.proofs.Common.{◌≡◌, ℕ, zero, suc, ◌&&◌, ◌||◌, ◌==◌, not, Bool, true, false, cond, List, [], ◌∷◌, map, filter, take, Option, None, Some, refl, sym, ap, ◌∙◌, ⊎_elim}
 use Rattle.std.proofs.lemmas.Bool.{and_parts, both_ways, or_left, or_right, or_cases, not-true}
 use Rattle.std.specs.List.{AllByRecursion, slice_split}
+use Rattle.std.specs.List.Sorted.{IsStrictlySortedBy}
 use Rattle.std.specs.Cmp.{both_ways as same_test}
 use Rattle.switch_names.specs.Names.{Name, has, is_name}
 use Rattle.host_trait.specs.declared.leaf.LeafKind.TheVariants.{Link}
-use Rattle.host_trait.specs.World.{Leaves, WorldState, content_of, seen, with_leaf}
+use Rattle.host_trait.specs.World.{Leaves, WorldState, bytes_cmp, content_of, seen, with_leaf}
 use Rattle.host_trait.proofs.Places.{at_same, itself}
 use Rattle.host_trait.proofs.Sound.{not_in_line}
 use Rattle.host_trait.proofs.NameOrder.{has_filter}
@@ -17,7 +18,7 @@ use Rattle.etc_manifest.specs.declared.item.Item.{Item}
 use Rattle.etc_manifest.specs.Manifest.{IsManifest, places}
 use Rattle.etc_manifest.specs.Place.{is_reserved}
 use Rattle.etc_clean.specs.declared.sorting.Sorted.{Sorted}
-use Rattle.etc_clean.specs.CleanList.{clean_leaf, clean_name, clean_names, clean_of, clean_text, is_clean_name, is_path_text, names_in}
+use Rattle.etc_clean.specs.CleanList.{AreCleanNames, clean_leaf, clean_name, clean_of, is_clean_name, is_path_text, names_in}
 use Rattle.etc_clean.specs.Etc.{Farm, static_name}
 use Rattle.etc_clean.specs.Farm.{at, is_blocked, is_entry, is_made, placed}
 use Rattle.etc_clean.specs.Keeps.{AreFree, IsFirstList}
@@ -25,7 +26,9 @@ use Rattle.etc_clean.specs.Names.{name_of, place}
 use Rattle.etc_clean.proofs.FarmLemmas.{blocked_kept, placed_kept, placed_known}
 use Rattle.etc_clean.proofs.KeepsLemmas.{end_law, listed_there}
 use Rattle.etc_farm.specs.FarmPart.{CanApply, farm_part, fixed_places}
-use Rattle.etc_farm.specs.Steps.{AllListed, AreGone, CanPutEntries, IsFarmMoment, IsNoneGone, IsOwn, first_puts, placed_but, without_names}
+use Rattle.etc_farm.specs.Making.{entry_puts}
+use Rattle.etc_farm.specs.Steps.{item_put, puts_but, AllListed, CanPutEntries, IsFirstNames, IsNoneGone, first_puts, placed_but, without_names}
+use Rattle.etc_farm.proofs.FarmMoment.{AreGone, IsFarmMoment, IsOwn}
 use Rattle.etc_farm.proofs.ClearLemmas.{gone_first, gone_static}
 use Rattle.etc_farm.proofs.EntryLemmas.{all_listed_then, are_gone_seen, at_seen, manifest_free}
 use Rattle.etc_farm.proofs.LineLemmas.{clean_static, static_clean}
@@ -68,14 +71,14 @@ first_apart names target = record {
 -- ---- what is known at the beginning
 
 -- two tests that agree at the places of some items keep the same of them
-items_agree : (p t : Item → Bool) (items : List Item) → ((item : Item) → has (places items) item.place ≡ true → p item ≡ t item) → filter p items ≡ filter t items
+pub items_agree : (p t : Item → Bool) (items : List Item) → ((item : Item) → has (places items) item.place ≡ true → p item ≡ t item) → filter p items ≡ filter t items
 items_agree p t [] agree = refl
 items_agree p t (item ∷ items) agree =
     ap (λ b. cond b (item ∷ filter p items) (filter p items)) (agree item (or_left (is_name item.place item.place) (has (places items) item.place) (itself item.place)))
     ∙ ap (λ (list : List Item). cond (t item) (item ∷ list) list)
     (items_agree p t items (λ other there. agree other (or_right (is_name other.place item.place) (has (places items) other.place) there)))
 
-all_free : (names : List Name) → ((q : Name) → has names q ≡ true → is_reserved q ≡ false) → AllByRecursion (λ name. is_reserved name ≡ false) names
+pub all_free : (names : List Name) → ((q : Name) → has names q ≡ true → is_reserved q ≡ false) → AllByRecursion (λ name. is_reserved name ≡ false) names
 all_free [] free = tt
 all_free (x ∷ names) free = (free x (or_left (is_name x x) (has names x) (itself x)), all_free names (λ q there. free q (or_right (is_name q x) (has names q) there)))
 
@@ -100,13 +103,16 @@ module _ (farm : Farm) (manifest : IsManifest farm.items) (found : Sorted) (w : 
   free : AreFree items
   free = manifest_free items manifest
 
-  blocked_are : (q : Name) → is_entry items q ≡ true → has found.blocked q ≡ is_blocked items w.leaves q
+  pub blocked_are : (q : Name) → is_entry items q ≡ true → has found.blocked q ≡ is_blocked items w.leaves q
   blocked_are q known =
       same_test (has found.blocked q) (is_entry items q && is_blocked items w.leaves q) (λ there. (can.sorted.blocked.exact q).0 there) (λ is. (can.sorted.blocked.exact q).1 is)
       ∙ and_by (is_entry items q) (is_blocked items w.leaves q) known
 
-  placed_is : placed_but found.blocked items ≡ placed items w.leaves
+  pub placed_is : placed_but found.blocked items ≡ placed items w.leaves
   placed_is = placed_as items found.blocked w.leaves blocked_are
+
+  pub open_as : puts_but found.blocked items ≡ entry_puts items w.leaves
+  open_as = ap (λ (list : List Item). map item_put list) (items_agree _ _ items (λ item there. ap (λ b. not b) (blocked_are item.place there)))
 
   listed_free : (q : Name) → (has found.clean q || has (placed items w.leaves) q) ≡ true → is_reserved q ≡ false
   listed_free q there = ⊎_elim
@@ -118,16 +124,16 @@ module _ (farm : Farm) (manifest : IsManifest farm.items) (found : Sorted) (w : 
     first_has : (q : Name) → has first q ≡ (has found.clean q || has (placed items w.leaves) q)
     first_has q = joined q ∙ ap (λ (names : List Name). has found.clean q || has names q) placed_is
 
-    pub first_free : AllByRecursion (λ name. is_reserved name ≡ false) first
-    first_free = all_free first (λ q there. listed_free q (sym (first_has q) ∙ there))
-
-    pub is_first : clean_names (clean_text first) ≡ first → IsFirstList items w.leaves first
-    is_first read q =
-        ap (λ (names : List Name). has names q) read ∙ first_has q
+    joined_is : (q : Name) → has first q ≡ (has (clean_of w.leaves) q || has (placed items w.leaves) q)
+    joined_is q =
+        first_has q
         ∙ ap (λ b. b || has (placed items w.leaves) q) (same_test (has found.clean q) (has (clean_of w.leaves) q) (λ there. (can.sorted.clean.exact q).0 there) (λ there. (can.sorted.clean.exact q).1 there))
 
-  pub placed_free : (names : List Name) → names ≡ placed_but found.blocked items → AllByRecursion (λ name. is_reserved name ≡ false) names
-  placed_free names is = all_free names (λ q there. free q (placed_known items w.leaves q (sym (ap (λ (ns : List Name). has ns q) (is ∙ placed_is)) ∙ there)))
+    pub first_names : IsStrictlySortedBy bytes_cmp first → AreCleanNames first → IsFirstNames items w.leaves first
+    first_names sorted clean = record { list = record { sorted = sorted; exact = λ q. ((λ there. sym (joined_is q) ∙ there), (λ is. joined_is q ∙ is)) }; clean = clean }
+
+    pub first_free : AllByRecursion (λ name. is_reserved name ≡ false) first
+    first_free = all_free first (λ q there. listed_free q (sym (first_has q) ∙ there))
 
   gone_are : AreGone items found.gone w.leaves
   gone_are q gone = (can.sorted.gone.exact q).1 gone

@@ -1,3 +1,5 @@
 pub mod EtcPart
 pub mod FarmPart
+pub mod Making
+pub mod Runs
 pub mod Steps

@@ -1,48 +1,21 @@
 -- What each step of putting a farm needs and leaves: setup-etc.pl of nixpkgs.
-use Rattle.std.specs.Prelude.{◌≡◌, ◌≢◌, ◌&&◌, ◌∷◌, [], ℕ, not, true, false, List, map, filter, None, Some}
-use Rattle.std.specs.FinMap.{get}
+use Rattle.std.specs.Prelude.{◌≡◌, ◌&&◌, ◌||◌, ◌∷◌, [], ℕ, not, true, false, List, map, filter, None}
 use Rattle.std.specs.List.Sorted.{IsStrictlySortedBy}
-use Rattle.switch_names.specs.Names.{Name, has}
-use Rattle.host_trait.specs.declared.leaf.LeafKind.{LeafKind}
+use Rattle.switch_names.specs.Names.{IsListOf, Name, has}
 use Rattle.host_trait.specs.declared.leaf.LeafKind.TheVariants.{Link}
-use Rattle.host_trait.specs.World.{Leaves, WorldState, bytes_cmp, stage}
+use Rattle.host_trait.specs.World.{Leaves, WorldState, bytes_cmp}
 use Rattle.tree_put.specs.declared.leaf_put.LeafPut.{LeafPut}
 use Rattle.tree_put.specs.Sequence.{put_at, without_places}
 use Rattle.tree_put.specs.WrittenPlace.{in_the_way}
-use Rattle.switch_parts.specs.Part.{IsAtEnd}
 use Rattle.etc_manifest.specs.declared.item.Item.{Item}
-use Rattle.etc_manifest.specs.declared.item.ItemKind.{ItemKind}
-use Rattle.etc_manifest.specs.Manifest.{AreApart, IsManifest, entry, places}
-use Rattle.etc_manifest.specs.Place.{is_reserved}
+use Rattle.etc_manifest.specs.Manifest.{AreApart, IsManifest, places}
 use Rattle.etc_clean.specs.declared.sorting.Sorted.{Sorted}
-use Rattle.etc_clean.specs.CleanList.{clean_leaf, clean_name, clean_names, clean_of, clean_text}
+use Rattle.etc_clean.specs.CleanList.{AreCleanNames, clean_leaf, clean_name, clean_of}
 use Rattle.etc_clean.specs.Etc.{Farm, leaf_of, static_name}
-use Rattle.etc_clean.specs.Farm.{at, is_blocked, is_entry, is_foreign, is_gone, is_made, placed}
-use Rattle.etc_clean.specs.Keeps.{IsFirstList}
+use Rattle.etc_clean.specs.Farm.{is_blocked, is_entry, is_gone, is_made, placed}
 use Rattle.etc_clean.specs.Names.{place}
 use Rattle.etc_farm.specs.declared.prepared.Prepared.{Prepared}
-use Rattle.etc_farm.specs.FarmPart.{CanApply, KeepsFarm, farm_part, fixed_places, owns_farm}
-
--- each moment keeps what a farm looks at, and nothing changes but its places and the stage
-pub record IsFarmMoment (items : List Item) (w m : WorldState) : Type 0 where
-  pub keeps : KeepsFarm items w m
-  pub leaves : (q : Name) → owns_farm q ≡ false → q ≢ stage → get m.leaves q ≡ get w.leaves q
-  pub manager : m.manager ≡ w.manager
-
--- such a moment, at which the link at `static` is as it was too
-pub record IsInnerMoment (items : List Item) (w m : WorldState) : Type 0 where
-  pub moment : IsFarmMoment items w m
-  pub fixed_link : at m.leaves static_name ≡ at w.leaves static_name
-
--- a leaf that may go: neither reserved, nor an entry's, nor foreign
-pub record IsOwn (items : List Item) (leaves : Leaves) (q : Name) : Type 0 where
-  pub free : is_reserved q ≡ false
-  pub new : is_entry items q ≡ false
-  pub own : is_foreign items leaves q ≡ false
-
--- only these names are gone
-abbrev pub AreGone : List Item → List Name → Leaves → Type 0
-AreGone items names leaves = (q : Name) → is_gone items leaves q ≡ true → has names q ≡ true
+use Rattle.etc_farm.specs.FarmPart.{CanApply, fixed_places}
 
 -- nothing is gone
 abbrev pub IsNoneGone : List Item → Leaves → Type 0
@@ -52,14 +25,22 @@ IsNoneGone items leaves = (q : Name) → is_gone items leaves q ≡ false
 abbrev pub AllListed : List Item → Leaves → Type 0
 AllListed items leaves = (q : Name) → has (placed items leaves) q ≡ true → has (clean_of leaves) q ≡ true
 
--- each of these entries has its leaf, unless it is blocked
-abbrev pub ArePut : List Item → List Name → Leaves → Type 0
-ArePut items names leaves =
-    (q : Name) (kind : ItemKind) → has names q ≡ true → entry items q ≡ Some kind → is_blocked items leaves q ≡ false → at leaves q ≡ Some (leaf_of q kind)
-
 -- the names of the copied and direct entries, but for these
 abbrev pub placed_but : List Name → List Item → List Name
 placed_but blocked items = map (λ item. item.place) (filter (λ item. is_made item.kind && not (has blocked item.place)) items)
+
+-- the put of an entry
+abbrev pub item_put : Item → LeafPut
+item_put item = put_at (place item.place) (leaf_of item.place item.kind)
+
+-- the puts of the entries, but for those at these names
+abbrev pub puts_but : List Name → List Item → List LeafPut
+puts_but blocked items = map item_put (filter (λ item. not (has blocked item.place)) items)
+
+-- the names of the first clean list, in byte order and once: those of the list that stands, and of the copied and direct entries that aren't blocked; they are read as they are written
+pub record IsFirstNames (items : List Item) (leaves : Leaves) (names : List Name) : Type 0 where
+  pub list : IsListOf names (λ q. (has (clean_of leaves) q || has (placed items leaves) q) ≡ true)
+  pub clean : AreCleanNames names
 
 -- the world without the leaves at these names
 abbrev pub without_names : List Name → WorldState → WorldState
@@ -75,21 +56,6 @@ pub record CanPutEntries (items : List Item) (blocked : List Name) (w : WorldSta
   pub none_gone : IsNoneGone items w.leaves
   pub listed : AllListed items w.leaves
 
--- a leaf is the clean list of the copied and direct entries but for these, and is read as it was written
-pub record IsPlacedList (items : List Item) (blocked : List Name) (list : LeafKind) : Type 0 where
-  pub leaf : list ≡ clean_leaf (placed_but blocked items)
-  pub read_back : clean_names (clean_text (placed_but blocked items)) ≡ placed_but blocked items
-
--- the entries may be put, and then the last clean list
-pub record CanFinish (items : List Item) (blocked : List Name) (list : LeafKind) (w : WorldState) : Type 0 where
-  pub entries : CanPutEntries items blocked w
-  pub last : IsPlacedList items blocked list
-
--- a farm with these entries is at its end, by the link that stood at `static`
-abbrev pub IsFinished : List Item → WorldState → WorldState → Type 0
-IsFinished items w m =
-    (target : List ℕ) → at w.leaves static_name ≡ Some (Link target) → IsAtEnd (farm_part (record { items = items; target = target })) w m
-
 -- what is put first: a clean list of these names, and the link at `static`
 abbrev pub first_puts : List Name → List ℕ → List LeafPut
 first_puts names target = put_at (place clean_name) (clean_leaf names) ∷ put_at (place static_name) (Link target) ∷ []
@@ -99,7 +65,7 @@ pub record IsPrepared (farm : Farm) (found : Sorted) (prepared : Prepared) : Typ
   pub manifest : IsManifest farm.items
   pub names : List Name
   pub first : prepared.first ≡ first_puts names farm.target
-  pub starts : (w : WorldState) → CanApply farm found w → IsFirstList farm.items w.leaves names
+  pub names_are : (w : WorldState) → CanApply farm found w → IsFirstNames farm.items w.leaves names
   pub gone : prepared.gone ≡ map place found.gone
   pub last_at : prepared.last.at ≡ place clean_name
-  pub last : (w : WorldState) → CanApply farm found w → IsPlacedList farm.items found.blocked prepared.last.leaf
+  pub last : (w : WorldState) → CanApply farm found w → prepared.last.leaf ≡ clean_leaf (placed farm.items w.leaves)

@@ -4,10 +4,10 @@ ghost use Rattle.host_trait.specs.declared.leaf.LeafKind.TheVariants.{Link};
 ghost use Rattle.host_trait.specs.Host.{Told, Comes, Passes, HasCause};
 ghost use Rattle.host_trait.specs.World.{with_leaf};
 ghost use Rattle.tree_put.specs.Put.{CanPut, IsOldOrNew};
-ghost use Rattle.etc_manifest.specs.Manifest.{places};
+ghost use Rattle.tree_put.specs.Sequence.{IsPutting, with_puts};
 ghost use Rattle.etc_clean.specs.Etc.{leaf_of};
 ghost use Rattle.etc_clean.specs.Names.{place};
-ghost use Rattle.etc_farm.specs.Steps.{ArePut, CanPutEntries, IsInnerMoment};
+ghost use Rattle.etc_farm.specs.Steps.{CanPutEntries, puts_but};
 
 use etc_clean::{contains, etc_place};
 use etc_manifest::{Item, ItemKind};
@@ -67,9 +67,8 @@ pub fn put_entries<T: Tree>(
     blocked: &[Path],
 ) -> Result<(), HostFault>
     requires { Told (T.host host.old) (CanPutEntries items.now blocked.now) }
-    ensures can { OnOk result (Told (T.host host.new) (CanPutEntries items.now blocked.now)) }
-    ensures put { OnOk result (Told (T.host host.new) (λ v. ArePut items.now (places items.now) v.leaves)) }
-    ensures moments { Passes (T.host host.old) (T.host host.new) (IsInnerMoment items.now) }
+    ensures ok { OnOk result (Comes (T.host host.old) (T.host host.new) (with_puts (puts_but blocked.now items.now))) }
+    ensures moments { Passes (T.host host.old) (T.host host.new) (IsPutting (puts_but blocked.now items.now)) }
     ensures cause { HasCause (T.host host.old) (T.host host.new) result }
 {
     for item in items {

@@ -1,11 +1,13 @@
 //! Puts a farm of links and copies below `/etc`.
-ghost use Rattle.std.specs.Prelude.{◌≡◌, OnOk};
-ghost use Rattle.host_trait.specs.Host.{Told, Leads, Passes, HasCause};
-ghost use Rattle.switch_parts.specs.Part.{IsAtEnd, IsMomentOf};
+ghost use Rattle.std.specs.Prelude.{◌≡◌, ◌++◌, ◌∷◌, [], OnOk};
+ghost use Rattle.host_trait.specs.Host.{Told, Comes, Leads, Passes, HasCause};
+ghost use Rattle.tree_put.specs.Sequence.{IsPutting, with_puts};
+ghost use Rattle.switch_parts.specs.Part.{IsAtEnd};
 ghost use Rattle.etc_clean.specs.CleanList.{clean_name};
 ghost use Rattle.etc_clean.specs.Names.{place};
 ghost use Rattle.etc_farm.specs.FarmPart.{CanApply, farm_of, farm_part};
-ghost use Rattle.etc_farm.specs.Steps.{CanFinish, IsFarmMoment, IsFinished};
+ghost use Rattle.etc_farm.specs.Making.{IsMaking};
+ghost use Rattle.etc_farm.specs.Steps.{CanPutEntries, puts_but};
 
 use crate::entries::put_entries;
 use crate::prepared::prepare;
@@ -27,9 +29,9 @@ fn finish<T: Tree>(
     list: &LeafPut,
 ) -> Result<(), HostFault>
     requires list { list.now.at ≡ place clean_name }
-    requires can { Told (T.host host.old) (CanFinish items.now blocked.now list.now.leaf) }
-    ensures ok { OnOk result (Leads (T.host host.old) (T.host host.new) (IsFinished items.now)) }
-    ensures moments { Passes (T.host host.old) (T.host host.new) (IsFarmMoment items.now) }
+    requires can { Told (T.host host.old) (CanPutEntries items.now blocked.now) }
+    ensures ok { OnOk result (Comes (T.host host.old) (T.host host.new) (with_puts (puts_but blocked.now items.now ++ list.now ∷ []))) }
+    ensures moments { Passes (T.host host.old) (T.host host.new) (IsPutting (puts_but blocked.now items.now ++ list.now ∷ [])) }
     ensures cause { HasCause (T.host host.old) (T.host host.new) result }
 {
     put_entries(alloc, host, items, blocked)?;
@@ -40,9 +42,10 @@ fn finish<T: Tree>(
 /// Puts the farm of a system: the first clean list, the link at `static`, the removal of what is
 /// gone, the entries that aren't blocked, and the last clean list.
 ///
-/// A leaf that stands already is left alone. At each moment the farm's end is the one at the
-/// beginning, and each copied or direct entry whose leaf has changed is on the clean list. All
-/// memory but that of leaves and of host calls is taken before the first change.
+/// A leaf that stands already is left alone. A cut leaves the first so many of these steps, and no
+/// other leaf. By the law `steps_are_moments` the farm's end is at each moment the one at the
+/// beginning, and each copied or direct entry whose leaf has changed is on the clean list. All memory
+/// but that of leaves and of host calls is taken before the first change.
 ///
 /// Source: setup-etc.pl of nixpkgs.
 pub fn apply<T: Tree>(
@@ -54,7 +57,7 @@ pub fn apply<T: Tree>(
 ) -> Result<(), HostFault>
     requires { Told (T.host host.old) (CanApply (farm_of system.now manifest.now) sorted.now) }
     ensures ok { OnOk result (Leads (T.host host.old) (T.host host.new) (IsAtEnd (farm_part (farm_of system.now manifest.now)))) }
-    ensures moments { Passes (T.host host.old) (T.host host.new) (IsMomentOf (farm_part (farm_of system.now manifest.now))) }
+    ensures steps { Passes (T.host host.old) (T.host host.new) (IsMaking (farm_of system.now manifest.now)) }
     ensures cause { HasCause (T.host host.old) (T.host host.new) result }
 {
     let items = manifest.items().as_slice();

@@ -14,7 +14,10 @@ mod removal;
 
 pub use etc_plan::EtcPlan;
 pub use farm::apply;
-pub use laws::{etc_is_a_part, the_farm_is_a_part};
-pub use places::fixed_places;
+pub use laws::{
+    cut_runs_list_copies, etc_is_a_part, no_other_leaf_stands, steps_are_moments,
+    the_farm_is_a_part, what_was_put_stays_known,
+};
+pub use places::add_farm_places;
 pub use planning::plan_etc;
 pub use putting::put_etc;

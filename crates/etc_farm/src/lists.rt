@@ -1,5 +1,5 @@
 //! The clean lists that a switch puts before and after its farm.
-ghost use Rattle.std.specs.Prelude.{◌≡◌, ◌&&◌, ◌||◌, ◌++◌, ◌∷◌, [], not, false, map, filter, IfOk, OnOk};
+ghost use Rattle.std.specs.Prelude.{◌≡◌, ◌&&◌, ◌||◌, ◌++◌, ◌∷◌, [], not, false, IfOk, OnOk};
 ghost use Rattle.std.specs.List.{AllByRecursion};
 ghost use Rattle.std.specs.List.Sorted.{IsStrictlySortedBy};
 ghost use Rattle.switch_names.specs.Names.{Name, has};
@@ -82,7 +82,8 @@ fn add_all(alloc: Global, names: &mut Listed<Path>, more: &[Path]) -> Result<(),
 
 /// The names of two lists, in byte order.
 pub fn joined(alloc: Global, names: &[Path], more: &[Path]) -> Result<Listed<Path>, AllocError>
-    ensures { IfOk result (λ list. (q : Name) → has list q ≡ (has names.now q || has more.now q)) }
+    ensures names { IfOk result (λ list. (q : Name) → has list q ≡ (has names.now q || has more.now q)) }
+    ensures sorted { IfOk result (λ list. IsStrictlySortedBy bytes_cmp list) }
 {
     let mut all = Listed::new(alloc);
     add_all(alloc, &mut all, names)?;

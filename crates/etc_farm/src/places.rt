@@ -1,15 +1,15 @@
 //! The places that a farm always writes.
-ghost use Rattle.std.specs.Prelude.{◌≡◌, IfOk};
+ghost use Rattle.std.specs.Prelude.{◌≡◌, ◌++◌, IfOk, OnOk};
 ghost use Rattle.tree_put.specs.WrittenPlace.{AreApartFromStage};
 ghost use Rattle.etc_clean.specs.Etc.{static_name};
 ghost use Rattle.etc_clean.specs.Names.{place};
 ghost use Rattle.etc_farm.specs.FarmPart.{fixed_places};
 
 use etc_clean::clean_path;
-use host_trait::{fixed_path, stage_path};
+use host_trait::fixed_path;
 use std::alloc::{AllocError, Global};
 use switch_names::{Listed, Path};
-use tree_put::{WrittenPlace, unread};
+use tree_put::{WrittenPlace, add_stage, read_before, unread};
 
 /// The place of the link to a system's own etc.
 #[tactic(auto, unfolding(etc_clean::specs::Names::place, etc_clean::specs::Etc::static_name))]
@@ -19,24 +19,13 @@ pub fn static_path(alloc: Global) -> Result<Path, AllocError>
     fixed_path(alloc, "etc/static")
 }
 
-/// The clean list, which is read before, the link at `static`, and the stage.
-fn places_in_order(alloc: Global) -> Result<Listed<WrittenPlace>, AllocError>
-    ensures { IfOk result (λ places. places ≡ fixed_places) }
+/// Adds the places that a farm always writes: the clean list, which is read before, the link at `static`, and the
+/// stage.
+pub fn add_farm_places(alloc: Global, places: &mut Listed<WrittenPlace>) -> Result<(), AllocError>
+    ensures places { OnOk result (places.new ≡ places.old ++ fixed_places) }
+    ensures apart { AreApartFromStage places.old → OnOk result (AreApartFromStage places.new) }
 {
-    let mut places = Listed::new(alloc);
-    places.push(WrittenPlace {
-        at: clean_path(alloc)?,
-        is_read: true,
-    })?;
+    places.push(read_before(clean_path(alloc)?))?;
     places.push(unread(static_path(alloc)?))?;
-    places.push(unread(stage_path(alloc)?))?;
-    Ok(places)
-}
-
-/// The places that a farm always writes, in byte order.
-pub fn fixed_places(alloc: Global) -> Result<Listed<WrittenPlace>, AllocError>
-    ensures places { IfOk result (λ places. places ≡ fixed_places) }
-    ensures apart { IfOk result AreApartFromStage }
-{
-    places_in_order(alloc)
+    add_stage(alloc, places)
 }

@@ -3,6 +3,7 @@ ghost use Rattle.std.specs.Prelude.{OnOk};
 ghost use Rattle.host_trait.specs.Host.{HasCause, Leads, Passes, Told};
 ghost use Rattle.switch_parts.specs.Part.{IsAtEnd, IsMomentOf};
 ghost use Rattle.etc_farm.specs.EtcPart.{CanPutEtc, etc_part};
+ghost use Rattle.etc_farm.specs.Making.{IsMakingEtc};
 
 use crate::etc_plan::EtcPlan;
 use crate::farm::apply;
@@ -22,6 +23,7 @@ pub fn put_etc<T: Tree>(
 ) -> Result<(), HostFault>
     requires { Told (T.host host.old) (CanPutEtc system.now plan.now) }
     ensures ok { OnOk result (Leads (T.host host.old) (T.host host.new) (IsAtEnd (etc_part system.now plan.now.owners))) }
+    ensures steps { Passes (T.host host.old) (T.host host.new) (IsMakingEtc system.now plan.now.owners) }
     ensures moments { Passes (T.host host.old) (T.host host.new) (IsMomentOf (etc_part system.now plan.now.owners)) }
     ensures cause { HasCause (T.host host.old) (T.host host.new) result }
 {

@@ -3,7 +3,7 @@ use Rattle.etc_farm.specs.EtcPart.{CanPutEtc}
 use Rattle.accounts_stage.specs.Plan.{CanSetAccounts}
 use Rattle.activation_stage.specs.ActivationPart.{IsActivated, IsActivating}
 use Rattle.activation_stage.specs.ActivationPart.IsActivating.{Setting}
-use Rattle.activation_stage.proofs.ActivationLemmas.{activated, can_put, can_set, leads_so, making}
+use Rattle.activation_stage.proofs.ActivationLemmas.{activated, can_put, can_set, leads_so, making, passes_both}
 use Rattle.activation_stage.proofs.activating.activate.Goals as goal
 
 pub set_accounts-requires : goal.set_accounts-requires
@@ -20,8 +20,8 @@ put_etc-requires g c =
 
 pub returns-in_err-put_etc-clause-moments : goal.returns-in_err-put_etc-clause-moments
 returns-in_err-put_etc-clause-moments g c =
-    goes_on c.set_accounts.ensures.moments c.in_ok-set_accounts.ensures.ok c.put_etc.ensures.moments (IsActivating c.args.system.now) (λ w m is setting. Setting setting)
-    (λ w u m is at set moment. making c.args.system.now c.path-path.ensures.names c.args.plan.now w (c.requires.has w is) u set m moment)
+    goes_on c.set_accounts.ensures.moments c.in_ok-set_accounts.ensures.ok (passes_both c.put_etc.ensures.moments c.put_etc.ensures.steps) (IsActivating c.args.system.now) (λ w m is setting. Setting setting)
+    (λ w u m is at set moment. making c.args.system.now c.path-path.ensures.names c.args.plan.now w (c.requires.has w is) u set m moment.0 moment.1)
 
 pub returns-clause-ok : goal.returns-clause-ok
 returns-clause-ok g c =
@@ -30,5 +30,5 @@ returns-clause-ok g c =
 
 pub returns-clause-moments : goal.returns-clause-moments
 returns-clause-moments g c =
-    goes_on c.set_accounts.ensures.moments c.in_ok-set_accounts.ensures.ok c.put_etc.ensures.moments (IsActivating c.args.system.now) (λ w m is setting. Setting setting)
-    (λ w u m is at set moment. making c.args.system.now c.path-path.ensures.names c.args.plan.now w (c.requires.has w is) u set m moment)
+    goes_on c.set_accounts.ensures.moments c.in_ok-set_accounts.ensures.ok (passes_both c.put_etc.ensures.moments c.put_etc.ensures.steps) (IsActivating c.args.system.now) (λ w m is setting. Setting setting)
+    (λ w u m is at set moment. making c.args.system.now c.path-path.ensures.names c.args.plan.now w (c.requires.has w is) u set m moment.0 moment.1)

@@ -1,6 +1,6 @@
 use Rattle.std.proofs.Common.{◌≡◌, true, IfSome, sym, subst, ◌∙◌, inr}
 use Rattle.switch_names.specs.Path.{is_below}
-use Rattle.tree_put.proofs.BlockedLemmas.{above_is_left, next_above, parent_above}
+use Rattle.host_trait.proofs.Above.{above_is_left, next_above, parent_above}
 use Rattle.etc_clean.proofs.SearchLemmas.{IsFreeBut, above_found, free_last, free_next}
 use Rattle.etc_clean.proofs.search.has_above.Goals as goal
 

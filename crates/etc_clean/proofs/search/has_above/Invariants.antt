@@ -2,7 +2,7 @@ use Rattle.std.proofs.Common.{◌≡◌, true, IfSome}
 use Rattle.std.specs.List.Sorted.{IsStrictlySortedBy}
 use Rattle.switch_names.specs.Path.{is_below}
 use Rattle.host_trait.specs.World.{bytes_cmp}
-use Rattle.tree_put.proofs.BlockedLemmas.{bytes_left}
+use Rattle.host_trait.proofs.Above.{bytes_left}
 use Rattle.etc_clean.proofs.SearchLemmas.{IsFreeBut}
 use Rattle.etc_clean.proofs.search.has_above.Given as goal
 

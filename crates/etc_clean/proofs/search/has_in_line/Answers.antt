@@ -1,7 +1,7 @@
 use Rattle.std.proofs.Common.{◌||◌, List, ℕ, sym, ap, ◌∙◌}
 use Rattle.std.specs.List.{list_any}
 use Rattle.switch_names.specs.Path.{is_below}
-use Rattle.tree_put.proofs.BlockedLemmas.{below_or_above}
+use Rattle.host_trait.proofs.KeyTests.{below_or_above}
 use Rattle.etc_clean.proofs.search.has_in_line.Goals as goal
 
 pub returns-then-below : goal.returns-then-below

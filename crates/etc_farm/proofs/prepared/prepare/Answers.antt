@@ -1,8 +1,8 @@
-use Rattle.std.proofs.Common.{◌≡◌, ◌∷◌, [], map, ap, subst, ◌∙◌}
+use Rattle.std.proofs.Common.{◌∷◌, [], map, ap, ◌∙◌}
 use Rattle.host_trait.specs.declared.leaf.LeafKind.TheVariants.{Link}
 use Rattle.tree_put.specs.declared.leaf_put.LeafPut.{LeafPut}
 use Rattle.tree_put.specs.Sequence.{put_at}
-use Rattle.etc_clean.specs.CleanList.{clean_leaf, clean_names, clean_text}
+use Rattle.etc_clean.specs.CleanList.{clean_leaf}
 use Rattle.etc_clean.specs.Etc.{static_name}
 use Rattle.etc_clean.specs.Names.{place}
 use Rattle.etc_farm.specs.FarmPart.{farm_of, static_target}
@@ -14,16 +14,13 @@ returns c =
     let farm = farm_of c.args.system.now c.args.manifest.now in
     let lists =
     lists_of farm c.items.ensures.is_manifest c.args.sorted.now c.as_slice-items.result.now c.as_slice.result.now c.as_slice-2.result.now c.as_slice-3.result.now c.in_ok-first.first c.in_ok-placed.placed
-    (c.as_slice-items.ensures ∙ c.items.ensures.items) c.as_slice.ensures c.as_slice-2.ensures c.as_slice-3.ensures c.in_ok-placed.ensures c.in_ok-first.ensures c.in_ok-first_list.ensures.read_back c.in_ok-last.ensures.read_back in
+    (c.as_slice-items.ensures ∙ c.items.ensures.items) c.as_slice.ensures c.as_slice-2.ensures c.as_slice-3.ensures c.in_ok-placed.ensures c.in_ok-first.ensures.names c.in_ok-first.ensures.sorted c.in_ok-first_list.ensures.read_back in
     record {
       manifest = c.items.ensures.is_manifest;
       names = c.in_ok-first.first;
       first = c.in_ok-puts.ensures ∙ ap (λ (list : LeafPut). list ∷ put_at (place static_name) (Link (static_target c.args.system.now)) ∷ []) c.in_ok-first_list.ensures.put;
-      starts = lists.starts;
+      names_are = lists.names_are;
       gone = c.in_ok-gone.ensures ∙ ap (map place) c.as_slice-4.ensures;
       last_at = ap (λ (put : LeafPut). put.at) c.in_ok-last.ensures.put;
-      last = λ w can. record {
-        leaf = ap (λ (put : LeafPut). put.leaf) c.in_ok-last.ensures.put ∙ ap clean_leaf (lists.placed_are w can);
-        read_back = subst (λ names. clean_names (clean_text names) ≡ names) (lists.placed_are w can) (lists.reads w can);
-      };
+      last = λ w can. ap (λ (put : LeafPut). put.leaf) c.in_ok-last.ensures.put ∙ ap clean_leaf (lists.last_are w can);
     }

@@ -1,9 +1,12 @@
 use Rattle.std.proofs.lemmas.Result.{on_ok_weaker}
 use Rattle.host_trait.proofs.Moments.{leads_as, passes_as, told_as}
 use Rattle.switch_parts.specs.Part.{IsAtEnd, IsMomentOf}
-use Rattle.etc_farm.specs.EtcPart.{etc_part}
+use Rattle.std.proofs.Common.{sym, ap, subst, List}
+use Rattle.etc_manifest.specs.declared.item.Item.{Item}
+use Rattle.etc_farm.specs.Making.{IsMaking, IsMakingEtc}
+use Rattle.etc_farm.specs.EtcPart.{etc_part, items_in}
 use Rattle.etc_farm.specs.FarmPart.{CanApply, farm_of}
-use Rattle.etc_farm.proofs.EtcLemmas.{can_apply, end_as, moment_as}
+use Rattle.etc_farm.proofs.EtcLemmas.{can_apply, end_as, making_as}
 use Rattle.etc_farm.proofs.putting.put_etc.Goals as goal
 
 pub apply-requires : goal.apply-requires
@@ -17,8 +20,13 @@ returns-clause-ok g c =
 
 pub returns-clause-moments : goal.returns-clause-moments
 returns-clause-moments g c =
-    passes_as c.apply.ensures.moments (IsMomentOf (etc_part c.args.system.now c.args.plan.now.owners))
-    (λ w m is moment. moment_as c.args.system.now c.args.plan.now w (c.requires.has w is) c.path-path.ensures.names m moment)
+    passes_as c.apply.ensures.steps (IsMomentOf (etc_part c.args.system.now c.args.plan.now.owners))
+    (λ w m is step. making_as c.args.system.now c.args.plan.now w (c.requires.has w is) c.path-path.ensures.names m step)
 
 pub returns-clause-cause : goal.returns-clause-cause
 returns-clause-cause g c = c.apply.ensures.cause
+
+pub returns-clause-steps : goal.returns-clause-steps
+returns-clause-steps g c =
+    passes_as c.apply.ensures.steps (IsMakingEtc c.args.system.now c.args.plan.now.owners)
+    (λ w m is step. subst (λ (items : List Item). IsMaking (farm_of c.args.system.now items) w m) (sym (ap items_in (c.requires.has w is).planned.wanted)) step)
