@@ -3,12 +3,12 @@ use Rattle.std.proofs.Common.{◌≡◌, ℕ, ◌||◌, true, false, List, [], �
 use Rattle.std.proofs.lemmas.Bool.{both_ways, or_left, or_right}
 use Rattle.std.specs.List.{AllByRecursion, cons_option, filter_map, list_any}
 use Rattle.std.specs.Ordering.{eq_by_cmp}
-use Rattle.std.specs.Prelude.{option_to_list}
 use Rattle.generations.specs.declared.gens.Gen.{Gen}
 use Rattle.host_trait.specs.Host.{HostState, Leads, Passes}
 use Rattle.host_trait.specs.World.{IsClear, Leaves, WorldState, bytes_cmp, seen, stage}
 use Rattle.host_trait.proofs.Moments.{goes_on, leads_then, passes_as}
 use Rattle.host_trait.proofs.Places.{itself, same_or_other}
+use Rattle.host_trait.proofs.Seen.{clear_seen, stage_clear_seen}
 use Rattle.switch_names.specs.Names.{Name}
 use Rattle.tree_put.specs.declared.written_place.WrittenPlace.{WrittenPlace}
 use Rattle.tree_put.specs.WrittenPlace.{written}
@@ -18,11 +18,11 @@ use Rattle.boot_entries.specs.declared.boot_texts.BootTexts.{BootTexts}
 use Rattle.boot_entries.specs.BootPart.{boot_places, entry_places, place_if}
 use Rattle.boot_entries.specs.Places.{entry_path, loader_path}
 use Rattle.tree_put.specs.Sequence.{ArePutsApart, CanPutAll, IsPutting, IsRemoving, with_puts, without_places}
-use Rattle.tree_put.proofs.SequenceLemmas.{putting_none, seen_without_places}
-use Rattle.boot_entries.specs.Steps.{AreEntries, CanApplyBoot, IsBootMoment, IsBootSet, IsClearing, boot_files, boot_puts}
-use Rattle.boot_entries.specs.Texts.{boot_file, entries_of, entry_of}
+use Rattle.tree_put.proofs.SequenceLemmas.{seen_without_places}
+use Rattle.boot_entries.specs.Steps.{AreEntries, CanApplyBoot, IsBootMoment, IsBootSet, IsClearing, boot_put, boot_puts, loader_files}
+use Rattle.boot_entries.specs.Texts.{entries_of, entry_of}
 use Rattle.boot_entries.proofs.MenuPlacesLemmas.{entry_places_have}
-use Rattle.boot_entries.proofs.PutLemmas.{AreBootPlaces, IsBootPlace, both_all, files_apart, puts_all}
+use Rattle.boot_entries.proofs.PutLemmas.{AreBootPlaces, IsBootPlace, files_apart, files_clear, files_stage, puts_all, stage_apart, with_files}
 
 -- ---- where a plan can be carried out, nothing is in the way of what is put
 
@@ -52,6 +52,24 @@ entries_clear leaves others (gen ∷ list) clear = by gen.target clear (entries_
       rest (λ q among. clear q (or_right (eq_by_cmp bytes_cmp q (entry_path gen.number)) (list_any (eq_by_cmp bytes_cmp q) (filter_map place_if list)) among)),
     )
 
+pub entries_places : (files : List BootFile) → AreEntries files → AreBootPlaces files
+entries_places [] are = tt
+entries_places (file ∷ files) are = (inr are.0, entries_places files are.1)
+
+-- what holds of the place of what the boot loader reads first
+loader_all : (P : Name → Type 0) (loader : Option (List ℕ)) → P loader_path → AllByRecursion (λ (file : BootFile). P file.at) (loader_files loader)
+loader_all P None is = tt
+loader_all P (Some text) is = (is, tt)
+
+pub loader_places : (loader : Option (List ℕ)) → AreBootPlaces (loader_files loader)
+loader_places loader = loader_all IsBootPlace loader (inl refl)
+
+pub entry_puts_apart : (files : List BootFile) → AreEntries files → ArePutsApart (map boot_put files)
+entry_puts_apart files are = files_apart files (entries_places files are)
+
+pub loader_puts_apart : (loader : Option (List ℕ)) → ArePutsApart (map boot_put (loader_files loader))
+loader_puts_apart loader = files_apart (loader_files loader) (loader_places loader)
+
 module _ (texts : BootTexts) (w : WorldState) (can : CanApplyBoot texts w) where
   clear : AllByRecursion (λ (place : WrittenPlace). IsClear w.leaves place.at) (boot_places can.gens.list)
   clear = all_clear w.leaves (boot_places can.gens.list) can.free.way
@@ -64,29 +82,20 @@ module _ (texts : BootTexts) (w : WorldState) (can : CanApplyBoot texts w) where
       (entries_clear w.leaves w.leaves can.gens.list (λ q among.
       front_clear w.leaves (entry_places can.gens.list) (written false loader_path ∷ written false stage ∷ []) clear q (entry_places_have can.gens.list q ∙ among)))
 
-  loader_clear : (loader : Option (List ℕ)) → AllByRecursion (λ (file : BootFile). IsClear w.leaves file.at) (option_to_list (option_map (boot_file loader_path) loader))
-  loader_clear None = tt
-  loader_clear (Some text) = (last_clear.0, tt)
+  -- the entries can be put
+  pub can_entries : CanPutAll (map boot_put texts.entries) w
+  can_entries = record { stage = last_clear.1.0; places = puts_all (IsClear w.leaves) texts.entries entries_are_clear }
 
-  -- all that is put can be
-  pub can_menu : CanPutAll (boot_puts texts) w
-  can_menu = record {
-    stage = last_clear.1.0;
-    places = puts_all (IsClear w.leaves) (boot_files texts)
-        (both_all (λ (file : BootFile). IsClear w.leaves file.at) texts.entries (option_to_list (option_map (boot_file loader_path) texts.loader)) entries_are_clear (loader_clear texts.loader));
-  }
-
-pub entries_places : (files : List BootFile) → AreEntries files → AreBootPlaces files
-entries_places [] are = tt
-entries_places (file ∷ files) are = (inr are.0, entries_places files are.1)
-
-pub loader_places : (loader : Option (List ℕ)) → AreBootPlaces (option_to_list (option_map (boot_file loader_path) loader))
-loader_places None = tt
-loader_places (Some text) = (inl refl, tt)
-
-pub menu_apart : (texts : BootTexts) → AreEntries texts.entries → ArePutsApart (boot_puts texts)
-menu_apart texts are = files_apart (boot_files texts)
-    (both_all (λ (file : BootFile). IsBootPlace file.at) texts.entries (option_to_list (option_map (boot_file loader_path) texts.loader)) (entries_places texts.entries are) (loader_places texts.loader))
+  -- once the entries stand, what the boot loader reads first can be put
+  pub can_loader : AreEntries texts.entries → (v : WorldState) → seen v ≡ seen (with_puts (map boot_put texts.entries) w) → CanPutAll (map boot_put (loader_files texts.loader)) v
+  can_loader are v came =
+      let places = entries_places texts.entries are in
+      record {
+        stage = stage_clear_seen v (with_files texts.entries w) came (files_stage texts.entries w places last_clear.1.0);
+        places = puts_all (IsClear v.leaves) (loader_files texts.loader)
+            (loader_all (IsClear v.leaves) texts.loader
+            (clear_seen v (with_files texts.entries w) loader_path (stage_apart loader_path (inl refl)) came (files_clear texts.entries loader_path w places (inl refl) last_clear.0)));
+      }
 
 -- ---- the puts, and then the removals
 
@@ -107,6 +116,3 @@ module _ (texts : BootTexts) {a b : HostState} (first : Passes a b (IsPutting (b
 
     pub all_led : Leads b c (λ w v. v ≡ without_places texts.gone w) → Leads a c (IsBootSet texts)
     all_led gone = leads_then led gone (IsBootSet texts) (λ w v u is_w is_v before now. ap seen now ∙ seen_without_places texts.gone v (with_puts (boot_puts texts) w) before)
-
-pub none_yet : (texts : BootTexts) (w : WorldState) → IsBootMoment texts w w
-none_yet texts w = inl (putting_none (boot_puts texts) w)

@@ -61,7 +61,7 @@ last_moment texts u v is = inr (record {
 -- ---- the profile is set, and then the boot menu is made
 
 seen_twice : (w : WorldState) → seen (seen w) ≡ seen w
-seen_twice w = ap (λ (l : Leaves). record w { leaves = l }) (alike _ _ (λ q. grind (gets, rules)))
+seen_twice w = ap (λ (l : Leaves). record w { leaves = l; written = [] }) (alike _ _ (λ q. grind (gets, rules)))
 
 pub set_is_seen : (system : Name) (w : WorldState) → seen (set_end system w) ≡ set_end system w
 set_is_seen system w = seen_twice (with_profile (number_after w.leaves system) (with_generation system (number_after w.leaves system) w))

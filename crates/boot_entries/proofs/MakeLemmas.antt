@@ -1,5 +1,5 @@
 -- A system is made the boot default as it is planned.
-use Rattle.std.proofs.Common.{◌≡◌, ℕ, Bool, true, false, cond, None, Some, Result, Err, IsErrOf, refl, sym, ap, subst, ◌∙◌}
+use Rattle.std.proofs.Common.{◌≡◌, ℕ, Bool, true, false, cond, None, Some, refl, sym, ap, subst, ◌∙◌}
 use Rattle.std.specs.Option.{option_or}
 use Rattle.generations.proofs.Numbers.{number_for_world, number_of_world}
 use Rattle.generations.proofs.ProfilePlaces.{can_of_free}
@@ -9,14 +9,9 @@ use Rattle.generations.specs.Gens.{IsGensOf, number_for_in}
 use Rattle.generations.specs.Places.{number_after, set_end}
 use Rattle.generations.specs.ProfilePart.{has_number, profile_part}
 use Rattle.generations.specs.Set.{CanSet}
-use Rattle.host_trait.specs.declared.tree.HostFault.TheVariants.{Device, Memory}
 use Rattle.host_trait.specs.World.{Leaves, WorldState, seen}
 use Rattle.switch_names.specs.Names.{Name}
 use Rattle.switch_parts.proofs.Parts.{second_free}
-use Rattle.switch_parts.proofs.Faults.{refused_is, refused_no_device, memory_no_device}
-use Rattle.switch_parts.specs.declared.plan_fault.PlanFault.{PlanFault}
-use Rattle.switch_parts.specs.declared.plan_fault.PlanFault.TheVariants.{Host, Refused}
-use Rattle.switch_parts.specs.declared.refusal.Refusal.{Refusal}
 use Rattle.switch_parts.specs.declared.refusal.Refusal.TheVariants.{GenerationsFull}
 use Rattle.boot_entries.specs.declared.boot_default.BootDefaultPlan.{BootDefaultPlan}
 use Rattle.boot_entries.specs.declared.boot_texts.BootTexts.{BootTexts}

@@ -1,7 +1,6 @@
 -- The places of the boot menu of generations.
 use Rattle.std.proofs.Common.{◌≡◌, ℕ, ◌+◌, ◌<◌, ◌||◌, Bool, false, true, cond, List, [], ◌∷◌, ◌++◌, get_or, length, map, take, Option, None, Some, is_some, refl, sym, ap, subst, ◌∙◌, inl, inr}
-use Rattle.std.proofs.lemmas.Bool.{both_ways, or_left, or_right}
-use Rattle.std.proofs.lemmas.Cmp.{tied_itself}
+use Rattle.std.proofs.lemmas.Bool.{both_ways}
 use Rattle.std.proofs.lemmas.List.{append_assoc, take_more}
 use Rattle.std.proofs.lemmas.List.Elements.{filter_map-append}
 use Rattle.std.proofs.lemmas.List.Folds.{list_any-append}
@@ -11,7 +10,6 @@ use Rattle.std.specs.FinMap.Entries.{is_some-find}
 use Rattle.std.specs.List.{AllByRecursion, cons_option, filter_map}
 use Rattle.std.specs.List.Sorted.{IsStrictlySortedBy}
 use Rattle.std.specs.Option.{option_map, option_to_list}
-use Rattle.std.specs.Ordering.{is_eq}
 use Rattle.host_trait.specs.World.{bytes_cmp, is_in_line, stage}
 use Rattle.host_trait.proofs.KeyOrder.{keys_sorted}
 use Rattle.host_trait.proofs.Places.{bytes_total, same_or_other}

@@ -1,11 +1,10 @@
 -- Files of the boot menu are put one after another, and what goes is removed so.
-use Rattle.std.proofs.Common.{◌≡◌, ◌⊎◌, ℕ, zero, suc, ◌<◌, ◌^◌, true, false, List, [], ◌∷◌, ◌++◌, codes, map, option_map, take, refl, sym, ap, subst, ◌∙◌, inl, inr, ⊎_elim, arith}
+use Rattle.std.proofs.Common.{◌≡◌, ◌⊎◌, ℕ, zero, suc, ◌<◌, ◌^◌, true, false, List, [], ◌∷◌, ◌++◌, codes, map, take, refl, sym, ap, subst, ◌∙◌, inl, inr, ⊎_elim, arith}
 use Rattle.std.proofs.lemmas.Bool.{both_ways, cases_Bool, or_from}
 use Rattle.std.specs.FinMap.{get, remove, gets}
 use Rattle.std.specs.Fmt.{decimal}
 use Rattle.std.specs.List.{AllByRecursion, list_any}
 use Rattle.std.specs.Option.{option_to_list}
-use Rattle.std.proofs.lemmas.List.{map-append}
 use Rattle.switch_names.proofs.Below.{front_is_parent}
 use Rattle.switch_names.specs.Names.{Name}
 use Rattle.switch_names.specs.Path.{IsParentOf, is_below}
@@ -20,7 +19,6 @@ use Rattle.boot_entries.specs.declared.boot_texts.BootFile.{BootFile}
 use Rattle.boot_entries.specs.declared.boot_texts.BootTexts.{BootTexts}
 use Rattle.boot_entries.specs.Places.{entries_folder, entry_name, entry_path, loader_path}
 use Rattle.boot_entries.specs.Steps.{IsEntryPlace, boot_files, boot_put, boot_puts}
-use Rattle.boot_entries.specs.Texts.{boot_file}
 
 -- ---- the places are apart
 
@@ -143,13 +141,3 @@ files_apart files places = apart_by IsBootPlace place_apart boot_line (map boot_
 
 pub files_stage : (files : List BootFile) (w : WorldState) → AreBootPlaces files → IsClear w.leaves stage → IsClear (with_files files w).leaves stage
 files_stage files w places clear = stage_after (map boot_put files) w (files_apart files places).stage clear
-
--- ---- the puts are made
-
--- the puts of the entries, and then that of the loader's file, are those of the menu
-pub menu_made :
-    (texts : BootTexts) (none some all : List LeafPut) (entries : List BootFile) → none ≡ [] → entries ≡ texts.entries → some ≡ none ++ map boot_put entries →
-    all ≡ some ++ map boot_put (option_to_list (option_map (boot_file loader_path) texts.loader)) → all ≡ boot_puts texts
-menu_made texts none some all entries is_none same first last =
-    let loader = option_to_list (option_map (boot_file loader_path) texts.loader) in
-    last ∙ ap (λ puts. puts ++ map boot_put loader) (first ∙ (λ i. is_none i ++ map boot_put (same i))) ∙ sym (map-append boot_put texts.entries loader)

@@ -1,5 +1,5 @@
 -- The steps in which the boot menu's files are put and removed: rename(2), unlink(2).
-use Rattle.std.specs.Prelude.{◌≡◌, ◌≤◌, ◌<◌, ◌^◌, ◌⊎◌, ◌++◌, ℕ, List, length, map, take, option_map, option_to_list}
+use Rattle.std.specs.Prelude.{◌≡◌, ◌≤◌, ◌<◌, ◌^◌, ◌⊎◌, ◌++◌, ℕ, List, Option, length, map, take, option_map, option_to_list}
 use Rattle.std.specs.List.{AllByRecursion}
 use Rattle.generations.specs.declared.gens.Gens.{Gens}
 use Rattle.host_trait.specs.World.{WorldState, seen}
@@ -17,9 +17,13 @@ use Rattle.boot_entries.specs.Texts.{boot_file, menu_of}
 abbrev pub boot_put : BootFile → LeafPut
 boot_put file = put_at file.at (boot_leaf file.bytes)
 
+-- what the boot loader reads first, where there is such a text
+abbrev pub loader_files : Option (List ℕ) → List BootFile
+loader_files loader = option_to_list (option_map (boot_file loader_path) loader)
+
 -- what is put, in its order: each entry, and then what the boot loader reads first
 abbrev pub boot_files : BootTexts → List BootFile
-boot_files texts = texts.entries ++ option_to_list (option_map (boot_file loader_path) texts.loader)
+boot_files texts = texts.entries ++ loader_files texts.loader
 
 -- the puts of what is put, in its order
 abbrev pub boot_puts : BootTexts → List LeafPut

@@ -1,8 +1,8 @@
 //! Puts and removes the files of a boot menu that is planned.
-ghost use Rattle.std.specs.Prelude.{◌≡◌, ◌++◌, IfOk, OnOk, map, option_map, option_to_list};
-ghost use Rattle.host_trait.specs.Host.{HasCause, Leads, Passes, Told};
-ghost use Rattle.boot_entries.specs.Places.{loader_path};
-ghost use Rattle.boot_entries.specs.Steps.{AreEntries, CanApplyBoot, IsBootMoment, IsBootSet, boot_put, boot_puts};
+ghost use Rattle.std.specs.Prelude.{◌≡◌, IfOk, OnOk, map};
+ghost use Rattle.host_trait.specs.Host.{Becomes, Comes, HasCause, Leads, Passes, Told};
+ghost use Rattle.tree_put.specs.Sequence.{ArePutsApart, CanPutAll, IsPutting, IsRemoving, with_puts, without_places};
+ghost use Rattle.boot_entries.specs.Steps.{AreEntries, CanApplyBoot, IsBootMoment, IsBootSet, boot_put, boot_puts, loader_files};
 ghost use Rattle.boot_entries.specs.Texts.{boot_file};
 
 use crate::boot_texts::{BootFile, BootTexts};
@@ -20,44 +20,67 @@ fn file_at(alloc: Global, at: Path, bytes: &Bytes) -> Result<LeafPut, AllocError
     Ok(LeafPut { at, leaf })
 }
 
-/// Adds the puts of entries, in their order.
-fn add_entries(
-    alloc: Global,
-    puts: &mut Listed<LeafPut>,
-    entries: &[BootFile],
-) -> Result<(), AllocError>
-    ensures { OnOk result (puts.new ≡ puts.old ++ map boot_put entries.now) }
+/// The puts of entries, in their order.
+fn entry_puts(alloc: Global, entries: &[BootFile]) -> Result<Listed<LeafPut>, AllocError>
+    ensures { IfOk result (λ puts. puts ≡ map boot_put entries.now) }
 {
+    let mut puts = Listed::new(alloc);
     for entry in entries {
         let at = entry.at.copy(alloc)?;
         puts.push(file_at(alloc, at, &entry.bytes)?)?;
     }
+    Ok(puts)
+}
+
+/// The put of what the boot loader reads first, where there is one.
+fn loader_puts(alloc: Global, loader: &Option<Bytes>) -> Result<Listed<LeafPut>, AllocError>
+    ensures { IfOk result (λ puts. puts ≡ map boot_put (loader_files loader.now)) }
+{
+    let mut puts = Listed::new(alloc);
+    if let Some(text) = loader {
+        let at = loader_path(alloc)?;
+        puts.push(file_at(alloc, at, text)?)?;
+    }
+    Ok(puts)
+}
+
+/// Puts leaves, one after the other, and has them kept beyond a loss of power.
+fn put_kept<T: Tree>(alloc: Global, host: &mut T, puts: &[LeafPut]) -> Result<(), HostFault>
+    requires apart { ArePutsApart puts.now }
+    requires can { Told (T.host host.old) (CanPutAll puts.now) }
+    ensures ok { OnOk result (Comes (T.host host.old) (T.host host.new) (with_puts puts.now)) }
+    ensures moments { Passes (T.host host.old) (T.host host.new) (IsPutting puts.now) }
+    ensures cause { HasCause (T.host host.old) (T.host host.new) result }
+{
+    put_all(alloc, host, puts)?;
+    host.sync(alloc)?;
     Ok(())
 }
 
-/// Adds the put of what the boot loader reads first, where there is one.
-fn add_loader(
-    alloc: Global,
-    puts: &mut Listed<LeafPut>,
-    loader: &Option<Bytes>,
-) -> Result<(), AllocError>
-    ensures { OnOk result (puts.new ≡ puts.old ++ map boot_put (option_to_list (option_map (boot_file loader_path) loader.now))) }
+/// Removes the leaves at some places, one after the other, and has that kept beyond a loss of power.
+fn drop_kept<T: Tree>(alloc: Global, host: &mut T, places: &[Path]) -> Result<(), HostFault>
+    ensures ok { OnOk result (Becomes (T.host host.old) (T.host host.new) (without_places places.now)) }
+    ensures moments { Passes (T.host host.old) (T.host host.new) (IsRemoving places.now) }
+    ensures cause { HasCause (T.host host.old) (T.host host.new) result }
 {
-    let Some(text) = loader else {
-        return Ok(());
-    };
-    let at = loader_path(alloc)?;
-    puts.push(file_at(alloc, at, text)?)
+    drop_all(alloc, host, places)?;
+    host.sync(alloc)?;
+    Ok(())
 }
 
-/// The puts of a boot menu: those of the entries, and then that of what the boot loader reads first.
-fn menu_puts(alloc: Global, texts: &BootTexts) -> Result<Listed<LeafPut>, AllocError>
-    ensures { IfOk result (λ puts. puts ≡ boot_puts texts.now) }
+/// Puts the entries by ascending number, and then what the boot loader reads first.
+fn put_menu<T: Tree>(alloc: Global, host: &mut T, texts: &BootTexts) -> Result<(), HostFault>
+    requires places { AreEntries texts.now.entries }
+    requires can { Told (T.host host.old) (CanApplyBoot texts.now) }
+    ensures ok { OnOk result (Comes (T.host host.old) (T.host host.new) (with_puts (boot_puts texts.now))) }
+    ensures moments { Passes (T.host host.old) (T.host host.new) (IsPutting (boot_puts texts.now)) }
+    ensures cause { HasCause (T.host host.old) (T.host host.new) result }
 {
-    let mut puts = Listed::new(alloc);
-    add_entries(alloc, &mut puts, texts.entries.as_slice())?;
-    add_loader(alloc, &mut puts, &texts.loader)?;
-    Ok(puts)
+    let entries = entry_puts(alloc, texts.entries.as_slice())?;
+    let loader = loader_puts(alloc, &texts.loader)?;
+    put_kept(alloc, host, entries.as_slice())?;
+    put_kept(alloc, host, loader.as_slice())?;
+    Ok(())
 }
 
 /// Makes the boot menu that is planned: puts the entries by ascending number, then what the boot
@@ -65,7 +88,8 @@ fn menu_puts(alloc: Global, texts: &BootTexts) -> Result<Listed<LeafPut>, AllocE
 ///
 /// A leaf that stands already is left alone. At each moment the world is, but for the stage, the
 /// one after the first so many of these steps. All memory but that of host calls is taken before
-/// the first change.
+/// the first change. The entries are kept beyond a loss of power before what the boot loader reads first
+/// is put, and that before an entry goes, so that it names an entry that stands.
 ///
 /// Source: Boot Loader Specification, "Type #1 Boot Loader Specification Entries"; loader.conf(5).
 pub fn apply<T: Tree>(alloc: Global, host: &mut T, texts: &BootTexts) -> Result<(), HostFault>
@@ -75,8 +99,7 @@ pub fn apply<T: Tree>(alloc: Global, host: &mut T, texts: &BootTexts) -> Result<
     ensures moments { Passes (T.host host.old) (T.host host.new) (IsBootMoment texts.now) }
     ensures cause { HasCause (T.host host.old) (T.host host.new) result }
 {
-    let puts = menu_puts(alloc, texts)?;
-    put_all(alloc, host, puts.as_slice())?;
-    drop_all(alloc, host, texts.gone.as_slice())?;
+    put_menu(alloc, host, texts)?;
+    drop_kept(alloc, host, texts.gone.as_slice())?;
     Ok(())
 }

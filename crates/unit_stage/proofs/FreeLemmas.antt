@@ -14,7 +14,7 @@ use Rattle.switch_parts.specs.declared.refusal.Refusal.TheVariants.{UnitText}
 use Rattle.tree_put.specs.declared.written_place.WrittenPlace.{WrittenPlace}
 use Rattle.tree_put.specs.Put.{is_blocked}
 use Rattle.tree_put.specs.WrittenPlace.{is_in_the_way, lacks_content, written}
-use Rattle.tree_put.proofs.BlockedLemmas.{all_fail, none_passes}
+use Rattle.host_trait.proofs.KeyTests.{all_fail, none_passes}
 use Rattle.unit_stage.specs.Laws.{AreSameBeside}
 use Rattle.unit_stage.specs.Owned.{unit_places}
 use Rattle.unit_stage.specs.System.{IsSystem, current_place}

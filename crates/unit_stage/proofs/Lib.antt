@@ -1,4 +1,5 @@
 pub mod ActLemmas
+pub mod ApartLemmas
 pub mod BegunLemmas
 pub mod CallLemmas
 pub mod CallingLemmas

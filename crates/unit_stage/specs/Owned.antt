@@ -17,9 +17,13 @@ owned_places = current_place ∷ reloads_place ∷ restarts_place ∷ starts_pla
 abbrev pub owns_units : Name → Bool
 owns_units q = is_among owned_places q
 
--- the places that are written by way of the stage, in byte order; the lists are read before
+-- the places of the lists, which are read before
+abbrev pub list_places : List WrittenPlace
+list_places = written true reloads_place ∷ written true restarts_place ∷ written true starts_place ∷ []
+
+-- the places that are written by way of the stage
 abbrev pub unit_places : List WrittenPlace
-unit_places = written false stage ∷ written false current_place ∷ written true reloads_place ∷ written true restarts_place ∷ written true starts_place ∷ []
+unit_places = written false stage ∷ written false current_place ∷ list_places
 
 -- what is looked at: these places, what could be in their way, and the store, where the systems lie
 abbrev pub reads_units : Name → Bool

@@ -12,7 +12,7 @@ use std::alloc::Global;
 use switch_names::SystemName;
 use tree_put::put;
 
-/// Puts the link to a system.
+/// Puts the link to a system, once all that was changed before is kept beyond a loss of power.
 fn put_current<T: Tree>(alloc: Global, host: &mut T, leaf: &Leaf) -> Result<(), HostFault>
     requires { Told (T.host host.old) (CanPut current_place) }
     ensures ok { OnOk result (Comes (T.host host.old) (T.host host.new) (with_leaf current_place leaf.now)) }
@@ -20,10 +20,13 @@ fn put_current<T: Tree>(alloc: Global, host: &mut T, leaf: &Leaf) -> Result<(), 
     ensures cause { HasCause (T.host host.old) (T.host host.new) result }
 {
     let at = current_path(alloc)?;
-    put(alloc, host, &at, leaf)
+    host.sync(alloc)?;
+    put(alloc, host, &at, leaf)?;
+    Ok(())
 }
 
-/// Puts the link to a system, and then loads its definitions.
+/// Puts the link to a system, and then loads its definitions. All that was changed before the link is kept beyond a
+/// loss of power first.
 pub fn load_system<H: Manager>(
     alloc: Global,
     host: &mut H,

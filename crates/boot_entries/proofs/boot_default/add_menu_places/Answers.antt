@@ -1,7 +1,7 @@
 use Rattle.std.proofs.Common.{subst, sym}
 use Rattle.std.proofs.lemmas.Result.{on_ok_weaker}
 use Rattle.tree_put.specs.WrittenPlace.{AreApartFromStage}
-use Rattle.generations.proofs.PlacesLemmas.{apart_joined}
+use Rattle.tree_put.proofs.AddedLemmas.{apart_joined}
 use Rattle.boot_entries.proofs.MenuPlacesLemmas.{menu_apart}
 use Rattle.boot_entries.proofs.boot_default.add_menu_places.Goals as goal
 

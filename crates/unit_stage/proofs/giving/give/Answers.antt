@@ -10,29 +10,29 @@ use Rattle.unit_stage.proofs.CauseLemmas.{cause_end}
 use Rattle.unit_stage.proofs.StepLemmas.{given}
 use Rattle.unit_stage.proofs.giving.give.Goals as goal
 
-pub returns-in_err-call_units-clause-moments : goal.returns-in_err-call_units-clause-moments
-returns-in_err-call_units-clause-moments g c =
-    passes_as c.call_units.ensures.moments (IsListMoment c.args.which c.args.calls.now) (λ w m is moment. inl moment)
+pub returns-in_err-call_kept-clause-moments : goal.returns-in_err-call_kept-clause-moments
+returns-in_err-call_kept-clause-moments g c =
+    passes_as c.call_kept.ensures.moments (IsListMoment c.args.which c.args.calls.now) (λ w m is moment. inl moment)
 
 pub returns-in_err-clear-clause-moments : goal.returns-in_err-clear-clause-moments
 returns-in_err-clear-clause-moments g c =
-    goes_on c.call_units.ensures.moments c.in_ok-call_units.ensures.ok c.clear.ensures.moments (IsListMoment c.args.which c.args.calls.now)
+    goes_on c.call_kept.ensures.moments c.in_ok-call_kept.ensures.ok c.clear.ensures.moments (IsListMoment c.args.which c.args.calls.now)
     (λ w m is moment. inl moment) (λ w v m is is_v made moment. given c.args.which c.args.calls.now w v m made moment)
 
 pub returns-clause-ok : goal.returns-clause-ok
 returns-clause-ok g c =
-    leads_then c.in_ok-call_units.ensures.ok c.in_ok-clear.ensures.ok (λ w u. u ≡ with_given c.args.which c.args.calls.now w)
+    leads_then c.in_ok-call_kept.ensures.ok c.in_ok-clear.ensures.ok (λ w u. u ≡ with_given c.args.which c.args.calls.now w)
     (λ w v u is is_v made gone. gone ∙ ap (without_leaf (place_of c.args.which)) made)
 
 pub returns-clause-moments : goal.returns-clause-moments
 returns-clause-moments g c =
-    goes_on c.call_units.ensures.moments c.in_ok-call_units.ensures.ok c.clear.ensures.moments (IsListMoment c.args.which c.args.calls.now)
+    goes_on c.call_kept.ensures.moments c.in_ok-call_kept.ensures.ok c.clear.ensures.moments (IsListMoment c.args.which c.args.calls.now)
     (λ w m is moment. inl moment) (λ w v m is is_v made moment. given c.args.which c.args.calls.now w v m made moment)
 
 pub returns-in_err-clear-clause-cause : goal.returns-in_err-clear-clause-cause
 returns-in_err-clear-clause-cause g c =
     let p = err_from_is_err_and c.from_residual-in_err-clear.result c.from_residual-in_err-clear.ensures.1 in
-    cause_on c.call_units.ensures.cause c.in_err-clear.ensures.cause (λ e. handed _ p.0 _ _ p.1 p.2 e)
+    cause_on c.call_kept.ensures.cause c.in_err-clear.ensures.cause (λ e. handed _ p.0 _ _ p.1 p.2 e)
 
 pub returns-clause-cause : goal.returns-clause-cause
-returns-clause-cause g c = cause_end c.call_units.ensures.cause c.clear.ensures.cause
+returns-clause-cause g c = cause_end c.call_kept.ensures.cause c.clear.ensures.cause

@@ -10,36 +10,36 @@ use Rattle.unit_stage.proofs.CauseLemmas.{cause_end}
 use Rattle.unit_stage.proofs.StepLemmas.{recording, seen_with_calls, stopping}
 use Rattle.unit_stage.proofs.giving.stop_units.Goals as goal
 
-pub returns-in_err-record-clause-moments : goal.returns-in_err-record-clause-moments
-returns-in_err-record-clause-moments g c =
+pub returns-in_err-record_kept-clause-moments : goal.returns-in_err-record_kept-clause-moments
+returns-in_err-record_kept-clause-moments g c =
     let lists = c.args.lists.now in let stops = c.args.stops.now in
-    passes_as c.record.ensures.moments (IsStopMoment lists stops) (λ w m is moment. recording lists stops w m moment)
+    passes_as c.record_kept.ensures.moments (IsStopMoment lists stops) (λ w m is moment. recording lists stops w m moment)
 
 pub returns-in_err-call_units-clause-moments : goal.returns-in_err-call_units-clause-moments
 returns-in_err-call_units-clause-moments g c =
     let lists = c.args.lists.now in let stops = c.args.stops.now in
-    goes_on c.record.ensures.moments c.in_ok-record.ensures.ok c.call_units.ensures.moments (IsStopMoment lists stops)
+    goes_on c.record_kept.ensures.moments c.in_ok-record_kept.ensures.ok c.call_units.ensures.moments (IsStopMoment lists stops)
     (λ w m is moment. recording lists stops w m moment) (λ w v m is is_v came moment. stopping lists stops w v m came moment)
 
 pub returns-clause-ok : goal.returns-clause-ok
 returns-clause-ok g c =
     let lists = c.args.lists.now in let stops = c.args.stops.now in
-    leads_then c.in_ok-record.ensures.ok c.in_ok-call_units.ensures.ok (λ w v. seen v ≡ seen (with_stops lists stops w))
+    leads_then c.in_ok-record_kept.ensures.ok c.in_ok-call_units.ensures.ok (λ w v. seen v ≡ seen (with_stops lists stops w))
     (λ w v u is is_v came made. ap seen made ∙ seen_with_calls stops v (with_lists lists w) came)
 
 pub returns-clause-moments : goal.returns-clause-moments
 returns-clause-moments g c =
     let lists = c.args.lists.now in let stops = c.args.stops.now in
-    goes_on c.record.ensures.moments c.in_ok-record.ensures.ok c.call_units.ensures.moments (IsStopMoment lists stops)
+    goes_on c.record_kept.ensures.moments c.in_ok-record_kept.ensures.ok c.call_units.ensures.moments (IsStopMoment lists stops)
     (λ w m is moment. recording lists stops w m moment) (λ w v m is is_v came moment. stopping lists stops w v m came moment)
 
-pub record-requires : goal.record-requires
-record-requires g c = c.requires.lists
+pub record_kept-requires : goal.record_kept-requires
+record_kept-requires g c = c.requires.lists
 
 pub returns-in_err-call_units-clause-cause : goal.returns-in_err-call_units-clause-cause
 returns-in_err-call_units-clause-cause g c =
     let p = err_from_is_err_and c.from_residual-in_err-call_units.result c.from_residual-in_err-call_units.ensures.1 in
-    cause_on c.record.ensures.cause c.in_err-call_units.ensures.cause (λ e. handed _ p.0 _ _ p.1 p.2 e)
+    cause_on c.record_kept.ensures.cause c.in_err-call_units.ensures.cause (λ e. handed _ p.0 _ _ p.1 p.2 e)
 
 pub returns-clause-cause : goal.returns-clause-cause
-returns-clause-cause g c = cause_end c.record.ensures.cause c.call_units.ensures.cause
+returns-clause-cause g c = cause_end c.record_kept.ensures.cause c.call_units.ensures.cause

@@ -1,7 +1,0 @@
-use Rattle.std.proofs.Common.{◌≡◌, ◌++◌, map, take}
-use Rattle.boot_entries.specs.Steps.{boot_put}
-use Rattle.boot_entries.proofs.applying.add_entries.Given as goal
-
--- the puts of the entries so far are added
-abbrev pub invariant-loop-entry : goal.invariant-loop-entry
-invariant-loop-entry l = l.puts ≡ l.fn.puts ++ map boot_put (take l.entry-index l.entries)
