@@ -6,6 +6,7 @@ use Rattle.std.specs.Fmt.{decimal}
 use Rattle.switch_names.specs.Path.{is_below}
 use Rattle.host_trait.specs.World.{is_path, stage}
 use Rattle.tree_put.specs.Put.{AreApart}
+use Rattle.generations.specs.Goal.{goal_place}
 use Rattle.generations.specs.Places.{link_name, link_path, profile}
 use Rattle.std.proofs.Math.Bool.{and-false}
 
@@ -19,6 +20,10 @@ too_long p q h = ap (λ b. b && (Rattle.std.specs.List.starts_with Rattle.std.pr
 pub profile_apart : AreApart profile stage
 unfolding profile stage
 profile_apart = record { other = refl; line = refl }
+
+pub goal_apart : AreApart goal_place stage
+unfolding goal_place stage
+goal_apart = record { other = refl; line = refl }
 
 link_length : (n : ℕ) → 28 ≤ length (link_path n)
 unfolding link_path

@@ -3,11 +3,13 @@ pub mod Apart
 pub mod BelowLemmas
 pub mod DigitLemmas
 pub mod Entries
+pub mod GoalLemmas
 pub mod LinkNumbers
 pub mod Lists
 pub mod NamesLaws
 pub mod Numbers
 pub mod PlacesLemmas
+pub mod PreviousLemmas
 pub mod ProfileApart
 pub mod ProfileLemmas
 pub mod ProfilePlaces

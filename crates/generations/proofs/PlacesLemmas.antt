@@ -1,11 +1,9 @@
 -- The places of a list of generations are those of the world, and the stage is apart from each.
-use Rattle.std.proofs.Common.{◌≡◌, ◌&&◌, ℕ, Bool, true, false, cond, not, List, [], ◌∷◌, ◌++◌, Option, None, Some, option_map, refl, ap, ◌∙◌, inl, inr}
-use Rattle.std.proofs.lemmas.Bool.{both_ways, cases_Bool}
+use Rattle.std.proofs.Common.{◌≡◌, ◌&&◌, ℕ, Bool, true, false, cond, not, List, [], ◌∷◌, ◌++◌, Option, None, Some, option_map, refl, ap, ◌∙◌}
 use Rattle.std.specs.Option.{option_to_list}
-use Rattle.host_trait.specs.World.{Leaves, is_in_line, stage}
-use Rattle.host_trait.proofs.Sound.{in_line_either, not_in_line, line_turned}
+use Rattle.host_trait.specs.World.{Leaves, stage}
+use Rattle.host_trait.proofs.Sound.{not_in_line, line_turned}
 use Rattle.switch_names.specs.Names.{Name}
-use Rattle.tree_put.specs.declared.written_place.WrittenPlace.{WrittenPlace}
 use Rattle.tree_put.specs.WrittenPlace.{AreApartFromStage, written}
 use Rattle.generations.specs.declared.gens.Gen.{Gen}
 use Rattle.generations.specs.declared.gens.Gens.{Gens}
@@ -40,8 +38,3 @@ with_link false (Some n) = (line_turned (link_path n) stage (link_apart n).line,
 -- the stage is apart from the places of each list
 pub places_apart : (list : List Gen) (system : Name) → AreApartFromStage (places_in list system)
 places_apart list system = (line_turned profile stage profile_apart.line, with_link (is_highest_of list system) (number_for_in list system))
-
--- what holds of two lists holds of both together
-pub apart_joined : (places more : List WrittenPlace) → AreApartFromStage places → AreApartFromStage more → AreApartFromStage (places ++ more)
-apart_joined [] more first second = second
-apart_joined (place ∷ places) more first second = (first.0, apart_joined places more first.1 second)

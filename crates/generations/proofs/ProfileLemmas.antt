@@ -1,6 +1,5 @@
 -- The profile is a part of a switch: a set that was cut can be made again, and leaves the same.
-use Rattle.std.proofs.Common.{◌≡◌, ◌≢◌, ◌&&◌, ◌^◌, ℕ, nat_lt, Bool, true, false, cond, not, ◌∷◌, Option, None, Some, refl, sym, ap, subst, ◌∙◌, inl, inr, ⊎_elim}
-use Rattle.std.proofs.lemmas.Bool.{both_ways, cases_Bool}
+use Rattle.std.proofs.Common.{◌≡◌, ◌≢◌, ◌&&◌, ◌^◌, ℕ, nat_lt, Bool, true, false, cond, not, ◌∷◌, Option, None, Some, refl, sym, ap, subst, ◌∙◌, ⊎_elim}
 use Rattle.std.specs.FinMap.{get}
 use Rattle.switch_names.specs.Names.{Name}
 use Rattle.switch_names.specs.Path.{slash}
@@ -9,7 +8,7 @@ use Rattle.host_trait.specs.declared.leaf.LeafKind.{LeafKind}
 use Rattle.host_trait.specs.declared.leaf.LeafKind.TheVariants.{Link}
 use Rattle.host_trait.specs.World.{IsClear, WorldState, is_in_line, is_path, seen, stage, with_leaf}
 use Rattle.host_trait.proofs.Seen.{clear_seen, other_of, seen_at}
-use Rattle.host_trait.proofs.Sound.{clear_insert, get_other, in_line_either, not_in_line, line_turned}
+use Rattle.host_trait.proofs.Sound.{clear_insert, get_other, not_in_line, line_turned}
 use Rattle.tree_put.proofs.LeftLemmas.{leaf_after}
 use Rattle.switch_parts.specs.Part.{IsAtEnd, IsFree, IsMomentOf, IsOnly, IsPart, IsSameFor}
 use Rattle.generations.specs.Places.{generation_at, highest, is_of, link_name, link_path, link_target, number_after, profile, set_end, with_generation, with_profile}

@@ -1,6 +1,7 @@
 pub mod After
 pub mod Digits
 pub mod Gens
+pub mod Goal
 pub mod LinkNumber
 pub mod Places
 pub mod ProfilePart

@@ -6,6 +6,7 @@ ghost use Rattle.switch_names.specs.SystemName.{IsSystemPath};
 ghost use Rattle.switch_parts.specs.Part.{IsAtEnd, IsFree, IsMomentOf, IsPart};
 ghost use Rattle.generations.specs.After.{gens_after};
 ghost use Rattle.generations.specs.Gens.{IsGensOf};
+ghost use Rattle.generations.specs.Goal.{GoalLaw};
 ghost use Rattle.generations.specs.Places.{set_end};
 ghost use Rattle.generations.specs.ProfilePart.{has_number, profile_part};
 ghost use Rattle.generations.specs.Set.{CanSet, IsSetMoment};
@@ -40,4 +41,9 @@ pub fn a_set_leaves_these_generations()
 /// Wherever a set is cut, it leaves the same generations.
 pub fn generations_after_a_set_stay()
     ensures { (system : Name) (w m : WorldState) → (profile_part system).Keeps w m → gens_after system m.leaves ≡ gens_after system w.leaves }
+{}
+
+/// At each moment of a rollback before its goal is removed the goal is the same.
+pub fn the_goal_stays()
+    ensures { GoalLaw }
 {}

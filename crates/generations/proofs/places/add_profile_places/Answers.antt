@@ -1,7 +1,8 @@
 use Rattle.std.proofs.Common.{◌++◌, ◌∙◌, ap, subst, sym}
 use Rattle.std.proofs.lemmas.Result.{on_ok_weaker}
 use Rattle.tree_put.specs.WrittenPlace.{AreApartFromStage}
-use Rattle.generations.proofs.PlacesLemmas.{apart_joined, places_apart, places_of_world}
+use Rattle.tree_put.proofs.AddedLemmas.{apart_joined}
+use Rattle.generations.proofs.PlacesLemmas.{places_apart, places_of_world}
 use Rattle.generations.proofs.places.add_profile_places.Goals as goal
 
 pub returns-clause-places : goal.returns-clause-places
