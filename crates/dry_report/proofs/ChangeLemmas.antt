@@ -1,7 +1,6 @@
 -- Names that others lack.
-use Rattle.std.proofs.Common.{◌≡◌, ◌||◌, ◌&&◌, Bool, true, false, not, List, filter, inl, inr, refl, sym, ap, ◌∙◌}
+use Rattle.std.proofs.Common.{◌≡◌, ◌&&◌, Bool, true, false, not, List, filter, inl, inr, refl, sym, ap, ◌∙◌}
 use Rattle.std.proofs.lemmas.Bool.{cases_Bool}
-use Rattle.std.proofs.Math.Bool.{or-false}
 use Rattle.switch_names.specs.Names.{Name, has, is_name}
 use Rattle.users_merge.proofs.NameOrderLemmas.{is_ordered}
 use Rattle.host_trait.specs.Bytes.{bytes_cmp}

@@ -24,9 +24,10 @@ use Rattle.owed_lists.proofs.ListLemmas.{one_list, same_lists}
 use Rattle.owed_plan.proofs.SystemLemmas.{none_kept}
 use Rattle.switch_engine.specs.declared.command.Command.{Command}
 use Rattle.switch_engine.specs.declared.plan.Plan.{Plan}
-use Rattle.switch_engine.specs.Commands.{IsBoot, IsQuery, if_so, new_system, row_of, switched_to}
+use Rattle.switch_engine.specs.declared.row.Row.{Row}
+use Rattle.switch_engine.specs.Commands.{IsBoot, IsQuery, if_so, row, switched_to}
 use Rattle.switch_engine.specs.Final.{AreFinalUnits, IsFinalOf, IsLeftFailed, is_failed, is_failed_of}
-use Rattle.switch_engine.specs.Plan.{AreUnitsPlanned, IsPlanOf}
+use Rattle.switch_engine.specs.Plan.{ArePlanned, AreUnitsPlanned, IsPlanOf}
 use Rattle.switch_engine.proofs.CarryLemmas.{changes_on}
 use Rattle.switch_engine.proofs.DefinedLemmas.{defined_same}
 use Rattle.switch_engine.proofs.FailedLemmas.{failed_from}
@@ -81,7 +82,7 @@ one_by true None w one other is also = is ∙ sym also
 one_by false to w one other is also = is ∙ sym also
 
 pub one_closing : (command : Command) (w : WorldState) (one other : List ℕ) → IsClosing command w one → IsClosing command w other → one ≡ other
-one_closing command w one other is also = one_by (row_of command).changes (switched_to command w.leaves) w one other is also
+one_closing command w one other is also = one_by (row command w.leaves).changes (switched_to command w.leaves) w one other is also
 
 -- ---- the units that have failed, among the states of all
 
@@ -200,8 +201,9 @@ states_close_by false system plan states w v planned final now =
 pub states_close : (plan : Plan) (states : UnitStates) (w v : WorldState) → IsPlanOf w plan → (IsQuery plan.command → ⊥) → IsFinalOf plan.command w v →
     ((IsBoot plan.command → ⊥) → states ≡ v.manager.states) → IsClosing plan.command w (close_of (failed_in plan.units.defs states))
 states_close plan states w v planned changes final now =
-    let on = changes_on plan.command changes in
-    let system = new_system plan.command w.leaves in
-    let switches = (row_of plan.command).switches in
+    let on = changes_on plan.command w.leaves changes in
+    let its = row plan.command w.leaves in
+    let parts = subst (λ (r : Row). ArePlanned r w plan) planned.resolved planned.planned in
     subst (λ b. IsClosingBy b (switched_to plan.command w.leaves) w (close_of (failed_in plan.units.defs states))) (sym on)
-    (states_close_by switches system plan.units states w v planned.planned.units (subst (λ b. AreFinalUnits (if_so (b && switches) system) w v) on final.units) now)
+    (states_close_by its.switches its.system plan.units states w v parts.units (subst (λ b. AreFinalUnits (if_so (b && its.switches) its.system) w v) on final.units)
+    (λ switched. now (λ boot. switched (boot w.leaves))))

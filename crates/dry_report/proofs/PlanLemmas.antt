@@ -1,5 +1,5 @@
 -- What is told of a plan is what is told of the leaves that it was made from.
-use Rattle.std.proofs.Common.{◌≡◌, ◌++◌, ◌∷◌, ◌||◌, ℕ, Bool, true, false, not, List, [], map, filter, codes, Option, None, Some, Ok, Err, inl, inr, if◌then◌else◌, refl, sym, ap, ap₂, subst, ◌∙◌}
+use Rattle.std.proofs.Common.{◌≡◌, ◌++◌, ◌∷◌, ◌||◌, ℕ, true, not, List, [], map, filter, codes, Option, None, Some, Ok, Err, inl, inr, if◌then◌else◌, refl, sym, ap, ap₂, subst, ◌∙◌}
 use Rattle.std.specs.List.{flat_map}
 use Rattle.std.proofs.lemmas.List.{append-nil}
 use Rattle.std.proofs.lemmas.Option.{none-some}

@@ -14,8 +14,9 @@ use Rattle.owed_lists.proofs.ListLemmas.{same_lists}
 use Rattle.owed_plan.proofs.ListLemmas.{one_owed}
 use Rattle.switch_engine.specs.declared.command.Command.{Command}
 use Rattle.switch_engine.specs.declared.plan.Plan.{Plan}
-use Rattle.switch_engine.specs.Commands.{new_system, row_of}
-use Rattle.switch_engine.specs.Plan.{ArePlanned, AreUnitsPlanned, IsActivationPlanned, IsProfilePlanned}
+use Rattle.switch_engine.specs.declared.row.Row.{Row}
+use Rattle.switch_engine.specs.Commands.{row}
+use Rattle.switch_engine.specs.Plan.{AreUnitsPlanned, IsActivationPlanned, IsPlanOf, IsProfilePlanned}
 use Rattle.switch_names.specs.Names.{Name}
 use Rattle.unit_stage.specs.declared.unit_plan.UnitPlan.{UnitPlan}
 use Rattle.unit_stage.specs.Plan.{IsPlannedIn, IsUnitPlanOf, owed_of}
@@ -47,7 +48,7 @@ one_by false number system w one other is also = is ∙ sym also
 
 pub one_told : (command : Command) (w : WorldState) (one other : List ℕ) → IsReport command w one → IsReport command w other → one ≡ other
 one_told command w one other is also =
-    one_by (row_of command).switches (number_if (row_of command).sets (new_system command w.leaves) w.leaves) (new_system command w.leaves) w one other is also
+    let its = row command w.leaves in one_by its.switches (number_if its.sets its.system w.leaves) its.system w one other is also
 
 -- ---- the text of a plan
 
@@ -86,24 +87,28 @@ activation_planned switches system w (Some planned) is on = (planned, refl, is.1
 
 -- what is told of a plan whose text is this
 abbrev pub IsTold : Plan → List ℕ → Type 0
-IsTold plan text = (leaves : Leaves) (planned : ActivationPlan) → plan.activation ≡ Some planned → IsActivationPlanOf (new_system plan.command leaves) leaves planned →
-    (told : List ℕ) × IsActivationReport (new_system plan.command leaves) leaves told
-    × (text ≡ report_of plan.units.from (new_system plan.command leaves) (number_of plan) plan.units.duties plan.units.left told)
+IsTold plan text = (leaves : Leaves) (planned : ActivationPlan) → plan.activation ≡ Some planned → IsActivationPlanOf plan.row.system leaves planned →
+    (told : List ℕ) × IsActivationReport plan.row.system leaves told
+    × (text ≡ report_of plan.units.from plan.row.system (number_of plan) plan.units.duties plan.units.left told)
+
+-- the report of a row is that of its command
+abbrev IsReportOf : Row → WorldState → List ℕ → Type 0
+IsReportOf its w text = IsReportBy its.switches (number_if its.sets its.system w.leaves) its.system w text
 
 -- where the units are switched
-pub units_reported : (w : WorldState) (plan : Plan) (text : List ℕ) → ArePlanned plan.command w plan → (row_of plan.command).switches ≡ true →
-    IsTold plan text → IsReport plan.command w text
+pub units_reported : (w : WorldState) (plan : Plan) (text : List ℕ) → IsPlanOf w plan → plan.row.switches ≡ true → IsTold plan text → IsReport plan.command w text
 units_reported w plan text is on same =
-    let system = new_system plan.command w.leaves in
-    let found = activation_planned (row_of plan.command).switches system w plan.activation is.activation on in
+    let system = plan.row.system in
+    let found = activation_planned plan.row.switches system w plan.activation is.planned.activation on in
     let told = same w.leaves found.0 found.1 found.2 in
-    planned_by (row_of plan.command).switches system w plan.units (number_if (row_of plan.command).sets system w.leaves) told.0 text is.units on told.1
-    (told.2 ∙ ap (λ number. report_of plan.units.from system number plan.units.duties plan.units.left told.0) (number_is (row_of plan.command).sets system w plan.profile is.profile))
+    subst (λ (its : Row). IsReportOf its w text) is.resolved
+    (planned_by plan.row.switches system w plan.units (number_if plan.row.sets system w.leaves) told.0 text is.planned.units on told.1
+    (told.2 ∙ ap (λ number. report_of plan.units.from system number plan.units.duties plan.units.left told.0) (number_is plan.row.sets system w plan.profile is.planned.profile)))
 
 -- where the profile alone is set
-pub profile_reported : (w : WorldState) (plan : Plan) (text : List ℕ) → ArePlanned plan.command w plan → (row_of plan.command).switches ≡ false →
-    ((leaves : Leaves) → text ≡ profile_report (new_system plan.command leaves) (number_of plan)) → IsReport plan.command w text
+pub profile_reported : (w : WorldState) (plan : Plan) (text : List ℕ) → IsPlanOf w plan → plan.row.switches ≡ false → text ≡ profile_report plan.row.system (number_of plan) → IsReport plan.command w text
 profile_reported w plan text is off same =
-    let system = new_system plan.command w.leaves in
-    subst (λ b. IsReportBy b (number_if (row_of plan.command).sets system w.leaves) system w text) (sym off)
-    (same w.leaves ∙ ap (profile_report system) (number_is (row_of plan.command).sets system w plan.profile is.profile))
+    let system = plan.row.system in
+    subst (λ (its : Row). IsReportOf its w text) is.resolved
+    (subst (λ b. IsReportBy b (number_if plan.row.sets system w.leaves) system w text) (sym off)
+    (same ∙ ap (profile_report system) (number_is plan.row.sets system w plan.profile is.planned.profile)))

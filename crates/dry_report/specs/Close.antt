@@ -6,7 +6,7 @@ use Rattle.host_trait.specs.World.{WorldState}
 use Rattle.owed_plan.specs.declared.owed.Owed.{Owed}
 use Rattle.switch_engine.specs.declared.command.Command.{Command}
 use Rattle.switch_engine.specs.Final.{IsLeftFailed, is_failed_of}
-use Rattle.switch_engine.specs.Commands.{row_of, switched_to}
+use Rattle.switch_engine.specs.Commands.{row, switched_to}
 use Rattle.switch_names.specs.Names.{IsListOf, Name}
 use Rattle.unit_defs.specs.declared.unit.Unit.{Unit}
 use Rattle.unit_stage.specs.Plan.{IsOwedBy}
@@ -44,4 +44,4 @@ IsClosingBy false system w text = text ≡ []
 
 -- the closing text of a command, from a world
 abbrev pub IsClosing : Command → WorldState → List ℕ → Type 0
-IsClosing command w text = IsClosingBy (row_of command).changes (switched_to command w.leaves) w text
+IsClosing command w text = IsClosingBy (row command w.leaves).changes (switched_to command w.leaves) w text

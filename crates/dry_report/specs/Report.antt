@@ -3,8 +3,6 @@ use Rattle.std.specs.Prelude.{◌≡◌, ◌↔◌, ℕ, ◌++◌, Bool, true, f
 use Rattle.std.specs.Fmt.{decimal}
 use Rattle.std.specs.List.{flat_map}
 use Rattle.generations.specs.Places.{number_after}
-use Rattle.host_trait.specs.declared.entry.Act.{Act}
-use Rattle.host_trait.specs.declared.entry.Act.TheVariants.{Stop, Reload, Restart, Start}
 use Rattle.host_trait.specs.States.{state_of}
 use Rattle.host_trait.specs.World.{Leaves, WorldState}
 use Rattle.host_trait.specs.Words.{act_word}
@@ -14,7 +12,7 @@ use Rattle.owed_plan.specs.declared.owed.Owed.{Owed}
 use Rattle.owed_plan.specs.Calls.{calls_of}
 use Rattle.switch_engine.specs.declared.command.Command.{Command}
 use Rattle.switch_engine.specs.declared.plan.Plan.{Plan}
-use Rattle.switch_engine.specs.Commands.{brought_to, new_system, row_of}
+use Rattle.switch_engine.specs.Commands.{brought_to, row}
 use Rattle.switch_names.specs.Names.{Name}
 use Rattle.unit_stage.specs.Owes.{is_stop}
 use Rattle.unit_stage.specs.Plan.{IsPlannedIn}
@@ -89,7 +87,7 @@ IsReportBy false number system w text = text ≡ profile_report system number
 -- the report of a command, from a world
 abbrev pub IsReport : Command → WorldState → List ℕ → Type 0
 IsReport command w text =
-    IsReportBy (row_of command).switches (number_if (row_of command).sets (new_system command w.leaves) w.leaves) (new_system command w.leaves) w text
+    let its = row command w.leaves in IsReportBy its.switches (number_if its.sets its.system w.leaves) its.system w text
 
 -- From the second of two worlds a command makes the report that it makes from the first, unless it switches units: what
 -- a switch of them has done it doesn't report again.

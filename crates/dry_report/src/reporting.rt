@@ -5,7 +5,6 @@ ghost use Rattle.std.specs.Option.{option_copied};
 ghost use Rattle.activation_stage.specs.ActivationPart.{IsActivationPlanOf};
 ghost use Rattle.activation_stage.specs.declared.activation_plan.ActivationPlan.{ActivationPlan};
 ghost use Rattle.host_trait.specs.World.{Leaves, WorldState};
-ghost use Rattle.switch_engine.specs.Commands.{new_system};
 ghost use Rattle.switch_engine.specs.Plan.{IsPlanOf};
 ghost use Rattle.switch_names.specs.Names.{Name};
 ghost use Rattle.unit_stage.specs.Owes.{is_stop};
@@ -112,8 +111,7 @@ fn write_generation(alloc: Global, out: &mut Vec<u8>, number: Option<u32>) -> Re
 /// Writes the two systems, the generation where the profile is set, the stops, and the changed units
 /// that get nothing.
 fn write_front(alloc: Global, out: &mut Vec<u8>, plan: &Plan) -> Result<(), AllocError>
-    ensures { OnOk result ((leaves : Leaves)
-        → out.new.items ≡ out.old.items ++ report_front plan.now.units.from (new_system plan.now.command leaves) (number_of plan.now) plan.now.units.duties plan.now.units.left) }
+    ensures { OnOk result (out.new.items ≡ out.old.items ++ report_front plan.now.units.from plan.now.row.system (number_of plan.now) plan.now.units.duties plan.now.units.left) }
 {
     write_line(out, "from", system_text(plan.from()))?;
     write_line(out, "to", plan.to().as_str())?;
@@ -140,9 +138,9 @@ fn write_activated(
 /// The report of a switch of the units: the two systems, the generation where the profile is set, the
 /// stops, the changed units that get nothing, the accounts and /etc, and the other calls, a line each.
 fn unit_report(alloc: Global, plan: &Plan) -> Result<Bytes, AllocError>
-    ensures { IfOk result (λ text. (leaves : Leaves) (planned : ActivationPlan) → plan.now.activation ≡ Some planned → IsActivationPlanOf (new_system plan.now.command leaves) leaves planned
-        → (told : List ℕ) × IsActivationReport (new_system plan.now.command leaves) leaves told
-        × (text ≡ report_of plan.now.units.from (new_system plan.now.command leaves) (number_of plan.now) plan.now.units.duties plan.now.units.left told)) }
+    ensures { IfOk result (λ text. (leaves : Leaves) (planned : ActivationPlan) → plan.now.activation ≡ Some planned → IsActivationPlanOf plan.now.row.system leaves planned
+        → (told : List ℕ) × IsActivationReport plan.now.row.system leaves told
+        × (text ≡ report_of plan.now.units.from plan.now.row.system (number_of plan.now) plan.now.units.duties plan.now.units.left told)) }
 {
     let mut out = Vec::new(alloc);
     write_front(alloc, &mut out, plan)?;
@@ -153,7 +151,7 @@ fn unit_report(alloc: Global, plan: &Plan) -> Result<Bytes, AllocError>
 
 /// The report of a set of the profile: the system, and the number of its generation.
 fn profile_report(alloc: Global, plan: &Plan) -> Result<Bytes, AllocError>
-    ensures { IfOk result (λ text. (leaves : Leaves) → text ≡ profile_report (new_system plan.now.command leaves) (number_of plan.now)) }
+    ensures { IfOk result (λ text. text ≡ profile_report plan.now.row.system (number_of plan.now)) }
 {
     let mut out = Vec::new(alloc);
     write_line(&mut out, "to", plan.to().as_str())?;

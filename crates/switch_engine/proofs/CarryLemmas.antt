@@ -33,17 +33,19 @@ use Rattle.owed_plan.specs.FinalStates.{final_state}
 use Rattle.switch_engine.specs.declared.command.Command.{Command}
 use Rattle.switch_engine.specs.declared.outcome.Outcome.{Outcome}
 use Rattle.switch_engine.specs.declared.plan.Plan.{Plan}
+use Rattle.switch_engine.specs.declared.row.Row.{Row}
 use Rattle.switch_engine.specs.Carried.{CanSetBy, CanSwitchBy, IsSwitchMomentIf, IsSwitchedIf, sets_by}
-use Rattle.switch_engine.specs.Commands.{brought_to, if_so, new_system, row_of, set_to}
+use Rattle.switch_engine.specs.Commands.{IsBoot, IsQuery, brought_to, if_so, new_system, row, set_to}
 use Rattle.switch_engine.specs.Final.{AreEntries, AreFinalUnits, HasFailed, IsEndOf, LeavesFailedAt}
 use Rattle.switch_engine.specs.Moments.{IsMomentOf, IsSetStep, IsStepIf, IsStepTo, IsSwitchStep, NamesOneOf, set_world}
-use Rattle.switch_engine.specs.Plan.{AreUnitsPlanned, IsActivationPlanned, IsPlanOf, IsProfilePlanned}
+use Rattle.switch_engine.specs.Plan.{ArePlanned, AreUnitsPlanned, IsActivationPlanned, IsPlanOf, IsProfilePlanned}
 use Rattle.switch_engine.specs.Rows.{part_if, part_of, switch_in, switch_part}
 use Rattle.activation_stage.proofs.ActivationLemmas.{activation_part_law, activation_plan_law, owners_law}
 use Rattle.boot_entries.proofs.DefaultLemmas.{default_end_law, default_moment_law, default_names_law}
 use Rattle.boot_entries.proofs.GensLemmas.{gens_after_law}
 use Rattle.boot_entries.proofs.MenuLemmas.{menu_begins_law, menu_law, menu_stays_law}
 use Rattle.switch_engine.proofs.DefinedLemmas.{left_failed}
+use Rattle.switch_engine.proofs.JournalLemmas.{switch_enters}
 use Rattle.switch_engine.proofs.MenuApart.{menu_not_stage}
 use Rattle.switch_engine.proofs.PartsLemmas.{are_parted, default_if_is, default_parted, parts_are, switch_if_is}
 use Rattle.switch_engine.proofs.SwitchLemmas.{switch_part_moment}
@@ -199,7 +201,7 @@ brought_from system owed w u v same is = record {
   states = λ unit. is.states unit ∙ ap (λ (k : ManagerState). final_state owed (definitions_of system) k.bad (state_of k.states) unit) same;
   loaded = is.loaded;
   bad = is.bad ∙ ap (λ (k : ManagerState). k.bad) same;
-  journal = is.journal ∙ (λ i. (same i).journal ++ entries_of system owed (record { leaves = w.leaves; manager = same i }));
+  journal = is.journal ∙ (λ i. (same i).journal ++ entries_of system owed (record w { manager = same i }));
 }
 
 -- the units where they were switched, or not
@@ -235,37 +237,62 @@ units_end false system owed w u v is_owed same is =
 
 -- what is known of a command that is carried out, at its beginning
 pub record IsCarriedFrom (command : Command) (owed : Owed) (w : WorldState) : Type 0 where
-  pub on : (row_of command).changes ≡ true
-  pub same : (leaves : Leaves) → new_system command leaves ≡ new_system command w.leaves
+  pub on : (row command w.leaves).changes ≡ true
+  pub same : (m : WorldState) → IsPartMoment (part_of command w.leaves) w m → row command m.leaves ≡ row command w.leaves
   pub named : IsSystemPath (new_system command w.leaves)
   pub free : IsFreeCommand command w.leaves
-  pub is_owed : (row_of command).switches ≡ true → IsOwedBy w (new_system command w.leaves) owed
+  pub is_owed : (row command w.leaves).switches ≡ true → IsOwedBy w (new_system command w.leaves) owed
 
 -- ---- what a plan says
 
--- the system of a command is the same in each world
-pub same_system : (command : Command) (one other : Leaves) → new_system command one ≡ new_system command other
-same_system (Command.Switch system) one other = refl
-same_system (Command.Test system) one other = refl
-same_system (Command.Boot system) one other = refl
-same_system (Command.DryActivate system) one other = refl
+-- the row of a command is the same at each moment of its parts
+pub same_row : (command : Command) (w m : WorldState) → IsPartMoment (part_of command w.leaves) w m → row command m.leaves ≡ row command w.leaves
+same_row (Command.Switch system) w m moment = refl
+same_row (Command.Test system) w m moment = refl
+same_row (Command.Boot system) w m moment = refl
+same_row (Command.DryActivate system) w m moment = refl
+
+-- what a command does is the same in each world
+record HasSameFlags (one other : Row) : Type 0 where
+  changes : one.changes ≡ other.changes
+  switches : one.switches ≡ other.switches
+
+same_flags : (command : Command) (one other : Leaves) → HasSameFlags (row command one) (row command other)
+same_flags (Command.Switch system) one other = record { changes = refl; switches = refl }
+same_flags (Command.Test system) one other = record { changes = refl; switches = refl }
+same_flags (Command.Boot system) one other = record { changes = refl; switches = refl }
+same_flags (Command.DryActivate system) one other = record { changes = refl; switches = refl }
 
 -- whether a command changes something
-pub changes_on : (command : Command) → ((row_of command).changes ≡ false → ⊥) → (row_of command).changes ≡ true
-changes_on command changes = elim (cases_Bool (row_of command).changes) [ inl on ↦ on | inr off ↦ absurd (changes off) ]
+pub changes_on : (command : Command) (leaves : Leaves) → (IsQuery command → ⊥) → (row command leaves).changes ≡ true
+changes_on command leaves changes = elim (cases_Bool (row command leaves).changes) [
+  | inl on ↦ on
+  | inr off ↦ absurd (changes (λ other. (same_flags command other leaves).changes ∙ off))
+]
+
+-- whether it switches the units
+pub switches_on : (command : Command) (leaves : Leaves) → (IsBoot command → ⊥) → (row command leaves).switches ≡ true
+switches_on command leaves not_boot = elim (cases_Bool (row command leaves).switches) [
+  | inl on ↦ on
+  | inr off ↦ absurd (not_boot (λ other. (same_flags command other leaves).switches ∙ off))
+]
 
 owed_planned : (switches : Bool) (system : Name) (w : WorldState) (plan : UnitPlan) → AreUnitsPlanned switches system w plan → switches ≡ true → IsOwedBy w system (owed_of plan)
 owed_planned true system w plan planned same = (planned.lists, record { listed = planned.planned.listed; is_owed = planned.planned.planned.is_owed })
 owed_planned false system w plan planned same = absurd (both_ways _ refl same)
 
-module _ (plan : Plan) (w : WorldState) (is : IsPlanOf w plan) (changes : (row_of plan.command).changes ≡ false → ⊥) where
+module _ (plan : Plan) (w : WorldState) (is : IsPlanOf w plan) (changes : IsQuery plan.command → ⊥) where
+  -- the parts are those of the command's row
+  pub planned_parts : ArePlanned (row plan.command w.leaves) w plan
+  planned_parts = subst (λ (r : Row). ArePlanned r w plan) is.resolved is.planned
+
   pub carried_from : IsCarriedFrom plan.command (owed_of plan.units) w
   carried_from = record {
-    on = changes_on plan.command changes;
-    same = λ leaves. same_system plan.command leaves w.leaves;
-    named = is.named;
+    on = changes_on plan.command w.leaves changes;
+    same = λ m moment. same_row plan.command w m moment;
+    named = subst (λ (r : Row). IsSystemPath r.system) is.resolved is.named;
     free = free_command plan.command w.leaves is.not_refused;
-    is_owed = owed_planned (row_of plan.command).switches (new_system plan.command w.leaves) w plan.units is.planned.units;
+    is_owed = owed_planned (row plan.command w.leaves).switches (new_system plan.command w.leaves) w plan.units planned_parts.units;
   }
 
 -- the profile is set to the system where that is planned
@@ -340,10 +367,10 @@ verdict false system plan w u v outcome planned same end states failed none = (�
 
 module _ (command : Command) (owed : Owed) (w : WorldState) (carried : IsCarriedFrom command owed w) where
   abbrev switches : Bool
-  switches = (row_of command).switches
+  switches = (row command w.leaves).switches
 
   abbrev sets : Bool
-  sets = (row_of command).sets
+  sets = (row command w.leaves).sets
 
   abbrev system : Name
   system = new_system command w.leaves
@@ -378,6 +405,10 @@ module _ (command : Command) (owed : Owed) (w : WorldState) (carried : IsCarried
   set_alone : (m : WorldState) → IsSetStep (if_so sets system) w m → IsPartMoment second w m
   set_alone m step = set_part_moment system carried.named w sets set_free m step
 
+  set_calls_none : (b : Bool) → (part_if b (boot_default_part system gens)).calls ≡ false
+  set_calls_none true = refl
+  set_calls_none false = refl
+
   set_of_parts : (m : WorldState) → IsSetStep (if_so sets system) w m → IsPartMoment (both first second) w m
   set_of_parts m step = second_moment first second first_is second_is (are_parted switches sets system owners gens) w m (set_alone m step)
 
@@ -385,7 +416,8 @@ module _ (command : Command) (owed : Owed) (w : WorldState) (carried : IsCarried
   pub set_moment : (m : WorldState) → IsSetStep (if_so sets system) w m → IsMomentOf command w m
   set_moment m step = record {
     step = subst (λ b. IsStepIf b (if_so (b && sets) system) (if_so (b && switches) system) w m) (sym carried.on) (IsStepTo.Setting step);
-    underway = underway command w m carried.on (carried.same m.leaves) carried.named carried.free (set_of_parts m step);
+    underway = let moment = set_of_parts m step in underway command w m carried.on (carried.same m moment) carried.named carried.free moment;
+    entered = inl (ap (λ (k : ManagerState). k.journal) ((set_alone m step).only.manager (set_calls_none sets)));
     named = subst (λ b. NamesOneOf (if_so (b && sets) system) w m) (sym carried.on) (set_names sets system carried.named w m set_free step);
     menu = set_menu system carried.named w sets set_free m step;
   }
@@ -445,7 +477,8 @@ module _ (command : Command) (owed : Owed) (w : WorldState) (carried : IsCarried
         record {
           step = subst (λ b. IsStepIf b (if_so (b && sets) system) (if_so (b && switches) system) w m) (sym carried.on)
               (IsStepTo.Switching u is (switch_step switches system owed u m owed_still moment));
-          underway = underway command w m carried.on (carried.same m.leaves) carried.named carried.free (moment_then (both first second) both_are w u m at_set later);
+          entered = inr (switch_enters command switches system owed w u m (sym (ap (λ b. if_so (b && switches) system) carried.on)) carried.is_owed same_manager moment);
+          underway = let moment = moment_then (both first second) both_are w u m at_set later in underway command w m carried.on (carried.same m moment) carried.named carried.free moment;
           named = names_then (set_to command w.leaves) w u m
               (subst (λ b. NamesOneOf (if_so (b && sets) system) w u) (sym carried.on) (set_names sets system carried.named w u set_free last_set))
               (switch_names switches system carried.named owners gens u m part);

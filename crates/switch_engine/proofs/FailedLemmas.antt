@@ -1,5 +1,5 @@
 -- The units that have failed, among the states of all.
-use Rattle.std.proofs.Common.{◌≡◌, ◌&&◌, T, Bool, true, false, cond, List, [], ◌∷◌, Option, None, Some, IsSome, map, unwrap_or, refl, sym, ap, subst, ◌∙◌, inl, inr}
+use Rattle.std.proofs.Common.{◌≡◌, ◌&&◌, T, Bool, true, false, cond, List, [], ◌∷◌, Option, None, Some, IsSome, unwrap_or, refl, sym, ap, subst, ◌∙◌, inl, inr}
 use Rattle.std.specs.FinMap.{entries, entries_sorted, find, get-entries}
 use Rattle.std.specs.FinMap.Entries.{below_all, is_sorted}
 use Rattle.std.specs.List.{list_any}
@@ -10,7 +10,6 @@ use Rattle.host_trait.specs.World.{bytes_cmp}
 use Rattle.host_trait.specs.States.{UnitStates, listed_states}
 use Rattle.host_trait.specs.declared.unit_state.State.{State}
 use Rattle.host_trait.specs.declared.unit_state.State.TheVariants.{Active, Inactive, Failed}
-use Rattle.host_trait.specs.declared.unit_state.UnitState.{UnitState}
 use Rattle.switch_names.specs.Names.{Name, is_name}
 use Rattle.switch_engine.specs.Final.{HasFailed, is_failed, is_failed_of}
 use Rattle.unit_defs.specs.declared.unit.Unit.{Unit}

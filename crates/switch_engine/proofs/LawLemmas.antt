@@ -8,9 +8,9 @@ use Rattle.boot_entries.specs.BootDefault.{IsMakingDefault}
 use Rattle.host_trait.specs.declared.entry.Act.{Act}
 use Rattle.host_trait.specs.declared.entry.Entry.{Entry}
 use Rattle.host_trait.specs.States.{UnitStates, state_of}
-use Rattle.host_trait.specs.World.{Leaves, WorldState}
+use Rattle.host_trait.specs.World.{WorldState}
 use Rattle.switch_engine.specs.declared.command.Command.{Command}
-use Rattle.switch_engine.specs.Commands.{IsQuery, brought_to, if_so, new_system, row_of, set_to, switched_to}
+use Rattle.switch_engine.specs.Commands.{IsQuery, brought_to, if_so, new_system, row, set_to, switched_by, switched_to}
 use Rattle.switch_engine.specs.Final.{AreEntries, AreFinalUnits, IsEndOf}
 use Rattle.switch_engine.specs.Moments.{IsMomentOf, IsSetStep, IsStepIf, IsStepOf, IsStepTo, LeadsBy, NamesOneOf}
 use Rattle.switch_engine.specs.Owing.{HasEntered, IsOver, IsPaidBy, IsSteadyFor, IsUnderway, OwesActTo, OwesUnit}
@@ -19,7 +19,7 @@ use Rattle.switch_names.specs.Names.{Name}
 use Rattle.unit_stage.specs.Owes as units
 use Rattle.unit_stage.specs.Owes.{pays}
 use Rattle.boot_entries.proofs.MenuLemmas.{menu_begins_law}
-use Rattle.switch_engine.proofs.CarryLemmas.{changes_on, same_system}
+use Rattle.switch_engine.proofs.CarryLemmas.{changes_on}
 use Rattle.switch_engine.proofs.PaidLemmas.{all_joined, entered_owed, entered_paid, left_alone}
 
 -- ---- where a run begins
@@ -34,6 +34,7 @@ nothing_entered command w = record {
 
 pub begins_underway : (w : WorldState) (command : Command) → refusal command w.leaves ≡ None → IsSteadyFor command w → IsUnderway w command w
 begins_underway w command none steady = record {
+  same_row = refl;
   same_end = λ v. (λ is. is, λ is. is);
   since = nothing_entered command w;
   paid_or_owed = λ act unit owed. inr owed;
@@ -43,7 +44,7 @@ begins_underway w command none steady = record {
 }
 
 begins_step : (command : Command) (w : WorldState) → IsStepOf command w w
-begins_step command w = by (row_of command).changes
+begins_step command w = by (row command w.leaves).changes
   where
     set_begins : (to : Option Name) → IsSetStep to w w
     set_begins None = refl
@@ -62,15 +63,12 @@ pub begins_moment : (command : Command) (w : WorldState) → refusal command w.l
 begins_moment command w none = record {
   step = begins_step command w;
   underway = λ steady. begins_underway w command none steady;
+  entered = inl refl;
   named = begins_named (set_to command w.leaves) w;
   menu = menu_begins_law w.leaves w.leaves (λ q own. refl);
 }
 
 -- ---- from one run to the next
-
--- the system to which a command switches the units is the same in each world
-same_switched : (command : Command) (one other : Leaves) → switched_to command one ≡ switched_to command other
-same_switched command one other = ap (if_so (row_of command).switches) (same_system command one other)
 
 -- what some entries pay, more entries pay
 paid_before : (to : Option Name) (act : Act) (unit : Name) (xs ys : List Entry) → IsPaidBy to act unit xs → IsPaidBy to act unit (xs ++ ys)
@@ -94,11 +92,12 @@ module _ (command : Command) (first w : WorldState) (before : IsUnderway first c
   paid_then : (entered : List Entry) (act : Act) (unit : Name) → IsPaidBy (switched_to command w.leaves) act unit entered → IsPaidBy (switched_to command first.leaves) act unit (before.since.entered ++ entered)
   paid_then entered act unit paid =
       paid_since (switched_to command first.leaves) act unit before.since.entered entered
-      (subst (λ (to : Option Name). IsPaidBy to act unit entered) (same_switched command w.leaves first.leaves) paid)
+      (subst (λ (to : Option Name). IsPaidBy to act unit entered) (ap switched_by before.same_row) paid)
 
   -- a run that is underway, and from there underway again
   pub stays_underway : (m : WorldState) → IsUnderway w command m → IsUnderway first command m
   stays_underway m after = record {
+    same_row = after.same_row ∙ before.same_row;
     same_end = λ v. (λ is. (before.same_end v).0 ((after.same_end v).0 is), λ is. (after.same_end v).1 ((before.same_end v).1 is));
     since = entered_then m after.since;
     paid_or_owed = λ act unit owed. ⊎_elim
@@ -149,8 +148,8 @@ has_paid false system w v entries final are = record {
 -- a run that has come to its end is over
 pub ended_over : (command : Command) (w v : WorldState) → (IsQuery command → ⊥) → IsEndOf command w v → IsOver w command v
 ended_over command w v changes end =
-    let brought : brought_to command w.leaves ≡ switched_to command w.leaves = ap (λ b. if_so (b && (row_of command).switches) (new_system command w.leaves)) (changes_on command changes) in
-    let paid = has_paid (row_of command).switches (new_system command w.leaves) w v end.entries
+    let brought : brought_to command w.leaves ≡ switched_to command w.leaves = ap (λ b. if_so (b && (row command w.leaves).switches) (new_system command w.leaves)) (changes_on command w.leaves changes) in
+    let paid = has_paid (row command w.leaves).switches (new_system command w.leaves) w v end.entries
     (subst (λ to. AreFinalUnits to w v) brought end.final.units) (subst (λ to. AreEntries to w end.entries) brought end.are_entered) in
     record {
       final = end.final;

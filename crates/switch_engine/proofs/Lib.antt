@@ -2,6 +2,7 @@ pub mod ActivationApart
 pub mod CarryLemmas
 pub mod DefinedLemmas
 pub mod FailedLemmas
+pub mod JournalLemmas
 pub mod LawLemmas
 pub mod MenuApart
 pub mod PaidLemmas
@@ -11,7 +12,7 @@ pub mod PlanLemmas
 pub mod StoreApart
 pub mod SwitchLemmas
 pub mod UnderwayLemmas
-pub mod WayLemmas
+pub mod VerdictLemmas
 pub mod WayOfCommand
 pub mod WayOfSwitch
 pub mod WholeLemmas

@@ -1,5 +1,5 @@
 -- What a command does is a part of a switch, whichever of its parts it has.
-use Rattle.std.proofs.Common.{◌≡◌, Bool, true, false, ◌||◌, ◌++◌, codes, refl, sym, ap, ◌∙◌, inl, inr}
+use Rattle.std.proofs.Common.{◌≡◌, Bool, true, false, ◌||◌, codes, refl, sym, ap, ◌∙◌, inl, inr}
 use Rattle.std.proofs.lemmas.Bool.{both_ways, cases_Bool, or_from}
 use Rattle.accounts_stage.specs.AccountsPart.{reads_accounts}
 use Rattle.accounts_stage.specs.Places.{owns_accounts}

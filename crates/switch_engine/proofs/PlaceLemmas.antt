@@ -1,19 +1,26 @@
 -- Where nothing is in the way of the places that a switch of the units writes, each is clear.
-use Rattle.std.proofs.Common.{◌≡◌, true, false, List, [], ◌∷◌, ◌++◌, append_assoc, None, ap, ◌∙◌}
+use Rattle.std.proofs.Common.{◌≡◌, true, false, List, [], ◌∷◌, ◌++◌, append_assoc, None, map, refl, sym}
+use Rattle.boot_entries.specs.BootDefault.{menu_places}
+use Rattle.boot_entries.specs.BootPart.{boot_places, entry_places}
+use Rattle.boot_entries.specs.Places.{loader_path}
+use Rattle.generations.specs.declared.gens.Gen.{Gen}
 use Rattle.host_trait.specs.World.{IsClear, Leaves, stage}
 use Rattle.owed_lists.specs.Lists.{reloads_place, restarts_place, starts_place}
 use Rattle.tree_put.specs.declared.written_place.WrittenPlace.{WrittenPlace}
-use Rattle.tree_put.specs.WrittenPlace.{in_the_way, written}
+use Rattle.tree_put.specs.WrittenPlace.{AreApartFromStage, in_the_way, written}
 use Rattle.tree_put.proofs.WayLemmas.{clear_first}
 use Rattle.unit_stage.specs.Owned.{unit_places}
 use Rattle.unit_stage.specs.System.{current_place}
 
--- three places more
-pub three_more : (old one two new : List WrittenPlace) (a b c : WrittenPlace) → one ≡ old ++ a ∷ [] → two ≡ one ++ b ∷ [] → new ≡ two ++ c ∷ [] → new ≡ old ++ a ∷ b ∷ c ∷ []
-three_more old one two new a b c first second third =
-    third
-    ∙ ap (λ (places : List WrittenPlace). places ++ c ∷ []) (second ∙ ap (λ (places : List WrittenPlace). places ++ b ∷ []) first ∙ append_assoc old (a ∷ []) (b ∷ []))
-    ∙ append_assoc old (a ∷ b ∷ []) (c ∷ [])
+-- the places of the boot menu and the stage
+pub boot_are : (list : List Gen) → boot_places list ≡ menu_places list ++ written false stage ∷ []
+boot_are list = sym (append_assoc (map (written false) (entry_places list)) (written false loader_path ∷ []) (written false stage ∷ []))
+
+-- ---- the stage is apart from each
+
+pub stage_apart : AreApartFromStage (written false stage ∷ [])
+unfolding stage
+stage_apart = (refl, tt)
 
 -- each place that is written is clear
 pub record AreClear (leaves : Leaves) : Type 0 where

@@ -1,5 +1,5 @@
 -- Why the parts of a command are refused, by what is read of a world.
-use Rattle.std.proofs.Common.{◌≡◌, ◌↔◌, IsTrue, Bool, true, false, cond, List, Option, None, Some, is_none, is_some, option_map, refl, sym, ap, subst, ◌∙◌, if◌then◌else◌}
+use Rattle.std.proofs.Common.{◌≡◌, ◌↔◌, IsTrue, Bool, true, false, cond, Option, None, Some, is_none, is_some, option_map, refl, sym, ap, subst, ◌∙◌, if◌then◌else◌}
 use Rattle.std.specs.Option.{option_or}
 use Rattle.activation_stage.specs.ActivationPart.{IsActivationPlanOf, activation_in}
 use Rattle.activation_stage.specs.declared.activation_plan.ActivationPlan.{ActivationPlan}
@@ -10,17 +10,15 @@ use Rattle.host_trait.specs.Host.{HostState, Passes, Told}
 use Rattle.host_trait.specs.World.{Leaves, WorldState, content_of}
 use Rattle.host_trait.proofs.Moments.{told_after}
 use Rattle.switch_engine.specs.declared.command.Command.{Command}
-use Rattle.switch_engine.specs.Commands.{if_so, new_system, row_of}
+use Rattle.switch_engine.specs.Commands.{if_so, new_system}
 use Rattle.switch_engine.specs.Owing.{IsSteadyTo}
 use Rattle.switch_engine.specs.Plan.{AreUnitsPlanned, IsActivationPlanned, IsProfilePlanned}
-use Rattle.switch_engine.specs.Rows.{part_if, parts_refusal, places, refusal, refusal_by, switch_in}
+use Rattle.switch_engine.specs.Rows.{part_if, parts_in, parts_refusal, refusal, refusal_by, switch_in}
 use Rattle.switch_engine.specs.System.{version_path}
 use Rattle.switch_names.specs.Names.{Name}
-use Rattle.switch_names.proofs.Outcomes.{none_left}
 use Rattle.switch_parts.specs.declared.refusal.Refusal.{Refusal}
 use Rattle.switch_parts.specs.declared.refusal.Refusal.TheVariants.{InTheWay, NoSystem}
-use Rattle.tree_put.specs.WrittenPlace.{in_the_way}
-use Rattle.tree_put.specs.declared.written_place.WrittenPlace.{WrittenPlace}
+use Rattle.tree_put.specs.First.{first_in_the_way}
 use Rattle.unit_stage.specs.declared.unit_plan.UnitPlan.{UnitPlan}
 use Rattle.unit_stage.specs.Owes.{IsSteadyWorld}
 use Rattle.unit_stage.specs.Plan.{IsUnitPlanOf, no_units}
@@ -29,7 +27,7 @@ use Rattle.unit_stage.specs.Units.{units_part}
 
 module _ (switches sets : Bool) (system : Name) (leaves : Leaves) where
   abbrev way : Option Name
-  way = in_the_way (places switches sets system leaves) leaves
+  way = first_in_the_way ((parts_in switches sets system leaves).places leaves) leaves
 
   abbrev units_reason : Option Refusal
   units_reason = (part_if switches (units_part system)).refusal leaves
@@ -104,11 +102,6 @@ pub has_system : (command : Command) (leaves : Leaves) (named : Name) → named 
 has_system command leaves named is stands =
     ap (λ system. cond (is_none (content_of leaves (version_path system))) (Some NoSystem) (parts_refusal command leaves)) (sym is)
     ∙ ap (λ b. cond b (Some NoSystem) (parts_refusal command leaves)) (some_is (content_of leaves (version_path named)) true stands)
-
--- the places of a command, by whether it switches the units, and its system
-pub placed : (command : Command) (leaves : Leaves) (switches : Bool) (system : Name) {list : List WrittenPlace} → switches ≡ (row_of command).switches → system ≡ new_system command leaves →
-    list ≡ places switches (row_of command).sets system leaves → list ≡ places (row_of command).switches (row_of command).sets (new_system command leaves) leaves
-placed command leaves switches system by named is = is ∙ (λ i. places (by i) (row_of command).sets (named i) leaves)
 
 -- a switch of the units is refused for what their part is refused for
 pub refused_switch : (switches : Bool) (named system : Name) (leaves : Leaves) (why : Option Refusal) → switches ≡ true → named ≡ system → unit_refusal leaves named ≡ why → (part_if switches (units_part system)).refusal leaves ≡ why

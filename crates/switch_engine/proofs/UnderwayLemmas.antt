@@ -18,17 +18,19 @@ use Rattle.host_trait.specs.World.{Leaves, WorldState, content_of, stage}
 use Rattle.owed_plan.specs.Store.{AreSameInStore, IsInStore}
 use Rattle.owed_plan.proofs.StoreLemmas.{content_same}
 use Rattle.switch_engine.specs.declared.command.Command.{Command}
-use Rattle.switch_engine.specs.Commands.{brought_to, if_so, new_system, row_of, switched_to}
+use Rattle.switch_engine.specs.declared.row.Row.{Row}
+use Rattle.switch_engine.specs.Commands.{brought_by, brought_to, if_so, new_system, row, switched_by, switched_to}
 use Rattle.switch_engine.specs.Final.{AreFinalUnits}
 use Rattle.switch_engine.specs.Owing.{IsPaidBy, IsSteadyFor, IsSteadyTo, IsUnderway, OwesActTo}
-use Rattle.switch_engine.specs.Rows.{final, part_if, part_of, parts, parts_in, places, refusal, refusal_by, switch_part}
+use Rattle.switch_engine.specs.Rows.{final, part_if, part_of, parts, parts_in, refusal, refusal_by, switch_part}
 use Rattle.switch_engine.specs.System.{version_path}
 use Rattle.activation_stage.proofs.ActivationLemmas.{owners_law}
 use Rattle.boot_entries.proofs.DefaultLemmas.{default_stays_law}
 use Rattle.boot_entries.proofs.GensLemmas.{gens_after_law}
 use Rattle.switch_engine.proofs.PartsLemmas.{not_in_store, parts_are}
 use Rattle.switch_engine.proofs.StoreApart.{store_not_stage}
-use Rattle.switch_engine.proofs.WayLemmas.{parts_way, places_way}
+use Rattle.tree_put.specs.First.{first_in_the_way}
+use Rattle.tree_put.proofs.FirstLemmas.{none_as_listed}
 use Rattle.switch_names.specs.Names.{Name}
 use Rattle.switch_names.specs.Path.{is_below}
 use Rattle.switch_names.specs.SystemName.{IsSystemPath, store_folder, store_name}
@@ -39,7 +41,6 @@ use Rattle.switch_parts.specs.declared.refusal.Refusal.{Refusal}
 use Rattle.switch_parts.specs.declared.refusal.Refusal.TheVariants.{InTheWay, NoSystem}
 use Rattle.switch_parts.specs.Part.{IsFree, IsMomentOf, IsPart, final_leaf}
 use Rattle.switch_parts.proofs.Parts.{ends_alike, first_free}
-use Rattle.tree_put.specs.WrittenPlace.{in_the_way}
 use Rattle.unit_stage.specs.Units.{AreUnitsUnderway, units_part}
 
 -- ---- why a command isn't refused
@@ -55,10 +56,10 @@ refused_by switches sets system leaves = cond (is_none (content_of leaves (versi
 free_by : (switches sets : Bool) (system : Name) (leaves : Leaves) → refused_by switches sets system leaves ≡ None → IsFreeBy switches sets system leaves
 free_by switches sets system leaves none =
     let first = split (is_none (content_of leaves (version_path system))) (refusal_by switches sets system leaves) none in
-    let second = option_or_parts (option_map InTheWay (in_the_way (places switches sets system leaves) leaves)) ((parts_in switches sets system leaves).refusal leaves) first.1 in
+    let second = option_or_parts (option_map InTheWay (first_in_the_way ((parts_in switches sets system leaves).places leaves) leaves)) ((parts_in switches sets system leaves).refusal leaves) first.1 in
     record {
       version = first.0;
-      parts = record { way = parts_way switches sets system (owners_after system leaves) leaves (none_mapped InTheWay (in_the_way (places switches sets system leaves) leaves) second.0); refusal = second.1 };
+      parts = record { way = (none_as_listed ((parts_in switches sets system leaves).places leaves) leaves).0 (none_mapped InTheWay (first_in_the_way ((parts_in switches sets system leaves).places leaves) leaves) second.0); refusal = second.1 };
     }
   where
     split : (b : Bool) (o : Option Refusal) → cond b (Some NoSystem) o ≡ None → (b ≡ false) × (o ≡ None)
@@ -68,14 +69,14 @@ free_by switches sets system leaves none =
 by_free : (switches sets : Bool) (system : Name) (leaves : Leaves) → IsFreeBy switches sets system leaves → refused_by switches sets system leaves ≡ None
 by_free switches sets system leaves free =
     ap (λ b. cond b (Some NoSystem) (refusal_by switches sets system leaves)) free.version
-    ∙ option_or_nothing (option_map InTheWay (in_the_way (places switches sets system leaves) leaves)) ((parts_in switches sets system leaves).refusal leaves)
-    (ap (option_map InTheWay) (places_way switches sets system (owners_after system leaves) leaves free.parts.way)) free.parts.refusal
+    ∙ option_or_nothing (option_map InTheWay (first_in_the_way ((parts_in switches sets system leaves).places leaves) leaves)) ((parts_in switches sets system leaves).refusal leaves)
+    (ap (option_map InTheWay) ((none_as_listed ((parts_in switches sets system leaves).places leaves) leaves).1 free.parts.way)) free.parts.refusal
 
 abbrev pub IsFreeCommand : Command → Leaves → Type 0
-IsFreeCommand command leaves = IsFreeBy (row_of command).switches (row_of command).sets (new_system command leaves) leaves
+IsFreeCommand command leaves = IsFreeBy (row command leaves).switches (row command leaves).sets (new_system command leaves) leaves
 
 pub free_command : (command : Command) (leaves : Leaves) → refusal command leaves ≡ None → IsFreeCommand command leaves
-free_command command leaves none = free_by (row_of command).switches (row_of command).sets (new_system command leaves) leaves none
+free_command command leaves none = free_by (row command leaves).switches (row command leaves).sets (new_system command leaves) leaves none
 
 -- ---- the file that each system has
 
@@ -173,13 +174,13 @@ module _ (system : Name) (w m : WorldState) where
 
 -- ---- a command is underway
 
-module _ (command : Command) (w m : WorldState) (on : (row_of command).changes ≡ true) (same : new_system command m.leaves ≡ new_system command w.leaves)
+module _ (command : Command) (w m : WorldState) (on : (row command w.leaves).changes ≡ true) (same : row command m.leaves ≡ row command w.leaves)
     (named : IsSystemPath (new_system command w.leaves)) (free : IsFreeCommand command w.leaves) (moment : IsMomentOf (part_of command w.leaves) w m) where
   abbrev switches : Bool
-  switches = (row_of command).switches
+  switches = (row command w.leaves).switches
 
   abbrev sets : Bool
-  sets = (row_of command).sets
+  sets = (row command w.leaves).sets
 
   abbrev system : Name
   system = new_system command w.leaves
@@ -191,15 +192,18 @@ module _ (command : Command) (w m : WorldState) (on : (row_of command).changes �
   parts_is = parts_are switches sets system named (owners_after system w.leaves) (gens_after system w.leaves) (gens_after_law system w.leaves named)
 
   same_to : switched_to command m.leaves ≡ switched_to command w.leaves
-  same_to = ap (if_so switches) same
+  same_to = ap switched_by same
 
-  brought_same : (leaves : Leaves) → brought_to command leaves ≡ switched_to command leaves
-  brought_same leaves = ap (λ b. if_so (b && switches) (new_system command leaves)) on
+  brought_first : brought_to command w.leaves ≡ switched_to command w.leaves
+  brought_first = ap (λ b. if_so (b && switches) system) on
+
+  brought_later : brought_to command m.leaves ≡ switched_to command w.leaves
+  brought_later = ap brought_by same ∙ brought_first
 
   final_same : (q : Name) → q ≢ stage → final command m.leaves q ≡ final command w.leaves q
   final_same q ne =
-      ap (λ b. cond b (final_leaf (part_of command m.leaves) m.leaves q) (get m.leaves q)) on
-      ∙ ap (λ s. final_leaf (parts_in switches sets s m.leaves) m.leaves q) same
+      ap (λ (r : Row). cond r.changes (final_leaf (parts_in r.switches r.sets r.system m.leaves) m.leaves q) (get m.leaves q)) same
+      ∙ ap (λ b. cond b (final_leaf (parts_in switches sets system m.leaves) m.leaves q) (get m.leaves q)) on
       ∙ final_owners system w m switches sets moment q
       ∙ final_gens system w m switches sets moment q
       ∙ ends_alike (parts_in switches sets system w.leaves) parts_is w m moment q ne
@@ -212,22 +216,23 @@ module _ (command : Command) (w m : WorldState) (on : (row_of command).changes �
   }
 
   still_not_refused : refusal command m.leaves ≡ None
-  still_not_refused = ap (λ s. refused_by switches sets s m.leaves) same ∙ by_free switches sets system m.leaves still_free
+  still_not_refused = ap (λ (r : Row). refused_by r.switches r.sets r.system m.leaves) same ∙ by_free switches sets system m.leaves still_free
 
   pub underway : IsSteadyFor command w → IsUnderway w command m
   underway steady =
       let since = since_by switches sets system (owners_after system w.leaves) (gens_after system w.leaves) w m free.parts moment steady in
       let to_m = sym same_to in
       record {
+        same_row = same;
         same_end = λ v. (
           λ is. record {
             leaves = λ q ne. is.leaves q ne ∙ final_same q ne;
-            units = subst (λ to. AreFinalUnits to w v) (sym (brought_same w.leaves)) ((since.units v).0 (subst (λ to. AreFinalUnits to m v) (brought_same m.leaves ∙ same_to) is.units));
+            units = subst (λ to. AreFinalUnits to w v) (sym brought_first) ((since.units v).0 (subst (λ to. AreFinalUnits to m v) brought_later is.units));
             bad = is.bad ∙ since.same_bad;
           },
           λ is. record {
             leaves = λ q ne. is.leaves q ne ∙ sym (final_same q ne);
-            units = subst (λ to. AreFinalUnits to m v) (sym (brought_same m.leaves ∙ same_to)) ((since.units v).1 (subst (λ to. AreFinalUnits to w v) (brought_same w.leaves) is.units));
+            units = subst (λ to. AreFinalUnits to m v) (sym brought_later) ((since.units v).1 (subst (λ to. AreFinalUnits to w v) brought_first is.units));
             bad = is.bad ∙ sym since.same_bad;
           },
         );

@@ -16,7 +16,7 @@ use Rattle.generations.proofs.ProfileApart.{link_owned, owned_other, stage_not_o
 use Rattle.generations.proofs.SetLaws.{generation_of}
 use Rattle.host_trait.specs.World.{Leaves, WorldState, stage}
 use Rattle.switch_engine.specs.declared.command.Command.{Command}
-use Rattle.switch_engine.specs.Commands.{if_so, new_system, row_of, set_to}
+use Rattle.switch_engine.specs.Commands.{if_so, new_system, row, set_to}
 use Rattle.switch_engine.specs.Final.{IsFinalOf}
 use Rattle.switch_engine.specs.Rows.{part_if, part_of, refusal, switch_in}
 use Rattle.boot_entries.proofs.MenuLemmas.{menu_end_law}
@@ -39,12 +39,12 @@ beside_first : (p q : Part) (leaves : Leaves) (at : Name) → p.owns at ≡ fals
 beside_first p q leaves at none = ap (λ b. cond (b || q.owns at) (cond b (p.end leaves at) (q.end leaves at)) (get leaves at)) none
 
 module _ (command : Command) (w : WorldState) (named : IsSystemPath (new_system command w.leaves)) (none : refusal command w.leaves ≡ None)
-    (on : (row_of command).changes ≡ true) (sets : (row_of command).sets ≡ true) where
+    (on : (row command w.leaves).changes ≡ true) (sets : (row command w.leaves).sets ≡ true) where
   abbrev system : Name
   system = new_system command w.leaves
 
   abbrev first : Part
-  first = part_if (row_of command).switches (switch_in system w.leaves)
+  first = part_if (row command w.leaves).switches (switch_in system w.leaves)
 
   abbrev second : Part
   second = boot_default_in system w.leaves
@@ -54,7 +54,7 @@ module _ (command : Command) (w : WorldState) (named : IsSystemPath (new_system 
   end = with_menu (menu_after system w.leaves) (set_end system w)
 
   free : IsFree second w.leaves
-  free = subst (λ b. IsFree (part_if b second) w.leaves) sets (second_free first (part_if (row_of command).sets second) w.leaves (free_command command w.leaves none).parts)
+  free = subst (λ b. IsFree (part_if b second) w.leaves) sets (second_free first (part_if (row command w.leaves).sets second) w.leaves (free_command command w.leaves none).parts)
 
   module _ (v : WorldState) (final : IsFinalOf command w v) where
     -- what a boot default owns stands as there
@@ -63,7 +63,7 @@ module _ (command : Command) (w : WorldState) (named : IsSystemPath (new_system 
         final.leaves q ne
         ∙ ap (λ b. cond b (final_leaf (part_of command w.leaves) w.leaves q) (get w.leaves q)) on
         ∙ ap (λ b. final_leaf (both first (part_if b second)) w.leaves q) sets
-        ∙ beside_first first second w.leaves q (not_own (row_of command).switches system named (owners_after system w.leaves) (gens_after system w.leaves) q own)
+        ∙ beside_first first second w.leaves q (not_own (row command w.leaves).switches system named (owners_after system w.leaves) (gens_after system w.leaves) q own)
         ∙ sym (set_final system named w true free end refl q ne)
 
     pub whole : IsMenuWhole w.leaves v.leaves
@@ -79,4 +79,4 @@ sets_by false sets to some = absurd (both_ways false refl some)
 
 pub whole_law : (command : Command) (w v : WorldState) → IsSystemPath (new_system command w.leaves) → refusal command w.leaves ≡ None → IsSome (set_to command w.leaves) → IsFinalOf command w v → IsMenuWhole w.leaves v.leaves
 whole_law command w v named none some final =
-    let by = sets_by (row_of command).changes (row_of command).sets (new_system command w.leaves) some in whole command w named none by.0 by.1 v final
+    let by = sets_by (row command w.leaves).changes (row command w.leaves).sets (new_system command w.leaves) some in whole command w named none by.0 by.1 v final

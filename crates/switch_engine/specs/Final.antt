@@ -1,5 +1,5 @@
 -- What a command leaves: NixOS manual, "What happens during a system switch?".
-use Rattle.std.specs.Prelude.{◌≡◌, ◌≢◌, ◌++◌, List, [], Option, None, Some, IsSome, Bool, true, false, ◌&&◌, is_some}
+use Rattle.std.specs.Prelude.{◌≡◌, ◌≢◌, ◌⊎◌, ◌++◌, List, [], Option, None, Some, IsSome, Bool, true, false, ◌&&◌, is_some}
 use Rattle.std.specs.FinMap.{get}
 use Rattle.host_trait.specs.declared.entry.Entry.{Entry}
 use Rattle.host_trait.specs.declared.unit_state.State.{State}
@@ -41,6 +41,19 @@ pub record IsEndOf (command : Command) (w v : WorldState) : Type 0 where
   pub entries : List Entry
   pub are_entered : AreEntries (brought_to command w.leaves) w entries
   pub journal : v.manager.journal ≡ w.manager.journal ++ entries
+
+-- the journal of a world is that of the first one, and then a beginning of what a command enters
+pub record HasBegunToEnter (command : Command) (w m : WorldState) : Type 0 where
+  pub entries : List Entry
+  pub are_entered : AreEntries (brought_to command w.leaves) w entries
+  pub made : List Entry
+  pub rest : List Entry
+  pub in_order : entries ≡ made ++ rest
+  pub journal : m.manager.journal ≡ w.manager.journal ++ made
+
+-- the journal of a world is that of the first one, alone or with a beginning of what a command enters
+abbrev pub IsEntering : Command → WorldState → WorldState → Type 0
+IsEntering command w m = (m.manager.journal ≡ w.manager.journal) ⊎ HasBegunToEnter command w m
 
 -- a switch leaves a unit failed that the system defines
 pub record IsLeftFailed (system : Name) (owed : Owed) (w : WorldState) (unit : Name) : Type 0 where

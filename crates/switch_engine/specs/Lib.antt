@@ -3,7 +3,6 @@ pub mod Commands
 pub mod Final
 pub mod Moments
 pub mod Owing
-pub mod Places
 pub mod Plan
 pub mod Rows
 pub mod System

@@ -12,8 +12,8 @@ use Rattle.owed_plan.specs.Calls.{reload_calls, restart_calls, start_calls, stop
 use Rattle.owed_plan.specs.declared.owed.Owed.{Owed}
 use Rattle.owed_plan.specs.Law.{lists_of}
 use Rattle.switch_engine.specs.declared.command.Command.{Command}
-use Rattle.switch_engine.specs.Commands.{brought_to, row_of, set_to}
-use Rattle.switch_engine.specs.Final.{IsEndOf}
+use Rattle.switch_engine.specs.Commands.{brought_to, row, set_to}
+use Rattle.switch_engine.specs.Final.{IsEndOf, IsEntering}
 use Rattle.switch_engine.specs.Owing.{IsSteadyFor, IsUnderway}
 use Rattle.switch_engine.specs.Rows.{switch_in}
 use Rattle.switch_names.specs.Names.{Name}
@@ -72,7 +72,7 @@ IsStepIf true sets switches w m = IsStepTo sets switches w m
 
 -- the same for a command
 abbrev pub IsStepOf : Command → WorldState → WorldState → Type 0
-IsStepOf command w m = IsStepIf (row_of command).changes (set_to command w.leaves) (brought_to command w.leaves) w m
+IsStepOf command w m = IsStepIf (row command w.leaves).changes (set_to command w.leaves) (brought_to command w.leaves) w m
 
 -- the profile names the system that it named, or the one that it is set to
 abbrev pub NamesOneOf : Option Name → WorldState → WorldState → Type 0
@@ -80,12 +80,15 @@ NamesOneOf None w m = (other : List ℕ) → Names m.leaves other ↔ Names w.le
 NamesOneOf (Some system) w m = NamesOldOrNew system w m
 
 -- What each moment has of a planned command that is carried out, given the world at its beginning, which isn't refused.
+-- The journal has grown by a beginning of exactly what the command enters, so that no act runs ahead of its entry or is
+-- entered without being owed.
 -- A firmware finds in the boot menu that an entry stands as it did or is that of a generation that stands, that no
 -- generation that stands has lost its entry, and that what the boot loader reads first is as it was or names the current
 -- generation, whose entry stands.
 pub record IsMomentOf (command : Command) (w m : WorldState) : Type 0 where
   pub step : IsStepOf command w m
   pub underway : IsSteadyFor command w → IsUnderway w command m
+  pub entered : IsEntering command w m
   pub named : NamesOneOf (set_to command w.leaves) w m
   pub menu : IsMenuBetween w.leaves m.leaves
 

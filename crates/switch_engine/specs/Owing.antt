@@ -6,7 +6,7 @@ use Rattle.host_trait.specs.declared.entry.Entry.{Entry}
 use Rattle.host_trait.specs.States.{state_of}
 use Rattle.host_trait.specs.World.{WorldState}
 use Rattle.switch_engine.specs.declared.command.Command.{Command}
-use Rattle.switch_engine.specs.Commands.{switched_to}
+use Rattle.switch_engine.specs.Commands.{row, switched_to}
 use Rattle.switch_engine.specs.Final.{IsFinalOf}
 use Rattle.switch_engine.specs.Rows.{refusal}
 use Rattle.switch_names.specs.Names.{Name}
@@ -47,10 +47,11 @@ pub record HasEntered (command : Command) (first w : WorldState) : Type 0 where
   pub owed_alone : AllByRecursion (λ entry. OwesUnit command first entry.unit) entered
   pub others : (unit : Name) → ¬ OwesUnit command first unit → state_of w.manager.states unit ≡ state_of first.manager.states unit
 
--- A run of a command that began in a world is underway in another: the same command leaves from there what it
--- leaves from the first world, and isn't refused. What it owed the units is paid or still owed, only these units
+-- A run of a command that began in a world is underway in another: the command has there the row that it had, leaves from
+-- there what it leaves from the first world, and isn't refused. What it owed the units is paid or still owed, only these units
 -- have been called, and every other is in the state that it was in.
 pub record IsUnderway (first : WorldState) (command : Command) (w : WorldState) : Type 0 where
+  pub same_row : row command w.leaves ≡ row command first.leaves
   pub same_end : (v : WorldState) → IsFinalOf command w v ↔ IsFinalOf command first v
   pub since : HasEntered command first w
   pub paid_or_owed : (act : Act) (unit : Name) → OwesAct command first act unit → IsPaidBy (switched_to command first.leaves) act unit since.entered ⊎ OwesAct command w act unit

@@ -7,9 +7,9 @@ use Rattle.boot_entries.specs.declared.boot_default.BootDefaultPlan.{BootDefault
 use Rattle.generations.specs.declared.gens.Gens.{Gens}
 use Rattle.generations.specs.Gens.{IsGensOf}
 use Rattle.host_trait.specs.World.{Leaves, WorldState}
-use Rattle.switch_engine.specs.declared.command.Command.{Command}
 use Rattle.switch_engine.specs.declared.plan.Plan.{Plan}
-use Rattle.switch_engine.specs.Commands.{new_system, row_of}
+use Rattle.switch_engine.specs.declared.row.Row.{Row}
+use Rattle.switch_engine.specs.Commands.{row}
 use Rattle.switch_engine.specs.Rows.{refusal}
 use Rattle.switch_names.specs.SystemName.{IsSystemPath}
 use Rattle.switch_names.specs.Names.{Name}
@@ -36,19 +36,20 @@ abbrev pub IsProfilePlanned : Bool → Name → WorldState → Option BootDefaul
 IsProfilePlanned sets system w None = sets ≡ false
 IsProfilePlanned sets system w (Some plan) = (sets ≡ true) × IsDefaultPlanOf system w.leaves plan
 
--- the parts that are planned for a command
-pub record ArePlanned (command : Command) (w : WorldState) (plan : Plan) : Type 0 where
-  pub units : AreUnitsPlanned (row_of command).switches (new_system command w.leaves) w plan.units
-  pub activation : IsActivationPlanned (row_of command).switches (new_system command w.leaves) w plan.activation
-  pub profile : IsProfilePlanned (row_of command).sets (new_system command w.leaves) w plan.profile
+-- the parts that are planned for a row
+pub record ArePlanned (its : Row) (w : WorldState) (plan : Plan) : Type 0 where
+  pub units : AreUnitsPlanned its.switches its.system w plan.units
+  pub activation : IsActivationPlanned its.switches its.system w plan.activation
+  pub profile : IsProfilePlanned its.sets its.system w plan.profile
 
 -- where the profile is set, the number is the one that its generations give the system, and the entries of the boot menu
 -- are put at places of entries
 abbrev pub IsSound : Plan → Type 0
-IsSound plan = (leaves : Leaves) (profile : BootDefaultPlan) → plan.profile ≡ Some profile → IsDefaultFor (new_system plan.command leaves) profile
+IsSound plan = (profile : BootDefaultPlan) → plan.profile ≡ Some profile → IsDefaultFor plan.row.system profile
 
 -- the plan of a command that isn't refused
 pub record IsPlanOf (w : WorldState) (plan : Plan) : Type 0 where
-  pub planned : ArePlanned plan.command w plan
-  pub named : IsSystemPath (new_system plan.command w.leaves)
+  pub resolved : plan.row ≡ row plan.command w.leaves
+  pub planned : ArePlanned plan.row w plan
+  pub named : IsSystemPath plan.row.system
   pub not_refused : refusal plan.command w.leaves ≡ None

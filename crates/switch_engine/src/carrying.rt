@@ -64,7 +64,7 @@ fn switch_units<H: Manager>(
     Ok(())
 }
 
-/// Carries a planned switch of the units out, and says how it ended.
+/// Carries a planned switch of the units out, has what it leaves kept beyond a loss of power, and says how it ended.
 fn carry_switch<H: Manager>(
     alloc: Global,
     host: &mut H,
@@ -82,6 +82,7 @@ fn carry_switch<H: Manager>(
     ensures cause { HasCause (H.host host.old) (H.host host.new) result }
 {
     switch_units(alloc, host, system, plan, activation, current)?;
+    host.sync(alloc)?;
     let states = host.units(alloc)?;
     let failed = has_failed(plan.defs(), &states);
     Ok(Outcome { states, failed })
@@ -119,7 +120,8 @@ fn carry_units<H: Manager>(
 /// first, and removes the entries of generations that don't stand. A switch of the units records the
 /// lists, stops units, sets the accounts, makes `/etc`, puts the link to the new system, loads its
 /// definitions, and reloads, restarts and starts units. Each list goes after the last of its calls. A
-/// command that does both sets the profile and makes the boot menu first.
+/// command that does both sets the profile and makes the boot menu first. What each leaves is kept beyond a
+/// loss of power before it answers `Ok`.
 /// Source: NixOS manual, "What happens during a system switch?"; Boot Loader Specification, "Type #1 Boot
 /// Loader Specification Entries".
 pub fn carry_out<H: Manager>(alloc: Global, host: &mut H, plan: &Plan) -> Result<Outcome, HostFault>

@@ -1,7 +1,6 @@
 //! The commands on a system.
 ghost use Rattle.std.specs.Prelude.{◌≡◌, ◌↔◌, IfOk, IsTrue};
-ghost use Rattle.host_trait.specs.World.{Leaves};
-ghost use Rattle.switch_engine.specs.Commands.{IsQuery, new_system, row_of};
+ghost use Rattle.switch_engine.specs.Commands.{IsQuery};
 
 use std::alloc::{AllocError, Global};
 use switch_names::SystemName;
@@ -18,42 +17,19 @@ pub enum Command {
     /// Makes a generation for a system, points the profile to it, and makes the boot menu, for the next
     /// boot.
     Boot(SystemName),
-    /// Says what a switch to a system would do to the units, and changes nothing.
+    /// Puts the report of a `test` of a system, on its units, accounts and `/etc`, and changes nothing.
     DryActivate(SystemName),
 }
 
 impl Command {
-    /// The system that the command names.
-    pub fn system(&self) -> &SystemName
-        ensures { (leaves : Leaves) → result.now ≡ new_system self.now leaves }
-    {
-        match self {
-            Command::Switch(system)
-            | Command::Test(system)
-            | Command::Boot(system)
-            | Command::DryActivate(system) => system,
-        }
-    }
-
-    /// Whether the profile is set to the system.
-    pub fn sets(&self) -> bool
-        ensures { result ≡ (row_of self.now).sets }
-    {
-        matches!(self, Command::Switch(_) | Command::Boot(_))
-    }
-
-    /// Whether the units are switched to the system.
-    pub fn switches(&self) -> bool
-        ensures { result ≡ (row_of self.now).switches }
-    {
-        !matches!(self, Command::Boot(_))
-    }
-
     /// Whether the command changes nothing.
     pub fn is_query(&self) -> bool
         ensures { IsTrue result ↔ IsQuery self.now }
     {
-        matches!(self, Command::DryActivate(_))
+        match self {
+            Command::Switch(_) | Command::Test(_) | Command::Boot(_) => false,
+            Command::DryActivate(_) => true,
+        }
     }
 
     /// An equal command.

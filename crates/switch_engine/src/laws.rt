@@ -1,10 +1,10 @@
 //! The laws by which the promise for one cut becomes that for any number of cuts.
-ghost use Rattle.std.specs.Prelude.{◌≡◌, IsSome, List, None};
+ghost use Rattle.std.specs.Prelude.{◌≡◌, ◌↔◌, IsSome, List, None};
 ghost use Rattle.boot_entries.specs.Menu.{IsMenuWhole};
 ghost use Rattle.host_trait.specs.World.{WorldState};
 ghost use Rattle.switch_engine.specs.declared.command.Command.{Command};
 ghost use Rattle.switch_engine.specs.Commands.{IsQuery, new_system, set_to};
-ghost use Rattle.switch_engine.specs.Final.{IsEndOf, IsFinalOf};
+ghost use Rattle.switch_engine.specs.Final.{IsEndOf, IsFinalOf, LeavesFailed};
 ghost use Rattle.switch_engine.specs.Moments.{LeadsBy};
 ghost use Rattle.switch_engine.specs.Owing.{IsOver, IsSteadyFor, IsUnderway};
 ghost use Rattle.switch_engine.specs.Rows.{refusal};
@@ -33,6 +33,13 @@ pub fn an_ended_run_is_over()
 pub fn cut_runs_end_alike()
     ensures { (command : Command) (cuts : List WorldState) (first last : WorldState) → (IsQuery command → ⊥) → refusal command first.leaves ≡ None
         → IsSteadyFor command first → LeadsBy command cuts first last → IsOver first command last }
+{}
+
+/// A run that goes on where another was cut leaves a unit failed that the system defines exactly where
+/// one does that isn't cut.
+pub fn a_cut_leaves_the_same_failed()
+    ensures { (first w v : WorldState) (command : Command) → IsSystemPath (new_system command w.leaves) → IsUnderway first command w
+        → IsEndOf command w v → LeavesFailed command w ↔ LeavesFailed command first }
 {}
 
 /// Once a command that sets the profile has come to its end, however often it was cut, each entry of the

@@ -8,6 +8,7 @@ mod outcome;
 mod places;
 mod plan;
 mod planning;
+mod row;
 mod system;
 
 pub use carrying::carry_out;
@@ -15,5 +16,6 @@ pub use command::Command;
 pub use outcome::{Outcome, is_failed_of};
 pub use plan::Plan;
 pub use planning::plan_all;
+pub use row::{Row, resolve};
 pub use switch_parts::{MapFile, PlanFault, Refusal, TableFile};
 pub use system::version_path;

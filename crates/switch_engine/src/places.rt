@@ -1,137 +1,81 @@
-//! The places that a command writes, and a look for what is in the way.
-ghost use Rattle.std.specs.Prelude.{◌≡◌, ◌∷◌, ◌++◌, Bool, [], None, Some, IfOk, IsErrOf, OnOk, option_map, true, false};
+//! The places that a row writes, as its parts tell them, and a look for what is in the way.
+ghost use Rattle.std.specs.Prelude.{◌≡◌, ◌++◌, None, Some, IfOk, IsErrOf, OnOk, option_map};
 ghost use Rattle.std.specs.Option.{option_copied};
+ghost use Rattle.accounts_stage.specs.Places.{account_places};
+ghost use Rattle.boot_entries.specs.BootPart.{boot_places};
+ghost use Rattle.etc_farm.specs.FarmPart.{fixed_places};
+ghost use Rattle.etc_manifest.specs.Owners.{OwnerIds};
+ghost use Rattle.generations.specs.After.{gens_after};
+ghost use Rattle.generations.specs.Gens.{IsGensOf};
+ghost use Rattle.generations.specs.ProfilePart.{profile_places};
 ghost use Rattle.host_trait.specs.declared.tree.HostFault.TheVariants.{Device};
 ghost use Rattle.host_trait.specs.Host.{Told};
 ghost use Rattle.host_trait.specs.Reading.{IsReadingOf};
 ghost use Rattle.host_trait.specs.World.{Leaves};
+ghost use Rattle.tree_put.specs.First.{first_in_the_way};
 ghost use Rattle.switch_parts.specs.declared.plan_fault.PlanFault.TheVariants.{Host, Refused};
 ghost use Rattle.switch_parts.specs.declared.refusal.Refusal.{Refusal};
 ghost use Rattle.switch_parts.specs.declared.refusal.Refusal.TheVariants.{InTheWay};
-ghost use Rattle.switch_engine.specs.Places.{list_places};
 ghost use Rattle.switch_engine.specs.Plan.{AreGensFor};
-ghost use Rattle.switch_engine.specs.Rows.{menu_places_if, middle_places, places, set_places};
-ghost use Rattle.unit_stage.specs.System.{current_place};
-ghost use Rattle.tree_put.specs.WrittenPlace.{AreApartFromStage, in_the_way, written};
+ghost use Rattle.switch_engine.specs.Rows.{parts};
+ghost use Rattle.unit_stage.specs.Owned.{unit_places};
+ghost use Rattle.tree_put.specs.WrittenPlace.{AreApartFromStage};
 
-use activation_stage::{add_etc_places, add_memory_places};
+use crate::row::Row;
+use accounts_stage::add_account_places;
 use boot_entries::add_menu_places;
+use etc_farm::add_farm_places;
 use generations::{Gens, add_profile_places};
-use host_trait::{Tree, stage_path};
-use owed_lists::{Which, list_path};
+use host_trait::Tree;
 use std::alloc::{AllocError, Global};
-use switch_names::{Listed, Path, SystemName};
+use switch_names::{Listed, SystemName};
 use switch_parts::{PlanFault, Refusal};
-use tree_put::{WrittenPlace, first_in_the_way};
-use unit_stage::current_path;
+use tree_put::{WrittenPlace, add_stage, first_in_the_way};
+use unit_stage::add_unit_places;
 
-/// A place that is written, and whether its content is read before.
-fn written(at: Path, is_read: bool) -> WrittenPlace
-    ensures { result ≡ written is_read at }
-{
-    WrittenPlace { at, is_read }
-}
-
-/// Adds the places of the boot menu, given the generations that stand where the profile is set.
-fn add_menu(
-    alloc: Global,
-    places: &mut Listed<WrittenPlace>,
-    gens: Option<&Gens>,
-    system: &SystemName,
-) -> Result<(), AllocError>
-    ensures places { OnOk result ((sets : Bool) (leaves : Leaves) → AreGensFor sets leaves (option_copied gens.entry) → places.new ≡ places.old ++ menu_places_if sets system.now leaves) }
+/// Adds the places of a switch of the units.
+fn add_switch(alloc: Global, places: &mut Listed<WrittenPlace>) -> Result<(), AllocError>
+    ensures places { OnOk result (places.new ≡ places.old ++ (unit_places ++ (account_places ++ fixed_places))) }
     ensures apart { AreApartFromStage places.old → OnOk result (AreApartFromStage places.new) }
 {
-    match gens {
-        Some(gens) => add_menu_places(alloc, places, gens, system),
-        None => Ok(()),
-    }
+    add_unit_places(alloc, places)?;
+    add_account_places(alloc, places)?;
+    add_farm_places(alloc, places)
 }
 
-/// Adds the places of the profile, given the generations that stand where it is set, with the stage.
-fn add_middle(
+/// Adds the places of a boot default.
+fn add_default(
     alloc: Global,
     places: &mut Listed<WrittenPlace>,
-    gens: Option<&Gens>,
+    gens: &Gens,
     system: &SystemName,
 ) -> Result<(), AllocError>
-    ensures places { OnOk result ((sets : Bool) (leaves : Leaves) → AreGensFor sets leaves (option_copied gens.entry) → places.new ≡ places.old ++ middle_places sets system.now leaves) }
+    ensures places { OnOk result ((leaves : Leaves) → IsGensOf leaves gens.now → places.new ≡ places.old ++ (profile_places leaves system.now ++ boot_places (gens_after system.now leaves).list)) }
     ensures apart { AreApartFromStage places.old → OnOk result (AreApartFromStage places.new) }
 {
-    match gens {
-        Some(gens) => add_profile_places(alloc, places, gens, system),
-        None => places.push(written(stage_path(alloc)?, false)),
-    }
+    add_profile_places(alloc, places, gens, system)?;
+    add_menu_places(alloc, places, gens, system)?;
+    add_stage(alloc, places)
 }
 
-/// Adds the link to the system in use.
-fn add_current(alloc: Global, places: &mut Listed<WrittenPlace>) -> Result<(), AllocError>
-    ensures { OnOk result (places.new ≡ places.old ++ written false current_place ∷ []) }
-{
-    places.push(written(current_path(alloc)?, false))
-}
-
-/// Adds the lists in byte order.
-fn add_lists(alloc: Global, places: &mut Listed<WrittenPlace>) -> Result<(), AllocError>
-    ensures { OnOk result (places.new ≡ places.old ++ list_places) }
-{
-    places.push(written(list_path(alloc, Which::Reloads)?, true))?;
-    places.push(written(list_path(alloc, Which::Restarts)?, true))?;
-    places.push(written(list_path(alloc, Which::Starts)?, true))
-}
-
-/// The places that a switch of the units writes, with those of the boot menu and of the profile, in byte
-/// order.
-fn switched_places(
-    alloc: Global,
-    gens: Option<&Gens>,
-    system: &SystemName,
-) -> Result<Listed<WrittenPlace>, AllocError>
-    ensures places { IfOk result (λ list. (sets : Bool) (leaves : Leaves) → AreGensFor sets leaves (option_copied gens.entry) → list ≡ places true sets system.now leaves) }
-    ensures apart { IfOk result (λ list. AreApartFromStage list) }
-{
-    let mut list = Listed::new(alloc);
-    add_menu(alloc, &mut list, gens, system)?;
-    add_etc_places(alloc, &mut list)?;
-    add_middle(alloc, &mut list, gens, system)?;
-    add_current(alloc, &mut list)?;
-    add_lists(alloc, &mut list)?;
-    add_memory_places(alloc, &mut list)?;
-    Ok(list)
-}
-
-/// The places of the boot menu and of the profile, where that is set, in byte order.
-fn set_places(
-    alloc: Global,
-    gens: Option<&Gens>,
-    system: &SystemName,
-) -> Result<Listed<WrittenPlace>, AllocError>
-    ensures places { IfOk result (λ list. (sets : Bool) (leaves : Leaves) → AreGensFor sets leaves (option_copied gens.entry) → list ≡ set_places sets system.now leaves) }
-    ensures apart { IfOk result (λ list. AreApartFromStage list) }
-{
-    let mut list = Listed::new(alloc);
-    if let Some(gens) = gens {
-        add_menu_places(alloc, &mut list, gens, system)?;
-        add_profile_places(alloc, &mut list, gens, system)?;
-    }
-    Ok(list)
-}
-
-/// The places that a command writes, in byte order, given the generations that stand where it sets the
-/// profile.
+/// The places that a row writes, as its parts tell them.
 pub fn places_of(
     alloc: Global,
-    switches: bool,
+    row: &Row,
     gens: Option<&Gens>,
-    system: &SystemName,
 ) -> Result<Listed<WrittenPlace>, AllocError>
-    ensures places { IfOk result (λ list. (sets : Bool) (leaves : Leaves) → AreGensFor sets leaves (option_copied gens.entry) → list ≡ places switches sets system.now leaves) }
+    ensures places { IfOk result (λ list. (leaves : Leaves) (owners : OwnerIds) → AreGensFor row.now.sets leaves (option_copied gens.entry)
+        → list ≡ (parts row.now.switches row.now.sets row.now.system owners (gens_after row.now.system leaves)).places leaves) }
     ensures apart { IfOk result (λ list. AreApartFromStage list) }
 {
-    if switches {
-        return switched_places(alloc, gens, system);
+    let mut list = Listed::new(alloc);
+    if row.switches {
+        add_switch(alloc, &mut list)?;
     }
-    set_places(alloc, gens, system)
+    if let Some(gens) = gens {
+        add_default(alloc, &mut list, gens, &row.system)?;
+    }
+    Ok(list)
 }
 
 /// Refuses where a leaf stands in the way of one of these places.
@@ -141,8 +85,8 @@ pub fn check_way<T: Tree>(
     places: &[WrittenPlace],
 ) -> Result<(), PlanFault>
     requires { AreApartFromStage places.now }
-    ensures free { OnOk result (Told (T.host host.old) (λ w. in_the_way places.now w.leaves ≡ None)) }
-    ensures refused { (why : Refusal) → IsErrOf result (Refused why) → Told (T.host host.old) (λ w. option_map InTheWay (in_the_way places.now w.leaves) ≡ Some why) }
+    ensures free { OnOk result (Told (T.host host.old) (λ w. first_in_the_way places.now w.leaves ≡ None)) }
+    ensures refused { (why : Refusal) → IsErrOf result (Refused why) → Told (T.host host.old) (λ w. option_map InTheWay (first_in_the_way places.now w.leaves) ≡ Some why) }
     ensures reads { IsReadingOf (T.host host.old) (T.host host.new) (IsErrOf result (Host Device)) }
 {
     match first_in_the_way(alloc, host, places)? {

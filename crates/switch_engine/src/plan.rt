@@ -1,10 +1,9 @@
 //! What a command does.
-ghost use Rattle.std.specs.Prelude.{◌≡◌, ◌↔◌, IsTrue, option_map};
+ghost use Rattle.std.specs.Prelude.{◌≡◌, ◌↔◌, IsTrue, false, option_map};
 ghost use Rattle.std.specs.Option.{option_copied};
-ghost use Rattle.host_trait.specs.World.{Leaves};
-ghost use Rattle.switch_engine.specs.Commands.{IsBoot, new_system};
 
 use crate::command::Command;
+use crate::row::Row;
 use activation_stage::ActivationPlan;
 use boot_entries::BootDefaultPlan;
 use owed_plan::Duty;
@@ -15,6 +14,7 @@ use unit_stage::UnitPlan;
 /// What a command does, by the parts that it has.
 pub struct Plan {
     command: Command,
+    row: Row,
     units: UnitPlan,
     activation: Option<ActivationPlan>,
     profile: Option<BootDefaultPlan>,
@@ -25,6 +25,7 @@ impl Drop for Plan {
     fn drop(self) {
         let Plan {
             command: _,
+            row: _,
             units: _,
             activation: _,
             profile: _,
@@ -36,14 +37,16 @@ impl Plan {
     /// A plan of these parts.
     pub(crate) fn new(
         command: Command,
+        row: Row,
         units: UnitPlan,
         activation: Option<ActivationPlan>,
         profile: Option<BootDefaultPlan>,
     ) -> Plan
-        ensures { result ≡ record { command = command; units = units; activation = activation; profile = profile } }
+        ensures { result ≡ record { command = command; row = row; units = units; activation = activation; profile = profile } }
     {
         Plan {
             command,
+            row,
             units,
             activation,
             profile,
@@ -87,9 +90,9 @@ impl Plan {
 
     /// The system that comes into use, now or at the next boot.
     pub fn to(&self) -> &SystemName
-        ensures { (leaves : Leaves) → result.now ≡ new_system self.now.command leaves }
+        ensures { result.now ≡ self.now.row.system }
     {
-        self.command.system()
+        &self.row.system
     }
 
     /// The number of the generation that the system gets, where the profile is set.
@@ -131,8 +134,8 @@ impl Plan {
 
     /// Whether the plan is that of a boot, which does nothing to the units.
     pub fn boot_only(&self) -> bool
-        ensures { IsTrue result ↔ IsBoot self.now.command }
+        ensures { IsTrue result ↔ (self.now.row.switches ≡ false) }
     {
-        !self.command.switches()
+        !self.row.switches
     }
 }

@@ -7,20 +7,20 @@ ghost use Rattle.boot_entries.specs.declared.boot_default.BootDefaultPlan.{BootD
 ghost use Rattle.host_trait.specs.declared.tree.HostFault.TheVariants.{Device};
 ghost use Rattle.host_trait.specs.Host.{Told};
 ghost use Rattle.host_trait.specs.Reading.{IsReading, IsReadingOf};
-ghost use Rattle.host_trait.specs.World.{Leaves};
-ghost use Rattle.switch_engine.specs.Commands.{new_system, row_of};
-ghost use Rattle.switch_engine.specs.Owing.{IsSteadyFor};
+ghost use Rattle.switch_engine.specs.Commands.{switched_by};
+ghost use Rattle.switch_engine.specs.Owing.{IsSteadyFor, IsSteadyTo};
 ghost use Rattle.switch_engine.specs.Plan.{AreGensFor, ArePlanned, AreUnitsPlanned, IsActivationPlanned, IsPlanOf, IsProfilePlanned, IsSound};
-ghost use Rattle.switch_engine.specs.Rows.{part_if, parts_refusal, places, refusal};
+ghost use Rattle.switch_engine.specs.Rows.{part_if, parts_in, refusal, refusal_by};
 ghost use Rattle.switch_parts.specs.declared.plan_fault.PlanFault.TheVariants.{Host, Refused};
 ghost use Rattle.switch_parts.specs.declared.refusal.Refusal.{Refusal};
 ghost use Rattle.switch_parts.specs.declared.refusal.Refusal.TheVariants.{InTheWay};
-ghost use Rattle.tree_put.specs.WrittenPlace.{in_the_way};
+ghost use Rattle.tree_put.specs.First.{first_in_the_way};
 ghost use Rattle.unit_stage.specs.Units.{units_part};
 
 use crate::command::Command;
 use crate::places::{check_way, places_of};
 use crate::plan::Plan;
+use crate::row::{Row, resolve};
 use crate::system::has_version;
 use activation_stage::{ActivationPlan, plan_activation};
 use boot_entries::{BootDefaultPlan, plan_boot_default};
@@ -30,57 +30,49 @@ use std::alloc::Global;
 use switch_parts::{PlanFault, Refusal};
 use unit_stage::{UnitPlan, plan_units};
 
-/// The generations that stand, where a command sets the profile.
-fn gens_for<T: Tree>(
-    alloc: Global,
-    host: &mut T,
-    command: &Command,
-) -> Result<Option<Gens>, HostFault>
-    ensures gens { IfOk result (λ gens. Told (T.host host.old) (λ w. AreGensFor (row_of command.now).sets w.leaves gens)) }
+/// The generations that stand, where a row sets the profile.
+fn gens_for<T: Tree>(alloc: Global, host: &mut T, row: &Row) -> Result<Option<Gens>, HostFault>
+    ensures gens { IfOk result (λ gens. Told (T.host host.old) (λ w. AreGensFor row.now.sets w.leaves gens)) }
     ensures reads { IsReading (T.host host.old) (T.host host.new) result }
 {
-    if !command.sets() {
+    if !row.sets {
         return Ok(None);
     }
     let gens = all(alloc, host)?;
     Ok(Some(gens))
 }
 
-/// Refuses where something is in the way of a place that a command writes.
+/// Refuses where something is in the way of a place that a row writes.
 fn check_places<T: Tree>(
     alloc: Global,
     host: &mut T,
-    command: &Command,
+    row: &Row,
     gens: Option<&Gens>,
 ) -> Result<(), PlanFault>
-    requires { Told (T.host host.old) (λ w. AreGensFor (row_of command.now).sets w.leaves (option_copied gens)) }
-    ensures free { OnOk result (Told (T.host host.old) (λ w. in_the_way (places (row_of command.now).switches (row_of command.now).sets (new_system command.now w.leaves) w.leaves) w.leaves ≡ None)) }
+    requires { Told (T.host host.old) (λ w. AreGensFor row.now.sets w.leaves (option_copied gens)) }
+    ensures free { OnOk result (Told (T.host host.old) (λ w. first_in_the_way ((parts_in row.now.switches row.now.sets row.now.system w.leaves).places w.leaves) w.leaves ≡ None)) }
     ensures refused { (why : Refusal) → IsErrOf result (Refused why)
-        → Told (T.host host.old) (λ w. option_map InTheWay (in_the_way (places (row_of command.now).switches (row_of command.now).sets (new_system command.now w.leaves) w.leaves) w.leaves) ≡ Some why) }
+        → Told (T.host host.old) (λ w. option_map InTheWay (first_in_the_way ((parts_in row.now.switches row.now.sets row.now.system w.leaves).places w.leaves) w.leaves) ≡ Some why) }
     ensures reads { IsReadingOf (T.host host.old) (T.host host.new) (IsErrOf result (Host Device)) }
 {
-    let places = places_of(alloc, command.switches(), gens, command.system())?;
+    let places = places_of(alloc, row, gens)?;
     check_way(alloc, host, places.as_slice())?;
     Ok(())
 }
 
 /// Plans what a command does to the units, or nothing where it doesn't switch them.
-fn plan_switch<H: Manager>(
-    alloc: Global,
-    host: &mut H,
-    command: &Command,
-) -> Result<UnitPlan, PlanFault>
-    ensures plan { IfOk result (λ plan. Told (H.host host.old) (λ w. AreUnitsPlanned (row_of command.now).switches (new_system command.now w.leaves) w plan)) }
-    ensures steady { IfOk result (λ plan. Told (H.host host.old) (λ w. IsTrue plan.steady ↔ IsSteadyFor command.now w)) }
-    ensures not_refused { OnOk result (Told (H.host host.old) (λ w. (part_if (row_of command.now).switches (units_part (new_system command.now w.leaves))).refusal w.leaves ≡ None)) }
+fn plan_switch<H: Manager>(alloc: Global, host: &mut H, row: &Row) -> Result<UnitPlan, PlanFault>
+    ensures plan { IfOk result (λ plan. Told (H.host host.old) (λ w. AreUnitsPlanned row.now.switches row.now.system w plan)) }
+    ensures steady { IfOk result (λ plan. Told (H.host host.old) (λ w. IsTrue plan.steady ↔ IsSteadyTo (switched_by row.now) w)) }
+    ensures not_refused { OnOk result (Told (H.host host.old) (λ w. (part_if row.now.switches (units_part row.now.system)).refusal w.leaves ≡ None)) }
     ensures refused { (why : Refusal) → IsErrOf result (Refused why)
-        → Told (H.host host.old) (λ w. (part_if (row_of command.now).switches (units_part (new_system command.now w.leaves))).refusal w.leaves ≡ Some why) }
+        → Told (H.host host.old) (λ w. (part_if row.now.switches (units_part row.now.system)).refusal w.leaves ≡ Some why) }
     ensures reads { IsReadingOf (H.host host.old) (H.host host.new) (IsErrOf result (Host Device)) }
 {
-    if !command.switches() {
+    if !row.switches {
         return Ok(UnitPlan::none(alloc));
     }
-    let plan = plan_units(alloc, host, command.system())?;
+    let plan = plan_units(alloc, host, &row.system)?;
     Ok(plan)
 }
 
@@ -88,18 +80,18 @@ fn plan_switch<H: Manager>(
 fn plan_accounts_and_etc<T: Tree>(
     alloc: Global,
     host: &mut T,
-    command: &Command,
+    row: &Row,
 ) -> Result<Option<ActivationPlan>, PlanFault>
-    ensures plan { IfOk result (λ plan. Told (T.host host.old) (λ w. IsActivationPlanned (row_of command.now).switches (new_system command.now w.leaves) w plan)) }
-    ensures not_refused { OnOk result (Told (T.host host.old) (λ w. (part_if (row_of command.now).switches (activation_in (new_system command.now w.leaves) w.leaves)).refusal w.leaves ≡ None)) }
+    ensures plan { IfOk result (λ plan. Told (T.host host.old) (λ w. IsActivationPlanned row.now.switches row.now.system w plan)) }
+    ensures not_refused { OnOk result (Told (T.host host.old) (λ w. (part_if row.now.switches (activation_in row.now.system w.leaves)).refusal w.leaves ≡ None)) }
     ensures refused { (why : Refusal) → IsErrOf result (Refused why)
-        → Told (T.host host.old) (λ w. (part_if (row_of command.now).switches (activation_in (new_system command.now w.leaves) w.leaves)).refusal w.leaves ≡ Some why) }
+        → Told (T.host host.old) (λ w. (part_if row.now.switches (activation_in row.now.system w.leaves)).refusal w.leaves ≡ Some why) }
     ensures reads { IsReadingOf (T.host host.old) (T.host host.new) (IsErrOf result (Host Device)) }
 {
-    if !command.switches() {
+    if !row.switches {
         return Ok(None);
     }
-    let plan = plan_activation(alloc, host, command.system())?;
+    let plan = plan_activation(alloc, host, &row.system)?;
     Ok(Some(plan))
 }
 
@@ -107,41 +99,47 @@ fn plan_accounts_and_etc<T: Tree>(
 fn plan_profile<T: Tree>(
     alloc: Global,
     host: &mut T,
-    command: &Command,
+    row: &Row,
     gens: Option<Gens>,
 ) -> Result<Option<BootDefaultPlan>, PlanFault>
-    requires { Told (T.host host.old) (λ w. AreGensFor (row_of command.now).sets w.leaves gens) }
-    ensures plan { IfOk result (λ plan. Told (T.host host.old) (λ w. IsProfilePlanned (row_of command.now).sets (new_system command.now w.leaves) w plan)) }
-    ensures sound { IfOk result (λ plan. (leaves : Leaves) (profile : BootDefaultPlan) → plan ≡ Some profile → IsDefaultFor (new_system command.now leaves) profile) }
-    ensures not_refused { OnOk result (Told (T.host host.old) (λ w. (part_if (row_of command.now).sets (boot_default_in (new_system command.now w.leaves) w.leaves)).refusal w.leaves ≡ None)) }
+    requires { Told (T.host host.old) (λ w. AreGensFor row.now.sets w.leaves gens) }
+    ensures plan { IfOk result (λ plan. Told (T.host host.old) (λ w. IsProfilePlanned row.now.sets row.now.system w plan)) }
+    ensures sound { IfOk result (λ plan. (profile : BootDefaultPlan) → plan ≡ Some profile → IsDefaultFor row.now.system profile) }
+    ensures not_refused { OnOk result (Told (T.host host.old) (λ w. (part_if row.now.sets (boot_default_in row.now.system w.leaves)).refusal w.leaves ≡ None)) }
     ensures refused { (why : Refusal) → IsErrOf result (Refused why)
-        → Told (T.host host.old) (λ w. (part_if (row_of command.now).sets (boot_default_in (new_system command.now w.leaves) w.leaves)).refusal w.leaves ≡ Some why) }
+        → Told (T.host host.old) (λ w. (part_if row.now.sets (boot_default_in row.now.system w.leaves)).refusal w.leaves ≡ Some why) }
     ensures reads { IsReadingOf (T.host host.old) (T.host host.new) (IsErrOf result (Host Device)) }
 {
     let Some(gens) = gens else {
         return Ok(None);
     };
-    let plan = plan_boot_default(alloc, host, command.system(), gens)?;
+    let plan = plan_boot_default(alloc, host, &row.system, gens)?;
     Ok(Some(plan))
 }
 
-/// Plans the parts of a command.
-fn plan_parts<H: Manager>(alloc: Global, host: &mut H, command: &Command) -> Result<Plan, PlanFault>
+/// Plans the parts of a row.
+fn plan_parts<H: Manager>(
+    alloc: Global,
+    host: &mut H,
+    command: &Command,
+    row: Row,
+) -> Result<Plan, PlanFault>
     ensures command { IfOk result (λ plan. plan.command ≡ command.now) }
-    ensures plan { IfOk result (λ plan. Told (H.host host.old) (λ w. ArePlanned command.now w plan)) }
-    ensures steady { IfOk result (λ plan. Told (H.host host.old) (λ w. IsTrue plan.units.steady ↔ IsSteadyFor command.now w)) }
+    ensures row { IfOk result (λ plan. plan.row ≡ row) }
+    ensures plan { IfOk result (λ plan. Told (H.host host.old) (λ w. ArePlanned row w plan)) }
+    ensures steady { IfOk result (λ plan. Told (H.host host.old) (λ w. IsTrue plan.units.steady ↔ IsSteadyTo (switched_by row) w)) }
     ensures sound { IfOk result IsSound }
-    ensures not_refused { OnOk result (Told (H.host host.old) (λ w. parts_refusal command.now w.leaves ≡ None)) }
-    ensures refused { (why : Refusal) → IsErrOf result (Refused why) → Told (H.host host.old) (λ w. parts_refusal command.now w.leaves ≡ Some why) }
+    ensures not_refused { OnOk result (Told (H.host host.old) (λ w. refusal_by row.switches row.sets row.system w.leaves ≡ None)) }
+    ensures refused { (why : Refusal) → IsErrOf result (Refused why) → Told (H.host host.old) (λ w. refusal_by row.switches row.sets row.system w.leaves ≡ Some why) }
     ensures reads { IsReadingOf (H.host host.old) (H.host host.new) (IsErrOf result (Host Device)) }
 {
     let planned = command.copy(alloc)?;
-    let gens = gens_for(alloc, host, command)?;
-    check_places(alloc, host, command, gens.as_ref())?;
-    let units = plan_switch(alloc, host, command)?;
-    let activation = plan_accounts_and_etc(alloc, host, command)?;
-    let profile = plan_profile(alloc, host, command, gens)?;
-    Ok(Plan::new(planned, units, activation, profile))
+    let gens = gens_for(alloc, host, &row)?;
+    check_places(alloc, host, &row, gens.as_ref())?;
+    let units = plan_switch(alloc, host, &row)?;
+    let activation = plan_accounts_and_etc(alloc, host, &row)?;
+    let profile = plan_profile(alloc, host, &row, gens)?;
+    Ok(Plan::new(planned, row, units, activation, profile))
 }
 
 /// Plans what a command does, before anything is put or changed, and changes nothing.
@@ -163,10 +161,11 @@ pub fn plan_all<H: Manager>(
     ensures refused { (why : Refusal) → IsErrOf result (Refused why) → Told (H.host host.old) (λ w. refusal command.now w.leaves ≡ Some why) }
     ensures reads { IsReadingOf (H.host host.old) (H.host host.new) (IsErrOf result (Host Device)) }
 {
-    let _path = command.system().path();
-    if !has_version(alloc, host, command.system())? {
+    let row = resolve(alloc, command)?;
+    let _path = row.system.path();
+    if !has_version(alloc, host, &row.system)? {
         return Err(PlanFault::Refused(Refusal::NoSystem));
     }
-    let plan = plan_parts(alloc, host, command)?;
+    let plan = plan_parts(alloc, host, command, row)?;
     Ok(plan)
 }

@@ -27,7 +27,7 @@ set_profile-requires-clause-can g c =
 
 pub set_profile-requires-clause-sound : goal.set_profile-requires-clause-sound
 set_profile-requires-clause-sound g c profile is =
-    subst (λ (system : Name). IsDefaultFor system profile) (sym (c.to-2.ensures empty)) (c.requires.sound empty profile (sym c.profile.ensures ∙ is))
+    subst (λ (system : Name). IsDefaultFor system profile) (sym c.to-2.ensures) (c.requires.sound profile (sym c.profile.ensures ∙ is))
 
 pub returns-in_err-set_profile-clause-moments : goal.returns-in_err-set_profile-clause-moments
 returns-in_err-set_profile-clause-moments g c =
@@ -45,7 +45,7 @@ carry_units-requires-clause-can g c =
     c.to-3.result.now c.to-3.ensures))
 
 pub carry_units-requires-clause-current : goal.carry_units-requires-clause-current
-carry_units-requires-clause-current g c = c.in_ok-current.ensures ∙ ap system_leaf (c.to.ensures empty ∙ sym (c.to-3.ensures empty))
+carry_units-requires-clause-current g c = c.in_ok-current.ensures ∙ ap system_leaf (c.to.ensures ∙ sym c.to-3.ensures)
 
 pub returns-clause-ok : goal.returns-clause-ok
 returns-clause-ok g c =

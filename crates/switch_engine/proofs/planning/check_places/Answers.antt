@@ -2,13 +2,12 @@ use Rattle.std.proofs.Common.{◌≡◌, Err, None, Some, sym, ap, subst, ◌∙
 use Rattle.std.proofs.lemmas.Result.{err_from_is_err_and}
 use Rattle.host_trait.proofs.Moments.{told_as}
 use Rattle.host_trait.proofs.Readings.{nothing_read_of}
-use Rattle.switch_engine.specs.Commands.{new_system, row_of}
-use Rattle.switch_engine.specs.Rows.{places}
-use Rattle.switch_engine.proofs.PlanLemmas.{placed}
+use Rattle.switch_engine.specs.Rows.{parts_in}
+use Rattle.activation_stage.specs.Owners.{owners_after}
+use Rattle.tree_put.specs.First.{first_in_the_way}
 use Rattle.switch_parts.specs.declared.plan_fault.PlanFault.TheVariants.{Refused}
 use Rattle.switch_parts.specs.declared.refusal.Refusal.TheVariants.{InTheWay}
 use Rattle.switch_parts.proofs.Faults.{memory_no_device}
-use Rattle.tree_put.specs.WrittenPlace.{in_the_way}
 use Rattle.unit_stage.proofs.KnownLemmas.{same_fault}
 use Rattle.switch_engine.proofs.planning.check_places.Goals as goal
 
@@ -19,15 +18,15 @@ returns-in_err-places-clause-reads g c =
 pub returns-in_err-check_way-clause-refused : goal.returns-in_err-check_way-clause-refused
 returns-in_err-check_way-clause-refused g c why e =
     let p = err_from_is_err_and c.from_residual-in_err-check_way.result c.from_residual-in_err-check_way.ensures.1 in
-    let command = c.args.command.now in
+    let its = c.args.row.now in
     told_as (c.in_err-check_way.ensures.refused why (ap (λ f. Err f) (sym p.2 ∙ same_fault p.0 (Refused why) (sym p.1 ∙ e))))
-    (λ w. option_map InTheWay (in_the_way (places (row_of command).switches (row_of command).sets (new_system command w.leaves) w.leaves) w.leaves) ≡ Some why)
-    (λ w is way. subst (λ ps. option_map InTheWay (in_the_way ps w.leaves) ≡ Some why)
-    (c.as_slice.ensures ∙ placed command w.leaves c.switches.result c.system.result.now c.switches.ensures (c.system.ensures w.leaves) (c.in_ok-places.ensures.places (row_of command).sets w.leaves (c.requires.has w is))) way)
+    (λ w. option_map InTheWay (first_in_the_way ((parts_in its.switches its.sets its.system w.leaves).places w.leaves) w.leaves) ≡ Some why)
+    (λ w is way. subst (λ ps. option_map InTheWay (first_in_the_way ps w.leaves) ≡ Some why)
+    (c.as_slice.ensures ∙ c.in_ok-places.ensures.places w.leaves (owners_after its.system w.leaves) (c.requires.has w is)) way)
 
 pub returns-clause-free : goal.returns-clause-free
 returns-clause-free g c =
-    let command = c.args.command.now in
-    told_as c.in_ok-check_way.ensures.free (λ w. in_the_way (places (row_of command).switches (row_of command).sets (new_system command w.leaves) w.leaves) w.leaves ≡ None)
-    (λ w is free. subst (λ ps. in_the_way ps w.leaves ≡ None)
-    (c.as_slice.ensures ∙ placed command w.leaves c.switches.result c.system.result.now c.switches.ensures (c.system.ensures w.leaves) (c.in_ok-places.ensures.places (row_of command).sets w.leaves (c.requires.has w is))) free)
+    let its = c.args.row.now in
+    told_as c.in_ok-check_way.ensures.free (λ w. first_in_the_way ((parts_in its.switches its.sets its.system w.leaves).places w.leaves) w.leaves ≡ None)
+    (λ w is free. subst (λ ps. first_in_the_way ps w.leaves ≡ None)
+    (c.as_slice.ensures ∙ c.in_ok-places.ensures.places w.leaves (owners_after its.system w.leaves) (c.requires.has w is)) free)

@@ -3,13 +3,11 @@ use Rattle.std.proofs.lemmas.Result.{err_from_is_err_and}
 use Rattle.host_trait.specs.declared.tree.HostFault.TheVariants.{Device}
 use Rattle.host_trait.proofs.Moments.{told_as, told_before}
 use Rattle.host_trait.proofs.Readings.{nothing_read_of, read_of, reads_of, reads_then, told_read}
-use Rattle.switch_engine.specs.Commands.{new_system, row_of}
-use Rattle.boot_entries.specs.BootDefault.{IsDefaultFor}
-use Rattle.switch_engine.specs.declared.command.Command.{Command}
+use Rattle.switch_engine.specs.Commands.{switched_by}
 use Rattle.switch_engine.specs.declared.plan.Plan.{Plan}
-use Rattle.switch_engine.specs.Owing.{IsSteadyFor}
+use Rattle.switch_engine.specs.Owing.{IsSteadyTo}
 use Rattle.switch_engine.specs.Plan.{ArePlanned, IsSound}
-use Rattle.switch_engine.specs.Rows.{parts_refusal}
+use Rattle.switch_engine.specs.Rows.{refusal_by}
 use Rattle.switch_engine.proofs.PlanLemmas.{activation_refused, profile_refused, told_still, units_refused, way_refused}
 use Rattle.switch_parts.specs.declared.plan_fault.PlanFault.TheVariants.{Host, Refused}
 use Rattle.switch_parts.proofs.Faults.{handed, no_err, memory_no_device}
@@ -23,10 +21,10 @@ returns-in_err-planned-clause-reads g c =
 pub returns-in_err-check_places-clause-refused : goal.returns-in_err-check_places-clause-refused
 returns-in_err-check_places-clause-refused g c why e =
     let p = err_from_is_err_and c.from_residual-in_err-check_places.result c.from_residual-in_err-check_places.ensures.1 in
-    let command = c.args.command.now in
+    let its = c.args.row in
     told_as (told_read c.gens_for.ensures.reads (c.in_err-check_places.ensures.refused why (ap (λ f. Err f) (sym p.2 ∙ same_fault p.0 (Refused why) (sym p.1 ∙ e)))))
-    (λ w. parts_refusal command w.leaves ≡ Some why)
-    (λ w is way. way_refused (row_of command).switches (row_of command).sets (new_system command w.leaves) w.leaves why way)
+    (λ w. refusal_by its.switches its.sets its.system w.leaves ≡ Some why)
+    (λ w is way. way_refused its.switches its.sets its.system w.leaves why way)
 
 pub returns-in_err-check_places-clause-reads : goal.returns-in_err-check_places-clause-reads
 returns-in_err-check_places-clause-reads g c =
@@ -36,11 +34,11 @@ returns-in_err-check_places-clause-reads g c =
 pub returns-in_err-units-clause-refused : goal.returns-in_err-units-clause-refused
 returns-in_err-units-clause-refused g c why e =
     let p = err_from_is_err_and c.from_residual-in_err-units.result c.from_residual-in_err-units.ensures.1 in
-    let command = c.args.command.now in
+    let its = c.args.row in
     let refused = c.in_err-units.ensures.refused why (ap (λ f. Err f) (sym p.2 ∙ same_fault p.0 (Refused why) (sym p.1 ∙ e))) in
     let way = told_read c.gens_for.ensures.reads c.in_ok-check_places.ensures.free in
-    told_as (told_read c.gens_for.ensures.reads (told_before c.check_places.ensures.reads.moments refused)) (λ w. parts_refusal command w.leaves ≡ Some why)
-    (λ w is units. units_refused (row_of command).switches (row_of command).sets (new_system command w.leaves) w.leaves (way.has w is) why units)
+    told_as (told_read c.gens_for.ensures.reads (told_before c.check_places.ensures.reads.moments refused)) (λ w. refusal_by its.switches its.sets its.system w.leaves ≡ Some why)
+    (λ w is units. units_refused its.switches its.sets its.system w.leaves (way.has w is) why units)
 
 pub returns-in_err-units-clause-reads : goal.returns-in_err-units-clause-reads
 returns-in_err-units-clause-reads g c =
@@ -50,12 +48,12 @@ returns-in_err-units-clause-reads g c =
 pub returns-in_err-activation-clause-refused : goal.returns-in_err-activation-clause-refused
 returns-in_err-activation-clause-refused g c why e =
     let p = err_from_is_err_and c.from_residual-in_err-activation.result c.from_residual-in_err-activation.ensures.1 in
-    let command = c.args.command.now in
+    let its = c.args.row in
     let refused = c.in_err-activation.ensures.refused why (ap (λ f. Err f) (sym p.2 ∙ same_fault p.0 (Refused why) (sym p.1 ∙ e))) in
     let way = told_read c.gens_for.ensures.reads c.in_ok-check_places.ensures.free in
     let units = told_read c.gens_for.ensures.reads (told_before c.check_places.ensures.reads.moments c.in_ok-units.ensures.not_refused) in
-    told_as (told_read c.gens_for.ensures.reads (told_before c.check_places.ensures.reads.moments (told_before c.plan_switch.ensures.reads.moments refused))) (λ w. parts_refusal command w.leaves ≡ Some why)
-    (λ w is activation. activation_refused (row_of command).switches (row_of command).sets (new_system command w.leaves) w.leaves (way.has w is) (units.has w is) why activation)
+    told_as (told_read c.gens_for.ensures.reads (told_before c.check_places.ensures.reads.moments (told_before c.plan_switch.ensures.reads.moments refused))) (λ w. refusal_by its.switches its.sets its.system w.leaves ≡ Some why)
+    (λ w is activation. activation_refused its.switches its.sets its.system w.leaves (way.has w is) (units.has w is) why activation)
 
 pub returns-in_err-activation-clause-reads : goal.returns-in_err-activation-clause-reads
 returns-in_err-activation-clause-reads g c =
@@ -77,36 +75,36 @@ returns-in_err-profile-clause-reads g c =
 pub returns-in_err-profile-clause-refused : goal.returns-in_err-profile-clause-refused
 returns-in_err-profile-clause-refused g c why e =
     let p = err_from_is_err_and c.from_residual-in_err-profile.result c.from_residual-in_err-profile.ensures.1 in
-    let command = c.args.command.now in
+    let its = c.args.row in
     let refused = c.in_err-profile.ensures.refused why (ap (λ f. Err f) (sym p.2 ∙ same_fault p.0 (Refused why) (sym p.1 ∙ e))) in
     let way = told_read c.gens_for.ensures.reads c.in_ok-check_places.ensures.free in
     let units = told_read c.gens_for.ensures.reads (told_before c.check_places.ensures.reads.moments c.in_ok-units.ensures.not_refused) in
     let activation = told_read c.gens_for.ensures.reads (told_before c.check_places.ensures.reads.moments (told_before c.plan_switch.ensures.reads.moments c.in_ok-activation.ensures.not_refused)) in
-    told_as (told_read c.gens_for.ensures.reads (told_before c.check_places.ensures.reads.moments (told_before c.plan_switch.ensures.reads.moments (told_before c.plan_accounts_and_etc.ensures.reads.moments refused)))) (λ w. parts_refusal command w.leaves ≡ Some why)
-    (λ w is profile. profile_refused (row_of command).switches (row_of command).sets (new_system command w.leaves) w.leaves (way.has w is) (units.has w is) (Some why) (activation.has w is) profile)
+    told_as (told_read c.gens_for.ensures.reads (told_before c.check_places.ensures.reads.moments (told_before c.plan_switch.ensures.reads.moments (told_before c.plan_accounts_and_etc.ensures.reads.moments refused)))) (λ w. refusal_by its.switches its.sets its.system w.leaves ≡ Some why)
+    (λ w is profile. profile_refused its.switches its.sets its.system w.leaves (way.has w is) (units.has w is) (Some why) (activation.has w is) profile)
 
 pub returns-clause-plan : goal.returns-clause-plan
 returns-clause-plan g c =
-    let command = c.args.command.now in
+    let its = c.args.row in
     let units = told_read c.gens_for.ensures.reads (told_before c.check_places.ensures.reads.moments c.in_ok-units.ensures.plan) in
     let activation = told_read c.gens_for.ensures.reads (told_before c.check_places.ensures.reads.moments (told_before c.plan_switch.ensures.reads.moments c.in_ok-activation.ensures.plan)) in
     let profile = told_read c.gens_for.ensures.reads (told_before c.check_places.ensures.reads.moments (told_before c.plan_switch.ensures.reads.moments (told_before c.plan_accounts_and_etc.ensures.reads.moments c.in_ok-profile.ensures.plan))) in
-    told_as units (λ w. ArePlanned command w c.new.result)
-    (λ w is planned. subst (ArePlanned command w) (sym c.new.ensures) (record { units = planned; activation = activation.has w is; profile = profile.has w is }))
+    told_as units (λ w. ArePlanned its w c.new.result)
+    (λ w is planned. subst (ArePlanned its w) (sym c.new.ensures) (record { units = planned; activation = activation.has w is; profile = profile.has w is }))
 
 pub returns-clause-not_refused : goal.returns-clause-not_refused
 returns-clause-not_refused g c =
-    let command = c.args.command.now in
+    let its = c.args.row in
     let way = told_read c.gens_for.ensures.reads c.in_ok-check_places.ensures.free in
     let units = told_read c.gens_for.ensures.reads (told_before c.check_places.ensures.reads.moments c.in_ok-units.ensures.not_refused) in
     let activation = told_read c.gens_for.ensures.reads (told_before c.check_places.ensures.reads.moments (told_before c.plan_switch.ensures.reads.moments c.in_ok-activation.ensures.not_refused)) in
-    told_as (told_read c.gens_for.ensures.reads (told_before c.check_places.ensures.reads.moments (told_before c.plan_switch.ensures.reads.moments (told_before c.plan_accounts_and_etc.ensures.reads.moments c.in_ok-profile.ensures.not_refused)))) (λ w. parts_refusal command w.leaves ≡ None)
-    (λ w is profile. profile_refused (row_of command).switches (row_of command).sets (new_system command w.leaves) w.leaves (way.has w is) (units.has w is) None (activation.has w is) profile)
+    told_as (told_read c.gens_for.ensures.reads (told_before c.check_places.ensures.reads.moments (told_before c.plan_switch.ensures.reads.moments (told_before c.plan_accounts_and_etc.ensures.reads.moments c.in_ok-profile.ensures.not_refused)))) (λ w. refusal_by its.switches its.sets its.system w.leaves ≡ None)
+    (λ w is profile. profile_refused its.switches its.sets its.system w.leaves (way.has w is) (units.has w is) None (activation.has w is) profile)
 
 pub returns-clause-sound : goal.returns-clause-sound
 returns-clause-sound g c =
     subst IsSound (sym c.new.ensures)
-    (λ leaves profile some. subst (λ (command : Command). IsDefaultFor (new_system command leaves) profile) (sym c.in_ok-planned.ensures) (c.in_ok-profile.ensures.sound leaves profile some))
+    (λ profile some. c.in_ok-profile.ensures.sound profile some)
 
 pub returns-clause-reads : goal.returns-clause-reads
 returns-clause-reads g c =
@@ -115,5 +113,5 @@ returns-clause-reads g c =
 
 pub returns-clause-steady : goal.returns-clause-steady
 returns-clause-steady g c =
-    told_as (told_read c.gens_for.ensures.reads (told_before c.check_places.ensures.reads.moments c.in_ok-units.ensures.steady)) (λ w. IsTrue c.new.result.units.steady ↔ IsSteadyFor c.args.command.now w)
-    (λ w is told. subst (λ (plan : Plan). IsTrue plan.units.steady ↔ IsSteadyFor c.args.command.now w) (sym c.new.ensures) told)
+    told_as (told_read c.gens_for.ensures.reads (told_before c.check_places.ensures.reads.moments c.in_ok-units.ensures.steady)) (λ w. IsTrue c.new.result.units.steady ↔ IsSteadyTo (switched_by c.args.row) w)
+    (λ w is told. subst (λ (plan : Plan). IsTrue plan.units.steady ↔ IsSteadyTo (switched_by c.args.row) w) (sym c.new.ensures) told)

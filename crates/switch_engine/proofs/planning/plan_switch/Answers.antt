@@ -1,10 +1,10 @@
-use Rattle.std.proofs.Common.{◌≡◌, ◌↔◌, Err, IsTrue, Some, sym, ap, ◌∙◌}
+use Rattle.std.proofs.Common.{◌≡◌, ◌↔◌, Err, IsTrue, Some, refl, sym, ap, ◌∙◌}
 use Rattle.std.proofs.lemmas.Result.{err_from_is_err_and}
 use Rattle.host_trait.specs.declared.tree.HostFault.TheVariants.{Device}
 use Rattle.host_trait.proofs.Moments.{told_as}
 use Rattle.host_trait.proofs.Readings.{nothing_read_of}
-use Rattle.switch_engine.specs.Commands.{new_system, row_of}
-use Rattle.switch_engine.specs.Owing.{IsSteadyFor}
+use Rattle.switch_engine.specs.Commands.{switched_by}
+use Rattle.switch_engine.specs.Owing.{IsSteadyTo}
 use Rattle.switch_engine.specs.Plan.{AreUnitsPlanned}
 use Rattle.switch_engine.specs.Rows.{part_if}
 use Rattle.switch_parts.specs.declared.plan_fault.PlanFault.TheVariants.{Host, Refused}
@@ -14,28 +14,28 @@ use Rattle.unit_stage.proofs.KnownLemmas.{same_fault}
 use Rattle.switch_engine.proofs.PlanLemmas.{planned_on, refused_switch, steady_off, steady_on}
 use Rattle.switch_engine.proofs.planning.plan_switch.Goals as goal
 
-pub returns-then-not-switches-clause-reads : goal.returns-then-not-switches-clause-reads
-returns-then-not-switches-clause-reads g c = nothing_read_of _ (λ e. absurd (no_err _ (Host Device) e))
+pub returns-then-not-row-clause-reads : goal.returns-then-not-row-clause-reads
+returns-then-not-row-clause-reads g c = nothing_read_of _ (λ e. absurd (no_err _ (Host Device) e))
 
 pub returns-in_err-plan-clause-refused : goal.returns-in_err-plan-clause-refused
 returns-in_err-plan-clause-refused g c why e =
     let p = err_from_is_err_and c.from_residual.result c.from_residual.ensures.1 in
-    let command = c.args.command.now in
+    let its = c.args.row.now in
     told_as (c.in_err-plan.ensures.refused why (ap (λ f. Err f) (sym p.2 ∙ same_fault p.0 (Refused why) (sym p.1 ∙ e))))
-    (λ w. (part_if (row_of command).switches (units_part (new_system command w.leaves))).refusal w.leaves ≡ Some why)
-    (λ w is refused. refused_switch (row_of command).switches _ _ w.leaves (Some why) (sym c.switches.ensures ∙ c.if-not-switches.false) (c.system.ensures w.leaves) refused)
+    (λ w. (part_if its.switches (units_part its.system)).refusal w.leaves ≡ Some why)
+    (λ w is refused. refused_switch its.switches _ _ w.leaves (Some why) (c.if-not-row.false) refl refused)
 
-pub returns-then-not-switches-clause-steady : goal.returns-then-not-switches-clause-steady
-returns-then-not-switches-clause-steady g c = record {
-  has = λ w is. steady_off (row_of c.args.command.now).switches (new_system c.args.command.now w.leaves) w c.none.result (sym c.switches.ensures ∙ c.if-not-switches.true) c.none.ensures;
+pub returns-then-not-row-clause-steady : goal.returns-then-not-row-clause-steady
+returns-then-not-row-clause-steady g c = record {
+  has = λ w is. steady_off c.args.row.now.switches c.args.row.now.system w c.none.result (c.if-not-row.true) c.none.ensures;
 }
 
 pub returns-clause-steady : goal.returns-clause-steady
 returns-clause-steady g c =
-    told_as c.in_ok-plan.ensures.steady (λ w. IsTrue c.in_ok-plan.plan.steady ↔ IsSteadyFor c.args.command.now w)
-    (λ w is told. steady_on (row_of c.args.command.now).switches _ (new_system c.args.command.now w.leaves) w c.in_ok-plan.plan (sym c.switches.ensures ∙ c.if-not-switches.false) (c.system.ensures w.leaves) told)
+    told_as c.in_ok-plan.ensures.steady (λ w. IsTrue c.in_ok-plan.plan.steady ↔ IsSteadyTo (switched_by c.args.row.now) w)
+    (λ w is told. steady_on c.args.row.now.switches _ c.args.row.now.system w c.in_ok-plan.plan (c.if-not-row.false) refl told)
 
 pub returns-clause-plan : goal.returns-clause-plan
 returns-clause-plan g c =
-    told_as c.in_ok-plan.ensures.plan (λ w. AreUnitsPlanned (row_of c.args.command.now).switches (new_system c.args.command.now w.leaves) w c.in_ok-plan.plan)
-    (λ w is planned. planned_on (row_of c.args.command.now).switches _ (new_system c.args.command.now w.leaves) w c.in_ok-plan.plan (sym c.switches.ensures ∙ c.if-not-switches.false) (c.system.ensures w.leaves) planned)
+    told_as c.in_ok-plan.ensures.plan (λ w. AreUnitsPlanned c.args.row.now.switches c.args.row.now.system w c.in_ok-plan.plan)
+    (λ w is planned. planned_on c.args.row.now.switches _ c.args.row.now.system w c.in_ok-plan.plan (c.if-not-row.false) refl planned)

@@ -1,0 +1,209 @@
+-- At each moment of a command the journal has grown by a beginning of what it enters.
+use Rattle.std.proofs.Common.{◌≡◌, Bool, true, false, List, [], ◌++◌, map, take, drop, append-nil, append_assoc, refl, sym, ap, subst, ◌∙◌, ⊎_elim}
+use Rattle.std.proofs.lemmas.List.{map-append, take-append-drop}
+use Rattle.activation_stage.specs.ActivationPart.{IsActivating}
+use Rattle.activation_stage.specs.ActivationPart.IsActivating.{Making, Setting}
+use Rattle.accounts_stage.specs.Plan.{puts_of}
+use Rattle.host_trait.specs.declared.entry.Entry.{Entry}
+use Rattle.host_trait.specs.declared.manager_state.ManagerState.{ManagerState}
+use Rattle.host_trait.specs.Manager.{loading}
+use Rattle.host_trait.specs.States.{state_of}
+use Rattle.host_trait.specs.World.{WorldState}
+use Rattle.owed_lists.specs.declared.lists.Lists.{Lists}
+use Rattle.owed_lists.specs.declared.lists.Which.TheVariants.{Reloads, Restarts}
+use Rattle.owed_lists.specs.Record.{IsRecordMoment, with_lists, with_restarts, with_starts}
+use Rattle.owed_plan.specs.Calls.{reload_calls, restart_calls, start_calls, stop_calls}
+use Rattle.owed_plan.specs.declared.duty.Duty.{Duty}
+use Rattle.owed_plan.specs.declared.owed.Owed.{Owed}
+use Rattle.owed_plan.specs.Law.{lists_of}
+use Rattle.switch_engine.specs.declared.command.Command.{Command}
+use Rattle.switch_engine.specs.Carried.{IsSwitchMomentIf}
+use Rattle.switch_engine.specs.Commands.{brought_to, if_so}
+use Rattle.switch_engine.specs.Final.{AreEntries, HasBegunToEnter}
+use Rattle.switch_engine.specs.Moments.{AreStopped, IsSwitchMoment}
+use Rattle.switch_names.specs.Names.{Name}
+use Rattle.tree_put.specs.Sequence.{with_puts}
+use Rattle.tree_put.proofs.SequenceLemmas.{puts_manager}
+use Rattle.unit_stage.specs.Acts.{IsPerforming, entry_of, performed}
+use Rattle.unit_stage.specs.Acts.IsPerforming.{After, Within}
+use Rattle.unit_stage.specs.End.{entries_of}
+use Rattle.unit_stage.specs.Plan.{IsOwedBy}
+use Rattle.unit_stage.specs.Steps.{IsBringStep, IsGiveMoment, IsStopStep, with_given, with_loaded, with_stops}
+use Rattle.unit_stage.specs.Steps.IsBringStep.{Giving, Linked, Waiting}
+use Rattle.unit_stage.specs.System.{definitions_of}
+use Rattle.unit_stage.proofs.CallLemmas.{entered, performed-append}
+use Rattle.unit_stage.proofs.StandLemmas.{all_manager, first_manager, second_manager}
+use Rattle.unit_stage.proofs.StepLemmas.{manager_seen}
+
+-- ---- calls
+
+-- the journal is the one after the first of these calls
+record HasMade (calls : List Duty) (before after : ManagerState) : Type 0 where
+  made : List Duty
+  rest : List Duty
+  in_order : calls ≡ made ++ rest
+  journal : after.journal ≡ (performed made before).journal
+
+made_none : (calls : List Duty) (before after : ManagerState) → after.journal ≡ before.journal → HasMade calls before after
+made_none calls before after is = record { made = []; rest = calls; in_order = refl; journal = is }
+
+made_all : (calls : List Duty) (before after : ManagerState) → after ≡ performed calls before → HasMade calls before after
+made_all calls before after is = record { made = calls; rest = []; in_order = sym (append-nil calls); journal = ap (λ (k : ManagerState). k.journal) is }
+
+made_some : (calls : List Duty) (w m : WorldState) → IsPerforming calls w m → HasMade calls w.manager m.manager
+made_some calls w m (After count is) = record {
+  made = take count calls;
+  rest = drop count calls;
+  in_order = sym (take-append-drop count calls);
+  journal = ap (λ (x : WorldState). x.manager.journal) is;
+}
+made_some calls w m (Within count unit there is) = record {
+  made = take count calls;
+  rest = drop count calls;
+  in_order = sym (take-append-drop count calls);
+  journal = ap (λ (x : WorldState). x.manager.journal) is;
+}
+
+made_more : (calls more : List Duty) (before after : ManagerState) → HasMade calls before after → HasMade (calls ++ more) before after
+made_more calls more before after some = record {
+  made = some.made;
+  rest = some.rest ++ more;
+  in_order = ap (λ (cs : List Duty). cs ++ more) some.in_order ∙ append_assoc some.made some.rest more;
+  journal = some.journal;
+}
+
+made_then : (calls more : List Duty) (before after : ManagerState) → HasMade more (performed calls before) after → HasMade (calls ++ more) before after
+made_then calls more before after some = record {
+  made = calls ++ some.made;
+  rest = some.rest;
+  in_order = ap (λ (cs : List Duty). calls ++ cs) some.in_order ∙ sym (append_assoc calls some.made some.rest);
+  journal = some.journal ∙ ap (λ (k : ManagerState). k.journal) (sym (performed-append calls some.made before));
+}
+
+made_grouped : (reloads restarts starts : List Duty) (w m : WorldState) → IsGiveMoment reloads restarts starts w m → HasMade (reloads ++ (restarts ++ starts)) w.manager m.manager
+made_grouped reloads restarts starts w m (IsGiveMoment.Reloading step) = made_more reloads (restarts ++ starts) w.manager m.manager (made_some reloads w m step)
+made_grouped reloads restarts starts w m (IsGiveMoment.Restarting step) =
+    made_then reloads (restarts ++ starts) w.manager m.manager
+    (made_more restarts starts (performed reloads w.manager) m.manager (made_some restarts (with_given Reloads reloads w) m step))
+made_grouped reloads restarts starts w m (IsGiveMoment.Starting step) =
+    made_then reloads (restarts ++ starts) w.manager m.manager
+    (made_then restarts starts (performed reloads w.manager) m.manager (made_some starts (with_given Restarts restarts (with_given Reloads reloads w)) m step))
+made_grouped reloads restarts starts w m (IsGiveMoment.Given is) =
+    made_then reloads (restarts ++ starts) w.manager m.manager
+    (made_then restarts starts (performed reloads w.manager) m.manager
+    (made_all starts (performed restarts (performed reloads w.manager)) m.manager (ap (λ (x : WorldState). x.manager) is)))
+
+made_giving : (reloads restarts starts : List Duty) (w m : WorldState) → IsGiveMoment reloads restarts starts w m → HasMade (reloads ++ restarts ++ starts) w.manager m.manager
+made_giving reloads restarts starts w m step =
+    subst (λ (calls : List Duty). HasMade calls w.manager m.manager) (sym (append_assoc reloads restarts starts)) (made_grouped reloads restarts starts w m step)
+
+-- ---- what changes leaves alone
+
+record_manager : (lists : Lists) (w m : WorldState) → IsRecordMoment lists w m → m.manager ≡ w.manager
+record_manager lists w m step = ⊎_elim (λ none. manager_seen m w none) (λ some. ⊎_elim (λ one. manager_seen m (with_starts lists w) one ∙ first_manager lists w) (λ more. ⊎_elim
+    (λ two. manager_seen m (with_restarts lists w) two ∙ second_manager lists w)
+    (λ all. manager_seen m (with_lists lists w) all ∙ all_manager lists w) more) some) step
+
+activating_manager : (system : Name) (w m : WorldState) → IsActivating system w m → m.manager ≡ w.manager
+activating_manager system w m (Setting step) =
+    manager_seen m (with_puts (take step.count (puts_of system w.leaves)) w) step.world ∙ puts_manager (take step.count (puts_of system w.leaves)) w
+activating_manager system w m (Making u set moment step) =
+    moment.only.manager refl ∙ manager_seen u (with_puts (puts_of system w.leaves) w) set ∙ puts_manager (puts_of system w.leaves) w
+
+-- ---- a switch of the units
+
+-- the journal has grown by the first of these entries
+record HasGrown (entries : List Entry) (before after : ManagerState) : Type 0 where
+  made : List Entry
+  rest : List Entry
+  in_order : entries ≡ made ++ rest
+  journal : after.journal ≡ before.journal ++ made
+
+module _ (system : Name) (owed : Owed) (w : WorldState) where
+  abbrev stops : List Duty
+  stops = stop_calls owed
+
+  abbrev gives : List Duty
+  gives = reload_calls owed (state_of w.manager.states) ++ restart_calls owed ++ start_calls owed
+
+  abbrev stop_entries : List Entry
+  stop_entries = map (entry_of w.manager.loaded) stops
+
+  abbrev give_entries : List Entry
+  give_entries = map (entry_of (definitions_of system)) gives
+
+  grown_stops : (after : ManagerState) → HasMade stops w.manager after → HasGrown (entries_of system owed w) w.manager after
+  grown_stops after some = record {
+    made = map (entry_of w.manager.loaded) some.made;
+    rest = map (entry_of w.manager.loaded) some.rest ++ give_entries;
+    in_order = ap (λ (es : List Entry). es ++ give_entries) (ap (map (entry_of w.manager.loaded)) some.in_order ∙ map-append (entry_of w.manager.loaded) some.made some.rest)
+        ∙ append_assoc (map (entry_of w.manager.loaded) some.made) (map (entry_of w.manager.loaded) some.rest) give_entries;
+    journal = some.journal ∙ entered some.made w.manager;
+  }
+
+  abbrev stopped : ManagerState
+  stopped = performed stops w.manager
+
+  grown_gives : (after : ManagerState) → HasMade gives (loading (definitions_of system) stopped) after → HasGrown (entries_of system owed w) w.manager after
+  grown_gives after some = record {
+    made = stop_entries ++ map (entry_of (definitions_of system)) some.made;
+    rest = map (entry_of (definitions_of system)) some.rest;
+    in_order = ap (λ (es : List Entry). stop_entries ++ es) (ap (map (entry_of (definitions_of system))) some.in_order ∙ map-append (entry_of (definitions_of system)) some.made some.rest)
+        ∙ sym (append_assoc stop_entries (map (entry_of (definitions_of system)) some.made) (map (entry_of (definitions_of system)) some.rest));
+    journal = some.journal ∙ entered some.made (loading (definitions_of system) stopped)
+        ∙ ap (λ (es : List Entry). es ++ map (entry_of (definitions_of system)) some.made) (entered stops w.manager)
+        ∙ append_assoc w.manager.journal stop_entries (map (entry_of (definitions_of system)) some.made);
+  }
+
+  stopped_manager : (u : WorldState) → AreStopped owed w u → u.manager ≡ stopped
+  stopped_manager u is = manager_seen u (with_stops (lists_of owed) stops w) is ∙ ap (performed stops) (all_manager (lists_of owed) w)
+
+  grown_stopped : (m : WorldState) → m.manager ≡ stopped → HasGrown (entries_of system owed w) w.manager m.manager
+  grown_stopped m is = grown_stops m.manager (made_all stops w.manager m.manager is)
+
+  stopping : (u : WorldState) → IsStopStep (lists_of owed) stops w u → HasMade stops w.manager u.manager
+  stopping u (IsStopStep.Recording step) = made_none stops w.manager u.manager (ap (λ (k : ManagerState). k.journal) (record_manager (lists_of owed) w u step))
+  stopping u (IsStopStep.Stopping step) =
+      subst (λ (k : ManagerState). HasMade stops k u.manager) (all_manager (lists_of owed) w) (made_some stops (with_lists (lists_of owed) w) u step)
+
+  bringing : (v u : WorldState) → v.manager ≡ stopped → IsBringStep system (reload_calls owed (state_of w.manager.states)) (restart_calls owed) (start_calls owed) v u →
+      HasGrown (entries_of system owed w) w.manager u.manager
+  bringing v u before (Waiting is) = grown_stopped u (ap (λ (x : WorldState). x.manager) is ∙ before)
+  bringing v u before (Linked is) = grown_stopped u (ap (λ (x : WorldState). x.manager) is ∙ before)
+  bringing v u before (Giving step) =
+      grown_gives u.manager
+      (subst (λ (k : ManagerState). HasMade gives (loading (definitions_of system) k) u.manager) before
+      (made_giving (reload_calls owed (state_of w.manager.states)) (restart_calls owed) (start_calls owed) (with_loaded system v) u step))
+
+  grown : (m : WorldState) → IsSwitchMoment system owed w m → HasGrown (entries_of system owed w) w.manager m.manager
+  grown m (IsSwitchMoment.Stopping moment) =
+      subst (λ (k : ManagerState). HasGrown (entries_of system owed w) w.manager k) (sym (manager_seen m moment.0 moment.2)) (grown_stops moment.0.manager (stopping moment.0 moment.1))
+  grown m (IsSwitchMoment.Activating u is step) = grown_stopped m (activating_manager system u m step ∙ stopped_manager u is)
+  grown m (IsSwitchMoment.Bringing u v is activated moment) =
+      subst (λ (k : ManagerState). HasGrown (entries_of system owed w) w.manager k) (sym (manager_seen m moment.0 moment.2))
+      (bringing v moment.0 (activating_manager system u v activated.moment ∙ stopped_manager u is) moment.1)
+
+-- ---- a command
+
+-- a switch of the units, where they are switched, that began where the manager is that of a first world
+pub switch_enters :
+    (command : Command) (switches : Bool) (system : Name) (owed : Owed) (w u m : WorldState) → if_so switches system ≡ brought_to command w.leaves → (switches ≡ true → IsOwedBy w system owed) →
+    u.manager ≡ w.manager → IsSwitchMomentIf switches system owed u m → HasBegunToEnter command w m
+switch_enters command true system owed w u m brought is_owed same moment =
+    let some = subst (λ (k : ManagerState). HasGrown (entries_of system owed (record u { manager = k })) k m.manager) same (grown system owed u m moment) in
+    record {
+      entries = entries_of system owed w;
+      are_entered = subst (λ to. AreEntries to w (entries_of system owed w)) brought (owed, is_owed refl, refl);
+      made = some.made;
+      rest = some.rest;
+      in_order = some.in_order;
+      journal = some.journal;
+    }
+switch_enters command false system owed w u m brought is_owed same moment = record {
+  entries = [];
+  are_entered = subst (λ to. AreEntries to w []) brought refl;
+  made = [];
+  rest = [];
+  in_order = refl;
+  journal = ap (λ (x : WorldState). x.manager.journal) moment ∙ ap (λ (k : ManagerState). k.journal) same ∙ sym (append-nil w.manager.journal);
+}
