@@ -16,7 +16,7 @@ use Rattle.host_trait.proofs.Moments.{leads_then, passes_as, same_as, same_then,
 use Rattle.host_trait.proofs.Readings.{same_twice}
 use Rattle.switch_engine.specs.declared.command.Command.{Command}
 use Rattle.switch_engine.specs.declared.plan.Plan.{Plan}
-use Rattle.switch_engine.specs.Commands.{IsBoot, IsQuery, brought_to, if_so, new_system, row_of, switched_to}
+use Rattle.switch_engine.specs.Commands.{IsBoot, IsQuery, brought_to, if_so, new_system, row, switched_to}
 use Rattle.switch_engine.specs.Final.{AreEntries, AreFinalUnits, IsEndOf, LeavesFailed, LeavesFailedAt}
 use Rattle.switch_engine.specs.Moments as engine
 use Rattle.switch_engine.specs.Plan.{IsPlanOf}
@@ -194,10 +194,10 @@ module _ {host : HostState} (plan : Plan) (planned : Told host (λ w. IsPlanOf w
         where
           query_end : (command : Command) → IsQuery command → (w : WorldState) → IsEndOf command w w
           query_end command query w =
-              let none : None ≡ brought_to command w.leaves = sym (ap (λ b. if_so (b && (row_of command).switches) (new_system command w.leaves)) query) in
+              let none : None ≡ brought_to command w.leaves = sym (ap (λ b. if_so (b && (row command w.leaves).switches) (new_system command w.leaves)) (query w.leaves)) in
               record {
                 final = record {
-                  leaves = λ q other. sym (ap (λ b. cond b (final_leaf (part_of command w.leaves) w.leaves q) (get w.leaves q)) query);
+                  leaves = λ q other. sym (ap (λ b. cond b (final_leaf (part_of command w.leaves) w.leaves q) (get w.leaves q)) (query w.leaves));
                   units = subst (λ to. AreFinalUnits to w w) none (refl, refl);
                   bad = refl;
                 };
@@ -207,14 +207,14 @@ module _ {host : HostState} (plan : Plan) (planned : Told host (λ w. IsPlanOf w
               }
 
           query_fails : (command : Command) → IsQuery command → (w : WorldState) → LeavesFailed command w → ⊥
-          query_fails command query w left = subst (λ b. LeavesFailedAt (if_so (b && (row_of command).switches) (new_system command w.leaves)) w) query left
+          query_fails command query w left = subst (λ b. LeavesFailedAt (if_so (b && (row command w.leaves).switches) (new_system command w.leaves)) w) (query w.leaves) left
 
           query_whole : (command : Command) → IsQuery command → (w : WorldState) (more : List ℕ) → IsReport command w more → IsWhole command w more
           query_whole command query w more report = record {
             report = more;
             close = [];
             is_report = report;
-            is_close = subst (λ b. IsClosingBy b (switched_to command w.leaves) w []) (sym query) refl;
+            is_close = subst (λ b. IsClosingBy b (switched_to command w.leaves) w []) (sym (query w.leaves)) refl;
             is_all = sym (append-nil more);
           }
 

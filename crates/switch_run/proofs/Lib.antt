@@ -1,5 +1,6 @@
 pub mod EndingLemmas
 pub mod MomentLemmas
 pub mod RunLemmas
+pub mod RunsLemmas
 pub mod TextLemmas
 pub mod WordLemmas

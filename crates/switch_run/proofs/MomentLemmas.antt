@@ -31,7 +31,7 @@ pub of_query : (command : Command) (w m : WorldState) → IsQuery command → Is
 of_query command w m query moment = by (refusal command w.leaves) moment
   where
     by : (o : Option Refusal) → IsMomentBy o command w m → m ≡ w
-    by None moment = subst (λ b. IsStepIf b (set_to command w.leaves) (brought_to command w.leaves) w m) query moment.step
+    by None moment = subst (λ b. IsStepIf b (set_to command w.leaves) (brought_to command w.leaves) w m) (query w.leaves) moment.step
     by (Some why) moment = moment
 
 -- the report is kept at each moment

@@ -4,4 +4,5 @@ pub mod Moments
 pub mod Output
 pub mod RefusalTexts
 pub mod Run
+pub mod Runs
 pub mod StatusTexts

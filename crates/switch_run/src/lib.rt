@@ -3,6 +3,7 @@
 //! `run` reads the words, carries their command out, and says how that ended.
 #![tactic(auto)]
 
+mod laws;
 mod refusal_text;
 mod run_fault;
 mod running;
@@ -10,6 +11,7 @@ mod status;
 mod top_call;
 mod words;
 
+pub use laws::cut_runs_end_as_one;
 pub use status::Status;
 pub use top_call::run;
 pub use words::read_words;

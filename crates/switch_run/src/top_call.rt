@@ -3,10 +3,12 @@ ghost use Rattle.std.specs.Prelude.{◌≡◌, ◌⊎◌, [], ℕ, List, None, S
 ghost use Rattle.host_trait.specs.Change.{IsSame};
 ghost use Rattle.host_trait.specs.Host.{EachMoment, Told, Leads, Passes, Rose};
 ghost use Rattle.host_trait.specs.Sink.{Puts};
+ghost use Rattle.host_trait.specs.World.{WorldState};
 ghost use Rattle.switch_engine.specs.declared.command.Command.{Command};
 ghost use Rattle.switch_engine.specs.declared.command.Command.TheVariants.{Test, DryActivate};
 ghost use Rattle.switch_engine.specs.Commands.{IsQuery};
 ghost use Rattle.switch_engine.specs.Final.{IsEndOf};
+ghost use Rattle.switch_engine.specs.Owing.{IsOver, IsUnderway};
 ghost use Rattle.switch_engine.specs.Rows.{refusal};
 ghost use Rattle.switch_parts.specs.declared.refusal.Refusal.{Refusal};
 ghost use Rattle.dry_report.specs.Report.{KeepsReport};
@@ -25,8 +27,8 @@ use switch_names::Text;
 ///
 /// A `switch`, a `test` or a `boot` that is cut at any moment, however often, and then made again to its
 /// end leaves what one that wasn't cut leaves: the same tree, accounts, profile, boot menu and states of units.
-/// See `each_moment`, by which each world that a cut may leave is a moment of the command, and
-/// `cut_runs_end_alike` of `switch_engine`.
+/// That is the law `cut_runs_end_as_one`, since each world that a cut may leave is a moment of the command by
+/// `each_moment`.
 pub fn run<H: Manager, S: Sink>(alloc: Global, words: &[Text], host: &mut H, out: &mut S) -> Status
     // Words that give no command.
     ensures usage { result ≡ Status.Usage → command_of words.now ≡ None }
@@ -70,9 +72,17 @@ pub fn run<H: Manager, S: Sink>(alloc: Global, words: &[Text], host: &mut H, out
     // Without a fault the answer is the world's.
     ensures completes { ¬ Rose (H.host host.old).faults (H.host host.new).faults → ¬ Rose (S.sink out.old).faults (S.sink out.new).faults → (command : Command) → command_of words.now ≡ Some command → Told (H.host host.old) (λ w. Answers command w result) }
 
-    // Whatever cuts it, the same run ends as if it hadn't been cut.
+    // Whatever cuts it, the same run ends as if it hadn't been cut, and the journal has grown by a
+    // beginning of exactly what the command enters.
     ensures each_moment { EachMoment (H.host host.old) (H.host host.new) (IsMomentOf (command_of words.now)) }
     ensures moments { Passes (H.host host.old) (H.host host.new) (IsMomentOf (command_of words.now)) }
+
+    // However often runs of these words were cut before, since one that wasn't refused began in a steady world: each
+    // moment is underway from there, and the end is the one that it has.
+    ensures after_cuts { (command : Command) (first : WorldState) → command_of words.now ≡ Some command → Told (H.host host.old) (λ w. IsUnderway first command w)
+        → EachMoment (H.host host.old) (H.host host.new) (λ w m. IsUnderway first command m) }
+    ensures after_cuts_ended { (command : Command) (first : WorldState) → command_of words.now ≡ Some command → (IsQuery command → ⊥) → IsEnded result
+        → Told (H.host host.old) (λ w. IsUnderway first command w) → Leads (H.host host.old) (H.host host.new) (λ w v. IsOver first command v) }
 {
     let ending = run_words(alloc, words, host, out);
     status_of(ending)

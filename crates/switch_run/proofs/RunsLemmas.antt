@@ -1,0 +1,84 @@
+-- Runs of the same words, of which all but the last are cut.
+use Rattle.std.proofs.Common.{◌≡◌, ℕ, List, [], ◌∷◌, Option, None, Some, sym, ap, subst, ◌∙◌}
+use Rattle.host_trait.specs.States.{UnitStates, state_of}
+use Rattle.host_trait.specs.World.{WorldState}
+use Rattle.owed_lists.specs.declared.lists.Lists.{Lists}
+use Rattle.owed_lists.proofs.ListLemmas.{one_list, same_lists}
+use Rattle.owed_plan.specs.declared.owed.Owed.{Owed}
+use Rattle.owed_plan.specs.FinalStates.{final_state}
+use Rattle.owed_plan.specs.Owed.{IsOwed}
+use Rattle.owed_plan.specs.Systems.{systems_at}
+use Rattle.switch_engine.specs.declared.command.Command.{Command}
+use Rattle.switch_engine.specs.Commands.{brought_to}
+use Rattle.switch_engine.specs.Final.{AreFinalUnits, IsFinalOf}
+use Rattle.switch_engine.specs.Moments.{LeadsBy}
+use Rattle.switch_engine.specs.Owing.{IsOver, IsSteadyFor}
+use Rattle.switch_engine.specs.Rows.{refusal}
+use Rattle.switch_engine.proofs.LawLemmas as engine
+use Rattle.switch_names.specs.Names.{Name}
+use Rattle.switch_parts.specs.declared.refusal.Refusal.{Refusal}
+use Rattle.switch_run.specs.Commands.{command_of}
+use Rattle.switch_run.specs.Moments.{IsMomentBy, IsMomentOf}
+use Rattle.switch_run.specs.Runs.{LooksAlike, MayBeCut, RunsLead}
+use Rattle.unit_stage.specs.End.{state_after}
+use Rattle.unit_stage.specs.Plan.{IsOwedBy}
+use Rattle.unit_stage.specs.System.{current_system, definitions_of}
+
+-- ---- runs of words are runs of their command
+
+lead_by : (words : List (List ℕ)) (command : Command) → command_of words ≡ Some command → (cuts : List WorldState) (w v : WorldState) →
+    refusal command w.leaves ≡ None → IsSteadyFor command w → RunsLead words cuts w v → LeadsBy command cuts w v
+lead_by words command given [] w v none steady led = led command given
+lead_by words command given (m ∷ cuts) w v none steady led =
+    let here = subst (λ (o : Option Command). IsMomentOf o w m) given led.0 in
+    let moment = subst (λ (o : Option Refusal). IsMomentBy o command w m) none here in
+    let underway = moment.underway steady in
+    (moment, lead_by words command given cuts m v underway.not_refused underway.steady led.1)
+
+pub over : (words : List (List ℕ)) (cuts : List WorldState) (first last : WorldState) → (may : MayBeCut words first) → RunsLead words cuts first last → IsOver first may.command last
+over words cuts first last may led =
+    engine.alike may.command cuts first last may.changes may.not_refused may.steady
+    (lead_by words may.command may.given cuts first last may.not_refused may.steady led)
+
+-- ---- a command leaves one world to see
+
+-- what is owed, whatever is left alone
+abbrev kept_owed : Owed → Owed
+kept_owed owed = record { stops = owed.stops; reloads = owed.reloads; restarts = owed.restarts; starts = owed.starts; left = [] }
+
+one_owed : (w : WorldState) (system : Name) (one other : Owed) → IsOwedBy w system one → IsOwedBy w system other → kept_owed one ≡ kept_owed other
+one_owed w system one other is also =
+    let mine = is.1.is_owed in
+    let lists = same_lists w.leaves is.0 also.0 is.1.listed also.1.listed in
+    let others = subst (λ (l : Lists). IsOwed (systems_at w.leaves (current_system w.leaves) system) (state_of w.manager.states) l other) (sym lists) also.1.is_owed in
+    λ i. record {
+      stops = one_list one.stops other.stops _ mine.stops others.stops i;
+      reloads = one_list one.reloads other.reloads _ mine.reloads others.reloads i;
+      restarts = one_list one.restarts other.restarts _ mine.restarts others.restarts i;
+      starts = one_list one.starts other.starts _ mine.starts others.starts i;
+      left = [];
+    }
+
+one_state : (w : WorldState) (system : Name) (one other : Owed) → IsOwedBy w system one → IsOwedBy w system other → (unit : Name) → state_after system one w unit ≡ state_after system other w unit
+one_state w system one other is also unit =
+    ap (λ (owed : Owed). final_state owed (definitions_of system) w.manager.bad (state_of w.manager.states) unit) (one_owed w system one other is also)
+
+one_end_of_states : (to : Option Name) (w v u : WorldState) → AreFinalUnits to w v → AreFinalUnits to w u → (unit : Name) → state_of v.manager.states unit ≡ state_of u.manager.states unit
+one_end_of_states None w v u is also unit = ap (λ (states : UnitStates). state_of states unit) (is.0 ∙ sym also.0)
+one_end_of_states (Some system) w v u is also unit =
+    is.0.2 unit ∙ one_state w system is.0.0 also.0.0 is.0.1 also.0.1 unit ∙ sym (also.0.2 unit)
+
+one_loaded : (to : Option Name) (w v u : WorldState) → AreFinalUnits to w v → AreFinalUnits to w u → v.manager.loaded ≡ u.manager.loaded
+one_loaded None w v u is also = is.1 ∙ sym also.1
+one_loaded (Some system) w v u is also = is.1 ∙ sym also.1
+
+one_end : (command : Command) (w v u : WorldState) → IsFinalOf command w v → IsFinalOf command w u → LooksAlike v u
+one_end command w v u is also = record {
+  leaves = λ at other. is.leaves at other ∙ sym (also.leaves at other);
+  states = one_end_of_states (brought_to command w.leaves) w v u is.units also.units;
+  loaded = one_loaded (brought_to command w.leaves) w v u is.units also.units;
+}
+
+pub alike : (words : List (List ℕ)) (cuts : List WorldState) (first last uncut : WorldState) → MayBeCut words first → RunsLead words cuts first last → RunsLead words [] first uncut → LooksAlike last uncut
+alike words cuts first last uncut may led straight =
+    one_end may.command first last uncut (over words cuts first last may led).final (straight may.command may.given).final

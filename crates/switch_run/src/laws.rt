@@ -1,0 +1,17 @@
+//! What holds of runs that are cut and made again.
+ghost use Rattle.std.specs.Prelude.{ℕ, List, []};
+ghost use Rattle.host_trait.specs.World.{WorldState};
+ghost use Rattle.switch_engine.specs.Owing.{IsOver};
+ghost use Rattle.switch_run.specs.Runs.{LooksAlike, MayBeCut, RunsLead};
+
+/// At whatever moments runs of the same words are cut, and however often, the one that then comes to its end leaves what a
+/// run leaves that isn't cut: the same leaves, states of units and loaded definitions. Each unit that was owed something
+/// has got it under the new definitions, and no unit was touched that was owed nothing.
+///
+/// Between the runs nobody else changes the world. A cut is the end of the process, a fault of the host or want of memory.
+pub fn cut_runs_end_as_one()
+    ensures alike { (words : List (List ℕ)) (cuts : List WorldState) (first last uncut : WorldState) → MayBeCut words first
+        → RunsLead words cuts first last → RunsLead words [] first uncut → LooksAlike last uncut }
+    ensures over { (words : List (List ℕ)) (cuts : List WorldState) (first last : WorldState) → (may : MayBeCut words first)
+        → RunsLead words cuts first last → IsOver first may.command last }
+{}
