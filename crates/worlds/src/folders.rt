@@ -1,7 +1,9 @@
 //! The cases of hosts over folders, and of standard output.
 mod failing;
 mod files;
+mod open_file;
 mod outputs;
+mod readings;
 mod starts;
 mod steps;
 mod troubles;
@@ -9,6 +11,7 @@ mod works;
 
 use self::failing::Failing;
 use self::outputs::{show_interrupted, show_output};
+use self::readings::{show_fault, show_readings};
 use self::starts::show_opened;
 use self::troubles::show_troubles;
 use self::works::{show_second_name, show_steps, show_work};
@@ -29,6 +32,8 @@ fn show_root(
         ("open", [unit]) => show_opened(rt, lines, root, unit),
         ("work", _) => show_work(rt, lines, root, fields),
         ("steps", _) => show_steps(rt, lines, root, fields),
+        ("readings", _) => show_readings(rt, lines, root, fields),
+        ("fault", _) => show_fault(rt, lines, root, fields),
         ("second name", _) => show_second_name(rt, lines, root, fields),
         _ => misread(),
     }

@@ -1,5 +1,6 @@
 //! The cases of names, worlds, hosts in memory and their sinks, texts of leaves and managers, and generations.
 mod acts;
+mod calls;
 mod fallen;
 mod found;
 mod leaves;
@@ -31,6 +32,8 @@ fn show_host(
     let mut host = host_of(alloc, places)?;
     match command {
         "act" => acts::show_act(alloc, lines, &mut host, arguments),
+        "tops" => calls::show_tops(alloc, lines, &mut host, arguments),
+        "reboot" => calls::show_reboot(alloc, lines, &mut host, arguments),
         _ => found::show_generations(alloc, lines, &mut host, arguments),
     }
 }
@@ -68,7 +71,9 @@ pub fn show_part_case(
             show_world(alloc, lines, command, fields)
         }
         "act" => show_host(alloc, lines, command, 4, fields),
-        "generations" => show_host(alloc, lines, command, 1, fields),
+        "generations" | "tops" => show_host(alloc, lines, command, 1, fields),
+        "reboot" => show_host(alloc, lines, command, 2, fields),
+        "append" => calls::show_append(alloc, lines, fields),
         "number" => found::show_number(alloc, lines, fields),
         "trouble" => troubles::show_trouble(alloc, lines, fields),
         "fallen" => fallen::show_fallen(alloc, lines, fields),

@@ -1,4 +1,7 @@
 //! A runtime of which one call on files may fail.
+ghost use Rattle.std.specs.Prelude.{IsErr};
+
+use super::open_file::FailingFile;
 use host_folder::FolderHost;
 use std::alloc::{AllocError, Allocator, Global};
 use std::cell::Cell;
@@ -8,7 +11,7 @@ use std::io::ErrorKind;
 use std::rt::Files;
 
 /// The runtime, with how many calls on files are still to be made before one fails. None fails where that isn't
-/// told.
+/// told. A file that it opens has its calls counted too.
 pub struct Failing<'a> {
     rt: &'a HostRuntime,
     left: &'a Cell<Option<u64>>,
@@ -40,14 +43,21 @@ impl<'a> Failing<'a> {
 
     /// Counts a call, and says whether it is the one that fails.
     fn is_failing(&self) -> bool {
-        let left = self.left.get();
-        self.left.set(left.and_then(|left| left.checked_sub(1)));
-        left == Some(0)
+        counts_down(self.left)
     }
 }
 
+/// Counts a call, and says whether it is the one that fails.
+pub fn counts_down(left: &Cell<Option<u64>>) -> bool {
+    let calls = left.get();
+    left.set(calls.and_then(|calls| calls.checked_sub(1)));
+    calls == Some(0)
+}
+
 /// The answer of a call that fails.
-fn refused<T>() -> io::Result<T> {
+pub fn refused<T>() -> io::Result<T>
+    ensures { IsErr result }
+{
     Err(io::Error::from(ErrorKind::PermissionDenied))
 }
 
@@ -74,8 +84,8 @@ impl Alloc for Failing<'_> {
     }
 }
 
-impl Files for Failing<'_> {
-    type File = <HostRuntime as Files>::File;
+impl<'a> Files for Failing<'a> {
+    type File = FailingFile<'a>;
 
     type Dir = <HostRuntime as Files>::Dir;
 
@@ -83,7 +93,7 @@ impl Files for Failing<'_> {
         if self.is_failing() {
             return refused();
         }
-        self.rt.open_file(how, path)
+        Ok(FailingFile::new(self.rt.open_file(how, path)?, self.left))
     }
 
     fn open_dir(&self, path: &str) -> io::Result<Self::Dir> {

@@ -1,4 +1,4 @@
-//! Steps on a host over a folder: leaves are put and removed, definitions loaded, and units called.
+//! Steps on a host over a folder: leaves are put, appended to and removed, definitions loaded, and units called.
 use super::failing::{Failing, Host};
 use host_folder::FolderHost;
 use host_trait::{HostFault, Leaf, Manager, Tree, stage_path};
@@ -30,6 +30,30 @@ fn put_at(
     Ok(put(alloc, host, &leaf, &at))
 }
 
+/// Appends bytes to the file at a path. There are some, and it isn't the stage's.
+fn append(
+    alloc: Global,
+    host: &mut Host<'_>,
+    at: &str,
+    bytes: &Bytes,
+) -> Result<Result<(), HostFault>, Fail> {
+    let at = Path::parse(alloc, at)?;
+    let stage = stage_path(alloc)?;
+    if at == stage || bytes.as_slice().is_empty() {
+        return misread();
+    }
+    Ok(host.append(alloc, &at, bytes.as_slice()))
+}
+
+/// Reads the leaf at a path.
+fn read(alloc: Global, host: &mut Host<'_>, at: &Bytes) -> Result<Result<(), HostFault>, Fail> {
+    let at = Path::parse(alloc, text_of(at)?)?;
+    match host.read(alloc, &at) {
+        Ok(_) => Ok(Ok(())),
+        Err(fault) => Ok(Err(fault)),
+    }
+}
+
 /// Writes the leaf of a node's text to the stage.
 fn stage(alloc: Global, host: &mut Host<'_>, text: &Bytes) -> Result<Result<(), HostFault>, Fail> {
     let leaf = read_node(alloc, text.as_slice())?;
@@ -59,8 +83,15 @@ fn act(
     }
 }
 
-/// Takes a step that is no put: a leaf is written to the stage or removed, definitions are loaded, or a unit
-/// is called.
+/// Asks for the first names of the paths with a leaf, and for what is loaded.
+fn tell(alloc: Global, host: &mut Host<'_>) -> Result<(), HostFault> {
+    host.tops(alloc)?;
+    host.loaded(alloc)?;
+    Ok(())
+}
+
+/// Takes a step that neither puts nor appends: a leaf is written to the stage, removed or read, definitions are loaded,
+/// what was changed is synced, the host is asked what it tells, or a unit is called.
 fn take_other(
     alloc: Global,
     host: &mut Host<'_>,
@@ -70,12 +101,16 @@ fn take_other(
     match word {
         "stage" => stage(alloc, host, given),
         "remove" => remove(alloc, host, given),
+        "read" => read(alloc, host, given),
         "load" => Ok(host.daemon_reload(alloc)),
+        "sync" => Ok(host.sync(alloc)),
+        "tell" => Ok(tell(alloc, host)),
         _ => act(alloc, host, word, given),
     }
 }
 
-/// Takes a step: its word, and what that is about. After `tree/` it is a path, where a leaf is put.
+/// Takes a step: its word, and what that is about. After `tree/` it is a path, where a leaf is put, and after `append/`
+/// one to whose file bytes are appended.
 pub fn take(
     alloc: Global,
     host: &mut Host<'_>,
@@ -85,9 +120,10 @@ pub fn take(
         return misread();
     };
     let word = text_of(word)?;
-    match word.strip_prefix("tree/") {
-        Some(at) => put_at(alloc, host, at, given),
-        None => take_other(alloc, host, word, given),
+    match (word.strip_prefix("tree/"), word.strip_prefix("append/")) {
+        (Some(at), _) => put_at(alloc, host, at, given),
+        (None, Some(at)) => append(alloc, host, at, given),
+        (None, None) => take_other(alloc, host, word, given),
     }
 }
 

@@ -18,7 +18,7 @@ fn put_leaf(
     node: &Bytes,
 ) -> Result<Option<WorldFault>, Fail> {
     let at = Path::parse(alloc, text_of(at)?)?;
-    match world.set_leaf(at, read_node(alloc, node.as_slice())?) {
+    match world.set_leaf(alloc, at, read_node(alloc, node.as_slice())?) {
         Ok(_before) => Ok(None),
         Err(WorldFault::Memory) => no_memory(),
         Err(fault) => Ok(Some(fault)),

@@ -21,14 +21,14 @@ fn put_and_move(
     requires from { from.now ≡ codes "x" }
     requires to { to.now ≡ codes "y" }
 {
-    let was = world.set_leaf(from.copy(alloc)?, Leaf::link(alloc, "b")?)?;
+    let was = world.set_leaf(alloc, from.copy(alloc)?, Leaf::link(alloc, "b")?)?;
     let replaced = world.move_leaf(alloc, from, to)?;
     Ok((was.is_none(), replaced.is_none()))
 }
 
 /// Takes a leaf out, and shows its text and that of its copy.
 fn show_taken(alloc: Global, lines: &mut Lines, world: &mut World, at: &Path) -> Result<(), Fail> {
-    match world.take_leaf(at) {
+    match world.take_leaf(alloc, at)? {
         Some(leaf) => {
             show_leaf(alloc, lines, &leaf)?;
             let copy = leaf.copy(alloc)?;

@@ -36,7 +36,12 @@ fn put_and_remove<T: Tree>(alloc: Global, host: &mut T, to: &Path) -> Result<(),
 }
 
 /// Shows a path, and the text of the leaf that stands there.
-fn show_leaf_at(alloc: Global, lines: &mut Lines, world: &World, at: &Path) -> Result<(), Fail> {
+pub fn show_leaf_at(
+    alloc: Global,
+    lines: &mut Lines,
+    world: &World,
+    at: &Path,
+) -> Result<(), Fail> {
     lines.add_word(at.as_str());
     match world.leaf(at) {
         Some(leaf) => show_leaf(alloc, lines, leaf)?,
