@@ -1,9 +1,16 @@
 # The targets: make help.
 PROGRAM := crates/nixswitch/out/nixswitch
 SOURCES := crates.txt $(shell find crates \( -name '*.rt' -o -name '*.antt' \) -not -path '*/out/*')
-BENCHES := $(filter-out bench/common.sh bench/example.sh bench/steps.sh,$(wildcard bench/*.sh))
+BENCHES := $(filter-out bench/common.sh bench/made_machine.sh bench/example.sh bench/steps.sh,$(wildcard bench/*.sh))
+PREFIX := /usr/local
+INTO := $(DESTDIR)$(PREFIX)
+# What is installed, as the file here and its place below the prefix.
+INSTALLED := $(PROGRAM):bin/nixswitch tools/import:bin/nixswitch-import tools/export:bin/nixswitch-export \
+	man/nixswitch.8:share/man/man8/nixswitch.8 \
+	completion/nixswitch.bash:share/bash-completion/completions/nixswitch \
+	completion/nixswitch.fish:share/fish/vendor_completions.d/nixswitch.fish
 
-.PHONY: help run build test check docs bench
+.PHONY: help run build test check docs bench install uninstall
 
 # What a target does stands behind its name.
 help: ## lists the targets
@@ -26,9 +33,22 @@ check: ## proves one crate and those below it that have changed, as make check C
 	@test -d "crates/$(CRATE)/src" || { echo "name a crate: make check CRATE=unit_text"; exit 1; }
 	cd crates/$(CRATE) && rt check
 
-docs: ## writes what each crate may use into docs/ARCHITECTURE.md
+docs: ## writes docs/BELIEVED.md, and who uses which crate into docs/ARCHITECTURE.md
 	docs/check.sh --write
 
 bench: build ## runs the scripts of bench/ with the built program: speed, hostile roots and kills
 	@failed=; for script in $(BENCHES); do echo "== $$script"; $$script || failed="$$failed $$script"; done; \
 	[ -z "$$failed" ] || { echo "these ended with an error:$$failed"; exit 1; }
+
+install: ## installs the built program, its page, its completions and the tools below PREFIX (/usr/local)
+	@test -x $(PROGRAM) || { echo "build the program first: make build"; exit 1; }
+	@set -e; for pair in $(INSTALLED); do case $$pair in *:bin/*) mode=755;; *) mode=644;; esac; \
+	echo "$(INTO)/$${pair#*:}"; install -D -m $$mode "$${pair%%:*}" "$(INTO)/$${pair#*:}"; done
+	@for name in nixswitch-import nixswitch-export; do \
+	ln -sf nixswitch "$(INTO)/share/bash-completion/completions/$$name"; \
+	ln -sf nixswitch.fish "$(INTO)/share/fish/vendor_completions.d/$$name.fish"; done
+
+uninstall: ## removes what install has put below PREFIX
+	@for pair in $(INSTALLED); do rm -f "$(INTO)/$${pair#*:}"; done
+	@for name in nixswitch-import nixswitch-export; do \
+	rm -f "$(INTO)/share/bash-completion/completions/$$name" "$(INTO)/share/fish/vendor_completions.d/$$name.fish"; done

@@ -206,16 +206,81 @@ find_tools() {
     fi
 }
 
-# grow COUNT MICROS [WORD]: adds to `grown` how the time grew since the root before, whose units or other things are counted.
+# thousandths NUMBER: prints so many of them, as a number with three places.
+thousandths() {
+    printf '%d.%03d' $(($1 / 1000)) $(($1 % 1000))
+}
+
+# print_row WORDS..: prints the cells of a row.
+print_row() {
+    printf '%12s' "$1"
+    shift
+    printf ' %12s' "$@"
+    echo
+}
+
+# grow COUNT MICROS WORD: adds to `grown` how the time grew since the row before, whose units or other things are counted.
 last=''
 grown=''
 grow() {
-    [ -z "$last" ] || grown+=$(awk -v a="$last" -v b="$1 $2" -v word="${3-units}" 'BEGIN {
+    [ -z "$last" ] || grown+=$(awk -v a="$last" -v b="$1 $2" -v word="$3" 'BEGIN {
         split(a, from, " ")
         split(b, to, " ")
         printf "%d to %d %s, x%.1f: time x%.1f", from[1], to[1], word, to[1] / from[1], to[2] / from[2]
+        if (to[1] > from[1])
+            printf ", each further one %.1f microseconds", (to[2] - from[2]) / (to[1] - from[1])
     }')$'\n'
     last="$1 $2"
+}
+
+# build_small NAME CRATES..: builds a program over these crates of the repository and sets `built` to it; the program is read
+# from standard input. It stands in no crate of crates.txt, which the gate would prove, build and run each time, and is
+# built in a scratch copy of the crates that it uses and those below them.
+build_small() {
+    local name=$1 crate part uses
+    shift
+    uses="$*"
+    mkdir -p "$work/copy/crates/$name/src"
+    : >"$work/empty"
+    cp "$here/HANDLES" "$work/copy/"
+    for crate in $(awk -v wanted="$uses" '
+        /^[a-z]/ { name = $1; sub(/:/, "", name); used[name] = $0; sub(/^[^:]*:/, "", used[name]) }
+        function take(name,   names, count, at) {
+            if (!(name in used) || taken[name]++) return
+            count = split(used[name], names, " ")
+            for (at = 1; at <= count; at++) take(names[at])
+            print name
+        }
+        END { count = split(wanted, names, " "); for (at = 1; at <= count; at++) take(names[at]) }' "$here/crates.txt"); do
+        mkdir "$work/copy/crates/$crate"
+        for part in src specs proofs; do
+            [ ! -d "$here/crates/$crate/$part" ] || cp -r "$here/crates/$crate/$part" "$work/copy/crates/$crate/"
+        done
+        grep "^$crate:" "$here/crates.txt" >>"$work/copy/crates.txt"
+    done
+    echo "$name: $uses" >>"$work/copy/crates.txt"
+    cat >"$work/copy/crates/$name/src/main.rt"
+    (cd "$work/copy/crates/$name" && rt run -- plain "$work/empty") >"$work/build" 2>&1
+    built=$work/copy/crates/$name/out/$name
+    if [ ! -x "$built" ]; then
+        cat "$work/build"
+        exit 1
+    fi
+}
+
+# quickest_telling WANTED WORDS..: sets `micros` to the microseconds of the quickest of five runs, each of which has to tell this.
+quickest_telling() {
+    local wanted=$1
+    shift
+    tells() {
+        local found
+        found=$("$@")
+        if [ "$found" != "$wanted" ]; then
+            echo "$* gave $found in place of $wanted"
+            exit 1
+        fi
+    }
+    quickest 5 tells "$@"
 }
 
 # make_plain: compiles bench/plain_switch.rs, and sets `plain` to that program.
@@ -230,12 +295,21 @@ processor() {
     { time "$@" >"$work/stdout" 2>"$work/stderr"; } 2>&1 | awk '{ print ($1 + $2) * 1000 }'
 }
 
-# tell_ratio: of lines with the milliseconds of the program and of plain Rust, prints the least of each and their ratio.
-tell_ratio() {
-    awk '
+# compare_plain UNITS: where rustc is there, compares the processor time of the program and of plain Rust on a root of so many
+# units, the least of nine runs in turn each. Each has to end as `after` wants it.
+compare_plain() {
+    command -v rustc >"$work/stdout" || return 0
+    make_plain || { failed=1; return; }
+    make_size "$1"
+    fresh
+    program=$plain act
+    after "plain Rust on $1"
+    for _ in $(seq 9); do
+        echo "$(processor_of "$program") $(processor_of "$plain")"
+    done | awk -v units="$1" '
         NR == 1 || $1 < ours { ours = $1 }
         NR == 1 || $2 < plain { plain = $2 }
-        END { printf "8000 units, milliseconds of processor time: %d, plain Rust %d, ratio %.2f\n", ours, plain, ours / plain }'
+        END { printf "%d units, milliseconds of processor time: %d, plain Rust %d, ratio %.2f\n", units, ours, plain, ours / plain }'
 }
 
 # What reads the calls that strace writes: it counts them, and how often one unit file is opened and read up to

@@ -18,29 +18,7 @@ if ! command -v systemd-escape >"$work/found" || [ ! -x "$generator" ]; then
     exit 1
 fi
 
-# Builds the program in a scratch copy of the crates.
-build() {
-    local crate part
-    mkdir -p "$work/copy/crates/read_fstab/src"
-    cp "$here/HANDLES" "$work/copy/"
-    for crate in switch_names unit_text fstab_mounts; do
-        mkdir "$work/copy/crates/$crate"
-        for part in src specs proofs; do
-            [ ! -d "$here/crates/$crate/$part" ] || cp -r "$here/crates/$crate/$part" "$work/copy/crates/$crate/"
-        done
-        grep "^$crate:" "$here/crates.txt" >>"$work/copy/crates.txt"
-    done
-    echo "read_fstab: fstab_mounts unit_text switch_names" >>"$work/copy/crates.txt"
-    cat >"$work/copy/crates/read_fstab/src/main.rt"
-    : >"$work/empty"
-    if ! (cd "$work/copy/crates/read_fstab" && rt run -- paths "$work/empty") >"$work/build" 2>&1; then
-        cat "$work/build"
-        return 1
-    fi
-    program=$work/copy/crates/read_fstab/out/read_fstab
-}
-
-build <<'RATTLE' || exit 1
+build_small read_fstab fstab_mounts unit_text switch_names <<'RATTLE'
 //! Prints the mounts of the paths in a file, or the units of an fstab with their values.
 #![tactic(auto)]
 
@@ -99,6 +77,7 @@ fn main(rt: HostRuntime) -> io::Result<()> {
     Ok(())
 }
 RATTLE
+program=$built
 
 # A hundred paths: names of letters, digits and every kind of sign, with slashes at the ends and between.
 awk 'BEGIN {

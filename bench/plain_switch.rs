@@ -1,5 +1,5 @@
-//! A dry run and a test in plain Rust, with which the program's are compared: bench/dry.sh and bench/test.sh compile it
-//! where rustc is there.
+//! A dry run and a test in plain Rust, with which the program's are compared: bench/times.sh compiles it for its kinds `dry`
+//! and `test` where rustc is there.
 //!
 //! usage: plain_switch ROOT dry-activate|test nix/store/NAME
 //!

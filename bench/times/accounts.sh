@@ -1,51 +1,16 @@
-#!/bin/bash
-# Measures how long it takes and how much memory it needs to read and write the account tables, a specification
-# of accounts and a map of ids, and reads tables beside pwck and grpck.
-#
-# bench/accounts.sh [ROWS [BYTES]]
-#
-# Needs bash 5, awk, the coreutils, /usr/bin/time and the toolchain's rt, by which it builds a small program
-# over account_text, users_spec and id_memory. The program stands in this script, and is built in a scratch copy
-# of the crates that it uses: a crate of its own in crates.txt would be proved, built and run at each run of the
-# gate. Where pwck and grpck aren't there, the last part is left out.
-#
-# It makes each table with that many rows (65,536), once with the rows of accounts that can't log in, once with
-# short rows, and once so that the file has that many bytes (16,777,216), and prints for each the milliseconds of
-# the quickest of five runs that only read the bytes, that read the rows, and that write them again too, and the
-# peak memory beside a plain read, as so many times the bytes. Then it makes a specification and a map of ids with
-# that many bytes, and prints the same of them, beside runs that only parse the bytes into the library's JSON
-# value. Then it reads this machine's own tables, where they can be read, and some wrong ones, and prints what the
-# program and pwck -r or grpck -r say of each. It ends with 1 where a table isn't read whole or isn't written as it
-# was. It is no part of the gate.
-. "$(dirname "$0")/common.sh"
-rows=${1:-65536}
-bytes=${2:-16777216}
+# Reading and writing tables of so many rows, beside a plain read of the same bytes: each table once with the rows of accounts that
+# can't log in, once with short rows, and once with 16,777,216 bytes; and a specification and a map of ids with as many bytes,
+# beside a parse into the library's JSON value. For each it prints the milliseconds of the quickest of five runs, and the peak
+# memory beside a plain read, as so many times the bytes. Then it reads this machine's own tables, where they can be read, and
+# some wrong ones, and prints what the program and pwck -r or grpck -r say of each, where those are there. A table has to be read
+# whole and written as it was.
+# shellcheck shell=bash disable=SC2034,SC2154
+default_sizes=(65536)
+bytes=16777216
 if [ ! -x /usr/bin/time ]; then
     echo "no /usr/bin/time" >&2
     exit 1
 fi
-
-# Builds the program in a scratch copy of the crates.
-build() {
-    local crate part
-    mkdir -p "$work/copy/crates/read_accounts/src"
-    : >"$work/empty"
-    cp "$here/HANDLES" "$work/copy/"
-    for crate in switch_names host_trait account_text users_spec id_memory; do
-        mkdir "$work/copy/crates/$crate"
-        for part in src specs proofs; do
-            [ ! -d "$here/crates/$crate/$part" ] || cp -r "$here/crates/$crate/$part" "$work/copy/crates/$crate/"
-        done
-        grep "^$crate:" "$here/crates.txt" >>"$work/copy/crates.txt"
-    done
-    echo "read_accounts: account_text users_spec id_memory switch_names serde_json" >>"$work/copy/crates.txt"
-    cat >"$work/copy/crates/read_accounts/src/main.rt"
-    if ! (cd "$work/copy/crates/read_accounts" && rt run -- plain passwd "$work/empty") >"$work/build" 2>&1; then
-        cat "$work/build"
-        return 1
-    fi
-    program=$work/copy/crates/read_accounts/out/read_accounts
-}
 
 # make_table KIND WIDTH: a table whose rows have a text of this width, or those of accounts that can't log in
 # where it is `none`.
@@ -100,21 +65,8 @@ make_json() {
 
 # measure WORD KIND WANTED: sets `micros` to the microseconds of the quickest run, and `peak` to its kilobytes.
 measure() {
-    local from spent found
-    micros=
-    for _ in 1 2 3 4 5; do
-        from=${EPOCHREALTIME/./}
-        found=$("$program" "$1" "$2" "$work/table")
-        spent=$((${EPOCHREALTIME/./} - from))
-        if [ "$found" != "$3" ]; then
-            echo "$1 $2 gave $found in place of $3"
-            exit 1
-        fi
-        if [ -z "$micros" ] || [ "$spent" -lt "$micros" ]; then
-            micros=$spent
-        fi
-    done
-    peak=$(/usr/bin/time -f %M "$program" "$1" "$2" "$work/table" 2>&1 >"$work/stdout" | tail -n 1)
+    quickest_telling "$3" "$built" "$1" "$2" "$work/table"
+    peak=$(/usr/bin/time -f %M "$built" "$1" "$2" "$work/table" 2>&1 >"$work/stdout" | tail -n 1)
 }
 
 # told KIND WIDTH: measures a table and prints a line.
@@ -162,7 +114,7 @@ told_json() {
 # beside KIND FILE NAME [USERS]: what the program and the system's own checker say of a table.
 beside() {
     local kind=$1 file=$2 name=$3 users=${4:-$work/users} ours theirs status
-    ours=$("$program" read "$kind" "$file")
+    ours=$("$built" read "$kind" "$file")
     case $kind in
     passwd) theirs=$(pwck -r "$file" </dev/null 2>&1) ;;
     group) theirs=$(grpck -r "$file" </dev/null 2>&1) ;;
@@ -179,7 +131,7 @@ wrong() {
     beside "$1" "$work/wrong" "$2"
 }
 
-build <<'RATTLE' || exit 1
+build_small read_accounts account_text users_spec id_memory switch_names serde_json <<'RATTLE'
 //! Reads a file and prints how many bytes it has, how many rows or accounts, or how many bytes are written of
 //! them, or what is wrong with it.
 #![tactic(auto)]
@@ -318,44 +270,52 @@ fn main(rt: HostRuntime) -> io::Result<()> {
     Ok(())
 }
 RATTLE
-echo "$rows rows"
-for kind in passwd group shadow; do
-    told "$kind" none
-    told "$kind" 8
-    told "$kind" $(((bytes - rows * 50) / rows))
-done
-told_json spec $((bytes / 305))
-told_json ids $(((bytes + 20) / 21))
-if ! command -v pwck >"$work/stdout" || ! command -v grpck >"$work/stdout"; then
-    exit 0
-fi
-echo "beside pwck -r and grpck -r"
-printf 'a:x:1:1::/:/bin/sh\n' >"$work/users"
-for kind in passwd group shadow; do
-    [ ! -r "/etc/$kind" ] || beside "$kind" "/etc/$kind" "this machine's" /etc/passwd
-done
-wrong passwd 'six fields' 'a:x:1:1::/\n'
-wrong passwd 'eight fields' 'a:x:1:1::/:/bin/sh:\n'
-wrong passwd 'an empty name' ':x:1:1::/:/bin/sh\n'
-wrong passwd 'an empty line' 'a:x:1:1::/:\n\nb:x:2:1::/:\n'
-wrong passwd 'one name twice' 'a:x:1:1::/:\na:x:2:1::/:\n'
-wrong passwd 'one id twice' 'a:x:1:1::/:\nb:x:1:1::/:\n'
-wrong passwd 'an id past the greatest' 'a:x:4294967295:1::/:\n'
-wrong passwd 'an id of eleven digits' 'a:x:00000000001:1::/:\n'
-wrong passwd 'a sign before an id' 'a:x:+1:1::/:\n'
-wrong passwd 'a blank before an id' 'a:x: 1:1::/:\n'
-wrong passwd 'a compatibility entry' '+::::::\n'
-wrong passwd 'a comment' '# users\n'
-wrong passwd 'a name with a blank' 'a b:x:1:1::/:\n'
-wrong passwd 'bytes that are no UTF-8' 'a:x:1:1:\xff:/:\n'
-wrong group 'three fields' 'g:x:5\n'
-wrong group 'five fields' 'g:x:5::\n'
-wrong group 'an empty member' 'g:x:5:root,,root\n'
-wrong group 'a member that is no user' 'g:x:5:nobody-at-all\n'
-wrong group 'one name twice' 'g:x:5:\ng:x:6:\n'
-wrong group 'no id' 'g:x::\n'
-wrong shadow 'eight fields' 'a:!:1:::::\n'
-wrong shadow 'ten fields' 'a:!:1:::::::\n'
-wrong shadow 'letters for a day' 'a:!:x::::::\n'
-wrong shadow 'one name twice' 'a:!:1::::::\na:!:1::::::\n'
-wrong shadow 'a name that is no user' 'a:!:1::::::\nzed:!:1::::::\n'
+
+rows() {
+    local kind
+    for rows in "$@"; do
+        echo "$rows rows"
+        for kind in passwd group shadow; do
+            told "$kind" none
+            told "$kind" 8
+            told "$kind" $(((bytes - rows * 50) / rows))
+        done
+        told_json spec $((bytes / 305))
+        told_json ids $(((bytes + 20) / 21))
+    done
+}
+
+# Beside the system's own checkers, where those are there.
+finish() {
+    command -v pwck >"$work/stdout" && command -v grpck >"$work/stdout" || return 0
+    echo "beside pwck -r and grpck -r"
+    printf 'a:x:1:1::/:/bin/sh\n' >"$work/users"
+    for kind in passwd group shadow; do
+        [ ! -r "/etc/$kind" ] || beside "$kind" "/etc/$kind" "this machine's" /etc/passwd
+    done
+    wrong passwd 'six fields' 'a:x:1:1::/\n'
+    wrong passwd 'eight fields' 'a:x:1:1::/:/bin/sh:\n'
+    wrong passwd 'an empty name' ':x:1:1::/:/bin/sh\n'
+    wrong passwd 'an empty line' 'a:x:1:1::/:\n\nb:x:2:1::/:\n'
+    wrong passwd 'one name twice' 'a:x:1:1::/:\na:x:2:1::/:\n'
+    wrong passwd 'one id twice' 'a:x:1:1::/:\nb:x:1:1::/:\n'
+    wrong passwd 'an id past the greatest' 'a:x:4294967295:1::/:\n'
+    wrong passwd 'an id of eleven digits' 'a:x:00000000001:1::/:\n'
+    wrong passwd 'a sign before an id' 'a:x:+1:1::/:\n'
+    wrong passwd 'a blank before an id' 'a:x: 1:1::/:\n'
+    wrong passwd 'a compatibility entry' '+::::::\n'
+    wrong passwd 'a comment' '# users\n'
+    wrong passwd 'a name with a blank' 'a b:x:1:1::/:\n'
+    wrong passwd 'bytes that are no UTF-8' 'a:x:1:1:\xff:/:\n'
+    wrong group 'three fields' 'g:x:5\n'
+    wrong group 'five fields' 'g:x:5::\n'
+    wrong group 'an empty member' 'g:x:5:root,,root\n'
+    wrong group 'a member that is no user' 'g:x:5:nobody-at-all\n'
+    wrong group 'one name twice' 'g:x:5:\ng:x:6:\n'
+    wrong group 'no id' 'g:x::\n'
+    wrong shadow 'eight fields' 'a:!:1:::::\n'
+    wrong shadow 'ten fields' 'a:!:1:::::::\n'
+    wrong shadow 'letters for a day' 'a:!:x::::::\n'
+    wrong shadow 'one name twice' 'a:!:1::::::\na:!:1::::::\n'
+    wrong shadow 'a name that is no user' 'a:!:1::::::\nzed:!:1::::::\n'
+}

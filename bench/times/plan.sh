@@ -1,49 +1,16 @@
-#!/bin/bash
-# Measures how long it takes to plan what a switch owes the units, beside a plain read of the same units.
+# Planning what a switch owes the units of two systems of so many: services that each want six others, so that 16,000 have 96,000
+# wants, one in ten with another program in the new system, half of them active, a target that wants the first, and a start
+# list of a hundred. A small program reads all that a plan needs and plans nothing.
 #
-# bench/plan.sh [PROGRAM [UNITS..]]
-#
-# Needs bash 5, awk, the coreutils and the toolchain's rt, by which it builds a small program that reads
-# all that a plan needs and plans nothing. The program stands in this script, and is built in a scratch
-# copy of the crates that it uses: a crate of its own in crates.txt would be proved, built and run at
-# each run of the gate.
-#
-# Each root has two systems of that many units (1,000, 4,000 and 16,000): services that each want six
-# others, so that 16,000 have 96,000 wants, one in ten with another program in the new system, half of
-# them active, a target that wants the first, and a start list of a hundred. For each it prints the least
-# processor time, in milliseconds and without the system's share, of ten runs that read and of ten dry
-# runs, the difference, and what that is for each unit in microseconds. A dry run also plans accounts, of which
-# there are none here, and /etc, whose entries are the unit files: that is in the difference. It ends with 1 where a run fails,
-# or where planning takes four times as long for each unit of the largest root as of the smallest. It is
-# no part of the gate.
-. "$(dirname "$0")/common.sh"
-find_program "$@"
-[ $# -eq 0 ] || shift
-[ $# -gt 0 ] || set -- 1000 4000 16000
+# Of each root stands the least processor time, in milliseconds and without the system's share, of ten runs that read and of ten
+# dry runs, the difference, and what that is for each unit in microseconds. A dry run also plans accounts, of which there are
+# none here, and /etc, whose entries are the unit files: that is in the difference. Planning may not take four times as long for
+# each unit of the largest root as of the smallest.
+# shellcheck shell=bash disable=SC2034,SC2154
+default_sizes=(1000 4000 16000)
 
-# Builds the program that reads alone in a scratch copy of the crates.
-build() {
-    local crate part
-    mkdir -p "$work/copy/crates/read_systems/src" "$work/empty"
-    cp "$here/HANDLES" "$work/copy/"
-    for crate in switch_names unit_text host_trait unit_defs manager_core tree_put owed_lists node_text host_files host_folder; do
-        mkdir "$work/copy/crates/$crate"
-        for part in src specs proofs; do
-            [ ! -d "$here/crates/$crate/$part" ] || cp -r "$here/crates/$crate/$part" "$work/copy/crates/$crate/"
-        done
-        grep "^$crate:" "$here/crates.txt" >>"$work/copy/crates.txt"
-    done
-    echo "read_systems: host_folder owed_lists unit_defs host_trait switch_names" >>"$work/copy/crates.txt"
-    cat >"$work/copy/crates/read_systems/src/main.rt"
-    if ! (cd "$work/copy/crates/read_systems" && rt run -- "$work/empty") >"$work/build" 2>&1; then
-        cat "$work/build"
-        return 1
-    fi
-    reader=$work/copy/crates/read_systems/out/read_systems
-}
-
-# make_system NAME UNITS PROGRAM: a system whose every tenth unit runs this program.
-make_system() {
+# make_wanting NAME UNITS PROGRAM: a system whose every tenth unit runs this program.
+make_wanting() {
     local folder=$root/tree/nix/store/$1/etc/systemd/system
     mkdir -p "$folder"
     printf 'F 0644 0 0\n%s\n' "$1" >"$root/tree/nix/store/$1/nixos-version"
@@ -62,10 +29,11 @@ make_system() {
     }'
 }
 
-make_root() {
+# Makes the root.
+make_size() {
     rm -rf "$root"
-    make_system old-sys "$1" /bin/old
-    make_system new-sys "$1" /bin/new
+    make_wanting old-sys "$1" /bin/old
+    make_wanting new-sys "$1" /bin/new
     mkdir -p "$root/tree/run/nixos"
     printf 'L /nix/store/old-sys\n' >"$root/tree/run/current-system"
     awk 'BEGIN { print "F 0644 0 0"; for (number = 1; number <= 100; number++) print "unit-" number ".service" }' >"$root/tree/run/nixos/start-list"
@@ -80,6 +48,7 @@ make_root() {
 
 # least WORDS..: prints the least processor time of ten runs, in milliseconds.
 least() {
+    local TIMEFORMAT=%3U
     for _ in 1 2 3 4 5 6 7 8 9 10; do
         if ! { time "$@" >"$work/stdout" 2>"$work/stderr"; } 2>&1; then
             echo "a run failed: $*" >&2
@@ -89,7 +58,28 @@ least() {
     done | awk '{ spent = int($1 * 1000 + 0.5); if (NR == 1 || spent < least) least = spent } END { print least }'
 }
 
-build <<'RATTLE' || exit 1
+rows() {
+    local size plain whole first=''
+    print_row units read 'dry run' planning 'each unit'
+    for size in "$@"; do
+        make_size "$size"
+        plain=$(least "$built" plain "$root") || exit 1
+        whole=$(least "$program" "$root" dry-activate nix/store/new-sys) || exit 1
+        print_row "$size" "$plain" "$whole" $((whole - plain)) "$(thousandths $(((whole - plain) * 1000000 / size)))"
+        [ -n "$first" ] || first="$size $((whole - plain))"
+    done
+    awk -v a="$first" -v b="$size $((whole - plain))" 'BEGIN {
+        split(a, from, " ")
+        split(b, to, " ")
+        if (from[2] <= 0 || to[2] <= 0)
+            exit 0
+        factor = (to[2] / to[1]) / (from[2] / from[1])
+        printf "%d to %d units: planning x%.1f for each unit\n", from[1], to[1], factor
+        exit factor >= 4
+    }' || failed=1
+}
+
+build_small read_systems host_folder owed_lists unit_defs host_trait switch_names <<'RATTLE'
 //! Reads the units of two systems, the states and the lists of a root, and prints how many units it found.
 #![tactic(auto)]
 
@@ -131,6 +121,7 @@ fn main(rt: HostRuntime) -> ExitCode {
         return ExitCode::from(5);
     };
     let _program = arguments.next();
+    let _word = arguments.next();
     let Some(root) = arguments.next() else {
         return ExitCode::from(1);
     };
@@ -146,26 +137,3 @@ fn main(rt: HostRuntime) -> ExitCode {
     }
 }
 RATTLE
-printf '%8s %12s %12s %12s %12s\n' units read 'dry run' planning 'each unit'
-TIMEFORMAT=%3U
-first=''
-for count in "$@"; do
-    make_root "$count"
-    plain=$(least "$reader" "$root")
-    whole=$(least "$program" "$root" dry-activate nix/store/new-sys)
-    planning=$((whole - plain))
-    awk -v n="$count" -v plain="$plain" -v whole="$whole" 'BEGIN {
-        printf "%8d %12d %12d %12d %12.2f\n", n, plain, whole, whole - plain, (whole - plain) * 1000 / n
-    }'
-    [ -n "$first" ] || first="$count $planning"
-    last="$count $planning"
-done
-awk -v a="$first" -v b="$last" 'BEGIN {
-    split(a, from, " ")
-    split(b, to, " ")
-    if (from[2] <= 0 || to[2] <= 0)
-        exit 0
-    factor = (to[2] / to[1]) / (from[2] / from[1])
-    printf "%d to %d units: planning x%.1f for each unit\n", from[1], to[1], factor
-    exit factor >= 4
-}'
