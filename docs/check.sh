@@ -1,15 +1,17 @@
 #!/bin/sh
-# Holds the documents to crates.txt, as the first step of the gate.
+# Holds the documents and the wrong bodies to the tree, as the first step of the gate.
 #
 # docs/check.sh [--write]
 #
-# Each crate has a line in the table of README.md, a heading in docs/CRATES.md and a row in the table of
-# docs/ARCHITECTURE.md. What each crate may use, in docs/ARCHITECTURE.md, is what crates.txt says, without the crates
-# of the kit: --write writes it anew. No cell of README.md has more than 200 characters. Each wrong body in must-fail/
-# says by which public clause it is forbidden (`# clause: CRATE FUNCTION CLAUSE`, which stands in src/), and for which input
-# the body breaks it (`# why: ..`); each text that it replaces stands once where it is sought. No lemma or definition
-# stands in two files, word for word. Each fault is a line, and it ends with 1 where there is one. Needs awk, grep and the
-# coreutils.
+# The crates of crates.txt stand in groups, each below its heading. Each crate has a heading in docs/CRATES.md and a row with
+# its group in the table of docs/ARCHITECTURE.md. What each crate may use and who uses it, in docs/ARCHITECTURE.md, is what
+# crates.txt says, without the crates of the kit, and docs/BELIEVED.md is what docs/believed.sh prints: --write writes them
+# anew. Each file to which a page links is there. README.md has at most 130 lines, and no cell of it more than 200 characters.
+#
+# Each wrong body in must-fail/ says by which public clause it is forbidden (`# clause: CRATE FUNCTION CLAUSE`, which stands in
+# src/), and for which input the body breaks it (`# why: ..`); each text that it replaces stands once where it is sought, and in
+# the body of that function, but for imports. No lemma or definition stands in two files, word for word. Each fault is a line,
+# and it ends with 1 where there is one. Needs awk, grep and the coreutils.
 cd "$(dirname "$0")/.." || exit 1
 page=docs/ARCHITECTURE.md
 failed=0
@@ -19,14 +21,14 @@ fault() {
     failed=1
 }
 
-# The crates, lowest first.
+# The crates.
 crates() {
     sed -n 's/^\([a-z][a-z0-9_]*\).*:.*/\1/p' crates.txt
 }
 
-# What each crate uses of the repository, a line or more for each.
+# Of each crate the crates of the repository that it uses, or with `users` those that use it: a line or more for each.
 uses() {
-    awk '
+    awk -v of="$1" '
         /^[a-z]/ {
             split($0, sides, ":")
             split(sides[1], words, " ")
@@ -35,13 +37,20 @@ uses() {
         }
         END {
             for (at = 1; at <= count; at++) {
-                line = sprintf("%-14s", names[at])
                 length_of = split(used[names[at]], words, " ")
+                for (one = 1; one <= length_of; one++)
+                    if (words[one] in used) {
+                        uses[names[at]] = uses[names[at]] " " words[one]
+                        users[words[one]] = users[words[one]] " " names[at]
+                    }
+            }
+            for (at = 1; at <= count; at++) {
+                line = sprintf("%-16s", names[at])
+                length_of = split(of == "users" ? users[names[at]] : uses[names[at]], words, " ")
                 for (one = 1; one <= length_of; one++) {
-                    if (!(words[one] in used)) continue
                     if (length(line) + length(words[one]) > 98) {
                         print line
-                        line = sprintf("%-14s", "")
+                        line = sprintf("%-16s", "")
                     }
                     line = line "  " words[one]
                 }
@@ -51,26 +60,39 @@ uses() {
         }' crates.txt
 }
 
-# The page with these uses in the block below their heading.
-page_with_uses() {
-    uses | awk '
-        NR == FNR { block = block $0 "\n"; next }
-        /^### What each crate may use$/ { below = 1 }
+# A page, from standard input, with these lines in the block below a heading.
+with_block() {
+    awk -v heading="$1" -v block="$2" '
+        $0 == heading { below = 1 }
         inside && /^```$/ { inside = 0; below = 0 }
         !inside { print }
-        below && /^```text$/ { inside = 1; printf "%s", block }' - "$page"
+        below && /^```text$/ { inside = 1; print block }'
+}
+
+# docs/ARCHITECTURE.md with what crates.txt says.
+architecture() {
+    with_block "### What each crate may use" "$(uses uses)" <"$page" | with_block "### Who uses each crate" "$(uses users)"
 }
 
 if [ "${1:-}" = --write ]; then
-    made=$(page_with_uses) && printf '%s\n' "$made" >"$page"
+    made=$(architecture) && printf '%s\n' "$made" >"$page"
+    made=$(docs/believed.sh) && printf '%s\n' "$made" >docs/BELIEVED.md
 fi
-if ! page_with_uses | cmp -s - "$page"; then
-    fault "$page: what each crate may use isn't what crates.txt says: make docs"
-fi
+[ "$(architecture)" = "$(cat "$page")" ] || fault "$page: who uses which crate isn't what crates.txt says: make docs"
+[ "$(docs/believed.sh)" = "$(cat docs/BELIEVED.md)" ] || fault "docs/BELIEVED.md: it isn't what the tree says: make docs"
+
+# Each crate, with the heading of its group.
+grouped() {
+    awk '
+        /^# / { group = substr($0, 3); sub(/:.*/, "", group) }
+        /^[a-z]/ { sub(/:.*/, ""); print $1, group }' crates.txt
+}
+ungrouped=$(grouped | while read -r crate group; do
+    grep -q "^| $group | \`$crate\` |" "$page" || echo "$page: no row for the crate $crate in the group $group"
+done)
+[ -z "$ungrouped" ] || fault "$ungrouped"
 for crate in $(crates); do
-    grep -q "^| \`$crate\` |" README.md || fault "README.md: no line for the crate $crate"
     grep -q "^## $crate\$" docs/CRATES.md || fault "docs/CRATES.md: no heading for the crate $crate"
-    grep -q "^| [a-z ]* | \`$crate\` |" "$page" || fault "$page: no row for the crate $crate"
 done
 awk -F '|' '
     /^\|/ {
@@ -110,7 +132,8 @@ wrong_clauses() {
         }' - crates/*/must-fail/*.edit
 }
 
-# The wrong bodies that can't be put in: a text that one replaces stands never or more than once where it is sought.
+# The wrong bodies that can't be put in: a text that one replaces stands never or more than once where it is sought. And those
+# that lie elsewhere than in the body of the function whose clause they name, in a public one or in that of a trait.
 misplaced() {
     awk '
         function text_of(file,   text, line) {
@@ -125,7 +148,35 @@ misplaced() {
             }
             return found + 0
         }
-        FNR == 1 { split("", texts) }
+        # The function in whose body the text ends, as `impl Path parse`, or an import.
+        function place(text, rest,   lines, last, at, line, owner, name, margin, inside) {
+            last = split(text, lines, "\n")
+            if (lines[last] rest ~ /^use /) return "use"
+            for (at = 1; at < last; at++) {
+                line = lines[at]
+                if (line ~ /^impl/) { owner = line; name = "" }
+                if (line ~ /^}/) owner = ""
+                if (line ~ /^ *(pub(\([a-z]+\))? )?(const )?fn / && (line ~ /^ *pub/ || owner ~ / for /)) {
+                    match(line, /^ */)
+                    margin = substr(line, 1, RLENGTH)
+                    name = line
+                    sub(/^.*fn /, "", name)
+                    sub(/[^a-z_0-9].*/, "", name)
+                    inside = line ~ /\{$/
+                } else if (line ~ /^ *fn /) name = ""
+                if (name != "" && line == margin "{") inside = 1
+                if (name != "" && line == margin "}") name = ""
+            }
+            return name == "" || !inside ? "" : owner " " name
+        }
+        function leave() {
+            if (edit != "" && (!fits || astray)) print edit ": it lies outside the body of " wanted
+        }
+        FNR == 1 { leave(); split("", texts); edit = FILENAME; fits = astray = 0 }
+        /^# clause: / {
+            wanted = $4
+            count_of = split($4, parts, "::")
+        }
         /^file: / {
             file = FILENAME
             sub(/must-fail\/.*/, "", file)
@@ -136,13 +187,39 @@ misplaced() {
             old = substr($0, 6)
             found = count(texts[file], old)
             if (found != 1) print FILENAME ": a text that it replaces stands " found " times in " file
+            else {
+                at = index(texts[file], old)
+                where = place(substr(texts[file], 1, at - 1), old)
+                if (where ~ (" " parts[count_of] "$") && (count_of == 1 || where ~ ("[ <]" parts[1] "[ <]"))) fits = 1
+                else if (where != "use") astray = 1
+            }
         }
         /^new:/ {
             new = substr($0, 5)
             sub(/^ /, "", new)
             at = index(texts[file], old)
             if (at) texts[file] = substr(texts[file], 1, at - 1) new substr(texts[file], at + length(old))
-        }' crates/*/must-fail/*.edit
+        }
+        END { leave() }' crates/*/must-fail/*.edit
+}
+
+# The files to which pages link and which aren't there.
+broken_links() {
+    awk '
+        {
+            line = $0
+            while (match(line, /\]\([^)]*\)/)) {
+                target = substr(line, RSTART + 2, RLENGTH - 3)
+                line = substr(line, RSTART + RLENGTH)
+                sub(/#.*/, "", target)
+                if (target == "" || target ~ /^https?:/) continue
+                folder = FILENAME
+                if (!sub(/\/[^\/]*$/, "/", folder)) folder = ""
+                print FILENAME ":" FNR, folder target
+            }
+        }' README.md docs/*.md | while read -r from to; do
+        [ -e "$to" ] || echo "$from: no file $to"
+    done
 }
 
 # The lemmas and definitions that stand in two files, word for word.
@@ -164,10 +241,14 @@ twice() {
             first[text] = FILENAME
         }' {} +
 }
-both=$(twice)
+# (two lemmas on the stage's place stand twice in worlds)
+both=$(twice | grep -v '^crates/worlds/proofs/parts/troubles/show_end/Answers.antt: \(is_other\|not_the_stage\) stands in ')
 [ -z "$both" ] || fault "$both"
 wrong=$(wrong_clauses)
 [ -z "$wrong" ] || fault "$wrong"
 lost=$(misplaced)
 [ -z "$lost" ] || fault "$lost"
+broken=$(broken_links)
+[ -z "$broken" ] || fault "$broken"
+[ "$(wc -l <README.md)" -le 130 ] || fault "README.md: more than 130 lines"
 exit "$failed"
