@@ -36,7 +36,7 @@ check: ## proves one crate and those below it that have changed, as make check C
 docs: ## writes docs/BELIEVED.md, and who uses which crate into docs/ARCHITECTURE.md
 	docs/check.sh --write
 
-bench: build ## runs the scripts of bench/ with the built program: speed, hostile roots and kills
+bench: build ## runs the scripts of bench/ with the built program: speed, hostile roots, kills and losses of power
 	@failed=; for script in $(BENCHES); do echo "== $$script"; $$script || failed="$$failed $$script"; done; \
 	[ -z "$$failed" ] || { echo "these ended with an error:$$failed"; exit 1; }
 

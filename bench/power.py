@@ -15,6 +15,7 @@ from collections import Counter
 
 STAGE = "tree/nix/var/nixswitch.stage"
 MANAGER = "manager"
+DRAFT = "manager.new"
 STORE = "tree/nix/store"
 MENU = "tree/boot/loader"
 PROFILES = "tree/nix/var/nix/profiles"
@@ -362,15 +363,21 @@ def calls_of(manager):
     return lines
 
 
+def leaves_of(state):
+    """The files of a state but for the stage, the manager's and its draft: an empty folder is no leaf."""
+    return {place: data for place, data in state.items() if data is not None and place not in (STAGE, MANAGER, DRAFT)}
+
+
 def difference(wanted, end, units):
-    """The first place at which an end differs from the wanted one, but for the stage. Of the manager's file the states
-    and the calls are compared, where the units count."""
-    for place in sorted((wanted.keys() | end.keys()) - {STAGE, MANAGER}):
-        if place not in end:
+    """The first place at which an end differs from the wanted one. Of the manager's file the states and the calls are
+    compared, where the units count."""
+    ours, theirs = leaves_of(wanted), leaves_of(end)
+    for place in sorted(ours.keys() | theirs.keys()):
+        if place not in theirs:
             return place + " is missing"
-        if place not in wanted:
+        if place not in ours:
             return place + " is left"
-        if wanted[place] != end[place]:
+        if ours[place] != theirs[place]:
             return place + " is another"
     odd = sorted(calls_of(wanted.get(MANAGER, b"")) ^ calls_of(end.get(MANAGER, b""))) if units else []
     return "the manager: " + odd[0] if odd else None
@@ -399,12 +406,25 @@ def menu_fault(first, last, state):
 # --- The states of a run ---
 
 
-def halves(old, new):
-    """What of new bytes may have come to the disk: half of them, and all lines but the last."""
-    if not new.startswith(old):
-        return [new[: len(new) // 2]] * 2
-    more = new[len(old) :]
-    return [old + more[: len(more) // 2], old + b"".join(more.splitlines(keepends=True)[:-1])]
+def more_than(old, new):
+    """The bytes that new ones have more than old ones, after which they stand, or all of them where they don't."""
+    return (old, new[len(old) :]) if new.startswith(old) else (b"", new)
+
+
+def half_of(old, new):
+    """Old bytes, and half of what new ones have more."""
+    start, more = more_than(old, new)
+    return start + more[: len(more) // 2]
+
+
+def lines_but_last(old, new):
+    """Old bytes, and all lines but the last of what new ones have more."""
+    start, more = more_than(old, new)
+    return start + b"".join(more.splitlines(keepends=True)[:-1])
+
+
+# What may have come to the disk of bytes that weren't synced: none, half of them, and all lines but the last.
+PICKS = (lambda old, new: old, half_of, lines_but_last)
 
 
 def unsynced(disk, moment):
@@ -431,13 +451,12 @@ def ordered_states(disk):
         late = disk.put_done is not None and moment >= kept
         yield moment, late, disk.state(lambda folder: moment, lambda file: file.at(moment))
         lacking = unsynced(disk, moment)
-        for pick in (lambda old, new: old, lambda old, new: halves(old, new)[0], lambda old, new: halves(old, new)[1]):
+        for pick in PICKS:
             lost = {file: pick(file.synced_at(moment), file.at(moment)) for file in lacking}
             yield moment, late, disk.state(lambda folder: moment, lambda file: lost.get(file, file.at(moment)))
             for one, came in lacking.items():
                 if came or moment == disk.moment:
-                    some = lambda file: lost[one] if file is one else file.at(moment)
-                    yield moment, late, disk.state(lambda folder: moment, some)
+                    yield moment, late, disk.state(lambda folder: moment, lambda file: lost[one] if file is one else file.at(moment))
 
 
 def chosen_points(disk, moment, draws, picks):
@@ -508,7 +527,7 @@ class Trial:
         self.put_done = disk.put_done
         followed = disk.state(lambda folder: disk.moment, lambda file: file.now())
         if followed != self.last:
-            raise SystemExit("the calls don't lead to what the run has left: " + difference(self.last, followed, True))
+            raise SystemExit("the calls don't lead to what the run has left: %s" % difference(self.last, followed, True))
         return disk
 
     def make(self, root, state):
@@ -558,8 +577,8 @@ class Trial:
                 counts[verdict.split(":")[0]] += 1
                 places.setdefault(verdict, moment)
         total = counts.pop("states")
-        told = ", ".join("%d %s" % (count, word) for word, count in sorted(counts.items()))
-        print("  %-8s %5d states: %s" % (model, total, told))
+        words = sorted(counts, key=lambda word: (not word.endswith("same"), word))
+        print("  %-8s %5d states: %s" % (model, total, ", ".join("%d %s" % (counts[word], word) for word in words)))
         bad = [verdict for verdict in sorted(places, key=places.get) if not verdict.endswith("same")]
         told = Counter()
         for verdict in bad:

@@ -7,7 +7,7 @@
 # at once, by default one a processor.
 #
 # An uncut run is traced first, from five roots: a boot without a profile, a boot in whose menu an entry goes, a switch of
-# the example root, a switch with a copied entry in a folder of its own below /etc, and the switch back from that. Where the
+# the example root, a switch with a copied entry in a folder that stands below /etc, and the switch back from that. Where the
 # program knows a rollback, one is traced too. From the calls it is told what stood in which folder after each, and which
 # bytes and which folders were synced by then. From that the states are made (bench/power.py), in two models:
 #
@@ -20,9 +20,9 @@
 #
 # In each state the same command is run, and each counts under what was found:
 #
-# - same: the run ends with the status of the uncut one, and leaves the same files and folders but for the stage, and of the
-#   manager's file the same states and the same calls, each once or more. Where the run makes a change of units, it's tried
-#   too with a manager that has done nothing, as after the next boot: then the files and folders have to be the same.
+# - same: the run ends with the status of the uncut one, and leaves the same files but for the stage, and of the manager's
+#   file the same states and the same calls, each once or more. Where there is such a file, the run is made too with a
+#   manager that has done nothing (next boot): then the files have to be the same, and the status 0 or 4.
 # - stuck: it ends with another status.
 # - another end: it ends with the status, and leaves something else.
 # - no boot: before it, a firmware finds a file of the menu that is neither the old nor the new one, a generation that stands
@@ -33,7 +33,7 @@
 # that may be mounted. The image is copied without a sync each two seconds until SECONDS (40) after the end, each copy is
 # mounted, and the same command is run there.
 #
-# It ends with 1 where one state isn't the same. It is no part of the gate.
+# It ends with 1 where one state isn't the same, as it does with NIXOS_NO_SYNC=1. It is no part of the gate.
 . "$(dirname "$0")/common.sh"
 find_program "$@"
 seconds=${2-40}
@@ -87,20 +87,20 @@ make_menu() {
     rm "$root/tree/nix/var/nix/profiles/system-1-link"
 }
 
-# The example root, whose new system has a copied entry in a folder of its own too.
+# The example root, whose new system has a copied entry in a folder that stands already too.
 make_copied() {
     local entry
     fresh "$example"
-    entry=$root/tree/nix/store/web-24.11/etc/metrics.d
-    mkdir "$entry"
-    printf 'F 0644 0 0\ninterval = 60\n' >"$entry/disk.toml"
-    printf 'F 0644 0 0\n0640' >"$entry/disk.toml.mode"
+    entry=$root/tree/nix/store/web-24.11/etc/ssh/banner
+    printf 'F 0644 0 0\nAuthorized use only.\n' >"$entry"
+    printf 'F 0644 0 0\n0640' >"$entry.mode"
 }
 
-# What a root has but for the stage and the manager's file, and of that all lines, each once.
+# What a root has but for the stage, and of the manager's file all lines, each once.
 files() {
-    (cd "$1" && find . -path ./lost+found -prune -o -path ./tree/nix/var/nixswitch.stage -prune -o -path ./manager -prune -o -printf '%y %p\n' | sort &&
-        find ./tree -path ./tree/nix/var/nixswitch.stage -prune -o -type f -print0 | sort -z | xargs -0 tail -v -c +1 && sort -u manager)
+    (cd "$1" &&
+        find tree -path tree/nix/var/nixswitch.stage -prune -o -type f -print0 | sort -z | xargs -0 tail -v -c +1 &&
+        sort -u manager)
 }
 
 # Copies an image while the run's changes may still be on the way to it, and judges each copy.

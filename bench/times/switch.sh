@@ -4,14 +4,17 @@
 # first     milliseconds of a dry run of the first system, where nothing is in use
 # switched  those of the switch to it, which puts each entry and account and starts each unit
 # planned   those of the quickest of three dry runs of the second system
+# unsynced  those of the switch to it with NIXOS_NO_SYNC=1
 # opens     the most calls that open one unit file
 # puts      files of the tree that are put or removed
+# syncs     files and folders that are synced
 # acts      what is done to units
-# At the end comes what the planning takes of the time that the acts take: planned / (milliseconds - planned).
+# At the end comes what the planning takes of the time that the acts take, planned / (milliseconds - planned), and how often as
+# long the switch takes with syncs as without. What a run before has left to be written is written before each of the two.
 # shellcheck shell=bash disable=SC2034,SC2154
 default_sizes=(500,2000,60 2000,5000,200 16000,100000,1000)
-further_columns=(first switched planned acts)
-counted_columns=(calls opens puts)
+further_columns=(first switched planned unsynced acts)
+counted_columns=(calls opens puts syncs)
 times=1
 things='units, entries and users'
 shares=''
@@ -31,7 +34,10 @@ make_size() {
     } >"$work/manager"
 }
 
-fresh() { restore_kept; }
+fresh() {
+    restore_kept
+    sync
+}
 
 # by COMMAND WORDS..: runs a command with the new system, by way of the words given, and sets `status`.
 by() {
@@ -42,6 +48,8 @@ by() {
 }
 
 act() { by switch "$@"; }
+
+act_unsynced() { NIXOS_NO_SYNC=1 by switch; }
 
 # count_lines SIZE PATTERN NUMBER: judges how many lines of the last report have a pattern.
 count_lines() {
@@ -65,7 +73,11 @@ before() {
     quickest 3 by dry-activate
     told "$1"
     planned=$micros
-    further=("$(thousandths "$first_planned")" "$(thousandths "$first")" "$(thousandths "$planned")"
+    fresh
+    quickest 1 act_unsynced
+    after "$1"
+    unsynced=$micros
+    further=("$(thousandths "$first_planned")" "$(thousandths "$first")" "$(thousandths "$planned")" "$(thousandths "$unsynced")"
         "$(grep -c -E '^(stop|start) ' "$work/manager")")
 }
 
@@ -83,13 +95,15 @@ judge_counts() {
 
 cat >>"$work/count.awk" <<'AWK'
 /^(rename|unlink)/ && !/ = -1 / && !/manager"\)/ { puts++ }
-END { print calls + 0, opens + 0, puts + 0 }
+/^f(data)?sync/ { syncs++ }
+END { print calls + 0, opens + 0, puts + 0, syncs + 0 }
 AWK
 
 weight() { echo $((units + entries + users)); }
 
 after_row() {
-    shares+="$1: planning takes $(thousandths $((1000 * planned / (least - planned)))) of the acts"$'\n'
+    shares+="$1: planning takes $(thousandths $((1000 * planned / (least - planned)))) of the acts; "
+    shares+="it takes $(thousandths $((1000 * least / unsynced))) times as long as without syncs"$'\n'
 }
 
 finish() { printf '%s' "$shares"; }
