@@ -3,28 +3,24 @@ use Rattle.std.proofs.Common.{◌≡◌, true, List, [], ◌∷◌, length, Opti
 use Rattle.std.proofs.lemmas.List.{take_all}
 use Rattle.std.specs.FinMap.{gets}
 use Rattle.std.specs.List.{AllByRecursion, cons_option}
-use Rattle.generations.proofs.AfterLemmas.{gens_after_stay}
-use Rattle.generations.proofs.NamesLaws.{moment_names}
+use Rattle.generations.proofs.MoveLemmas.{gens_stay, move_at_end, move_is, move_moment, move_names}
 use Rattle.generations.proofs.Numbers.{below_bound}
-use Rattle.generations.proofs.ProfileLemmas.{profile_at_end, profile_is, profile_moment}
-use Rattle.generations.proofs.ProfilePlaces.{number_of_free}
-use Rattle.generations.proofs.SetLaws.{number_is}
-use Rattle.generations.specs.After.{gens_after}
 use Rattle.generations.specs.declared.gens.Gen.{Gen}
 use Rattle.generations.specs.declared.gens.Gens.{Gens}
-use Rattle.generations.specs.Places.{is_number, number_after, set_end, with_generation, with_profile}
-use Rattle.generations.specs.ProfilePart.{profile_part}
-use Rattle.generations.specs.Set.{IsSetMoment, NamesOldOrNew}
+use Rattle.generations.specs.declared.moving.Move.{Move}
+use Rattle.generations.specs.declared.moving.Move.TheVariants.{Point, Set}
+use Rattle.generations.specs.Move.{IsMoveMoment, IsMoveTo, gens_moved, move_part, move_world}
+use Rattle.generations.specs.Places.{is_number, number_after, with_generation, with_profile}
+use Rattle.generations.specs.Set.{NamesOldOrNew}
 use Rattle.host_trait.proofs.Places.{alike}
 use Rattle.host_trait.specs.World.{Leaves, WorldState, seen}
-use Rattle.switch_names.proofs.StorePaths.{NamesSystem-with_slash}
 use Rattle.switch_names.specs.Names.{Name}
 use Rattle.switch_names.specs.SystemName.{IsSystemPath}
 use Rattle.switch_parts.proofs.Parts.{both_part, first_free, first_moment, moment_then, only_beside, second_moment, ends_both}
 use Rattle.switch_parts.specs.Part.{IsAtEnd, IsFree, IsMomentOf, IsPart, IsSameFor}
 use Rattle.boot_entries.specs.declared.boot_texts.BootTexts.{BootTexts}
 use Rattle.boot_entries.specs.BootDefault.{boot_default_part, menu_after, menu_end}
-use Rattle.boot_entries.specs.BootDefault.IsMakingDefault.{Listing, Setting}
+use Rattle.boot_entries.specs.BootDefault.IsMakingDefault.{Listing, Moving}
 use Rattle.boot_entries.specs.BootPart.{boot_part}
 use Rattle.boot_entries.specs.DefaultLaws.{DefaultEndLaw, DefaultMomentLaw, DefaultNamesLaw, DefaultPartLaw, DefaultStaysLaw}
 use Rattle.boot_entries.specs.Laws.{IsBootGens}
@@ -58,38 +54,44 @@ last_moment texts u v is = inr (record {
   world = is ∙ ap (λ (places : List Name). seen (without_places places (with_puts (boot_puts texts) u))) (sym (take_all (length texts.gone) texts.gone (omega arith)));
 })
 
--- ---- the profile is set, and then the boot menu is made
+-- ---- the profile is moved, and then the boot menu is made
 
 seen_twice : (w : WorldState) → seen (seen w) ≡ seen w
 seen_twice w = ap (λ (l : Leaves). record w { leaves = l; written = [] }) (alike _ _ (λ q. grind (gets, rules)))
 
-pub set_is_seen : (system : Name) (w : WorldState) → seen (set_end system w) ≡ set_end system w
-set_is_seen system w = seen_twice (with_profile (number_after w.leaves system) (with_generation system (number_after w.leaves system) w))
+pub moved_is_seen : (move : Move) (system : Name) (w : WorldState) → seen (move_world move system w) ≡ move_world move system w
+moved_is_seen Set system w = seen_twice (with_profile (number_after w.leaves system) (with_generation system (number_after w.leaves system) w))
+moved_is_seen (Point n) system w = seen_twice (with_profile n w)
 
-module _ (system : Name) (gens : Gens) (is : IsBootGens gens) where
-  pub default_is : IsPart (boot_default_part system gens)
-  default_is = both_part (profile_part system) (boot_part gens) (profile_is system) (part_law gens is)
+-- the move that has come to its end is a moment of it
+pub moved_moment : (move : Move) (system : Name) (w u : WorldState) → seen u ≡ move_world move system w → IsMoveMoment move system w u
+moved_moment Set system w u moved = inr (inr moved)
+moved_moment (Point n) system w u moved = inr moved
 
-  setting : (w m : WorldState) → IsMomentOf (profile_part system) w m → IsMomentOf (boot_default_part system gens) w m
-  setting w m moment = first_moment (profile_part system) (boot_part gens) (profile_is system) (part_law gens is) (are_parted system gens) w m moment
+module _ (move : Move) (system : Name) (gens : Gens) (is : IsBootGens gens) where
+  pub default_is : IsPart (boot_default_part move system gens)
+  default_is = both_part (move_part move system) (boot_part gens) (move_is move system) (part_law gens is)
 
-  listing : (w m : WorldState) → IsMomentOf (boot_part gens) w m → IsMomentOf (boot_default_part system gens) w m
-  listing w m moment = second_moment (profile_part system) (boot_part gens) (profile_is system) (part_law gens is) (are_parted system gens) w m moment
+  moving : (w m : WorldState) → IsMomentOf (move_part move system) w m → IsMomentOf (boot_default_part move system gens) w m
+  moving w m moment = first_moment (move_part move system) (boot_part gens) (move_is move system) (part_law gens is) (are_parted move system gens) w m moment
 
-module _ (system : Name) (named : IsSystemPath system) (gens : Gens) (is : IsBootGens gens) (w : WorldState) (free : IsFree (boot_default_part system gens) w.leaves) where
-  pub profile_free : IsFree (profile_part system) w.leaves
-  profile_free = first_free (profile_part system) (boot_part gens) w.leaves free
+  listing : (w m : WorldState) → IsMomentOf (boot_part gens) w m → IsMomentOf (boot_default_part move system gens) w m
+  listing w m moment = second_moment (move_part move system) (boot_part gens) (move_is move system) (part_law gens is) (are_parted move system gens) w m moment
 
-  pub set_moment : (m : WorldState) → IsSetMoment system w m → IsMomentOf (profile_part system) w m
-  set_moment m moment = profile_moment system w m (NamesSystem-with_slash system named) profile_free moment
+module _ (move : Move) (system : Name) (named : IsSystemPath system) (gens : Gens) (is : IsBootGens gens) (w : WorldState) (free : IsFree (boot_default_part move system gens) w.leaves) where
+  pub profile_free : IsFree (move_part move system) w.leaves
+  profile_free = first_free (move_part move system) (boot_part gens) w.leaves free
 
-  module _ (u : WorldState) (set : seen u ≡ set_end system w) where
-    pub set_is : IsMomentOf (profile_part system) w u
-    set_is = set_moment u (inr (inr set))
+  pub moving_moment : (m : WorldState) → IsMoveMoment move system w m → IsMomentOf (move_part move system) w m
+  moving_moment m moment = move_moment move system w m named profile_free moment
+
+  module _ (u : WorldState) (moved : seen u ≡ move_world move system w) where
+    pub moved_is : IsMomentOf (move_part move system) w u
+    moved_is = moving_moment u (moved_moment move system w u moved)
 
     -- nothing has changed that the boot menu looks at
     pub menu_still : IsSameFor (boot_part gens) w u
-    menu_still = only_beside (profile_part system) (boot_part gens) (part_law gens is) (are_parted system gens).first refl w u set_is.only
+    menu_still = only_beside (move_part move system) (boot_part gens) (part_law gens is) (are_parted move system gens).first refl w u moved_is.only
 
     pub planned_still : menu_of gens w.leaves ≡ menu_of gens u.leaves
     planned_still = plan_law gens (menu_of gens w.leaves) w u is menu_still refl
@@ -97,44 +99,41 @@ module _ (system : Name) (named : IsSystemPath system) (gens : Gens) (is : IsBoo
     pub listed : (m : WorldState) → IsBootMoment (menu_of gens w.leaves) u m → IsMomentOf (boot_part gens) u m
     listed m moment = moment_law gens (menu_of gens w.leaves) u m is (menu_entries gens w.leaves is) planned_still moment
 
-    both_moment : (m : WorldState) → IsBootMoment (menu_of gens w.leaves) u m → IsMomentOf (boot_default_part system gens) w m
-    both_moment m moment = moment_then (boot_default_part system gens) (default_is system gens is) w u m (setting system gens is w u set_is) (listing system gens is u m (listed m moment))
+    both_moment : (m : WorldState) → IsBootMoment (menu_of gens w.leaves) u m → IsMomentOf (boot_default_part move system gens) w m
+    both_moment m moment =
+        moment_then (boot_default_part move system gens) (default_is move system gens is) w u m (moving move system gens is w u moved_is) (listing move system gens is u m (listed m moment))
 
-    both_end : (v : WorldState) → seen v ≡ menu_end (menu_of gens w.leaves) u → IsAtEnd (boot_default_part system gens) w v
+    both_end : (v : WorldState) → seen v ≡ menu_end (menu_of gens w.leaves) u → IsAtEnd (boot_default_part move system gens) w v
     both_end v made =
         let end = end_law gens (menu_of gens w.leaves) u v is.list (menu_entries gens w.leaves is) planned_still made in
-        ends_both (profile_part system) (boot_part gens) (profile_is system) (part_law gens is) (are_parted system gens).first w u v (profile_at_end system w u set) menu_still end.0 end.1
+        ends_both (move_part move system) (boot_part gens) (move_is move system) (part_law gens is) (are_parted move system gens).first w u v (move_at_end move system w u moved) menu_still end.0 end.1
 
 -- ---- the laws
 
 pub default_part_law : DefaultPartLaw
-default_part_law system gens is = default_is system gens is
+default_part_law move system gens is = default_is move system gens is
 
 pub default_moment_law : DefaultMomentLaw
-default_moment_law system w m named free (Setting moment) =
-    let gens = gens_after system w.leaves in let is = gens_after_law system w.leaves named in
-    setting system gens is w m (set_moment system named gens is w free m moment)
-default_moment_law system w m named free (Listing u set moment) =
-    both_moment system named (gens_after system w.leaves) (gens_after_law system w.leaves named) w free u set m moment
+default_moment_law move system w m named free (Moving moment) =
+    let gens = gens_moved move system w.leaves in let is = gens_after_law move system w.leaves named in
+    moving move system gens is w m (moving_moment move system named gens is w free m moment)
+default_moment_law move system w m named free (Listing u moved moment) =
+    both_moment move system named (gens_moved move system w.leaves) (gens_after_law move system w.leaves named) w free u moved m moment
 
 pub default_end_law : DefaultEndLaw
-default_end_law system w v named free made =
-    let u = set_end system w in let set = set_is_seen system w in (
-      Listing u set (last_moment (menu_after system w.leaves) u v made),
-      both_end system named (gens_after system w.leaves) (gens_after_law system w.leaves named) w free u set v made,
+default_end_law move system w v named free made =
+    let u = move_world move system w in let moved = moved_is_seen move system w in (
+      Listing u moved (last_moment (menu_after move system w.leaves) u v made),
+      both_end move system named (gens_moved move system w.leaves) (gens_after_law move system w.leaves named) w free u moved v made,
     )
 
 pub default_stays_law : DefaultStaysLaw
-default_stays_law system gens w m keeps = gens_after_stay system w m keeps.0
-
-names_set : (system : Name) (w m : WorldState) → IsSystemPath system → IsFree (profile_part system) w.leaves → IsSetMoment system w m → NamesOldOrNew system w m
-names_set system w m named free moment =
-    moment_names system w m (number_is w.leaves system (number_of_free system w.leaves free)) (NamesSystem-with_slash system named) moment
+default_stays_law move system gens w m keeps = gens_stay move system w m keeps.0
 
 pub default_names_law : DefaultNamesLaw
-default_names_law system w m named free (Setting moment) =
-    names_set system w m named (first_free (profile_part system) (boot_part (gens_after system w.leaves)) w.leaves free) moment
-default_names_law system w m named free (Listing u set moment) =
-    let gens = gens_after system w.leaves in let is = gens_after_law system w.leaves named in
-    names_on system w u m (profile_kept system gens u m (listed system named gens is w free u set m moment).only)
-    (names_set system w u named (first_free (profile_part system) (boot_part gens) w.leaves free) (inr (inr set)))
+default_names_law move system w m named to free (Moving moment) =
+    move_names move system w m named to (first_free (move_part move system) (boot_part (gens_moved move system w.leaves)) w.leaves free) moment
+default_names_law move system w m named to free (Listing u moved moment) =
+    let gens = gens_moved move system w.leaves in let is = gens_after_law move system w.leaves named in
+    names_on system w u m (profile_kept move system gens u m (listed move system named gens is w free u moved m moment).only)
+    (move_names move system w u named to (first_free (move_part move system) (boot_part gens) w.leaves free) (moved_moment move system w u moved))

@@ -2,11 +2,13 @@
 use Rattle.std.proofs.Common.{◌≡◌, ℕ, IsSome, sym, subst, ◌∙◌, inl, inr, ⊎_elim}
 use Rattle.generations.proofs.ProfileApart.{link_owned, profile_owned}
 use Rattle.generations.proofs.ProfileApart as profile_apart
-use Rattle.generations.proofs.ProfileLemmas.{profile_is}
+use Rattle.generations.proofs.MoveLemmas.{move_is}
 use Rattle.generations.proofs.SetLaws.{generation_of}
 use Rattle.generations.specs.declared.gens.Gens.{Gens}
 use Rattle.generations.specs.Places.{IsCurrent, Names, generation_at, link_path, profile}
-use Rattle.generations.specs.ProfilePart.{owns_profile, profile_part, reads_profile}
+use Rattle.generations.specs.declared.moving.Move.{Move}
+use Rattle.generations.specs.Move.{move_part}
+use Rattle.generations.specs.ProfilePart.{owns_profile, reads_profile}
 use Rattle.generations.specs.Set.{NamesOldOrNew}
 use Rattle.host_trait.specs.World.{Leaves, WorldState}
 use Rattle.switch_names.specs.Names.{Name}
@@ -20,13 +22,13 @@ use Rattle.boot_entries.proofs.PartedLemmas.{menu_unread, profile_unread}
 
 -- ---- what one part has changed isn't the other's
 
-pub menu_kept : (system : Name) (gens : Gens) → IsPart (boot_part gens) → (w m : WorldState) → IsOnly (profile_part system) w m → IsSameMenu w.leaves m.leaves
-menu_kept system gens is w m only q own =
+pub menu_kept : (move : Move) (system : Name) (gens : Gens) → IsPart (boot_part gens) → (w m : WorldState) → IsOnly (move_part move system) w m → IsSameMenu w.leaves m.leaves
+menu_kept move system gens is w m only q own =
     only.leaves q (false_by (owns_profile q) (reads_profile q) (profile_apart.owned_read q) (menu_unread q own)) (not_stage (boot_part gens) is q own)
 
-pub profile_kept : (system : Name) (gens : Gens) (w m : WorldState) → IsOnly (boot_part gens) w m → IsSameProfile w.leaves m.leaves
-profile_kept system gens w m only q own =
-    only.leaves q (false_by (owns_boot q) (reads_boot q) (owned_read q) (profile_unread q own)) (not_stage (profile_part system) (profile_is system) q own)
+pub profile_kept : (move : Move) (system : Name) (gens : Gens) (w m : WorldState) → IsOnly (boot_part gens) w m → IsSameProfile w.leaves m.leaves
+profile_kept move system gens w m only q own =
+    only.leaves q (false_by (owns_boot q) (reads_boot q) (owned_read q) (profile_unread q own)) (not_stage (move_part move system) (move_is move system) q own)
 
 -- ---- where the places of the profile are the same, the same generations stand
 

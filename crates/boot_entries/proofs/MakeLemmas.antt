@@ -1,18 +1,16 @@
 -- A system is made the boot default as it is planned.
-use Rattle.std.proofs.Common.{◌≡◌, ℕ, Bool, true, false, cond, None, Some, refl, sym, ap, subst, ◌∙◌}
+use Rattle.std.proofs.Common.{◌≡◌, ℕ, Option, None, Some, refl, sym, ap, subst, ◌∙◌}
 use Rattle.std.specs.Option.{option_or}
-use Rattle.generations.proofs.Numbers.{number_for_world, number_of_world}
-use Rattle.generations.proofs.ProfilePlaces.{can_of_free}
-use Rattle.generations.specs.After.{gens_after}
 use Rattle.generations.specs.declared.gens.Gens.{Gens}
-use Rattle.generations.specs.Gens.{IsGensOf, number_for_in}
-use Rattle.generations.specs.Places.{number_after, set_end}
-use Rattle.generations.specs.ProfilePart.{has_number, profile_part}
-use Rattle.generations.specs.Set.{CanSet}
+use Rattle.generations.specs.declared.moving.Move.{Move}
+use Rattle.generations.specs.Gens.{IsGensOf}
+use Rattle.generations.specs.Move.{gens_moved, move_part, move_refusal, move_world, number_moved}
 use Rattle.host_trait.specs.World.{Leaves, WorldState, seen}
 use Rattle.switch_names.specs.Names.{Name}
 use Rattle.switch_parts.proofs.Parts.{second_free}
+use Rattle.switch_parts.specs.declared.refusal.Refusal.{Refusal}
 use Rattle.switch_parts.specs.declared.refusal.Refusal.TheVariants.{GenerationsFull}
+use Rattle.switch_parts.specs.Part.{IsFree}
 use Rattle.boot_entries.specs.declared.boot_default.BootDefaultPlan.{BootDefaultPlan}
 use Rattle.boot_entries.specs.declared.boot_texts.BootTexts.{BootTexts}
 use Rattle.boot_entries.specs.BootDefault.{CanMakeDefault, IsDefaultPlanOf, IsMakingDefault, boot_default_in, default_end, menu_after}
@@ -23,7 +21,7 @@ use Rattle.boot_entries.specs.Steps.{CanApplyBoot, IsBootMoment, IsBootSet, boot
 use Rattle.boot_entries.specs.Texts.{menu_of}
 use Rattle.tree_put.specs.Sequence.{with_puts}
 use Rattle.tree_put.proofs.SequenceLemmas.{seen_with_puts, seen_without_places}
-use Rattle.boot_entries.proofs.DefaultLemmas.{menu_still, planned_still, profile_free, set_is_seen}
+use Rattle.boot_entries.proofs.DefaultLemmas.{menu_still, moved_is_seen, planned_still, profile_free}
 use Rattle.boot_entries.proofs.GensLemmas.{gens_after_law}
 use Rattle.boot_entries.proofs.PartLemmas.{part_law}
 
@@ -31,67 +29,53 @@ use Rattle.boot_entries.proofs.PartLemmas.{part_law}
 
 module _ (system : Name) (plan : BootDefaultPlan) (w : WorldState) (can : CanMakeDefault system plan w) where
   abbrev gens : Gens
-  gens = gens_after system w.leaves
+  gens = gens_moved plan.to system w.leaves
 
   gens_are : IsBootGens gens
-  gens_are = gens_after_law system w.leaves can.named
+  gens_are = gens_after_law plan.to system w.leaves can.named
 
   -- the boot menu that is planned
-  menu_is : plan.menu ≡ menu_after system w.leaves
+  menu_is : plan.menu ≡ menu_after plan.to system w.leaves
   menu_is = can.planned.menu
 
-  pub can_set : CanSet system w
-  can_set = can_of_free system w (profile_free system can.named gens gens_are w can.free)
+  pub can_move : IsFree (move_part plan.to system) w.leaves
+  can_move = profile_free plan.to system can.named gens gens_are w can.free
 
-  module _ (u : WorldState) (set : seen u ≡ set_end system w) where
+  module _ (u : WorldState) (moved : seen u ≡ move_world plan.to system w) where
     pub can_apply : CanApplyBoot plan.menu u
     can_apply = subst (λ (texts : BootTexts). CanApplyBoot texts u) (sym menu_is) (record {
       gens = gens;
-      planned = planned_still system can.named gens gens_are w can.free u set;
-      free = (part_law gens gens_are).stays_free w u ((part_law gens gens_are).frame w u (menu_still system can.named gens gens_are w can.free u set))
-          (second_free (profile_part system) (boot_part gens) w.leaves can.free);
+      planned = planned_still plan.to system can.named gens gens_are w can.free u moved;
+      free = (part_law gens gens_are).stays_free w u ((part_law gens gens_are).frame w u (menu_still plan.to system can.named gens gens_are w can.free u moved))
+          (second_free (move_part plan.to system) (boot_part gens) w.leaves can.free);
     })
 
-    pub listing_moment : (m : WorldState) → IsBootMoment plan.menu u m → IsMakingDefault system w m
-    listing_moment m moment = Listing u set (subst (λ (texts : BootTexts). IsBootMoment texts u m) menu_is moment)
+    pub listing_moment : (m : WorldState) → IsBootMoment plan.menu u m → IsMakingDefault plan.to system w m
+    listing_moment m moment = Listing u moved (subst (λ (texts : BootTexts). IsBootMoment texts u m) menu_is moment)
 
-    pub default_made : (v : WorldState) → IsBootSet plan.menu u v → seen v ≡ default_end system w
+    pub default_made : (v : WorldState) → IsBootSet plan.menu u v → seen v ≡ default_end plan.to system w
     default_made v made =
-        let texts = menu_after system w.leaves in
-        let same = set ∙ sym (set_is_seen system w) in
+        let texts = menu_after plan.to system w.leaves in
+        let same = moved ∙ sym (moved_is_seen plan.to system w) in
         subst (λ (ts : BootTexts). IsBootSet ts u v) menu_is made
-        ∙ seen_without_places texts.gone (with_puts (boot_puts texts) u) (with_puts (boot_puts texts) (set_end system w)) (seen_with_puts (boot_puts texts) u (set_end system w) same)
+        ∙ seen_without_places texts.gone (with_puts (boot_puts texts) u) (with_puts (boot_puts texts) (move_world plan.to system w))
+        (seen_with_puts (boot_puts texts) u (move_world plan.to system w) same)
 
 -- ---- a plan is made
 
-none_is : (b : Bool) (n : ℕ) → cond b (Some n) None ≡ None → b ≡ false
-none_is true n is = absurd (cc)
-none_is false n is = refl
-
-some_is : (b : Bool) (n k : ℕ) → cond b (Some n) None ≡ Some k → b ≡ true
-some_is true n k is = refl
-some_is false n k is = absurd (cc)
-
-refusal_of : (system : Name) (leaves : Leaves) (b : Bool) → has_number leaves system ≡ b → (boot_default_in system leaves).refusal leaves ≡ cond b None (Some GenerationsFull)
-refusal_of system leaves b is = ap (λ (further : Bool). option_or (cond further None (Some GenerationsFull)) None) is ∙ whole b
+-- what refuses it is what refuses the move
+pub default_refusal : (move : Move) (system : Name) (leaves : Leaves) → (boot_default_in move system leaves).refusal leaves ≡ move_refusal move system leaves
+default_refusal move system leaves = whole (move_refusal move system leaves)
   where
-    whole : (further : Bool) → option_or (cond further None (Some GenerationsFull)) None ≡ cond further None (Some GenerationsFull)
-    whole true = refl
-    whole false = refl
+    whole : (o : Option Refusal) → option_or o None ≡ o
+    whole None = refl
+    whole (Some why) = refl
 
-module _ (system : Name) (leaves : Leaves) (gens : Gens) (is : IsGensOf leaves gens) where
-  -- without a further number it is refused
-  pub full_refusal : number_for_in gens.list system ≡ None → (boot_default_in system leaves).refusal leaves ≡ Some GenerationsFull
-  full_refusal none =
-      refusal_of system leaves false (none_is (has_number leaves system) (number_after leaves system) (sym (number_for_world leaves gens system is) ∙ none))
-
-  module _ (number : ℕ) (some : number_for_in gens.list system ≡ Some number) where
-    pub no_refusal : (boot_default_in system leaves).refusal leaves ≡ None
-    no_refusal = refusal_of system leaves true (some_is (has_number leaves system) (number_after leaves system) number (sym (number_for_world leaves gens system is) ∙ some))
-
-    pub default_planned : (after : Gens) (menu : BootTexts) → after ≡ gens_after system leaves → menu ≡ menu_of after leaves → IsDefaultPlanOf system leaves (record { gens = gens; number = number; menu = menu })
-    default_planned after menu same planned = record {
-      gens = is;
-      number = number_of_world leaves gens system number is some;
-      menu = planned ∙ ap (λ (gs : Gens). menu_of gs leaves) same;
-    }
+pub default_planned : (move : Move) (system : Name) (leaves : Leaves) (gens after : Gens) (menu : BootTexts) (number : ℕ) → IsGensOf leaves gens → number ≡ number_moved move system leaves →
+    after ≡ gens_moved move system leaves → menu ≡ menu_of after leaves → IsDefaultPlanOf move system leaves (record { to = move; gens = gens; number = number; menu = menu })
+default_planned move system leaves gens after menu number is given same planned = record {
+  to = refl;
+  gens = is;
+  number = given;
+  menu = planned ∙ ap (λ (gs : Gens). menu_of gs leaves) same;
+}

@@ -5,14 +5,14 @@ use Rattle.std.proofs.lemmas.Option.{none-some, same_Some}
 use Rattle.std.specs.FinMap.{get}
 use Rattle.std.specs.List.{AllByRecursion, list_any}
 use Rattle.std.specs.Option.{option_map_or, option_or}
-use Rattle.generations.proofs.AfterLemmas.{gens_after_set}
-use Rattle.generations.proofs.NamesLaws.{of_system}
+use Rattle.generations.proofs.MoveLemmas.{gens_of_move, move_current, number_named}
 use Rattle.generations.proofs.Numbers.{below_bound, stands_at_number}
-use Rattle.generations.proofs.SetLaws.{generation_seen, linked_is, number_is, profile_keeps, top_of}
 use Rattle.generations.specs.declared.gens.Gen.{Gen}
 use Rattle.generations.specs.declared.gens.Gens.{Gens}
 use Rattle.generations.specs.Gens.{IsGensOf, listed_at}
-use Rattle.generations.specs.Places.{IsCurrent, generation_at, highest, number_after, set_end, with_generation, with_profile}
+use Rattle.generations.specs.declared.moving.Move.{Move}
+use Rattle.generations.specs.Move.{IsMoveTo, gens_moved, move_part, move_world, number_moved}
+use Rattle.generations.specs.Places.{IsCurrent, generation_at}
 use Rattle.host_trait.proofs.Places.{itself}
 use Rattle.host_trait.proofs.Seen.{seen_at}
 use Rattle.host_trait.specs.declared.leaf.LeafKind.{LeafKind}
@@ -31,21 +31,17 @@ use Rattle.tree_put.specs.Sequence.{without_places}
 use Rattle.boot_entries.specs.Steps.{AreEntries, boot_files, IsBootMoment, boot_put}
 use Rattle.boot_entries.specs.Texts.{entry_of, has_target, menu_of}
 use Rattle.boot_entries.proofs.AtEndLemmas.{entries_elsewhere, entries_left, last_elsewhere, last_file, left_on, loader_not_entry, loader_unnumbered, end_law, entry_not_loader}
-use Rattle.boot_entries.proofs.DefaultLemmas.{menu_entries, listed, menu_still, planned_still, profile_free, set_is, set_is_seen, set_moment}
+use Rattle.boot_entries.proofs.DefaultLemmas.{menu_entries, listed, menu_still, moved_is, moved_is_seen, moving_moment, planned_still, profile_free}
 use Rattle.tree_put.proofs.LeftLemmas.{gone_at, left_at, left_by}
 use Rattle.boot_entries.proofs.EndLemmas.{AreOthers, any_take, boot_owned, eqb, in_gone, left_files, left_others, none_gone, numbered_entry}
 use Rattle.boot_entries.proofs.KeptLemmas.{current_kept, generation_kept, menu_kept, profile_kept}
 use Rattle.tree_put.proofs.SequenceLemmas.{all_take}
 use Rattle.boot_entries.proofs.PutLemmas.{IsBootPlace, both_all, place_apart, putting_world, with_files}
-use Rattle.generations.proofs.ProfilePlaces.{number_of_free}
-use Rattle.generations.specs.After.{gens_after}
-use Rattle.generations.specs.ProfilePart.{has_number, profile_part}
-use Rattle.switch_names.proofs.StorePaths.{NamesSystem-with_slash}
 use Rattle.switch_names.specs.SystemName.{IsSystemPath}
 use Rattle.switch_parts.proofs.Parts.{first_free}
 use Rattle.switch_parts.specs.Part.{IsAtEnd, IsFree, IsOnly}
 use Rattle.boot_entries.specs.BootDefault.{boot_default_in, boot_default_part, menu_end}
-use Rattle.boot_entries.specs.BootDefault.IsMakingDefault.{Listing, Setting}
+use Rattle.boot_entries.specs.BootDefault.IsMakingDefault.{Listing, Moving}
 use Rattle.boot_entries.proofs.GensLemmas.{gens_after_law}
 use Rattle.boot_entries.proofs.PartLemmas.{part_law}
 use Rattle.boot_entries.proofs.ListedLemmas.{IsFileOf, IsListedEntry, files_listed, left_is, not_gone, same_path, take_one, take_parts}
@@ -218,15 +214,11 @@ module _ (gens : Gens) (is : IsBootGens gens) (first : Leaves) (u : WorldState) 
       pub menu_between : gens.current ≡ Some number → IsMenuBetween first m.leaves
       menu_between is_current = record { entries = entries_between; kept = entries_kept; loader = loader_between is_current }
 
--- ---- the boot menu after a set of the profile
+-- ---- the boot menu after a move of the profile
 
 take_none : (places : List Name) → take 0 places ≡ []
 take_none [] = refl
 take_none (at ∷ places) = refl
-
-current_is : (system : Name) (leaves : Leaves) → has_number leaves system ≡ true → (gens_after system leaves).current ≡ Some (number_after leaves system)
-unfolding gens_after
-current_is system leaves further = ap (λ b. cond b (Some (number_after leaves system)) None) further
 
 -- the generation of a number that is left names this system
 system_listed : (list : List Gen) (n : ℕ) (system : Name) → system_at list n ≡ Some system → listed_at list n ≡ Some (Some system)
@@ -236,47 +228,41 @@ system_listed list n system is = by (listed_at list n) is
     by None is = absurd (none-some system is)
     by (Some target) is = ap (λ (t : Option Name). Some t) is
 
-module _ (system : Name) (named : IsSystemPath system) (w : WorldState) (gens : Gens) (is : IsBootGens gens) (free : IsFree (boot_default_part system gens) w.leaves) (u : WorldState) (set : seen u ≡ set_end system w) (stand : IsGensOf u.leaves gens) where
-  further : has_number w.leaves system ≡ true
-  further = number_of_free system w.leaves (profile_free system named gens is w free)
-
+module _ (move : Move) (system : Name) (named : IsSystemPath system) (w : WorldState) (to : IsMoveTo move system w.leaves) (gens : Gens) (is : IsBootGens gens) (free : IsFree (boot_default_part move system gens) w.leaves) (u : WorldState)
+    (moved : seen u ≡ move_world move system w) (stand : IsGensOf u.leaves gens) where
   abbrev number : ℕ
-  number = number_after w.leaves system
+  number = number_moved move system w.leaves
 
-  -- the generation that the system gets names it
-  number_named : generation_at u.leaves number ≡ Some (Some system)
-  number_named =
-      let v = with_generation system number w in
-      let linked = linked_is system w (number_is w.leaves system further) (NamesSystem-with_slash system named) in
-      generation_seen u (with_profile number v) number set ∙ profile_keeps number number v
-      ∙ ap (generation_at v.leaves) (sym linked.number ∙ top_of v.leaves system linked.highest_of) ∙ of_system (generation_at v.leaves (highest v.leaves)) system linked.highest_of
+  -- the generation that is current then names the system
+  system_named : generation_at u.leaves number ≡ Some (Some system)
+  system_named = number_named move system w u named to (profile_free move system named gens is w free) moved
 
   same_menu : IsSameMenu w.leaves u.leaves
-  same_menu = menu_kept system gens (part_law gens is) w u (set_is system named gens is w free u set).only
+  same_menu = menu_kept move system gens (part_law gens is) w u (moved_is move system named gens is w free u moved).only
 
   between_at : gens.current ≡ Some number → (m : WorldState) → IsBootMoment (menu_of gens w.leaves) u m → IsMenuBetween w.leaves m.leaves
   between_at current m moment =
       let texts = menu_of gens w.leaves in
-      let profile = profile_kept system gens u m (listed system named gens is w free u set m moment).only in
+      let profile = profile_kept move system gens u m (listed move system named gens is w free u moved m moment).only in
       let is_current = subst (λ o. IfSome o (IsCurrent u.leaves)) current stand.current in
       ⊎_elim
       (λ putting. menu_between gens is w.leaves u same_menu stand m profile putting.count 0
       (putting_world texts u m putting ∙ ap (λ (places : List Name). seen (without_places places (with_files (take putting.count (boot_files texts)) u))) (sym (take_none texts.gone)))
-      number is_current system number_named current)
+      number is_current system system_named current)
       (λ removing. menu_between gens is w.leaves u same_menu stand m profile (length (boot_files texts)) removing.count
       (removing.world ∙ ap (λ (files : List BootFile). seen (without_places (take removing.count texts.gone) (with_files files u))) (sym (take_all (length (boot_files texts)) (boot_files texts) (omega arith))))
-      number is_current system number_named current)
+      number is_current system system_named current)
       moment
 
   module _ (v : WorldState) (made : seen v ≡ menu_end (menu_of gens w.leaves) u) where
     end_is : IsAtEnd (boot_part gens) u v × IsOnly (boot_part gens) u v
-    end_is = end_law gens (menu_of gens w.leaves) u v is.list (menu_entries gens w.leaves is) (planned_still system named gens is w free u set) made
+    end_is = end_law gens (menu_of gens w.leaves) u v is.list (menu_entries gens w.leaves is) (planned_still move system named gens is w free u moved) made
 
     entry_at_end : (n : ℕ) → n < 2 ^ 32 → get v.leaves (entry_path n) ≡ entry_end gens.list w.leaves n
     entry_at_end n small =
         let own = entry_owned n small in
         end_is.0 (entry_path n) own
-        ∙ (part_law gens is).same_end w u ((part_law gens is).frame w u (menu_still system named gens is w free u set)) (entry_path n) own
+        ∙ (part_law gens is).same_end w u ((part_law gens is).frame w u (menu_still move system named gens is w free u moved)) (entry_path n) own
         ∙ ap (λ b. cond b (loader_end gens.current w.leaves) (option_map_or (entry_end gens.list w.leaves) (numbered (entry_path n)) (get w.leaves (entry_path n)))) (entry_not_loader n)
         ∙ ap (λ o. option_map_or (entry_end gens.list w.leaves) o (get w.leaves (entry_path n))) (numbered_entry n small)
 
@@ -285,29 +271,30 @@ module _ (system : Name) (named : IsSystemPath system) (w : WorldState) (gens : 
     whole_at n leaf None at stands = absurd (none-some leaf stands)
     whole_at n leaf (Some s) at stands = record {
       system = s;
-      stands = generation_kept u.leaves v.leaves (profile_kept system gens u v end_is.1) n ∙ sym (stand.exact n) ∙ system_listed gens.list n s at;
+      stands = generation_kept u.leaves v.leaves (profile_kept move system gens u v end_is.1) n ∙ sym (stand.exact n) ∙ system_listed gens.list n s at;
       text = sym (same_Some (boot_leaf (entry_of w.leaves n s).bytes) leaf stands);
     }
 
     menu_whole : IsMenuWhole w.leaves v.leaves
     menu_whole n leaf small stands = whole_at n leaf (system_at gens.list n) refl (sym (entry_at_end n small) ∙ stands)
 
--- what stands after a set of the profile are these generations
-stand_after : (system : Name) (w u : WorldState) → IsSystemPath system → IsFree (boot_default_in system w.leaves) w.leaves → seen u ≡ set_end system w → IsGensOf u.leaves (gens_after system w.leaves)
-stand_after system w u named free set =
-    gens_after_set system w u named (number_of_free system w.leaves (first_free (profile_part system) (boot_part (gens_after system w.leaves)) w.leaves free)) set
+-- what stands after a move of the profile are these generations
+stand_after : (move : Move) (system : Name) (w u : WorldState) → IsSystemPath system → IsMoveTo move system w.leaves → IsFree (boot_default_in move system w.leaves) w.leaves → seen u ≡ move_world move system w →
+    IsGensOf u.leaves (gens_moved move system w.leaves)
+stand_after move system w u named to free moved =
+    gens_of_move move system w u named to (first_free (move_part move system) (boot_part (gens_moved move system w.leaves)) w.leaves free) moved
 
 pub menu_law : MenuLaw
-menu_law system w m named free (Setting moment) =
-    let gens = gens_after system w.leaves in let is = gens_after_law system w.leaves named in
-    menu_begins_law w.leaves m.leaves (menu_kept system gens (part_law gens is) w m (set_moment system named gens is w free m moment).only)
-menu_law system w m named free (Listing u set moment) =
-    let gens = gens_after system w.leaves in let is = gens_after_law system w.leaves named in
-    between_at system named w gens is free u set (stand_after system w u named free set)
-    (current_is system w.leaves (number_of_free system w.leaves (first_free (profile_part system) (boot_part gens) w.leaves free))) m moment
+menu_law move system w m named to free (Moving moment) =
+    let gens = gens_moved move system w.leaves in let is = gens_after_law move system w.leaves named in
+    menu_begins_law w.leaves m.leaves (menu_kept move system gens (part_law gens is) w m (moving_moment move system named gens is w free m moment).only)
+menu_law move system w m named to free (Listing u moved moment) =
+    let gens = gens_moved move system w.leaves in let is = gens_after_law move system w.leaves named in
+    between_at move system named w to gens is free u moved (stand_after move system w u named to free moved)
+    (move_current move system w.leaves (first_free (move_part move system) (boot_part gens) w.leaves free)) m moment
 
 pub menu_end_law : MenuEndLaw
-menu_end_law system w v named free made =
-    let gens = gens_after system w.leaves in let is = gens_after_law system w.leaves named in
-    let u = set_end system w in let set = set_is_seen system w in
-    menu_whole system named w gens is free u set (stand_after system w u named free set) v made
+menu_end_law move system w v named to free made =
+    let gens = gens_moved move system w.leaves in let is = gens_after_law move system w.leaves named in
+    let u = move_world move system w in let moved = moved_is_seen move system w in
+    menu_whole move system named w to gens is free u moved (stand_after move system w u named to free moved) v made

@@ -3,7 +3,9 @@ use Rattle.std.proofs.Common.{◌≡◌, ◌≢◌, ◌||◌, ℕ, Bool, true, f
 use Rattle.std.proofs.lemmas.Bool.{both_ways, cases_Bool}
 use Rattle.std.specs.Cmp.Lexicographic.{nat_list_eq_equiv, same_text}
 use Rattle.generations.proofs.ProfileApart.{boot_unread, owned_fails}
-use Rattle.generations.specs.ProfilePart.{owns_profile, profile_part, reads_profile}
+use Rattle.generations.specs.declared.moving.Move.{Move}
+use Rattle.generations.specs.Move.{move_part}
+use Rattle.generations.specs.ProfilePart.{owns_profile, reads_profile}
 use Rattle.generations.specs.declared.gens.Gens.{Gens}
 use Rattle.host_trait.specs.World.{is_in_line, is_path, stage}
 use Rattle.switch_names.specs.Names.{Name}
@@ -87,5 +89,5 @@ pub profile_unread : (q : Name) → owns_profile q ≡ true → reads_boot q ≡
 profile_unread q own = owned_fails reads_boot system_unread q own
 
 -- the two parts are parted
-pub are_parted : (system : Name) (gens : Gens) → AreParted (profile_part system) (boot_part gens)
-are_parted system gens = record { first = profile_unread; second = menu_unread; manager = refl }
+pub are_parted : (move : Move) (system : Name) (gens : Gens) → AreParted (move_part move system) (boot_part gens)
+are_parted move system gens = record { first = profile_unread; second = menu_unread; manager = refl }

@@ -1,13 +1,11 @@
--- The part of a switch that makes a system the boot default: the profile, and the boot menu of its generations.
+-- The part of a switch that makes a system the boot default: the profile, which is moved to it, and the boot menu of its generations.
 -- NixOS manual, "Changing the configuration"; Boot Loader Specification, "Type #1 Boot Loader Specification Entries".
 use Rattle.std.specs.Prelude.{◌≡◌, ◌++◌, ◌∷◌, false, List, [], Some, map}
 use Rattle.generations.specs.declared.gens.Gen.{Gen}
 use Rattle.generations.specs.declared.gens.Gens.{Gens}
-use Rattle.generations.specs.After.{gens_after}
-use Rattle.generations.specs.Gens.{IsGensOf, number_for_in}
-use Rattle.generations.specs.Places.{number_after, set_end}
-use Rattle.generations.specs.ProfilePart.{profile_part}
-use Rattle.generations.specs.Set.{IsSetMoment}
+use Rattle.generations.specs.declared.moving.Move.{Move}
+use Rattle.generations.specs.Gens.{IsGensOf}
+use Rattle.generations.specs.Move.{IsMoveMoment, IsNumberFor, gens_moved, move_part, move_world, number_moved}
 use Rattle.host_trait.specs.World.{Leaves, WorldState, seen}
 use Rattle.switch_names.specs.Names.{Name}
 use Rattle.switch_names.specs.SystemName.{IsSystemPath}
@@ -21,48 +19,49 @@ use Rattle.boot_entries.specs.Places.{loader_path}
 use Rattle.boot_entries.specs.Steps.{AreEntries, IsBootMoment, with_menu}
 use Rattle.boot_entries.specs.Texts.{menu_of}
 
--- the part that points the profile to a system and makes the boot menu of these generations
-abbrev pub boot_default_part : Name → Gens → Part
-boot_default_part system gens = both (profile_part system) (boot_part gens)
+-- the part that moves the profile to a system and makes the boot menu of these generations
+abbrev pub boot_default_part : Move → Name → Gens → Part
+boot_default_part move system gens = both (move_part move system) (boot_part gens)
 
--- the same with the generations that stand after the set
-abbrev pub boot_default_in : Name → Leaves → Part
-boot_default_in system leaves = boot_default_part system (gens_after system leaves)
+-- the same with the generations that stand after the move
+abbrev pub boot_default_in : Move → Name → Leaves → Part
+boot_default_in move system leaves = boot_default_part move system (gens_moved move system leaves)
 
 -- the places of the boot menu of some generations, in byte order
 abbrev pub menu_places : List Gen → List WrittenPlace
 menu_places list = map (written false) (entry_places list) ++ written false loader_path ∷ []
 
--- the boot menu after a set of the profile to a system
-abbrev pub menu_after : Name → Leaves → BootTexts
-menu_after system leaves = menu_of (gens_after system leaves) leaves
+-- the boot menu after a move of the profile to a system
+abbrev pub menu_after : Move → Name → Leaves → BootTexts
+menu_after move system leaves = menu_of (gens_moved move system leaves) leaves
 
 -- but for the stage, the world in which this boot menu is made
 abbrev pub menu_end : BootTexts → WorldState → WorldState
 menu_end texts u = seen (with_menu texts u)
 
 -- but for the stage, the world in which a system is the boot default
-abbrev pub default_end : Name → WorldState → WorldState
-default_end system w = menu_end (menu_after system w.leaves) (set_end system w)
+abbrev pub default_end : Move → Name → WorldState → WorldState
+default_end move system w = menu_end (menu_after move system w.leaves) (move_world move system w)
 
--- a moment of making a system the boot default: the profile is being set, or it is set, and the boot menu is being made
-pub data IsMakingDefault (system : Name) (w m : WorldState) : Type 0 where
-  Setting : IsSetMoment system w m → IsMakingDefault system w m
-  Listing : (u : WorldState) → seen u ≡ set_end system w → IsBootMoment (menu_after system w.leaves) u m → IsMakingDefault system w m
+-- a moment of making a system the boot default: the profile is being moved, or it is moved, and the boot menu is being made
+pub data IsMakingDefault (move : Move) (system : Name) (w m : WorldState) : Type 0 where
+  Moving : IsMoveMoment move system w m → IsMakingDefault move system w m
+  Listing : (u : WorldState) → seen u ≡ move_world move system w → IsBootMoment (menu_after move system w.leaves) u m → IsMakingDefault move system w m
 
--- what is planned: the generations that stand, the number that the system gets, and the boot menu after the set
-pub record IsDefaultPlanOf (system : Name) (leaves : Leaves) (plan : BootDefaultPlan) : Type 0 where
+-- what is planned: the move, the generations that stand, the number that is current after it, and the boot menu then
+pub record IsDefaultPlanOf (move : Move) (system : Name) (leaves : Leaves) (plan : BootDefaultPlan) : Type 0 where
+  pub to : plan.to ≡ move
   pub gens : IsGensOf leaves plan.gens
-  pub number : plan.number ≡ number_after leaves system
-  pub menu : plan.menu ≡ menu_after system leaves
+  pub number : plan.number ≡ number_moved move system leaves
+  pub menu : plan.menu ≡ menu_after move system leaves
 
 -- a plan has the number that its generations give a system, and its entries are put at the places of entries
 pub record IsDefaultFor (system : Name) (plan : BootDefaultPlan) : Type 0 where
-  pub number : number_for_in plan.gens.list system ≡ Some plan.number
+  pub number : IsNumberFor plan.to plan.gens.list system plan.number
   pub entries : AreEntries plan.menu.entries
 
 -- a plan can be carried out: it is that of these leaves, and nothing is in its way
 pub record CanMakeDefault (system : Name) (plan : BootDefaultPlan) (w : WorldState) : Type 0 where
   pub named : IsSystemPath system
-  pub planned : IsDefaultPlanOf system w.leaves plan
-  pub free : IsFree (boot_default_in system w.leaves) w.leaves
+  pub planned : IsDefaultPlanOf plan.to system w.leaves plan
+  pub free : IsFree (boot_default_in plan.to system w.leaves) w.leaves

@@ -2,7 +2,8 @@
 use Rattle.std.specs.Prelude.{◌≡◌, true}
 use Rattle.std.specs.FinMap.{get}
 use Rattle.generations.specs.declared.gens.Gens.{Gens}
-use Rattle.generations.specs.After.{gens_after}
+use Rattle.generations.specs.declared.moving.Move.{Move}
+use Rattle.generations.specs.Move.{IsMoveTo, gens_moved}
 use Rattle.generations.specs.ProfilePart.{owns_profile}
 use Rattle.generations.specs.Set.{NamesOldOrNew}
 use Rattle.host_trait.specs.World.{Leaves, WorldState, seen}
@@ -14,46 +15,46 @@ use Rattle.boot_entries.specs.Laws.{IsBootGens}
 use Rattle.boot_entries.specs.Menu.{IsMenuBetween, IsMenuWhole}
 use Rattle.boot_entries.specs.Places.{owns_boot}
 
--- the generations after a set are such as a boot menu has
+-- the generations after a move are such as a boot menu has
 abbrev pub GensAfterLaw : Type 0
-GensAfterLaw = (system : Name) (leaves : Leaves) → IsSystemPath system → IsBootGens (gens_after system leaves)
+GensAfterLaw = (move : Move) (system : Name) (leaves : Leaves) → IsSystemPath system → IsBootGens (gens_moved move system leaves)
 
 -- making a system the boot default is a part of a switch
 abbrev pub DefaultPartLaw : Type 0
-DefaultPartLaw = (system : Name) (gens : Gens) → IsBootGens gens → IsPart (boot_default_part system gens)
+DefaultPartLaw = (move : Move) (system : Name) (gens : Gens) → IsBootGens gens → IsPart (boot_default_part move system gens)
 
 -- each moment of it is one of the part
 abbrev pub DefaultMomentLaw : Type 0
 DefaultMomentLaw =
-    (system : Name) (w m : WorldState) → IsSystemPath system → IsFree (boot_default_in system w.leaves) w.leaves → IsMakingDefault system w m →
-    IsMomentOf (boot_default_in system w.leaves) w m
+    (move : Move) (system : Name) (w m : WorldState) → IsSystemPath system → IsFree (boot_default_in move system w.leaves) w.leaves → IsMakingDefault move system w m →
+    IsMomentOf (boot_default_in move system w.leaves) w m
 
 -- the last moment leaves each of its places at its end
 abbrev pub DefaultEndLaw : Type 0
 DefaultEndLaw =
-    (system : Name) (w v : WorldState) → IsSystemPath system → IsFree (boot_default_in system w.leaves) w.leaves → seen v ≡ default_end system w →
-    IsMakingDefault system w v × IsAtEnd (boot_default_in system w.leaves) w v
+    (move : Move) (system : Name) (w v : WorldState) → IsSystemPath system → IsFree (boot_default_in move system w.leaves) w.leaves → seen v ≡ default_end move system w →
+    IsMakingDefault move system w v × IsAtEnd (boot_default_in move system w.leaves) w v
 
 -- wherever it is cut, it leaves the same generations
 abbrev pub DefaultStaysLaw : Type 0
 DefaultStaysLaw =
-    (system : Name) (gens : Gens) (w m : WorldState) → (boot_default_part system gens).Keeps w m → gens_after system m.leaves ≡ gens_after system w.leaves
+    (move : Move) (system : Name) (gens : Gens) (w m : WorldState) → (boot_default_part move system gens).Keeps w m → gens_moved move system m.leaves ≡ gens_moved move system w.leaves
 
 -- at each moment the profile names what it named, or the system
 abbrev pub DefaultNamesLaw : Type 0
 DefaultNamesLaw =
-    (system : Name) (w m : WorldState) → IsSystemPath system → IsFree (boot_default_in system w.leaves) w.leaves → IsMakingDefault system w m → NamesOldOrNew system w m
+    (move : Move) (system : Name) (w m : WorldState) → IsSystemPath system → IsMoveTo move system w.leaves → IsFree (boot_default_in move system w.leaves) w.leaves → IsMakingDefault move system w m → NamesOldOrNew system w m
 
 -- at each moment the boot menu is one between the first and the last
 abbrev pub MenuLaw : Type 0
 MenuLaw =
-    (system : Name) (w m : WorldState) → IsSystemPath system → IsFree (boot_default_in system w.leaves) w.leaves → IsMakingDefault system w m →
+    (move : Move) (system : Name) (w m : WorldState) → IsSystemPath system → IsMoveTo move system w.leaves → IsFree (boot_default_in move system w.leaves) w.leaves → IsMakingDefault move system w m →
     IsMenuBetween w.leaves m.leaves
 
 -- at the end each entry that stands is that of a generation that stands
 abbrev pub MenuEndLaw : Type 0
 MenuEndLaw =
-    (system : Name) (w v : WorldState) → IsSystemPath system → IsFree (boot_default_in system w.leaves) w.leaves → seen v ≡ default_end system w →
+    (move : Move) (system : Name) (w v : WorldState) → IsSystemPath system → IsMoveTo move system w.leaves → IsFree (boot_default_in move system w.leaves) w.leaves → seen v ≡ default_end move system w →
     IsMenuWhole w.leaves v.leaves
 
 -- the places of the boot menu are the same

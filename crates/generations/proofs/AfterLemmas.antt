@@ -62,7 +62,7 @@ at_number system leaves n is = ap (λ b. cond b (Some (Some system)) (generation
 at_other : (system : Name) (leaves : Leaves) (n : ℕ) → (n ≡ number_after leaves system → ⊥) → generation_after system leaves n ≡ generation_at leaves n
 at_other system leaves n other = ap (λ b. cond b (Some (Some system)) (generation_at leaves n)) (ne_eqb n (number_after leaves system) other)
 
-no_number : (leaves : Leaves) (n : ℕ) → 2 ^ 32 ≤ n → generation_at leaves n ≡ None
+pub no_number : (leaves : Leaves) (n : ℕ) → 2 ^ 32 ≤ n → generation_at leaves n ≡ None
 no_number leaves n beyond = elim (cases_Bool (is_number n)) [
   | inl is ↦ let below = below_bound n is in absurd (omega arith)
   | inr is ↦ ap (λ b. cond b (option_map target_of (get leaves (link_path n))) None) is
@@ -70,7 +70,7 @@ no_number leaves n beyond = elim (cases_Bool (is_number n)) [
 
 -- Wherever a set is cut, it leaves the same generations.
 
-other_path : (p q : Name) → p ≢ q → is_path p q ≡ false
+pub other_path : (p q : Name) → p ≢ q → is_path p q ≡ false
 other_path p q ne = texts_ties p q ∙ other_of p q ne
 
 profile_itself : is_path profile profile ≡ true
@@ -168,7 +168,7 @@ module _ (system : Name) (w : WorldState) (named : NamesSystem (slash ∷ system
 current_of : (n : ℕ) → is_number n ≡ true → current_for n ≡ Some n
 current_of n is = ap (λ b. cond b (Some n) None) (lt-ltb n (2 ^ 32) (below_bound n is))
 
-same_number : (u : Leaves) (n k : ℕ) → n < 2 ^ 64 → get u profile ≡ Some (Link (link_name n)) → IsCurrent u k → k ≡ n
+pub same_number : (u : Leaves) (n k : ℕ) → n < 2 ^ 64 → get u profile ≡ Some (Link (link_name n)) → IsCurrent u k → k ≡ n
 same_number u n k small linked is =
     one_link k n (small_number k (stands_at_number u k is.stands)) small (link_text _ _ (sym is.linked ∙ linked))
 
@@ -217,7 +217,7 @@ named_target (Link text) = either (system_fault text) refl
     either None is = IsSystemPath-from_named text is
     either (Some fault) is = tt
 
-named_at : (leaves : Leaves) (n : ℕ) (target : Option Name) → generation_at leaves n ≡ Some target → IfSome target IsSystemPath
+pub named_at : (leaves : Leaves) (n : ℕ) (target : Option Name) → generation_at leaves n ≡ Some target → IfSome target IsSystemPath
 named_at leaves n target is = either (is_number n) (get leaves (link_path n)) is
   where
     either : (b : Bool) (o : Option LeafKind) → cond b (option_map target_of o) None ≡ Some target → IfSome target IsSystemPath
@@ -241,7 +241,7 @@ gens_after_systems system leaves names =
 
 -- The list of the generations of a world after a set.
 
-listed_small : (leaves : Leaves) (gens : Gens) → IsGensOf leaves gens → (n : ℕ) → 2 ^ 32 ≤ n → listed_at gens.list n ≡ None
+pub listed_small : (leaves : Leaves) (gens : Gens) → IsGensOf leaves gens → (n : ℕ) → 2 ^ 32 ≤ n → listed_at gens.list n ≡ None
 listed_small leaves gens is n beyond = is.exact n ∙ no_number leaves n beyond
 
 -- where the highest generation names the system, the list stays

@@ -4,11 +4,15 @@ pub mod BelowLemmas
 pub mod DigitLemmas
 pub mod Entries
 pub mod GoalLemmas
+pub mod GoalPartLemmas
 pub mod LinkNumbers
 pub mod Lists
+pub mod MoveLemmas
+pub mod MoveNumberLemmas
 pub mod NamesLaws
 pub mod Numbers
 pub mod PlacesLemmas
+pub mod PointLemmas
 pub mod PreviousLemmas
 pub mod ProfileApart
 pub mod ProfileLemmas

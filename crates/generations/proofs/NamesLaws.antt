@@ -110,7 +110,7 @@ names_put system w number names = elim (leaf_is (get w.leaves profile) (link_nam
   | inr not_new ↦ inl (names_old system w number names not_new)
 ]
 
-unchanged : (w : WorldState) (s : List ℕ) → Names w.leaves s ↔ Names w.leaves s
+pub unchanged : (w : WorldState) (s : List ℕ) → Names w.leaves s ↔ Names w.leaves s
 unchanged w s = (λ named. named, λ named. named)
 
 names_link : (system : List ℕ) (w : WorldState) → is_number (number_after w.leaves system) ≡ true → NamesSystem (slash ∷ system) system →
@@ -121,7 +121,7 @@ names_link system w number names = elim (cases_Bool (is_of (generation_at w.leav
 ]
 
 -- what is named in a world is named in one that is equal but for the stage
-names_seen_too : (system : List ℕ) (w m v : WorldState) → seen m ≡ seen v → NamesOldOrNew system w v → NamesOldOrNew system w m
+pub names_seen_too : (system : List ℕ) (w m v : WorldState) → seen m ≡ seen v → NamesOldOrNew system w v → NamesOldOrNew system w m
 names_seen_too system w m v is named =
     ⊎_elim
     (λ old. inl (λ s. (λ there. (old s).0 (names_seen m v is s there), λ before. names_seen v m (sym is) s ((old s).1 before))))

@@ -36,7 +36,7 @@ set_at system w q =
     link_at true = refl
     link_at false = leaf_after w.leaves (link_path (number_after w.leaves system)) q (Link (link_target system))
 
-owned_not_stage : (q : Name) → owns_profile q ≡ true → q ≢ stage
+pub owned_not_stage : (q : Name) → owns_profile q ≡ true → q ≢ stage
 owned_not_stage q own = owned_other q stage own stage_not_owned
 
 -- a set leaves each place that is owned at its end

@@ -40,7 +40,7 @@ can_set system w free further =
     }
 
 -- nothing is in the way of a clear place, nor of those after it
-free_first : (leaves : Leaves) (at : Name) (places : List WrittenPlace) → IsClear leaves at → in_the_way places leaves ≡ None → in_the_way (written false at ∷ places) leaves ≡ None
+pub free_first : (leaves : Leaves) (at : Name) (places : List WrittenPlace) → IsClear leaves at → in_the_way places leaves ≡ None → in_the_way (written false at ∷ places) leaves ≡ None
 free_first leaves at places clear rest =
     ap (λ b. option_map (λ (place : WrittenPlace). place.at) (cond (b || false) (Some (written false at)) (find (is_in_the_way leaves) places))) (free_of_clear leaves at clear) ∙ rest
 

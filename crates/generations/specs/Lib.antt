@@ -2,7 +2,9 @@ pub mod After
 pub mod Digits
 pub mod Gens
 pub mod Goal
+pub mod GoalPart
 pub mod LinkNumber
+pub mod Move
 pub mod Places
 pub mod ProfilePart
 pub mod ProfilePlaces

@@ -96,7 +96,7 @@ fn copy_of(alloc: Global, generation: &Gen) -> Result<Gen, AllocError>
 }
 
 /// Equal generations, in their order.
-fn copy_list(alloc: Global, list: &[Gen]) -> Result<Listed<Gen>, AllocError>
+pub fn copy_list(alloc: Global, list: &[Gen]) -> Result<Listed<Gen>, AllocError>
     ensures { IfOk result (λ copied. copied ≡ list.now) }
 {
     let mut copied = Listed::new(alloc);

@@ -6,19 +6,21 @@ mod gens;
 mod laws;
 mod link_number;
 mod listing;
+mod moving;
 mod places;
 mod rollback_goal;
 mod setting;
 
 pub use digits::number_between;
-pub use gens::{Gen, Gens, after_set, is_highest_of, number_for, previous};
+pub use gens::{Gen, Gens, is_highest_of, number_for, previous};
 pub use laws::{
-    a_set_can_be_made_where_its_part_is_free, a_set_leaves_its_part_at_its_end,
-    a_set_leaves_these_generations, each_moment_of_a_set_is_one_of_its_part,
-    generations_after_a_set_stay, the_goal_stays, the_profile_is_a_part,
+    a_move_leaves_its_part_at_its_end, a_move_leaves_these_generations,
+    a_set_can_be_made_where_its_part_is_free, each_moment_of_a_move_is_one_of_its_part,
+    generations_after_a_move_stay, the_goal_is_a_part, the_goal_stays, the_profile_is_a_part,
+    the_profile_names_the_old_system_or_the_new,
 };
 pub use link_number::{number_of_name, number_of_path};
 pub use listing::{all, target_of};
-pub use places::add_profile_places;
+pub use moving::{Move, add_goal_place, add_move_places, after_move, move_profile, number_to};
 pub use rollback_goal::{GoalFault, clear_goal, goal, goal_path, record_goal};
 pub use setting::{SetFault, generation_path, point, profile_path, set, set_number};
