@@ -26,6 +26,9 @@ pub enum MapFile {
 /// Why a command is refused. Nothing was put then, and nothing changed.
 #[derive(Debug, Drop, Error)]
 pub enum Refusal {
+    /// A rollback has no goal: none is recorded, and no generation below the current one names a system.
+    #[error("no previous generation")]
+    NoPrevious,
     /// The system has no readable `nixos-version`.
     #[error("no such system")]
     NoSystem,
