@@ -109,7 +109,7 @@ module _ (n : ℕ) (system : Name) where
       ends = λ q own. point_ends w m moment q own;
       free = λ way none. (
         way_of w m (λ clear. still_clear w m profile (line_turned profile stage profile_apart.line) (not_in_line profile) moment clear)
-        (λ clear. still_clear w m stage (not_in_line stage) profile_apart.line moment clear) way,
+            (λ clear. still_clear w m stage (not_in_line stage) profile_apart.line moment clear) way,
         refl,
       );
     };
