@@ -4,7 +4,9 @@ use Rattle.std.proofs.lemmas.List.{take_all}
 use Rattle.std.proofs.lemmas.Option.{none-some, same_Some}
 use Rattle.std.specs.FinMap.{get}
 use Rattle.std.specs.List.{AllByRecursion, list_any}
+use Rattle.std.specs.List.Sorted.{IsStrictlySortedBy}
 use Rattle.std.specs.Option.{option_map_or, option_or}
+use Rattle.generations.proofs.AfterLemmas.{named_at}
 use Rattle.generations.proofs.MoveLemmas.{gens_of_move, move_current, number_named}
 use Rattle.generations.proofs.Numbers.{below_bound, stands_at_number}
 use Rattle.generations.specs.declared.gens.Gen.{Gen}
@@ -22,7 +24,7 @@ use Rattle.tree_put.proofs.PutLemmas.{apart_ne}
 use Rattle.boot_entries.specs.declared.boot_texts.BootFile.{BootFile}
 use Rattle.boot_entries.specs.declared.boot_texts.BootTexts.{BootTexts}
 use Rattle.boot_entries.specs.BootPart.{boot_leaf, system_at, boot_part, entry_end, loader_end}
-use Rattle.boot_entries.specs.DefaultLaws.{IsSameMenu, IsSameProfile, MenuBeginsLaw, MenuStaysLaw, MenuLaw, MenuEndLaw}
+use Rattle.boot_entries.specs.DefaultLaws.{IsSameMenu, IsSameProfile, IsSameStore, MenuBeginsLaw, MenuStaysLaw, MenuLaw, MenuEndLaw, MenuSinceLaw}
 use Rattle.boot_entries.specs.Entries.{loader_text}
 use Rattle.boot_entries.specs.Laws.{IsBootGens}
 use Rattle.boot_entries.specs.Menu.{IsEntryOf, IsLoaderOf, IsMenuBetween, IsMenuWhole}
@@ -43,7 +45,7 @@ use Rattle.switch_parts.specs.Part.{IsAtEnd, IsFree, IsOnly}
 use Rattle.boot_entries.specs.BootDefault.{boot_default_in, boot_default_part, menu_end}
 use Rattle.boot_entries.specs.BootDefault.IsMakingDefault.{Listing, Moving}
 use Rattle.boot_entries.proofs.GensLemmas.{gens_after_law}
-use Rattle.boot_entries.proofs.PartLemmas.{part_law}
+use Rattle.boot_entries.proofs.PartLemmas.{entry_kept, part_law}
 use Rattle.boot_entries.proofs.ListedLemmas.{IsFileOf, IsListedEntry, files_listed, left_is, not_gone, same_path, take_one, take_parts}
 
 -- a generation that stands has a number that an entry can have
@@ -95,6 +97,45 @@ module _ (first now later : Leaves) (profile : IsSameProfile now later) where
 
 pub menu_stays_law : MenuStaysLaw
 menu_stays_law first now later between menu profile = menu_stays first now later profile menu between
+
+-- ---- it is such since another first world too that has the same boot menu and the same store
+
+abbrev no_gens : Gens
+no_gens = record { list = []; current = None }
+
+no_gens_are : IsBootGens no_gens
+unfolding IsStrictlySortedBy
+no_gens_are = record { list = record { rising = tt; numbers = tt }; systems = tt }
+
+module _ (first other now : Leaves) (menu : IsSameMenu first other) (store : IsSameStore first other) where
+  entry_since : (n : ℕ) (leaf : LeafKind) → IsEntryOf first now n leaf → IsEntryOf other now n leaf
+  entry_since n leaf is = record {
+    system = is.system;
+    stands = is.stands;
+    text = is.text ∙ ap (λ (file : BootFile). boot_leaf file.bytes) (sym (entry_kept no_gens no_gens_are first other store n is.system (named_at now n (Some is.system) is.stands)));
+  }
+
+  loader_since : IsLoaderOf first now → IsLoaderOf other now
+  loader_since is = record {
+    number = is.number;
+    current = is.current;
+    named = is.named;
+    entry = is.entry;
+    stands = is.stands;
+    is_entry = entry_since is.number is.entry is.is_entry;
+  }
+
+  menu_since : IsMenuBetween first now → IsMenuBetween other now
+  menu_since between = record {
+    entries = λ n leaf small stands. ⊎_elim
+        (λ stood. inl (menu (entry_path n) (entry_owned n small) ∙ stood)) (λ is. inr (entry_since n leaf is))
+        (between.entries n leaf small stands);
+    kept = λ n system stands stood. between.kept n system stands (subst (λ o. IsSome o) (menu (entry_path n) (entry_owned n (small_of now n (ap is_some stands)))) stood);
+    loader = ⊎_elim (λ same. inl (same ∙ sym (menu loader_path loader_owned))) (λ is. inr (loader_since is)) between.loader;
+  }
+
+pub menu_since_law : MenuSinceLaw
+menu_since_law first other now menu store between = menu_since first other now menu store between
 
 -- ---- while the boot menu of some generations is made
 

@@ -10,6 +10,7 @@ use Rattle.host_trait.specs.World.{Leaves, WorldState, seen}
 use Rattle.switch_names.specs.Names.{Name}
 use Rattle.switch_names.specs.SystemName.{IsSystemPath}
 use Rattle.switch_parts.specs.Part.{IsAtEnd, IsFree, IsMomentOf, IsPart}
+use Rattle.switch_parts.specs.Store.{is_in_store}
 use Rattle.boot_entries.specs.BootDefault.{IsMakingDefault, boot_default_in, boot_default_part, default_end}
 use Rattle.boot_entries.specs.Laws.{IsBootGens}
 use Rattle.boot_entries.specs.Menu.{IsMenuBetween, IsMenuWhole}
@@ -71,3 +72,11 @@ MenuBeginsLaw = (first now : Leaves) → IsSameMenu first now → IsMenuBetween 
 
 abbrev pub MenuStaysLaw : Type 0
 MenuStaysLaw = (first now later : Leaves) → IsMenuBetween first now → IsSameMenu now later → IsSameProfile now later → IsMenuBetween first later
+
+-- so is what lies in the store
+abbrev pub IsSameStore : Leaves → Leaves → Type 0
+IsSameStore one other = (q : Name) → is_in_store q ≡ true → get other q ≡ get one q
+
+-- it is such since another first world too that has the same boot menu and the same store
+abbrev pub MenuSinceLaw : Type 0
+MenuSinceLaw = (first other now : Leaves) → IsSameMenu first other → IsSameStore first other → IsMenuBetween first now → IsMenuBetween other now

@@ -1,5 +1,5 @@
 //! What holds of making the boot menu.
-ghost use Rattle.boot_entries.specs.DefaultLaws.{DefaultEndLaw, DefaultMomentLaw, DefaultNamesLaw, DefaultPartLaw, DefaultStaysLaw, GensAfterLaw, MenuBeginsLaw, MenuEndLaw, MenuLaw, MenuStaysLaw};
+ghost use Rattle.boot_entries.specs.DefaultLaws.{DefaultEndLaw, DefaultMomentLaw, DefaultNamesLaw, DefaultPartLaw, DefaultStaysLaw, GensAfterLaw, MenuBeginsLaw, MenuEndLaw, MenuLaw, MenuSinceLaw, MenuStaysLaw};
 ghost use Rattle.boot_entries.specs.Laws.{BootEndLaw, BootMomentLaw, BootOnlyLaw, BootPartLaw, BootPlanLaw};
 
 /// At each moment of making the boot menu that is planned for some generations nothing has changed
@@ -51,4 +51,5 @@ pub fn boot_menus_stand()
     ensures end { MenuEndLaw }
     ensures begins { MenuBeginsLaw }
     ensures stays { MenuStaysLaw }
+    ensures since { MenuSinceLaw }
 {}

@@ -15,7 +15,7 @@ use Rattle.generations.proofs.Numbers.{below_bound, greatest_is, greatest_none, 
 use Rattle.generations.proofs.Apart.{one_link}
 use Rattle.generations.proofs.SetLaws.{generation_of}
 use Rattle.host_trait.specs.World.{Leaves, content_of, leaf_content}
-use Rattle.generations.specs.Goal.{BearsGoal, GoalLaw, HasSameLinks, IsBefore, goal_place, goal_text, has_target, is_content, is_current, is_link, is_recorded, names_system, previous, recorded, some_number}
+use Rattle.generations.specs.Goal.{BearsGoal, GoalLaw, HasSameLinks, IsBefore, goal, goal_place, goal_text, has_target, is_content, is_current, is_link, is_recorded, names_system, previous, recorded, some_number}
 
 and_true : (a b : Bool) → a && b ≡ true → (a ≡ true) × (b ≡ true)
 and_true true b is = (refl, is)
@@ -139,3 +139,37 @@ goal_unrecorded r before is = elim (r == 0) as (λ b. cond b None (Some r) ≡ N
   | true ↦ λ e. refl
   | false ↦ λ e. absurd cc
 ] is
+
+-- ---- the goal names a system
+
+greatest_passes : (test : ℕ → Bool) (bound : ℕ) → (greatest_below test bound == 0) ≡ false → test (greatest_below test bound) ≡ true
+unfolding greatest_below
+greatest_passes test zero none = absurd (both_ways _ none refl)
+greatest_passes test (suc n) none = either (greatest_passes test n) (test n) refl none
+  where
+    either : ((greatest_below test n == 0) ≡ false → test (greatest_below test n) ≡ true) → (b : Bool) → test n ≡ b → (cond b n (greatest_below test n) == 0) ≡ false → test (cond b n (greatest_below test n)) ≡ true
+    either before true is none = is
+    either before false is none = before none
+
+recorded_names : (leaves : Leaves) → (recorded leaves == 0) ≡ false → has_target leaves (recorded leaves) ≡ true
+unfolding recorded
+recorded_names leaves none =
+    (and_true (has_target leaves (recorded leaves)) (is_content (content_of leaves goal_place) (goal_text (recorded leaves))) (greatest_passes (is_recorded leaves) (2 ^ 32) none)).0
+
+previous_names : (leaves : Leaves) → (previous leaves == 0) ≡ false → has_target leaves (previous leaves) ≡ true
+unfolding previous
+previous_names leaves none = greatest_passes (has_target leaves) (greatest_below (is_current leaves) (2 ^ 32)) none
+
+pub goal_names : (leaves : Leaves) (n : ℕ) → goal leaves ≡ Some n → has_target leaves n ≡ true
+goal_names leaves n is = by_recorded (recorded leaves == 0) refl is
+  where
+    same : (k : ℕ) → Some k ≡ Some n → k ≡ n
+    same k e = cc
+
+    by_previous : (b : Bool) → (previous leaves == 0) ≡ b → cond b None (Some (previous leaves)) ≡ Some n → has_target leaves n ≡ true
+    by_previous true none is = absurd (cc)
+    by_previous false none is = subst (λ k. has_target leaves k ≡ true) (same (previous leaves) is) (previous_names leaves none)
+
+    by_recorded : (b : Bool) → (recorded leaves == 0) ≡ b → cond b (some_number (previous leaves)) (Some (recorded leaves)) ≡ Some n → has_target leaves n ≡ true
+    by_recorded true none is = by_previous (previous leaves == 0) refl is
+    by_recorded false none is = subst (λ k. has_target leaves k ≡ true) (same (recorded leaves) is) (recorded_names leaves none)

@@ -1,12 +1,13 @@
 -- The last of a list of generations, and lists with one more at their end.
-use Rattle.std.proofs.Common.{◌≡◌, ◌+◌, ◌<◌, ℕ, Bool, true, false, cond, ◌&&◌, nat_lt, List, [], ◌∷◌, ◌++◌, length, take, get_or, Some, None, refl, sym, ap, ◌∙◌}
-use Rattle.std.proofs.lemmas.List.{append-nil, take_more}
+use Rattle.std.proofs.Common.{◌≡◌, ◌+◌, ◌<◌, ℕ, Bool, true, false, cond, ◌&&◌, nat_lt, List, [], ◌∷◌, ◌++◌, length, take, drop, get_or, Some, None, refl, sym, ap, ◌∙◌}
+use Rattle.std.proofs.lemmas.List.{append-nil, take-append-drop, take_more}
 use Rattle.std.proofs.lemmas.List.Elements.{filter-append}
 use Rattle.std.specs.List.{filter}
-use Rattle.std.specs.Option.{is_some, option_map}
+use Rattle.std.specs.Option.{is_some, option_map, option_or}
 use Rattle.std.specs.Prelude.{◌-◌, Option, slice_get, if◌then◌else◌, ◌^◌}
 use Rattle.generations.specs.declared.gens.Gen.{Gen}
-use Rattle.generations.specs.Gens.{is_highest_of, last_number, number_for_in, number_from, previous_in}
+use Rattle.generations.proofs.BelowLemmas.{first_at, listed_joined, rest_at}
+use Rattle.generations.specs.Gens.{is_highest_of, last_number, listed_at, number_for_in, number_from, previous_in}
 use Rattle.generations.specs.Places.{is_of}
 
 last_of_more : (list : List Gen) (gen : Gen) → last_number (list ++ gen ∷ []) ≡ Some gen.number
@@ -51,3 +52,18 @@ module _ (list slice : List Gen) (last : Option Gen) (system : List ℕ) (is : l
 pub number_kept : (gen : Gen) (system : List ℕ) → is_of (Some gen.target) system ≡ true → Some gen.number ≡ number_from (Some gen) system
 number_kept gen system names =
     sym (ap (λ b. if b then Some gen.number else (if nat_lt (gen.number + 1) (2 ^ 32) then Some (gen.number + 1) else None)) names)
+
+-- the generation of a number, where none before it has that
+module _ (list : List Gen) (i n : ℕ) (gen : Gen) (within : i < length list) (is : gen ≡ get_or list i gen) (before : listed_at (take i list) n ≡ None) where
+  listed_more : listed_at (take (i + 1) list) n ≡ listed_at (gen ∷ []) n
+  listed_more =
+      ap (λ l. listed_at l n) (take_more list i gen within ∙ ap (λ g. take i list ++ g ∷ []) (sym is))
+      ∙ listed_joined (take i list) (gen ∷ []) n ∙ ap (λ o. option_or o (listed_at (gen ∷ []) n)) before
+
+  pub listed_found : gen.number ≡ n → listed_at list n ≡ Some gen.target
+  listed_found same =
+      ap (λ l. listed_at l n) (sym (take-append-drop (i + 1) list)) ∙ listed_joined (take (i + 1) list) (drop (i + 1) list) n
+      ∙ ap (λ o. option_or o (listed_at (drop (i + 1) list) n)) (listed_more ∙ ap (λ k. listed_at (gen ∷ []) k) (sym same) ∙ first_at gen [])
+
+  pub listed_passed : (gen.number ≡ n → ⊥) → listed_at (take (i + 1) list) n ≡ None
+  listed_passed other = listed_more ∙ rest_at gen [] n other

@@ -169,6 +169,13 @@ point_names n system w m stands moment = ⊎_elim
     (λ new. inr (point_named n system w stands m new))
     moment
 
+-- the links of the generations are the same at each moment
+pub links_stay : (n : ℕ) (system : Name) (w m : WorldState) → (move_part (Point n) system).Keeps w m → (k : ℕ) → get m.leaves (link_path k) ≡ get w.leaves (link_path k)
+links_stay n system w m keeps k = sym (end_at_link m.leaves) ∙ keeps.ends (link_path k) (link_owned k) ∙ end_at_link w.leaves
+  where
+    end_at_link : (leaves : Leaves) → point_end n leaves (link_path k) ≡ get leaves (link_path k)
+    end_at_link leaves = ap (λ b. cond b (Some (Link (link_name n))) (get leaves (link_path k))) (other_path (link_path k) profile (apart_ne _ _ (link_profile k)))
+
 -- they are the same at each moment
 pub gens_at_stay : (n : ℕ) (system : Name) (w m : WorldState) → (move_part (Point n) system).Keeps w m → gens_at n m.leaves ≡ gens_at n w.leaves
 gens_at_stay n system w m keeps =
@@ -176,11 +183,8 @@ gens_at_stay n system w m keeps =
     ∙ ap (λ (l : List Gen). record { list = l; current = Some n }) (below_same (generation_at m.leaves) (generation_at w.leaves) (2 ^ 32) same)
     ∙ sym (gens_at_is n w.leaves)
   where
-    end_at_link : (leaves : Leaves) (k : ℕ) → point_end n leaves (link_path k) ≡ get leaves (link_path k)
-    end_at_link leaves k = ap (λ b. cond b (Some (Link (link_name n))) (get leaves (link_path k))) (other_path (link_path k) profile (apart_ne _ _ (link_profile k)))
-
     same : (k : ℕ) → generation_at m.leaves k ≡ generation_at w.leaves k
-    same k = generation_of m.leaves w.leaves k (sym (end_at_link m.leaves k) ∙ keeps.ends (link_path k) (link_owned k) ∙ end_at_link w.leaves k)
+    same k = generation_of m.leaves w.leaves k (links_stay n system w m keeps k)
 
 -- ---- they are such as a boot menu has
 

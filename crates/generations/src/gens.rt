@@ -1,8 +1,9 @@
 //! Generations of the system profile, and the numbers that they give.
-ghost use Rattle.std.specs.Prelude.{◌≡◌, ◌&&◌, ◌++◌, ◌∷◌, [], Some, IfOk, nat_lt, is_some, if◌then◌else◌};
+ghost use Rattle.std.specs.Prelude.{◌≡◌, ◌&&◌, ◌++◌, ◌∷◌, [], Some, IfOk, nat_lt, is_some, option_and_then, if◌then◌else◌};
+ghost use Rattle.std.specs.Option.{option_copied};
 ghost use Rattle.host_trait.specs.World.{Leaves};
 ghost use Rattle.generations.specs.After.{gens_after};
-ghost use Rattle.generations.specs.Gens.{IsGensOf, is_highest_of, number_for_in, previous_in};
+ghost use Rattle.generations.specs.Gens.{IsGensOf, is_highest_of, listed_at, number_for_in, previous_in};
 ghost use Rattle.generations.specs.Places.{is_of};
 
 use std::alloc::{AllocError, Global};
@@ -58,6 +59,18 @@ pub fn is_highest_of(gens: &Gens, system: &SystemName) -> bool
         Some(highest) => is_of(highest, system),
         None => false,
     }
+}
+
+/// The system of the generation of a number, where it stands and names one.
+pub fn system_of(gens: &Gens, number: u32) -> Option<&SystemName>
+    ensures { option_copied result ≡ option_and_then (λ target. target) (listed_at gens.now.list number) }
+{
+    for generation in gens.list.as_slice() {
+        if generation.number == number {
+            return generation.target.as_ref();
+        }
+    }
+    None
 }
 
 /// Whether a generation lies below a number and names a system.

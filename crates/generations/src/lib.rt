@@ -12,7 +12,7 @@ mod rollback_goal;
 mod setting;
 
 pub use digits::number_between;
-pub use gens::{Gen, Gens, is_highest_of, number_for, previous};
+pub use gens::{Gen, Gens, is_highest_of, number_for, previous, system_of};
 pub use laws::{
     a_move_leaves_its_part_at_its_end, a_move_leaves_these_generations,
     a_set_can_be_made_where_its_part_is_free, each_moment_of_a_move_is_one_of_its_part,

@@ -1,11 +1,14 @@
 -- What each step of carrying a plan out needs, and what it leaves: NixOS manual, "What happens during a system switch?".
-use Rattle.std.specs.Prelude.{◌≡◌, Bool, true, false, Option, None, Some}
+use Rattle.std.specs.Prelude.{◌≡◌, Bool, true, false, Option, None, Some, option_map}
 use Rattle.activation_stage.specs.ActivationPart.{IsActivationPlanOf}
 use Rattle.activation_stage.specs.declared.activation_plan.ActivationPlan.{ActivationPlan}
 use Rattle.boot_entries.specs.BootDefault.{CanMakeDefault}
 use Rattle.boot_entries.specs.declared.boot_default.BootDefaultPlan.{BootDefaultPlan}
+use Rattle.generations.specs.declared.moving.Move.{Move}
+use Rattle.generations.specs.declared.moving.Move.TheVariants.{Point, Set}
+use Rattle.generations.specs.Goal.{goal_place}
 use Rattle.host_trait.specs.States.{state_of}
-use Rattle.host_trait.specs.World.{WorldState}
+use Rattle.host_trait.specs.World.{WorldState, without_leaf}
 use Rattle.owed_plan.specs.declared.owed.Owed.{Owed}
 use Rattle.owed_plan.specs.Calls.{calls_of}
 use Rattle.switch_engine.specs.Moments.{IsSwitchMoment, IsSwitched}
@@ -13,13 +16,19 @@ use Rattle.switch_engine.specs.Rows.{switch_in}
 use Rattle.switch_names.specs.Names.{Name}
 use Rattle.switch_names.specs.SystemName.{IsSystemPath}
 use Rattle.switch_parts.specs.Part.{IsFree}
+use Rattle.tree_put.specs.Put.{CanPut}
 use Rattle.unit_stage.specs.declared.unit_plan.UnitPlan.{UnitPlan}
 use Rattle.unit_stage.specs.Plan.{IsOwedBy, owed_of}
 
--- the system to which the profile is set, where that is planned
-abbrev pub sets_by : Name → Option BootDefaultPlan → Option Name
-sets_by system None = None
-sets_by system (Some plan) = Some system
+-- the move of the profile, where one is planned
+abbrev pub moves_of : Option BootDefaultPlan → Option Move
+moves_of plan = option_map (λ plan. plan.to) plan
+
+-- the goal can be recorded, where the profile goes back to a generation
+abbrev pub CanRecordBy : Option Move → WorldState → Type 0
+CanRecordBy None w = Unit {0}
+CanRecordBy (Some Set) w = Unit {0}
+CanRecordBy (Some (Point n)) w = CanPut goal_place w
 
 -- a system can be made the boot default, where that is planned
 abbrev pub CanSetBy : Name → Option BootDefaultPlan → WorldState → Type 0
@@ -48,3 +57,8 @@ IsSwitchMomentIf false system owed u m = m ≡ u
 abbrev pub IsSwitchedIf : Bool → Name → Owed → WorldState → WorldState → Type 0
 IsSwitchedIf true system owed u v = IsSwitched system owed u v
 IsSwitchedIf false system owed u v = v ≡ u
+
+-- the world without the goal, where the profile is moved
+abbrev pub cleared_by : Option Move → WorldState → WorldState
+cleared_by None w = w
+cleared_by (Some move) w = without_leaf goal_place w

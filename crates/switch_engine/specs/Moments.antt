@@ -1,23 +1,27 @@
 -- What holds at each moment of a command: NixOS manual, "What happens during a system switch?".
-use Rattle.std.specs.Prelude.{◌≡◌, ◌≢◌, ◌↔◌, Bool, true, false, List, [], ◌∷◌, Option, None, Some, ℕ}
+use Rattle.std.specs.Prelude.{◌≡◌, ◌≢◌, ◌⊎◌, ◌↔◌, Bool, true, false, List, [], ◌∷◌, Option, None, Some, ℕ}
 use Rattle.std.specs.FinMap.{get}
 use Rattle.activation_stage.specs.ActivationPart.{IsActivated, IsActivating}
 use Rattle.boot_entries.specs.BootDefault.{IsMakingDefault, default_end}
 use Rattle.boot_entries.specs.Menu.{IsMenuBetween}
+use Rattle.generations.specs.declared.moving.Move.{Move}
+use Rattle.generations.specs.declared.moving.Move.TheVariants.{Point, Set}
+use Rattle.generations.specs.Goal.{goal_leaf, goal_place}
 use Rattle.generations.specs.Places.{Names}
 use Rattle.generations.specs.Set.{NamesOldOrNew}
 use Rattle.host_trait.specs.States.{state_of}
-use Rattle.host_trait.specs.World.{WorldState, seen, stage}
+use Rattle.host_trait.specs.World.{WorldState, seen, stage, with_leaf}
 use Rattle.owed_plan.specs.Calls.{reload_calls, restart_calls, start_calls, stop_calls}
 use Rattle.owed_plan.specs.declared.owed.Owed.{Owed}
 use Rattle.owed_plan.specs.Law.{lists_of}
 use Rattle.switch_engine.specs.declared.command.Command.{Command}
-use Rattle.switch_engine.specs.Commands.{brought_to, row, set_to}
+use Rattle.switch_engine.specs.Commands.{brought_to, moved_by, new_system, row, set_to}
 use Rattle.switch_engine.specs.Final.{IsEndOf, IsEntering}
-use Rattle.switch_engine.specs.Owing.{IsSteadyFor, IsUnderway}
+use Rattle.switch_engine.specs.Owing.{IsOver, IsSteadyFor, IsUnderway}
 use Rattle.switch_engine.specs.Rows.{switch_in}
 use Rattle.switch_names.specs.Names.{Name}
 use Rattle.switch_parts.specs.Part.{final_leaf}
+use Rattle.tree_put.specs.Put.{IsOldOrGone, IsOldOrNew}
 use Rattle.unit_stage.specs.End.{IsBrought}
 use Rattle.unit_stage.specs.Plan.{IsOwedBy}
 use Rattle.unit_stage.specs.Steps.{IsBringMoment, IsStopMoment, with_stops}
@@ -44,37 +48,74 @@ pub record IsSwitched (system : Name) (owed : Owed) (w v : WorldState) : Type 0 
   pub leaves : (q : Name) → q ≢ stage → get v.leaves q ≡ final_leaf (switch_in system w.leaves) w.leaves q
   pub units : IsBrought system owed w v
 
--- a step of making a system the boot default, where the profile is set to it: the profile is being set, or it is set, and
--- the boot menu is being made
-abbrev pub IsSetStep : Option Name → WorldState → WorldState → Type 0
-IsSetStep None w m = seen m ≡ seen w
-IsSetStep (Some system) w m = IsMakingDefault system w m
+-- a step of recording the goal, where the profile goes back to a generation
+abbrev pub IsRecordStep : Option Move → WorldState → WorldState → Type 0
+IsRecordStep None w m = seen m ≡ seen w
+IsRecordStep (Some Set) w m = seen m ≡ seen w
+IsRecordStep (Some (Point n)) w m = IsOldOrNew goal_place (goal_leaf n) w m
 
--- but for the stage, the world in which a system is the boot default, where the profile is set to it
-abbrev pub set_world : Option Name → WorldState → WorldState
-set_world None w = seen w
-set_world (Some system) w = default_end system w
+-- but for the stage, the world in which the goal is recorded, where the profile goes back
+abbrev pub record_world : Option Move → WorldState → WorldState
+record_world None w = seen w
+record_world (Some Set) w = seen w
+record_world (Some (Point n)) w = seen (with_leaf goal_place (goal_leaf n) w)
+
+-- a step of making a system the boot default, where the profile is moved to it: the profile is being moved, or it is moved,
+-- and the boot menu is being made
+abbrev pub IsSetStep : Option Move → Name → WorldState → WorldState → Type 0
+IsSetStep None system w m = seen m ≡ seen w
+IsSetStep (Some move) system w m = IsMakingDefault move system w m
+
+-- but for the stage, the world in which a system is the boot default, where the profile is moved to it
+abbrev pub set_world : Option Move → Name → WorldState → WorldState
+set_world None system w = seen w
+set_world (Some move) system w = default_end move system w
 
 -- a step of a switch of the units, where they are switched to a system
 abbrev pub IsSwitchStep : Option Name → WorldState → WorldState → Type 0
 IsSwitchStep None w m = seen m ≡ seen w
 IsSwitchStep (Some system) w m = (owed : Owed) × IsOwedBy w system owed × IsSwitchMoment system owed w m
 
--- a system is being made the boot default, or it is that, and the units are being switched
-pub data IsStepTo (sets switches : Option Name) (w m : WorldState) : Type 0 where
-  Setting : IsSetStep sets w m → IsStepTo sets switches w m
-  Switching : (u : WorldState) → seen u ≡ set_world sets w → IsSwitchStep switches u m → IsStepTo sets switches w m
+-- the world that a switch of the units leaves, where they are switched to a system
+abbrev pub IsSwitchEnd : Option Name → WorldState → WorldState → Type 0
+IsSwitchEnd None w v = seen v ≡ seen w
+IsSwitchEnd (Some system) w v = (owed : Owed) × IsOwedBy w system owed × IsSwitched system owed w v
+
+-- a step of removing the goal, where the profile is moved
+abbrev pub IsClearStep : Option Move → WorldState → WorldState → Type 0
+IsClearStep None w m = m ≡ w
+IsClearStep (Some move) w m = IsOldOrGone goal_place w m
+
+-- the goal is being recorded, or the system is being made the boot default, or the units are being switched, or the goal is
+-- being removed; each begins in the world that the one before it leaves
+pub data IsStepTo (moves : Option Move) (system : Name) (switches : Option Name) (w m : WorldState) : Type 0 where
+  Recording : IsRecordStep moves w m → IsStepTo moves system switches w m
+  Setting : (r : WorldState) → seen r ≡ record_world moves w → IsSetStep moves system r m → IsStepTo moves system switches w m
+  Switching : (r u : WorldState) → seen r ≡ record_world moves w → seen u ≡ set_world moves system r → IsSwitchStep switches u m → IsStepTo moves system switches w m
+  Clearing : (r u v : WorldState) → seen r ≡ record_world moves w → seen u ≡ set_world moves system r → IsSwitchEnd switches u v → IsClearStep moves v m →
+      IsStepTo moves system switches w m
 
 -- where exactly a moment stands: a command that changes nothing has none but its beginning
-abbrev pub IsStepIf : Bool → Option Name → Option Name → WorldState → WorldState → Type 0
-IsStepIf false sets switches w m = m ≡ w
-IsStepIf true sets switches w m = IsStepTo sets switches w m
+abbrev pub IsStepIf : Bool → Option Move → Name → Option Name → WorldState → WorldState → Type 0
+IsStepIf false moves system switches w m = m ≡ w
+IsStepIf true moves system switches w m = IsStepTo moves system switches w m
 
 -- the same for a command
 abbrev pub IsStepOf : Command → WorldState → WorldState → Type 0
-IsStepOf command w m = IsStepIf (row command w.leaves).changes (set_to command w.leaves) (brought_to command w.leaves) w m
+IsStepOf command w m = IsStepIf (row command w.leaves).changes (moved_by (row command w.leaves)) (new_system command w.leaves) (brought_to command w.leaves) w m
 
--- the profile names the system that it named, or the one that it is set to
+-- a rollback has come to its end: it is over, and no goal stands
+pub record HasComeBack (command : Command) (w m : WorldState) : Type 0 where
+  pub over : IsOver w command m
+  pub cleared : get m.leaves goal_place ≡ None
+
+-- a run is underway; where the profile goes back, it has come to its end once the goal is removed
+abbrev pub IsOnItsWay : Option Move → Command → WorldState → WorldState → Type 0
+IsOnItsWay None command w m = IsUnderway w command m
+IsOnItsWay (Some Set) command w m = IsUnderway w command m
+IsOnItsWay (Some (Point n)) command w m = IsUnderway w command m ⊎ HasComeBack command w m
+
+-- the profile names the system that it named, or the one that it is moved to
 abbrev pub NamesOneOf : Option Name → WorldState → WorldState → Type 0
 NamesOneOf None w m = (other : List ℕ) → Names m.leaves other ↔ Names w.leaves other
 NamesOneOf (Some system) w m = NamesOldOrNew system w m
@@ -87,7 +128,7 @@ NamesOneOf (Some system) w m = NamesOldOrNew system w m
 -- generation, whose entry stands.
 pub record IsMomentOf (command : Command) (w m : WorldState) : Type 0 where
   pub step : IsStepOf command w m
-  pub underway : IsSteadyFor command w → IsUnderway w command m
+  pub underway : IsSteadyFor command w → IsOnItsWay (row command w.leaves).moves command w m
   pub entered : IsEntering command w m
   pub named : NamesOneOf (set_to command w.leaves) w m
   pub menu : IsMenuBetween w.leaves m.leaves
@@ -97,3 +138,8 @@ pub record IsMomentOf (command : Command) (w m : WorldState) : Type 0 where
 abbrev pub LeadsBy : Command → List WorldState → WorldState → WorldState → Type 0
 LeadsBy command [] w v = IsEndOf command w v
 LeadsBy command (m ∷ cuts) w v = IsMomentOf command w m × LeadsBy command cuts m v
+
+-- one of some runs was cut when a rollback that began in a world had come to its end
+abbrev pub HasComeBackIn : Command → WorldState → List WorldState → Type 0
+HasComeBackIn command first [] = ⊥
+HasComeBackIn command first (m ∷ cuts) = HasComeBack command first m ⊎ HasComeBackIn command first cuts

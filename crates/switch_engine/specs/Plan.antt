@@ -1,10 +1,11 @@
 -- What is planned for a command: NixOS manual, "What happens during a system switch?".
-use Rattle.std.specs.Prelude.{◌≡◌, Bool, true, false, Option, None, Some}
+use Rattle.std.specs.Prelude.{◌≡◌, Bool, true, false, Option, None, Some, is_some}
 use Rattle.activation_stage.specs.ActivationPart.{IsActivationPlanOf}
 use Rattle.activation_stage.specs.declared.activation_plan.ActivationPlan.{ActivationPlan}
 use Rattle.boot_entries.specs.BootDefault.{IsDefaultFor, IsDefaultPlanOf}
 use Rattle.boot_entries.specs.declared.boot_default.BootDefaultPlan.{BootDefaultPlan}
 use Rattle.generations.specs.declared.gens.Gens.{Gens}
+use Rattle.generations.specs.declared.moving.Move.{Move}
 use Rattle.generations.specs.Gens.{IsGensOf}
 use Rattle.host_trait.specs.World.{Leaves, WorldState}
 use Rattle.switch_engine.specs.declared.plan.Plan.{Plan}
@@ -26,23 +27,27 @@ abbrev pub IsActivationPlanned : Bool → Name → WorldState → Option Activat
 IsActivationPlanned switches system w None = switches ≡ false
 IsActivationPlanned switches system w (Some plan) = (switches ≡ true) × IsActivationPlanOf system w.leaves plan
 
--- the generations that stand, where the profile is set
+-- the generations that stand, where they are asked for
 abbrev pub AreGensFor : Bool → Leaves → Option Gens → Type 0
-AreGensFor sets leaves None = sets ≡ false
-AreGensFor sets leaves (Some gens) = (sets ≡ true) × IsGensOf leaves gens
+AreGensFor asked leaves None = asked ≡ false
+AreGensFor asked leaves (Some gens) = (asked ≡ true) × IsGensOf leaves gens
 
--- what is planned for the profile and the boot menu, where the profile is set to a system
-abbrev pub IsProfilePlanned : Bool → Name → WorldState → Option BootDefaultPlan → Type 0
-IsProfilePlanned sets system w None = sets ≡ false
-IsProfilePlanned sets system w (Some plan) = (sets ≡ true) × IsDefaultPlanOf system w.leaves plan
+-- the generations that stand, where the profile is moved
+abbrev pub AreGensBy : Option Move → Leaves → Option Gens → Type 0
+AreGensBy moves leaves gens = AreGensFor (is_some moves) leaves gens
+
+-- what is planned for the profile and the boot menu, where the profile is moved to a system
+abbrev pub IsProfilePlanned : Option Move → Name → WorldState → Option BootDefaultPlan → Type 0
+IsProfilePlanned moves system w None = moves ≡ None
+IsProfilePlanned moves system w (Some plan) = (moves ≡ Some plan.to) × IsDefaultPlanOf plan.to system w.leaves plan
 
 -- the parts that are planned for a row
 pub record ArePlanned (its : Row) (w : WorldState) (plan : Plan) : Type 0 where
   pub units : AreUnitsPlanned its.switches its.system w plan.units
   pub activation : IsActivationPlanned its.switches its.system w plan.activation
-  pub profile : IsProfilePlanned its.sets its.system w plan.profile
+  pub profile : IsProfilePlanned its.moves its.system w plan.profile
 
--- where the profile is set, the number is the one that its generations give the system, and the entries of the boot menu
+-- where the profile is moved, the number is the one that its generations give the system, and the entries of the boot menu
 -- are put at places of entries
 abbrev pub IsSound : Plan → Type 0
 IsSound plan = (profile : BootDefaultPlan) → plan.profile ≡ Some profile → IsDefaultFor plan.row.system profile

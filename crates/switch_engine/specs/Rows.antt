@@ -1,5 +1,5 @@
 -- What a command leaves, and why it is refused, by its row: NixOS manual, "Changing the configuration".
-use Rattle.std.specs.Prelude.{Bool, true, false, Option, Some, is_none, option_map, if◌then◌else◌}
+use Rattle.std.specs.Prelude.{Bool, true, false, Option, None, Some, is_none, option_map, if◌then◌else◌}
 use Rattle.std.specs.FinMap.{get}
 use Rattle.std.specs.Option.{option_or}
 use Rattle.activation_stage.specs.ActivationPart.{activation_part}
@@ -8,14 +8,17 @@ use Rattle.etc_manifest.specs.Owners.{OwnerIds}
 use Rattle.boot_entries.specs.BootDefault.{boot_default_part}
 use Rattle.generations.specs.After.{gens_after}
 use Rattle.generations.specs.declared.gens.Gens.{Gens}
+use Rattle.generations.specs.declared.moving.Move.{Move}
+use Rattle.generations.specs.GoalPart.{goal_part}
+use Rattle.generations.specs.Move.{gens_moved}
 use Rattle.host_trait.specs.declared.leaf.LeafKind.{LeafKind}
 use Rattle.host_trait.specs.World.{Leaves, content_of}
 use Rattle.switch_engine.specs.declared.command.Command.{Command}
-use Rattle.switch_engine.specs.Commands.{new_system, row}
+use Rattle.switch_engine.specs.Commands.{lacks_goal, new_system, row}
 use Rattle.switch_engine.specs.System.{version_path}
 use Rattle.switch_names.specs.Names.{Name}
 use Rattle.switch_parts.specs.declared.refusal.Refusal.{Refusal}
-use Rattle.switch_parts.specs.declared.refusal.Refusal.TheVariants.{InTheWay, NoSystem}
+use Rattle.switch_parts.specs.declared.refusal.Refusal.TheVariants.{InTheWay, NoPrevious, NoSystem}
 use Rattle.switch_parts.specs.Part.{Part, both, final_leaf, no_part}
 use Rattle.tree_put.specs.First.{first_in_the_way}
 use Rattle.unit_stage.specs.Units.{units_part}
@@ -34,32 +37,50 @@ abbrev pub part_if : Bool → Part → Part
 part_if true part = part
 part_if false part = no_part
 
--- the parts of a command that is about a system: what it switches, and the boot default, where the boot menu is that of these
--- generations
-abbrev pub parts : Bool → Bool → Name → OwnerIds → Gens → Part
-parts switches sets system owners gens = both (part_if switches (switch_part system owners)) (part_if sets (boot_default_part system gens))
+-- what a move of the profile is about: the boot default, where the boot menu is that of these generations, and the goal of a
+-- rollback, which goes
+abbrev pub default_part : Move → Name → Gens → Part
+default_part move system gens = both (boot_default_part move system gens) goal_part
 
--- the same with the owners of the tables that are left, and the generations that stand after a set of the profile
-abbrev pub parts_in : Bool → Bool → Name → Leaves → Part
-parts_in switches sets system leaves = parts switches sets system (owners_after system leaves) (gens_after system leaves)
+-- the same, where the profile is moved
+abbrev pub default_if : Option Move → Name → Gens → Part
+default_if None system gens = no_part
+default_if (Some move) system gens = default_part move system gens
+
+-- the generations that stand after a move, where the profile is moved
+abbrev pub gens_to : Option Move → Name → Leaves → Gens
+gens_to None system leaves = gens_after system leaves
+gens_to (Some move) system leaves = gens_moved move system leaves
+
+-- the parts of a command that is about a system: what it switches, and the boot default
+abbrev pub parts : Bool → Option Move → Name → OwnerIds → Gens → Part
+parts switches moves system owners gens = both (part_if switches (switch_part system owners)) (default_if moves system gens)
+
+-- the same with the owners of the tables that are left, and the generations that stand after a move of the profile
+abbrev pub parts_in : Bool → Option Move → Name → Leaves → Part
+parts_in switches moves system leaves = parts switches moves system (owners_after system leaves) (gens_to moves system leaves)
 
 -- the parts of a command
 abbrev pub part_of : Command → Leaves → Part
-part_of command leaves = parts_in (row command leaves).switches (row command leaves).sets (new_system command leaves) leaves
+part_of command leaves = parts_in (row command leaves).switches (row command leaves).moves (new_system command leaves) leaves
 
 -- why the parts of a command that is about a system are refused, or nothing: something is in the way, or a part is refused
-abbrev pub refusal_by : Bool → Bool → Name → Leaves → Option Refusal
-refusal_by switches sets system leaves =
-    let part = parts_in switches sets system leaves in option_or (option_map InTheWay (first_in_the_way (part.places leaves) leaves)) (part.refusal leaves)
+abbrev pub refusal_by : Bool → Option Move → Name → Leaves → Option Refusal
+refusal_by switches moves system leaves =
+    let part = parts_in switches moves system leaves in option_or (option_map InTheWay (first_in_the_way (part.places leaves) leaves)) (part.refusal leaves)
 
 -- the same for a command
 abbrev pub parts_refusal : Command → Leaves → Option Refusal
-parts_refusal command leaves = refusal_by (row command leaves).switches (row command leaves).sets (new_system command leaves) leaves
+parts_refusal command leaves = refusal_by (row command leaves).switches (row command leaves).moves (new_system command leaves) leaves
 
--- why a command is refused, or nothing: the system isn't there, or its parts are refused
-abbrev pub refusal : Command → Leaves → Option Refusal
-refusal command leaves =
+-- why the system of a command is refused, or nothing: it isn't there, or its parts are refused
+abbrev pub system_refusal : Command → Leaves → Option Refusal
+system_refusal command leaves =
     if is_none (content_of leaves (version_path (new_system command leaves))) then Some NoSystem else parts_refusal command leaves
+
+-- why a command is refused, or nothing: it has no generation to go back to, or its system is refused
+abbrev pub refusal : Command → Leaves → Option Refusal
+refusal command leaves = if lacks_goal command leaves then Some NoPrevious else system_refusal command leaves
 
 -- the leaf that a command leaves at a place: its owner's end, else as it was
 abbrev pub final : Command → Leaves → Name → Option LeafKind

@@ -1,11 +1,11 @@
-//! The commands on a system.
+//! The commands.
 ghost use Rattle.std.specs.Prelude.{◌≡◌, ◌↔◌, IfOk, IsTrue};
-ghost use Rattle.switch_engine.specs.Commands.{IsQuery};
+ghost use Rattle.switch_engine.specs.Commands.{IsQuery, moves_profile};
 
 use std::alloc::{AllocError, Global};
 use switch_names::SystemName;
 
-/// What a run is asked to do with a system.
+/// What a run is asked to do.
 #[derive(Debug, Drop)]
 pub enum Command {
     /// Makes a generation for a system, points the profile to it, makes the boot menu, and switches the
@@ -19,6 +19,10 @@ pub enum Command {
     Boot(SystemName),
     /// Puts the report of a `test` of a system, on its units, accounts and `/etc`, and changes nothing.
     DryActivate(SystemName),
+    /// Points the profile back to a generation, makes the boot menu, and switches the accounts, `/etc` and
+    /// the units to the system of that generation: the one whose number is recorded by a rollback that was
+    /// cut, else the one before the current one.
+    Rollback,
 }
 
 impl Command {
@@ -27,8 +31,18 @@ impl Command {
         ensures { IsTrue result ↔ IsQuery self.now }
     {
         match self {
-            Command::Switch(_) | Command::Test(_) | Command::Boot(_) => false,
+            Command::Switch(_) | Command::Test(_) | Command::Boot(_) | Command::Rollback => false,
             Command::DryActivate(_) => true,
+        }
+    }
+
+    /// Whether the command moves the profile, where it isn't refused.
+    pub fn moves_profile(&self) -> bool
+        ensures { result ≡ moves_profile self.now }
+    {
+        match self {
+            Command::Switch(_) | Command::Boot(_) | Command::Rollback => true,
+            Command::Test(_) | Command::DryActivate(_) => false,
         }
     }
 
@@ -41,6 +55,7 @@ impl Command {
             Command::Test(system) => Ok(Command::Test(system.copy(alloc)?)),
             Command::Boot(system) => Ok(Command::Boot(system.copy(alloc)?)),
             Command::DryActivate(system) => Ok(Command::DryActivate(system.copy(alloc)?)),
+            Command::Rollback => Ok(Command::Rollback),
         }
     }
 }
