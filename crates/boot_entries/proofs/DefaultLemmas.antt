@@ -1,16 +1,21 @@
 -- What holds of making a system the boot default.
-use Rattle.std.proofs.Common.{◌≡◌, true, List, [], ◌∷◌, length, Option, None, Some, option_map, refl, sym, ap, ◌∙◌, inr, arith, rules}
+use Rattle.std.proofs.Common.{◌≡◌, ℕ, true, false, List, [], ◌∷◌, length, Option, None, Some, IfSome, option_map, refl, sym, ap, ◌∙◌, inr, arith, rules}
+use Rattle.std.proofs.lemmas.Bool.{both_ways, or_left, or_right}
 use Rattle.std.proofs.lemmas.List.{take_all}
 use Rattle.std.specs.FinMap.{gets}
 use Rattle.std.specs.List.{AllByRecursion, cons_option}
 use Rattle.generations.proofs.MoveLemmas.{gens_stay, move_at_end, move_is, move_moment, move_names}
 use Rattle.generations.proofs.Numbers.{below_bound}
+use Rattle.generations.proofs.ProfileApart.{owned_read}
+use Rattle.generations.proofs.SetLaws.{number_same}
 use Rattle.generations.specs.declared.gens.Gen.{Gen}
 use Rattle.generations.specs.declared.gens.Gens.{Gens}
 use Rattle.generations.specs.declared.moving.Move.{Move}
 use Rattle.generations.specs.declared.moving.Move.TheVariants.{Point, Set}
-use Rattle.generations.specs.Move.{IsMoveMoment, IsMoveTo, gens_moved, move_part, move_world}
-use Rattle.generations.specs.Places.{is_number, number_after, with_generation, with_profile}
+use Rattle.generations.specs.Gens.{IsGensOf}
+use Rattle.generations.specs.Move.{IsMoveMoment, IsMoveTo, gens_moved, move_part, move_world, number_moved}
+use Rattle.generations.specs.Places.{IsCurrent, is_number, number_after, with_generation, with_profile}
+use Rattle.generations.specs.ProfilePart.{reads_profile}
 use Rattle.generations.specs.Set.{NamesOldOrNew}
 use Rattle.host_trait.proofs.Places.{alike}
 use Rattle.host_trait.specs.World.{Leaves, WorldState, seen}
@@ -21,15 +26,15 @@ use Rattle.switch_parts.specs.Part.{IsAtEnd, IsFree, IsMomentOf, IsPart, IsSameF
 use Rattle.boot_entries.specs.declared.boot_texts.BootTexts.{BootTexts}
 use Rattle.boot_entries.specs.BootDefault.{boot_default_part, menu_after, menu_end}
 use Rattle.boot_entries.specs.BootDefault.IsMakingDefault.{Listing, Moving}
-use Rattle.boot_entries.specs.BootPart.{boot_part}
-use Rattle.boot_entries.specs.DefaultLaws.{DefaultEndLaw, DefaultMomentLaw, DefaultNamesLaw, DefaultPartLaw, DefaultStaysLaw}
+use Rattle.boot_entries.specs.BootPart.{boot_part, reads_boot}
+use Rattle.boot_entries.specs.DefaultLaws.{DefaultEndLaw, DefaultMomentLaw, DefaultNamesLaw, DefaultPartLaw, DefaultPlanLaw, DefaultStaysLaw, IsSameProfile}
 use Rattle.boot_entries.specs.Laws.{IsBootGens}
 use Rattle.tree_put.specs.Sequence.{with_puts, without_places}
 use Rattle.boot_entries.specs.Steps.{AreEntries, IsBootMoment, boot_puts}
 use Rattle.boot_entries.specs.Texts.{entries_of, entry_of, menu_of}
 use Rattle.boot_entries.proofs.GensLemmas.{gens_after_law}
 use Rattle.boot_entries.proofs.AtEndLemmas.{end_law}
-use Rattle.boot_entries.proofs.KeptLemmas.{names_on, profile_kept}
+use Rattle.boot_entries.proofs.KeptLemmas.{current_kept, generation_kept, names_on, profile_kept, same_back}
 use Rattle.boot_entries.proofs.PartedLemmas.{are_parted}
 use Rattle.boot_entries.proofs.PartLemmas.{moment_law, part_law}
 use Rattle.boot_entries.proofs.PlanLawLemmas.{plan_law}
@@ -137,3 +142,36 @@ default_names_law move system w m named to free (Listing u moved moment) =
     let gens = gens_moved move system w.leaves in let is = gens_after_law move system w.leaves named in
     names_on system w u m (profile_kept move system gens u m (listed move system named gens is w free u moved m moment).only)
     (move_names move system w u named to (first_free (move_part move system) (boot_part gens) w.leaves free) (moved_moment move system w u moved))
+
+-- ---- a plan stays one
+
+module _ (w u : Leaves) (same : IsSameProfile w u) where
+  gens_kept : (gens : Gens) → IsGensOf w gens → IsGensOf u gens
+  gens_kept gens is = record {
+    rising = is.rising;
+    exact = λ n. is.exact n ∙ sym (generation_kept w u same n);
+    current = by gens.current is.current;
+    only_current = λ n current. is.only_current n (current_kept u w (same_back w u same) n current);
+  }
+    where
+      by : (current : Option ℕ) → IfSome current (IsCurrent w) → IfSome current (IsCurrent u)
+      by None is = tt
+      by (Some n) is = current_kept w u same n is
+
+  number_kept : (move : Move) (system : Name) → number_moved move system u ≡ number_moved move system w
+  number_kept Set system = number_same u w system (generation_kept w u same)
+  number_kept (Point n) system = refl
+
+pub default_plan_law : DefaultPlanLaw
+default_plan_law move system w u plan named same planned =
+    let gens = gens_moved move system w.leaves in
+    let is = gens_after_law move system w.leaves named in
+    let profile : IsSameProfile w.leaves u.leaves = λ q own. same.leaves q (or_left (reads_profile q) (reads_boot q) (owned_read q own)) in
+    let menu : IsSameFor (boot_part gens) w u = record { leaves = λ q read. same.leaves q (or_right (reads_profile q) (reads_boot q) read); manager = λ call. absurd (both_ways false refl call) } in
+    let stays = gens_stay move system w u ((move_is move system).frame w u (record { leaves = λ q read. same.leaves q (or_left (reads_profile q) (reads_boot q) read); manager = λ call. absurd (both_ways false refl call) })) in
+    record {
+      to = planned.to;
+      gens = gens_kept w.leaves u.leaves profile plan.gens planned.gens;
+      number = planned.number ∙ sym (number_kept w.leaves u.leaves profile move system);
+      menu = planned.menu ∙ plan_law gens (menu_of gens w.leaves) w u is menu refl ∙ ap (λ (gs : Gens). menu_of gs u.leaves) (sym stays);
+    }

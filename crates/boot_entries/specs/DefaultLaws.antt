@@ -9,9 +9,10 @@ use Rattle.generations.specs.Set.{NamesOldOrNew}
 use Rattle.host_trait.specs.World.{Leaves, WorldState, seen}
 use Rattle.switch_names.specs.Names.{Name}
 use Rattle.switch_names.specs.SystemName.{IsSystemPath}
-use Rattle.switch_parts.specs.Part.{IsAtEnd, IsFree, IsMomentOf, IsPart}
+use Rattle.switch_parts.specs.Part.{IsAtEnd, IsFree, IsMomentOf, IsPart, IsSameFor}
 use Rattle.switch_parts.specs.Store.{is_in_store}
-use Rattle.boot_entries.specs.BootDefault.{IsMakingDefault, boot_default_in, boot_default_part, default_end}
+use Rattle.boot_entries.specs.declared.boot_default.BootDefaultPlan.{BootDefaultPlan}
+use Rattle.boot_entries.specs.BootDefault.{IsDefaultPlanOf, IsMakingDefault, boot_default_in, boot_default_part, default_end}
 use Rattle.boot_entries.specs.Laws.{IsBootGens}
 use Rattle.boot_entries.specs.Menu.{IsMenuBetween, IsMenuWhole}
 use Rattle.boot_entries.specs.Places.{owns_boot}
@@ -40,6 +41,12 @@ DefaultEndLaw =
 abbrev pub DefaultStaysLaw : Type 0
 DefaultStaysLaw =
     (move : Move) (system : Name) (gens : Gens) (w m : WorldState) → (boot_default_part move system gens).Keeps w m → gens_moved move system m.leaves ≡ gens_moved move system w.leaves
+
+-- a plan stays one where nothing has changed that the part looks at
+abbrev pub DefaultPlanLaw : Type 0
+DefaultPlanLaw =
+    (move : Move) (system : Name) (w u : WorldState) (plan : BootDefaultPlan) → IsSystemPath system → IsSameFor (boot_default_in move system w.leaves) w u →
+    IsDefaultPlanOf move system w.leaves plan → IsDefaultPlanOf move system u.leaves plan
 
 -- at each moment the profile names what it named, or the system
 abbrev pub DefaultNamesLaw : Type 0

@@ -1,5 +1,5 @@
 //! What holds of making the boot menu.
-ghost use Rattle.boot_entries.specs.DefaultLaws.{DefaultEndLaw, DefaultMomentLaw, DefaultNamesLaw, DefaultPartLaw, DefaultStaysLaw, GensAfterLaw, MenuBeginsLaw, MenuEndLaw, MenuLaw, MenuSinceLaw, MenuStaysLaw};
+ghost use Rattle.boot_entries.specs.DefaultLaws.{DefaultEndLaw, DefaultMomentLaw, DefaultNamesLaw, DefaultPartLaw, DefaultPlanLaw, DefaultStaysLaw, GensAfterLaw, MenuBeginsLaw, MenuEndLaw, MenuLaw, MenuSinceLaw, MenuStaysLaw};
 ghost use Rattle.boot_entries.specs.Laws.{BootEndLaw, BootMomentLaw, BootOnlyLaw, BootPartLaw, BootPlanLaw};
 
 /// At each moment of making the boot menu that is planned for some generations nothing has changed
@@ -28,7 +28,7 @@ pub fn boot_plans_stay()
 
 /// Making a system the boot default is a part of a switch, which comes to its end with its last moment.
 /// Wherever it is cut, it leaves the same generations, and the profile names what it named or the
-/// system.
+/// system. A plan of it stays one where nothing has changed that it looks at.
 ///
 /// Source: NixOS manual, "Changing the configuration".
 pub fn making_a_boot_default_is_a_part()
@@ -37,6 +37,7 @@ pub fn making_a_boot_default_is_a_part()
     ensures moments { DefaultMomentLaw }
     ensures end { DefaultEndLaw }
     ensures stays { DefaultStaysLaw }
+    ensures planned { DefaultPlanLaw }
     ensures names { DefaultNamesLaw }
 {}
 

@@ -8,10 +8,10 @@ use Rattle.generations.specs.declared.moving.Move.{Move}
 use Rattle.generations.specs.declared.moving.Move.TheVariants.{Point, Set}
 use Rattle.generations.specs.Goal.{goal_place}
 use Rattle.host_trait.specs.States.{state_of}
-use Rattle.host_trait.specs.World.{WorldState, without_leaf}
+use Rattle.host_trait.specs.World.{WorldState, seen, without_leaf}
 use Rattle.owed_plan.specs.declared.owed.Owed.{Owed}
 use Rattle.owed_plan.specs.Calls.{calls_of}
-use Rattle.switch_engine.specs.Moments.{IsSwitchMoment, IsSwitched}
+use Rattle.switch_engine.specs.Moments.{IsRecordStep, IsSetStep, IsSwitchMoment, IsSwitched, record_world, set_world}
 use Rattle.switch_engine.specs.Rows.{switch_in}
 use Rattle.switch_names.specs.Names.{Name}
 use Rattle.switch_names.specs.SystemName.{IsSystemPath}
@@ -62,3 +62,14 @@ IsSwitchedIf false system owed u v = v ≡ u
 abbrev pub cleared_by : Option Move → WorldState → WorldState
 cleared_by None w = w
 cleared_by (Some move) w = without_leaf goal_place w
+
+-- the goal is recorded, where the profile goes back, and the system is the boot default, where the profile is moved
+pub record IsPrepared (moves : Option Move) (system : Name) (w u : WorldState) : Type 0 where
+  pub recorded : WorldState
+  pub is_recorded : seen recorded ≡ record_world moves w
+  pub is_set : seen u ≡ set_world moves system recorded
+
+-- the goal is being recorded, or it is recorded and the system is being made the boot default
+pub data IsPreparing (moves : Option Move) (system : Name) (w m : WorldState) : Type 0 where
+  Recording : IsRecordStep moves w m → IsPreparing moves system w m
+  Setting : (r : WorldState) → seen r ≡ record_world moves w → IsSetStep moves system r m → IsPreparing moves system w m

@@ -37,14 +37,6 @@ lacks_goal (Boot system) leaves = false
 lacks_goal (DryActivate system) leaves = false
 lacks_goal Rollback leaves = is_none (goal leaves)
 
--- the profile is moved by a command that isn't refused
-abbrev pub moves_profile : Command → Bool
-moves_profile (Switch system) = true
-moves_profile (Test system) = false
-moves_profile (Boot system) = true
-moves_profile (DryActivate system) = false
-moves_profile Rollback = true
-
 -- the system that a command is about in a world
 abbrev pub new_system : Command → Leaves → Name
 new_system command leaves = (row command leaves).system

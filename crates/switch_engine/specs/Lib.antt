@@ -4,5 +4,6 @@ pub mod Final
 pub mod Moments
 pub mod Owing
 pub mod Plan
+pub mod Resolved
 pub mod Rows
 pub mod System

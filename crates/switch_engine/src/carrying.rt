@@ -4,12 +4,12 @@ ghost use Rattle.std.specs.FinMap.{empty};
 ghost use Rattle.std.specs.Option.{option_copied};
 ghost use Rattle.boot_entries.specs.BootDefault.{IsDefaultFor};
 ghost use Rattle.boot_entries.specs.declared.boot_default.BootDefaultPlan.{BootDefaultPlan};
-ghost use Rattle.host_trait.specs.World.{seen};
+ghost use Rattle.host_trait.specs.World.{WorldState, seen};
 ghost use Rattle.host_trait.specs.Host.{Told, Leads, Passes, HasCause};
-ghost use Rattle.switch_engine.specs.Carried.{CanSetBy, CanSwitch, CanSwitchBy, IsSwitchMomentIf, IsSwitchedIf, sets_by};
+ghost use Rattle.switch_engine.specs.Carried.{CanRecordBy, CanSetBy, CanSwitch, CanSwitchBy, IsPrepared, IsPreparing, IsSwitchMomentIf, IsSwitchedIf, cleared_by, moves_of};
 ghost use Rattle.switch_engine.specs.Commands.{IsBoot, IsQuery};
 ghost use Rattle.switch_engine.specs.Final.{HasFailed, IsEndOf, LeavesFailed};
-ghost use Rattle.switch_engine.specs.Moments.{IsMomentOf, IsSetStep, IsSwitchMoment, IsSwitched, set_world};
+ghost use Rattle.switch_engine.specs.Moments.{IsClearStep, IsMomentOf, IsRecordStep, IsSetStep, IsSwitchMoment, IsSwitched, record_world, set_world};
 ghost use Rattle.switch_engine.specs.Plan.{IsPlanOf, IsSound};
 ghost use Rattle.unit_stage.specs.Plan.{owed_of};
 ghost use Rattle.unit_stage.specs.System.{system_leaf};
@@ -18,12 +18,33 @@ use crate::outcome::{Outcome, has_failed};
 use crate::plan::Plan;
 use activation_stage::{ActivationPlan, activate};
 use boot_entries::{BootDefaultPlan, make_boot_default};
+use generations::{Move, clear_goal, record_goal};
 use host_trait::{HostFault, Leaf, Manager, Tree};
 use std::alloc::Global;
 use switch_names::SystemName;
 use unit_stage::{UnitPlan, bring_units, calls_of, stop_units, system_leaf};
 
-/// Makes a system the boot default, where that is planned: sets the profile, and makes the boot menu.
+/// Records the goal of a rollback, where the profile goes back to a generation.
+fn record_back<T: Tree>(
+    alloc: Global,
+    host: &mut T,
+    plan: Option<&BootDefaultPlan>,
+) -> Result<(), HostFault>
+    requires { Told (T.host host.old) (CanRecordBy (moves_of (option_copied plan))) }
+    ensures ok { OnOk result (Leads (T.host host.old) (T.host host.new) (λ w r. seen r ≡ record_world (moves_of (option_copied plan.entry)) w)) }
+    ensures moments { Passes (T.host host.old) (T.host host.new) (IsRecordStep (moves_of (option_copied plan.entry))) }
+    ensures cause { HasCause (T.host host.old) (T.host host.new) result }
+{
+    let Some(plan) = plan else {
+        return Ok(());
+    };
+    match plan.to {
+        Move::Set => Ok(()),
+        Move::Point(number) => record_goal(alloc, host, number),
+    }
+}
+
+/// Makes a system the boot default, where that is planned: moves the profile, and makes the boot menu.
 fn set_profile<T: Tree>(
     alloc: Global,
     host: &mut T,
@@ -32,8 +53,8 @@ fn set_profile<T: Tree>(
 ) -> Result<(), HostFault>
     requires can { Told (T.host host.old) (CanSetBy system.now (option_copied plan)) }
     requires sound { (profile : BootDefaultPlan) → option_copied plan ≡ Some profile → IsDefaultFor system.now profile }
-    ensures ok { OnOk result (Leads (T.host host.old) (T.host host.new) (λ w u. seen u ≡ set_world (sets_by system.now (option_copied plan.entry)) w)) }
-    ensures moments { Passes (T.host host.old) (T.host host.new) (IsSetStep (sets_by system.now (option_copied plan.entry))) }
+    ensures ok { OnOk result (Leads (T.host host.old) (T.host host.new) (λ w u. seen u ≡ set_world (moves_of (option_copied plan.entry)) system.now w)) }
+    ensures moments { Passes (T.host host.old) (T.host host.new) (IsSetStep (moves_of (option_copied plan.entry)) system.now) }
     ensures cause { HasCause (T.host host.old) (T.host host.new) result }
 {
     match plan {
@@ -64,7 +85,7 @@ fn switch_units<H: Manager>(
     Ok(())
 }
 
-/// Carries a planned switch of the units out, has what it leaves kept beyond a loss of power, and says how it ended.
+/// Carries a planned switch of the units out, and says how it ended.
 fn carry_switch<H: Manager>(
     alloc: Global,
     host: &mut H,
@@ -82,7 +103,6 @@ fn carry_switch<H: Manager>(
     ensures cause { HasCause (H.host host.old) (H.host host.new) result }
 {
     switch_units(alloc, host, system, plan, activation, current)?;
-    host.sync(alloc)?;
     let states = host.units(alloc)?;
     let failed = has_failed(plan.defs(), &states);
     Ok(Outcome { states, failed })
@@ -113,15 +133,67 @@ fn carry_units<H: Manager>(
     }
 }
 
+/// Removes the goal of a rollback, where the profile is moved. All that was done before is kept beyond a loss of
+/// power first.
+fn clear_back<T: Tree>(
+    alloc: Global,
+    host: &mut T,
+    plan: Option<&BootDefaultPlan>,
+) -> Result<(), HostFault>
+    ensures ok { OnOk result (Leads (T.host host.old) (T.host host.new) (λ w v. v ≡ cleared_by (moves_of (option_copied plan.entry)) w)) }
+    ensures moments { Passes (T.host host.old) (T.host host.new) (IsClearStep (moves_of (option_copied plan.entry))) }
+    ensures cause { HasCause (T.host host.old) (T.host host.new) result }
+{
+    if plan.is_none() {
+        return Ok(());
+    }
+    host.sync(alloc)?;
+    clear_goal(alloc, host)
+}
+
+/// Removes the goal of a rollback, where the profile is moved, and has what was done kept beyond a loss of power.
+fn finish<T: Tree>(
+    alloc: Global,
+    host: &mut T,
+    plan: Option<&BootDefaultPlan>,
+) -> Result<(), HostFault>
+    ensures ok { OnOk result (Leads (T.host host.old) (T.host host.new) (λ w v. v ≡ cleared_by (moves_of (option_copied plan.entry)) w)) }
+    ensures moments { Passes (T.host host.old) (T.host host.new) (IsClearStep (moves_of (option_copied plan.entry))) }
+    ensures cause { HasCause (T.host host.old) (T.host host.new) result }
+{
+    clear_back(alloc, host, plan)?;
+    host.sync(alloc)?;
+    Ok(())
+}
+
+/// Records the goal of a rollback, and then makes its system the boot default, where that is planned.
+fn prepare<T: Tree>(
+    alloc: Global,
+    host: &mut T,
+    system: &SystemName,
+    plan: Option<&BootDefaultPlan>,
+) -> Result<(), HostFault>
+    requires record { Told (T.host host.old) (CanRecordBy (moves_of (option_copied plan))) }
+    requires can { Told (T.host host.old) (λ w. (r : WorldState) → seen r ≡ record_world (moves_of (option_copied plan)) w → CanSetBy system.now (option_copied plan) r) }
+    requires sound { (profile : BootDefaultPlan) → option_copied plan ≡ Some profile → IsDefaultFor system.now profile }
+    ensures ok { OnOk result (Leads (T.host host.old) (T.host host.new) (IsPrepared (moves_of (option_copied plan.entry)) system.now)) }
+    ensures moments { Passes (T.host host.old) (T.host host.new) (IsPreparing (moves_of (option_copied plan.entry)) system.now) }
+    ensures cause { HasCause (T.host host.old) (T.host host.new) result }
+{
+    record_back(alloc, host, plan)?;
+    set_profile(alloc, host, system, plan)?;
+    Ok(())
+}
+
 /// Carries a planned command out.
 ///
-/// A set of the profile makes the generation where it is new, points the profile to it, and then makes the
-/// boot menu: it puts the entries of the generations that name systems, then what the boot loader reads
+/// A rollback records its goal first. A set of the profile makes the generation where it is new, and then points
+/// the profile to it, as a rollback does to one that stands; both then make the boot menu: it puts the entries of the generations that name systems, then what the boot loader reads
 /// first, and removes the entries of generations that don't stand. A switch of the units records the
 /// lists, stops units, sets the accounts, makes `/etc`, puts the link to the new system, loads its
 /// definitions, and reloads, restarts and starts units. Each list goes after the last of its calls. A
-/// command that does both sets the profile and makes the boot menu first. What each leaves is kept beyond a
-/// loss of power before it answers `Ok`.
+/// command that does both moves the profile and makes the boot menu first. One that moves the profile removes the
+/// goal of a rollback last. What each leaves is kept beyond a loss of power before it answers `Ok`.
 /// Source: NixOS manual, "What happens during a system switch?"; Boot Loader Specification, "Type #1 Boot
 /// Loader Specification Entries".
 pub fn carry_out<H: Manager>(alloc: Global, host: &mut H, plan: &Plan) -> Result<Outcome, HostFault>
@@ -136,7 +208,9 @@ pub fn carry_out<H: Manager>(alloc: Global, host: &mut H, plan: &Plan) -> Result
     ensures cause { HasCause (H.host host.old) (H.host host.new) result }
 {
     let current = system_leaf(alloc, plan.to())?;
-    set_profile(alloc, host, plan.to(), plan.profile())?;
+    prepare(alloc, host, plan.to(), plan.profile())?;
     let activation = plan.activation();
-    carry_units(alloc, host, plan.to(), plan.units(), activation, &current)
+    let outcome = carry_units(alloc, host, plan.to(), plan.units(), activation, &current)?;
+    finish(alloc, host, plan.profile())?;
+    Ok(outcome)
 }

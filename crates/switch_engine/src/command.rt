@@ -1,6 +1,6 @@
 //! The commands.
 ghost use Rattle.std.specs.Prelude.{◌≡◌, ◌↔◌, IfOk, IsTrue};
-ghost use Rattle.switch_engine.specs.Commands.{IsQuery, moves_profile};
+ghost use Rattle.switch_engine.specs.Commands.{IsQuery};
 
 use std::alloc::{AllocError, Global};
 use switch_names::SystemName;
@@ -33,16 +33,6 @@ impl Command {
         match self {
             Command::Switch(_) | Command::Test(_) | Command::Boot(_) | Command::Rollback => false,
             Command::DryActivate(_) => true,
-        }
-    }
-
-    /// Whether the command moves the profile, where it isn't refused.
-    pub fn moves_profile(&self) -> bool
-        ensures { result ≡ moves_profile self.now }
-    {
-        match self {
-            Command::Switch(_) | Command::Boot(_) | Command::Rollback => true,
-            Command::Test(_) | Command::DryActivate(_) => false,
         }
     }
 

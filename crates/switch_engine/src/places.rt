@@ -5,9 +5,8 @@ ghost use Rattle.accounts_stage.specs.Places.{account_places};
 ghost use Rattle.boot_entries.specs.BootPart.{boot_places};
 ghost use Rattle.etc_farm.specs.FarmPart.{fixed_places};
 ghost use Rattle.etc_manifest.specs.Owners.{OwnerIds};
-ghost use Rattle.generations.specs.After.{gens_after};
 ghost use Rattle.generations.specs.Gens.{IsGensOf};
-ghost use Rattle.generations.specs.ProfilePart.{profile_places};
+ghost use Rattle.generations.specs.Move.{gens_moved, move_places};
 ghost use Rattle.host_trait.specs.declared.tree.HostFault.TheVariants.{Device};
 ghost use Rattle.host_trait.specs.Host.{Told};
 ghost use Rattle.host_trait.specs.Reading.{IsReadingOf};
@@ -16,8 +15,8 @@ ghost use Rattle.tree_put.specs.First.{first_in_the_way};
 ghost use Rattle.switch_parts.specs.declared.plan_fault.PlanFault.TheVariants.{Host, Refused};
 ghost use Rattle.switch_parts.specs.declared.refusal.Refusal.{Refusal};
 ghost use Rattle.switch_parts.specs.declared.refusal.Refusal.TheVariants.{InTheWay};
-ghost use Rattle.switch_engine.specs.Plan.{AreGensFor};
-ghost use Rattle.switch_engine.specs.Rows.{parts};
+ghost use Rattle.switch_engine.specs.Plan.{AreGensBy};
+ghost use Rattle.switch_engine.specs.Rows.{default_if, default_part, gens_to, part_if, parts, switch_part};
 ghost use Rattle.unit_stage.specs.Owned.{unit_places};
 ghost use Rattle.tree_put.specs.WrittenPlace.{AreApartFromStage};
 
@@ -25,7 +24,7 @@ use crate::row::Row;
 use accounts_stage::add_account_places;
 use boot_entries::add_menu_places;
 use etc_farm::add_farm_places;
-use generations::{Gens, add_profile_places};
+use generations::{Gens, Move, add_goal_place, add_move_places};
 use host_trait::Tree;
 use std::alloc::{AllocError, Global};
 use switch_names::{Listed, SystemName};
@@ -43,19 +42,66 @@ fn add_switch(alloc: Global, places: &mut Listed<WrittenPlace>) -> Result<(), Al
     add_farm_places(alloc, places)
 }
 
-/// Adds the places of a boot default.
+/// Adds the places of a boot default to which the profile is moved.
+fn add_boot_default(
+    alloc: Global,
+    places: &mut Listed<WrittenPlace>,
+    gens: &Gens,
+    system: &SystemName,
+    to: Move,
+) -> Result<(), AllocError>
+    ensures places { OnOk result ((leaves : Leaves) → IsGensOf leaves gens.now → places.new ≡ places.old ++ (move_places to system.now leaves ++ boot_places (gens_moved to system.now leaves).list)) }
+    ensures apart { AreApartFromStage places.old → OnOk result (AreApartFromStage places.new) }
+{
+    add_move_places(alloc, places, gens, system, to)?;
+    add_menu_places(alloc, places, gens, system, to)?;
+    add_stage(alloc, places)
+}
+
+/// Adds the places of a boot default, and that of the goal of a rollback.
 fn add_default(
     alloc: Global,
     places: &mut Listed<WrittenPlace>,
     gens: &Gens,
     system: &SystemName,
+    to: Move,
 ) -> Result<(), AllocError>
-    ensures places { OnOk result ((leaves : Leaves) → IsGensOf leaves gens.now → places.new ≡ places.old ++ (profile_places leaves system.now ++ boot_places (gens_after system.now leaves).list)) }
+    ensures places { OnOk result ((leaves : Leaves) → IsGensOf leaves gens.now → places.new ≡ places.old ++ (default_part to system.now (gens_moved to system.now leaves)).places leaves) }
     ensures apart { AreApartFromStage places.old → OnOk result (AreApartFromStage places.new) }
 {
-    add_profile_places(alloc, places, gens, system)?;
-    add_menu_places(alloc, places, gens, system)?;
-    add_stage(alloc, places)
+    add_boot_default(alloc, places, gens, system, to)?;
+    add_goal_place(alloc, places)
+}
+
+/// Adds the places of a boot default, where the profile is moved.
+fn add_default_if(
+    alloc: Global,
+    places: &mut Listed<WrittenPlace>,
+    gens: Option<&Gens>,
+    row: &Row,
+) -> Result<(), AllocError>
+    ensures places { OnOk result ((leaves : Leaves) → AreGensBy row.now.moves leaves (option_copied gens.entry)
+        → places.new ≡ places.old ++ (default_if row.now.moves row.now.system (gens_to row.now.moves row.now.system leaves)).places leaves) }
+    ensures apart { AreApartFromStage places.old → OnOk result (AreApartFromStage places.new) }
+{
+    let Some(to) = row.moves else {
+        return Ok(());
+    };
+    let Some(gens) = gens else {
+        return Ok(());
+    };
+    add_default(alloc, places, gens, &row.system, to)
+}
+
+/// Adds the places of a switch of the units, where they are switched.
+fn add_switch_if(alloc: Global, places: &mut Listed<WrittenPlace>, row: &Row) -> Result<(), AllocError>
+    ensures places { OnOk result ((leaves : Leaves) (owners : OwnerIds) → places.new ≡ places.old ++ (part_if row.now.switches (switch_part row.now.system owners)).places leaves) }
+    ensures apart { AreApartFromStage places.old → OnOk result (AreApartFromStage places.new) }
+{
+    if !row.switches {
+        return Ok(());
+    }
+    add_switch(alloc, places)
 }
 
 /// The places that a row writes, as its parts tell them.
@@ -64,17 +110,13 @@ pub fn places_of(
     row: &Row,
     gens: Option<&Gens>,
 ) -> Result<Listed<WrittenPlace>, AllocError>
-    ensures places { IfOk result (λ list. (leaves : Leaves) (owners : OwnerIds) → AreGensFor row.now.sets leaves (option_copied gens.entry)
-        → list ≡ (parts row.now.switches row.now.sets row.now.system owners (gens_after row.now.system leaves)).places leaves) }
+    ensures places { IfOk result (λ list. (leaves : Leaves) (owners : OwnerIds) → AreGensBy row.now.moves leaves (option_copied gens.entry)
+        → list ≡ (parts row.now.switches row.now.moves row.now.system owners (gens_to row.now.moves row.now.system leaves)).places leaves) }
     ensures apart { IfOk result (λ list. AreApartFromStage list) }
 {
     let mut list = Listed::new(alloc);
-    if row.switches {
-        add_switch(alloc, &mut list)?;
-    }
-    if let Some(gens) = gens {
-        add_default(alloc, &mut list, gens, &row.system)?;
-    }
+    add_switch_if(alloc, &mut list, row)?;
+    add_default_if(alloc, &mut list, gens, row)?;
     Ok(list)
 }
 

@@ -74,7 +74,7 @@ impl Plan {
         self.activation.as_ref()
     }
 
-    /// What makes the system the boot default, where the profile is set: the profile and the boot menu.
+    /// What makes the system the boot default, where the profile is moved: the profile and the boot menu.
     pub(crate) fn profile(&self) -> Option<&BootDefaultPlan>
         ensures { option_copied result ≡ self.now.profile }
     {
@@ -95,7 +95,7 @@ impl Plan {
         &self.row.system
     }
 
-    /// The number of the generation that the system gets, where the profile is set.
+    /// The number of the generation that is current then, where the profile is moved.
     pub fn number(&self) -> Option<u32>
         ensures { result ≡ option_map (λ plan. plan.number) self.now.profile }
     {

@@ -1,16 +1,17 @@
 //! Plans what a command does, before anything is put or changed.
-ghost use Rattle.std.specs.Prelude.{◌≡◌, ◌↔◌, None, Some, IfOk, IsErrOf, IsTrue, OnOk, option_map};
+ghost use Rattle.std.specs.Prelude.{◌≡◌, ◌↔◌, None, Some, IfOk, IfSome, IsErrOf, IsTrue, OnOk, option_map};
 ghost use Rattle.std.specs.Option.{option_copied};
 ghost use Rattle.activation_stage.specs.ActivationPart.{activation_in};
-ghost use Rattle.boot_entries.specs.BootDefault.{IsDefaultFor, boot_default_in};
+ghost use Rattle.boot_entries.specs.BootDefault.{IsDefaultFor};
 ghost use Rattle.boot_entries.specs.declared.boot_default.BootDefaultPlan.{BootDefaultPlan};
+ghost use Rattle.generations.specs.Gens.{IsGensOf};
 ghost use Rattle.host_trait.specs.declared.tree.HostFault.TheVariants.{Device};
 ghost use Rattle.host_trait.specs.Host.{Told};
 ghost use Rattle.host_trait.specs.Reading.{IsReading, IsReadingOf};
 ghost use Rattle.switch_engine.specs.Commands.{switched_by};
 ghost use Rattle.switch_engine.specs.Owing.{IsSteadyFor, IsSteadyTo};
-ghost use Rattle.switch_engine.specs.Plan.{AreGensFor, ArePlanned, AreUnitsPlanned, IsActivationPlanned, IsPlanOf, IsProfilePlanned, IsSound};
-ghost use Rattle.switch_engine.specs.Rows.{part_if, parts_in, refusal, refusal_by};
+ghost use Rattle.switch_engine.specs.Plan.{AreGensBy, ArePlanned, AreUnitsPlanned, IsActivationPlanned, IsPlanOf, IsProfilePlanned, IsSound};
+ghost use Rattle.switch_engine.specs.Rows.{default_if, gens_to, part_if, parts_in, refusal, refusal_by};
 ghost use Rattle.switch_parts.specs.declared.plan_fault.PlanFault.TheVariants.{Host, Refused};
 ghost use Rattle.switch_parts.specs.declared.refusal.Refusal.{Refusal};
 ghost use Rattle.switch_parts.specs.declared.refusal.Refusal.TheVariants.{InTheWay};
@@ -20,7 +21,7 @@ ghost use Rattle.unit_stage.specs.Units.{units_part};
 use crate::command::Command;
 use crate::places::{check_way, places_of};
 use crate::plan::Plan;
-use crate::row::{Row, resolve};
+use crate::row::{Resolved, Row, resolve};
 use crate::system::has_version;
 use activation_stage::{ActivationPlan, plan_activation};
 use boot_entries::{BootDefaultPlan, plan_boot_default};
@@ -30,13 +31,22 @@ use std::alloc::Global;
 use switch_parts::{PlanFault, Refusal};
 use unit_stage::{UnitPlan, plan_units};
 
-/// The generations that stand, where a row sets the profile.
-fn gens_for<T: Tree>(alloc: Global, host: &mut T, row: &Row) -> Result<Option<Gens>, HostFault>
-    ensures gens { IfOk result (λ gens. Told (T.host host.old) (λ w. AreGensFor row.now.sets w.leaves gens)) }
+/// The generations that stand, where a row moves the profile: those that are known, else they are read.
+fn gens_for<T: Tree>(
+    alloc: Global,
+    host: &mut T,
+    row: &Row,
+    known: Option<Gens>,
+) -> Result<Option<Gens>, HostFault>
+    requires { Told (T.host host.old) (λ w. IfSome known (IsGensOf w.leaves)) }
+    ensures gens { IfOk result (λ gens. Told (T.host host.old) (λ w. AreGensBy row.now.moves w.leaves gens)) }
     ensures reads { IsReading (T.host host.old) (T.host host.new) result }
 {
-    if !row.sets {
+    if row.moves.is_none() {
         return Ok(None);
+    }
+    if let Some(gens) = known {
+        return Ok(Some(gens));
     }
     let gens = all(alloc, host)?;
     Ok(Some(gens))
@@ -49,10 +59,10 @@ fn check_places<T: Tree>(
     row: &Row,
     gens: Option<&Gens>,
 ) -> Result<(), PlanFault>
-    requires { Told (T.host host.old) (λ w. AreGensFor row.now.sets w.leaves (option_copied gens)) }
-    ensures free { OnOk result (Told (T.host host.old) (λ w. first_in_the_way ((parts_in row.now.switches row.now.sets row.now.system w.leaves).places w.leaves) w.leaves ≡ None)) }
+    requires { Told (T.host host.old) (λ w. AreGensBy row.now.moves w.leaves (option_copied gens)) }
+    ensures free { OnOk result (Told (T.host host.old) (λ w. first_in_the_way ((parts_in row.now.switches row.now.moves row.now.system w.leaves).places w.leaves) w.leaves ≡ None)) }
     ensures refused { (why : Refusal) → IsErrOf result (Refused why)
-        → Told (T.host host.old) (λ w. option_map InTheWay (first_in_the_way ((parts_in row.now.switches row.now.sets row.now.system w.leaves).places w.leaves) w.leaves) ≡ Some why) }
+        → Told (T.host host.old) (λ w. option_map InTheWay (first_in_the_way ((parts_in row.now.switches row.now.moves row.now.system w.leaves).places w.leaves) w.leaves) ≡ Some why) }
     ensures reads { IsReadingOf (T.host host.old) (T.host host.new) (IsErrOf result (Host Device)) }
 {
     let places = places_of(alloc, row, gens)?;
@@ -95,25 +105,28 @@ fn plan_accounts_and_etc<T: Tree>(
     Ok(Some(plan))
 }
 
-/// Plans to make the system of a command the boot default, or nothing where the profile isn't set.
+/// Plans to make the system of a command the boot default, or nothing where the profile isn't moved.
 fn plan_profile<T: Tree>(
     alloc: Global,
     host: &mut T,
     row: &Row,
     gens: Option<Gens>,
 ) -> Result<Option<BootDefaultPlan>, PlanFault>
-    requires { Told (T.host host.old) (λ w. AreGensFor row.now.sets w.leaves gens) }
-    ensures plan { IfOk result (λ plan. Told (T.host host.old) (λ w. IsProfilePlanned row.now.sets row.now.system w plan)) }
+    requires { Told (T.host host.old) (λ w. AreGensBy row.now.moves w.leaves gens) }
+    ensures plan { IfOk result (λ plan. Told (T.host host.old) (λ w. IsProfilePlanned row.now.moves row.now.system w plan)) }
     ensures sound { IfOk result (λ plan. (profile : BootDefaultPlan) → plan ≡ Some profile → IsDefaultFor row.now.system profile) }
-    ensures not_refused { OnOk result (Told (T.host host.old) (λ w. (part_if row.now.sets (boot_default_in row.now.system w.leaves)).refusal w.leaves ≡ None)) }
+    ensures not_refused { OnOk result (Told (T.host host.old) (λ w. (default_if row.now.moves row.now.system (gens_to row.now.moves row.now.system w.leaves)).refusal w.leaves ≡ None)) }
     ensures refused { (why : Refusal) → IsErrOf result (Refused why)
-        → Told (T.host host.old) (λ w. (part_if row.now.sets (boot_default_in row.now.system w.leaves)).refusal w.leaves ≡ Some why) }
+        → Told (T.host host.old) (λ w. (default_if row.now.moves row.now.system (gens_to row.now.moves row.now.system w.leaves)).refusal w.leaves ≡ Some why) }
     ensures reads { IsReadingOf (T.host host.old) (T.host host.new) (IsErrOf result (Host Device)) }
 {
+    let Some(to) = row.moves else {
+        return Ok(None);
+    };
     let Some(gens) = gens else {
         return Ok(None);
     };
-    let plan = plan_boot_default(alloc, host, &row.system, gens)?;
+    let plan = plan_boot_default(alloc, host, &row.system, to, gens)?;
     Ok(Some(plan))
 }
 
@@ -123,18 +136,20 @@ fn plan_parts<H: Manager>(
     host: &mut H,
     command: &Command,
     row: Row,
+    known: Option<Gens>,
 ) -> Result<Plan, PlanFault>
+    requires { Told (H.host host.old) (λ w. IfSome known (IsGensOf w.leaves)) }
     ensures command { IfOk result (λ plan. plan.command ≡ command.now) }
     ensures row { IfOk result (λ plan. plan.row ≡ row) }
     ensures plan { IfOk result (λ plan. Told (H.host host.old) (λ w. ArePlanned row w plan)) }
     ensures steady { IfOk result (λ plan. Told (H.host host.old) (λ w. IsTrue plan.units.steady ↔ IsSteadyTo (switched_by row) w)) }
     ensures sound { IfOk result IsSound }
-    ensures not_refused { OnOk result (Told (H.host host.old) (λ w. refusal_by row.switches row.sets row.system w.leaves ≡ None)) }
-    ensures refused { (why : Refusal) → IsErrOf result (Refused why) → Told (H.host host.old) (λ w. refusal_by row.switches row.sets row.system w.leaves ≡ Some why) }
+    ensures not_refused { OnOk result (Told (H.host host.old) (λ w. refusal_by row.switches row.moves row.system w.leaves ≡ None)) }
+    ensures refused { (why : Refusal) → IsErrOf result (Refused why) → Told (H.host host.old) (λ w. refusal_by row.switches row.moves row.system w.leaves ≡ Some why) }
     ensures reads { IsReadingOf (H.host host.old) (H.host host.new) (IsErrOf result (Host Device)) }
 {
     let planned = command.copy(alloc)?;
-    let gens = gens_for(alloc, host, &row)?;
+    let gens = gens_for(alloc, host, &row, known)?;
     check_places(alloc, host, &row, gens.as_ref())?;
     let units = plan_switch(alloc, host, &row)?;
     let activation = plan_accounts_and_etc(alloc, host, &row)?;
@@ -144,7 +159,7 @@ fn plan_parts<H: Manager>(
 
 /// Plans what a command does, before anything is put or changed, and changes nothing.
 ///
-/// The refusals are sought in this order: `NoSystem`, `InTheWay`; of a switch of the units `UnitText`,
+/// The refusals are sought in this order: `NoPrevious` of a rollback, `NoSystem`, `InTheWay`; of a switch of the units `UnitText`,
 /// `UsersSpec`, `Table`, `IdMap`, then the first of `NoFreeId` and `UnknownGroup`, and then the first of
 /// `Reserved`, `EtcEntry` and `Owner`; and of a set of the profile `GenerationsFull`. The boot menu
 /// after a set is planned last, and is refused for nothing but what is in the way of its places.
@@ -161,11 +176,11 @@ pub fn plan_all<H: Manager>(
     ensures refused { (why : Refusal) → IsErrOf result (Refused why) → Told (H.host host.old) (λ w. refusal command.now w.leaves ≡ Some why) }
     ensures reads { IsReadingOf (H.host host.old) (H.host host.new) (IsErrOf result (Host Device)) }
 {
-    let row = resolve(alloc, command)?;
+    let Resolved { row, gens } = resolve(alloc, host, command)?;
     let _path = row.system.path();
     if !has_version(alloc, host, &row.system)? {
         return Err(PlanFault::Refused(Refusal::NoSystem));
     }
-    let plan = plan_parts(alloc, host, command, row)?;
+    let plan = plan_parts(alloc, host, command, row, gens)?;
     Ok(plan)
 }

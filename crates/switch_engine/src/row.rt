@@ -1,19 +1,18 @@
 //! What a command does in a world.
-ghost use Rattle.std.specs.Prelude.{◌≡◌, IfOk, IsErrOf, OnOk, false, option_and_then};
-ghost use Rattle.std.specs.Option.{option_copied};
-ghost use Rattle.generations.specs.declared.gens.Gen.{Gen};
-ghost use Rattle.generations.specs.Gens.{listed_at};
+ghost use Rattle.std.specs.Prelude.{◌≡◌, Some, IfOk, IsErrOf};
+ghost use Rattle.generations.specs.Gens.{IsGensOf};
+ghost use Rattle.generations.specs.Goal.{goal};
 ghost use Rattle.host_trait.specs.declared.tree.HostFault.TheVariants.{Device};
 ghost use Rattle.host_trait.specs.Host.{Told};
 ghost use Rattle.host_trait.specs.Reading.{IsReadingOf};
-ghost use Rattle.switch_engine.specs.Commands.{lacks_goal, moves_profile, named_by, row};
-ghost use Rattle.switch_engine.specs.Plan.{AreGensBy, AreGensFor};
+ghost use Rattle.switch_engine.specs.declared.command.Command.TheVariants.{Rollback};
+ghost use Rattle.switch_engine.specs.Resolved.{IsResolved, IsRowOf};
 ghost use Rattle.switch_engine.specs.Rows.{refusal};
 ghost use Rattle.switch_parts.specs.declared.plan_fault.PlanFault.TheVariants.{Host, Refused};
 ghost use Rattle.switch_parts.specs.declared.refusal.Refusal.{Refusal};
 
 use crate::command::Command;
-use generations::{GoalFault, Gens, Move, goal, target_of};
+use generations::{Gens, GoalFault, Move, all, goal, system_of};
 use host_trait::Tree;
 use std::alloc::{AllocError, Global};
 use switch_names::SystemName;
@@ -40,5 +39,107 @@ impl Drop for Row {
             switches: _,
             changes: _,
         } = self;
+    }
+}
+
+/// What a command does, and what was read to know it.
+#[derive(Drop)]
+pub struct Resolved {
+    /// What it does.
+    pub row: Row,
+    /// The generations that stand, where they were read.
+    pub gens: Option<Gens>,
+}
+
+/// A row over a system.
+fn row_over(
+    alloc: Global,
+    system: &SystemName,
+    moves: Option<Move>,
+    switches: bool,
+    changes: bool,
+) -> Result<Row, AllocError>
+    ensures { IfOk result (λ row. row ≡ record { system = system.now; moves = moves; switches = switches; changes = changes }) }
+{
+    Ok(Row {
+        system: system.copy(alloc)?,
+        moves,
+        switches,
+        changes,
+    })
+}
+
+/// The generation to which a rollback goes.
+fn find_goal<T: Tree>(alloc: Global, host: &mut T, gens: &Gens) -> Result<u32, PlanFault>
+    requires { Told (T.host host.old) (λ w. IsGensOf w.leaves gens.now) }
+    ensures goal { IfOk result (λ number. Told (T.host host.old) (λ w. goal w.leaves ≡ Some number)) }
+    ensures refused { (why : Refusal) → IsErrOf result (Refused why) → Told (T.host host.old) (λ w. refusal Rollback w.leaves ≡ Some why) }
+    ensures reads { IsReadingOf (T.host host.old) (T.host host.new) (IsErrOf result (Host Device)) }
+{
+    match goal(alloc, host, gens) {
+        Ok(number) => Ok(number),
+        Err(GoalFault::NoPrevious) => Err(PlanFault::Refused(Refusal::NoPrevious)),
+        Err(GoalFault::Host(fault)) => Err(PlanFault::Host(fault)),
+    }
+}
+
+/// What a rollback does: it goes back to its goal, whose generation names a system.
+fn resolve_back<T: Tree>(alloc: Global, host: &mut T) -> Result<Resolved, PlanFault>
+    ensures resolved { IfOk result (λ its. Told (T.host host.old) (λ w. IsResolved Rollback w.leaves its)) }
+    ensures refused { (why : Refusal) → IsErrOf result (Refused why) → Told (T.host host.old) (λ w. refusal Rollback w.leaves ≡ Some why) }
+    ensures reads { IsReadingOf (T.host host.old) (T.host host.new) (IsErrOf result (Host Device)) }
+{
+    let gens = all(alloc, host)?;
+    let number = find_goal(alloc, host, &gens)?;
+    let Some(system) = system_of(&gens, number) else {
+        return Err(PlanFault::Refused(Refusal::NoPrevious));
+    };
+    let row = row_over(alloc, system, Some(Move::Point(number)), true, true)?;
+    Ok(Resolved {
+        row,
+        gens: Some(gens),
+    })
+}
+
+/// What a command does wherever it begins, and nothing for a rollback.
+fn row_of(alloc: Global, command: &Command) -> Result<Option<Row>, AllocError>
+    ensures { IfOk result (IsRowOf command.now) }
+{
+    match command {
+        Command::Switch(system) => {
+            let row = row_over(alloc, system, Some(Move::Set), true, true)?;
+            Ok(Some(row))
+        }
+        Command::Test(system) => {
+            let row = row_over(alloc, system, None, true, true)?;
+            Ok(Some(row))
+        }
+        Command::Boot(system) => {
+            let row = row_over(alloc, system, Some(Move::Set), false, true)?;
+            Ok(Some(row))
+        }
+        Command::DryActivate(system) => {
+            let row = row_over(alloc, system, None, true, false)?;
+            Ok(Some(row))
+        }
+        Command::Rollback => Ok(None),
+    }
+}
+
+/// What a command does in the world where it begins.
+///
+/// A rollback is refused where it has no goal; nothing else is read, and no other command is refused.
+pub fn resolve<T: Tree>(
+    alloc: Global,
+    host: &mut T,
+    command: &Command,
+) -> Result<Resolved, PlanFault>
+    ensures resolved { IfOk result (λ its. Told (T.host host.old) (λ w. IsResolved command.now w.leaves its)) }
+    ensures refused { (why : Refusal) → IsErrOf result (Refused why) → Told (T.host host.old) (λ w. refusal command.now w.leaves ≡ Some why) }
+    ensures reads { IsReadingOf (T.host host.old) (T.host host.new) (IsErrOf result (Host Device)) }
+{
+    match row_of(alloc, command)? {
+        Some(row) => Ok(Resolved { row, gens: None }),
+        None => resolve_back(alloc, host),
     }
 }

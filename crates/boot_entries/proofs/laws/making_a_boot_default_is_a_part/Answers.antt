@@ -1,4 +1,4 @@
-use Rattle.boot_entries.proofs.DefaultLemmas.{default_end_law, default_moment_law, default_names_law, default_part_law, default_stays_law}
+use Rattle.boot_entries.proofs.DefaultLemmas.{default_end_law, default_moment_law, default_names_law, default_part_law, default_plan_law, default_stays_law}
 use Rattle.boot_entries.proofs.GensLemmas.{gens_after_law}
 use Rattle.boot_entries.proofs.laws.making_a_boot_default_is_a_part.Goals as goal
 
@@ -19,3 +19,6 @@ returns-clause-stays c = default_stays_law
 
 pub returns-clause-names : goal.returns-clause-names
 returns-clause-names c = default_names_law
+
+pub returns-clause-planned : goal.returns-clause-planned
+returns-clause-planned c = default_plan_law
