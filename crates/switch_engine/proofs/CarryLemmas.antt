@@ -1,21 +1,29 @@
 -- What carrying a planned command out leaves at each moment and at its end, whichever of its parts it has.
 use Rattle.std.proofs.Common.{◌≡◌, ◌≢◌, ◌↔◌, ◌&&◌, ◌||◌, Bool, IsSome, IsTrue, true, false, cond, is_some, Option, None, Some, List, ℕ, [], ◌++◌, refl, sym, ap, subst, ◌∙◌, inl, inr, rules, unwrap_or, ⊎_elim}
-use Rattle.std.proofs.lemmas.Bool.{both_ways, cases_Bool, or_left, or_right}
+use Rattle.std.proofs.lemmas.Bool.{both_ways, cases_Bool, or_from, or_left, or_right}
 use Rattle.std.proofs.lemmas.List.{append-nil}
-use Rattle.std.specs.Cmp.Lexicographic.{nat_list_eq_equiv}
+use Rattle.std.specs.Cmp.Lexicographic.{nat_list_eq_equiv, same_text}
 use Rattle.std.specs.FinMap.{empty, get, gets}
 use Rattle.activation_stage.specs.ActivationPart.{activation_in, activation_part}
 use Rattle.activation_stage.specs.declared.activation_plan.ActivationPlan.{ActivationPlan}
 use Rattle.activation_stage.specs.Owners.{owners_after}
 use Rattle.etc_manifest.specs.Owners.{OwnerIds}
 use Rattle.boot_entries.specs.BootDefault.{boot_default_in, boot_default_part}
+use Rattle.boot_entries.specs.BootPart.{boot_part}
+use Rattle.boot_entries.specs.DefaultLaws.{IsSameStore}
 use Rattle.boot_entries.specs.declared.boot_default.BootDefaultPlan.{BootDefaultPlan}
 use Rattle.boot_entries.specs.Laws.{IsBootGens}
 use Rattle.boot_entries.specs.Menu.{IsMenuBetween}
 use Rattle.boot_entries.specs.Places.{owns_boot}
-use Rattle.generations.specs.After.{gens_after}
 use Rattle.generations.specs.declared.gens.Gens.{Gens}
+use Rattle.generations.specs.declared.moving.Move.{Move}
+use Rattle.generations.specs.declared.moving.Move.TheVariants.{Point, Set}
+use Rattle.generations.specs.Goal.{goal_leaf, goal_place}
+use Rattle.generations.specs.GoalPart.{goal_part, owns_goal, reads_goal}
+use Rattle.generations.specs.Move.{gens_moved, move_part}
 use Rattle.generations.specs.Places.{Names, link_path, profile}
+use Rattle.generations.proofs.GoalPartLemmas.{cleared_at_end, cleared_moment, goal_clear, goal_is, recorded_moment}
+use Rattle.generations.proofs.PointLemmas.{can_point}
 use Rattle.generations.specs.ProfilePart.{owns_profile}
 use Rattle.generations.proofs.ProfileApart.{link_owned, owned_other, profile_owned, stage_not_owned}
 use Rattle.generations.proofs.SetLaws.{generation_of}
@@ -26,7 +34,7 @@ use Rattle.host_trait.specs.declared.unit_state.State.{State}
 use Rattle.host_trait.specs.declared.unit_state.State.TheVariants.{Failed, Inactive}
 use Rattle.host_trait.specs.States.{state_of}
 use Rattle.host_trait.specs.World.{Leaves, WorldState, bytes_cmp, is_path, seen, stage}
-use Rattle.host_trait.proofs.Seen.{seen_at}
+use Rattle.host_trait.proofs.Seen.{get_removed_here, seen_at}
 use Rattle.owed_plan.specs.declared.owed.Owed.{Owed}
 use Rattle.owed_plan.specs.Calls.{calls_of}
 use Rattle.owed_plan.specs.FinalStates.{final_state}
@@ -34,29 +42,36 @@ use Rattle.switch_engine.specs.declared.command.Command.{Command}
 use Rattle.switch_engine.specs.declared.outcome.Outcome.{Outcome}
 use Rattle.switch_engine.specs.declared.plan.Plan.{Plan}
 use Rattle.switch_engine.specs.declared.row.Row.{Row}
-use Rattle.switch_engine.specs.Carried.{CanSetBy, CanSwitchBy, IsSwitchMomentIf, IsSwitchedIf, sets_by}
-use Rattle.switch_engine.specs.Commands.{IsBoot, IsQuery, brought_to, if_so, new_system, row, set_to}
-use Rattle.switch_engine.specs.Final.{AreEntries, AreFinalUnits, HasFailed, IsEndOf, LeavesFailedAt}
-use Rattle.switch_engine.specs.Moments.{IsMomentOf, IsSetStep, IsStepIf, IsStepTo, IsSwitchStep, NamesOneOf, set_world}
+use Rattle.switch_engine.specs.Carried.{CanRecordBy, CanSetBy, CanSwitchBy, IsSwitchMomentIf, IsSwitchedIf, cleared_by, moves_of}
+use Rattle.switch_engine.specs.Commands.{IsQuery, brought_to, if_moved, if_so, lacks_goal, new_system, row, set_to}
+use Rattle.switch_engine.specs.Final.{AreEntries, AreFinalUnits, HasBegunToEnter, HasFailed, IsEndOf, LeavesFailedAt}
+use Rattle.switch_engine.specs.Moments.{IsClearStep, IsMomentOf, IsOnItsWay, IsRecordStep, IsSetStep, IsStepIf, IsStepOf, IsStepTo, IsSwitchEnd, IsSwitchStep, NamesOneOf, record_world, set_world}
+use Rattle.switch_engine.specs.Owing.{IsSteadyFor, IsUnderway}
 use Rattle.switch_engine.specs.Plan.{ArePlanned, AreUnitsPlanned, IsActivationPlanned, IsPlanOf, IsProfilePlanned}
-use Rattle.switch_engine.specs.Rows.{part_if, part_of, switch_in, switch_part}
+use Rattle.switch_engine.specs.Rows.{default_if, default_part, gens_to, part_if, part_of, switch_in, switch_part}
 use Rattle.activation_stage.proofs.ActivationLemmas.{activation_part_law, activation_plan_law, owners_law}
-use Rattle.boot_entries.proofs.DefaultLemmas.{default_end_law, default_moment_law, default_names_law}
+use Rattle.boot_entries.proofs.DefaultLemmas.{default_end_law, default_moment_law, default_names_law, default_part_law, default_plan_law, default_stays_law}
 use Rattle.boot_entries.proofs.GensLemmas.{gens_after_law}
-use Rattle.boot_entries.proofs.MenuLemmas.{menu_begins_law, menu_law, menu_stays_law}
+use Rattle.boot_entries.proofs.MenuLemmas.{menu_begins_law, menu_law, menu_since_law, menu_stays_law}
 use Rattle.switch_engine.proofs.DefinedLemmas.{left_failed}
+use Rattle.switch_engine.proofs.FlagLemmas.{changes_on}
 use Rattle.switch_engine.proofs.JournalLemmas.{switch_enters}
+use Rattle.switch_engine.proofs.LawLemmas.{ended_over}
+use Rattle.switch_engine.proofs.MovedPart.{default_in}
 use Rattle.switch_engine.proofs.MenuApart.{menu_not_stage}
-use Rattle.switch_engine.proofs.PartsLemmas.{are_parted, default_if_is, default_parted, parts_are, switch_if_is}
+use Rattle.switch_engine.proofs.PartsLemmas.{are_parted, default_if_is, default_parted, gens_to_law, goal_parted, parts_are, switch_if_is}
+use Rattle.switch_engine.proofs.GoalApart.{goal_not_stage, goal_owned, goal_unread_default}
+use Rattle.switch_engine.proofs.GoalKeptLemmas.{IsGoalKept, IsMoveToBy, IsRecorded, kept_first, kept_recorded, move_to_kept, moves_to, recorded_at, recorded_same, row_same}
 use Rattle.switch_engine.proofs.SwitchLemmas.{switch_part_moment}
-use Rattle.switch_engine.proofs.UnderwayLemmas.{IsFreeCommand, free_command, underway}
+use Rattle.switch_engine.proofs.UnderwayLemmas.{IsFreeCommand, free_command, has_goal, underway}
 use Rattle.switch_names.specs.Names.{Name}
 use Rattle.switch_names.specs.SystemName.{IsSystemPath}
-use Rattle.switch_parts.specs.Part.{IsFree, IsMomentOf as IsPartMoment, IsPart, IsSameFor, Part, both, final_leaf}
-use Rattle.switch_parts.proofs.Parts.{first_free, first_moment, is_final, moment_then, only_beside, second_free, second_moment}
+use Rattle.switch_parts.specs.Part.{IsAtEnd, IsFree, IsMomentOf as IsPartMoment, IsOnly, IsPart, IsSameFor, Part, both, final_leaf}
+use Rattle.switch_parts.specs.Store.{is_in_store}
+use Rattle.switch_parts.proofs.Parts.{false_by, first_free, first_moment, moment_then, only_beside, second_free, second_moment}
 use Rattle.unit_defs.specs.declared.unit.Unit.{Unit}
 use Rattle.unit_stage.specs.declared.unit_plan.UnitPlan.{UnitPlan}
-use Rattle.unit_stage.specs.End.{IsBrought, entries_of}
+use Rattle.unit_stage.specs.End.{AreEndStates, IsBrought, entries_of}
 use Rattle.unit_stage.specs.Owned.{reads_units}
 use Rattle.unit_stage.specs.Plan.{IsOwedBy, IsUnitPlanOf, owed_of}
 use Rattle.unit_stage.specs.System.{definitions_of}
@@ -66,31 +81,106 @@ use Rattle.unit_stage.proofs.StepLemmas.{manager_seen}
 use Rattle.unit_stage.proofs.SystemsLemmas.{is_system}
 use Rattle.unit_stage.proofs.UnitsPartLemmas.{owed_same}
 
--- ---- a system is made the boot default, or the profile isn't set
+-- ---- the profile's link isn't the stage
+
+profile_apart_stage : is_path profile stage ≡ false
+unfolding profile stage
+profile_apart_stage = refl
+
+profile_not_stage : profile ≢ stage
+profile_not_stage same = both_ways _ profile_apart_stage (subst (λ x. is_path profile x ≡ true) same (nat_list_eq_equiv.refl profile))
+
+-- ---- the parts of a move of the profile
+
+module _ (move : Move) (system : Name) (gens : Gens) (are : IsBootGens gens) (w m : WorldState) where
+  of_default : IsPartMoment (boot_default_part move system gens) w m → IsPartMoment (default_part move system gens) w m
+  of_default moment = first_moment (boot_default_part move system gens) goal_part (default_part_law move system gens are) goal_is (goal_parted move system gens) w m moment
+
+  of_goal : IsPartMoment goal_part w m → IsPartMoment (default_part move system gens) w m
+  of_goal moment = second_moment (boot_default_part move system gens) goal_part (default_part_law move system gens are) goal_is (goal_parted move system gens) w m moment
+
+-- the part is the same at each of its moments
+default_kept : (moves : Option Move) (system : Name) (w m : WorldState) → (default_in moves system w.leaves).Keeps w m → default_in moves system m.leaves ≡ default_in moves system w.leaves
+default_kept None system w m keeps = refl
+default_kept (Some move) system w m keeps = ap (λ (gens : Gens). default_part move system gens) (default_stays_law move system (gens_moved move system w.leaves) w m keeps.0)
+
+not_of_default : owns_profile goal_place || owns_boot goal_place ≡ false
+not_of_default = elim (cases_Bool (owns_profile goal_place || owns_boot goal_place)) [
+  | inl own ↦ absurd (both_ways _ (goal_unread_default goal_place own) goal_read)
+  | inr other ↦ other
+]
+  where
+    goal_read : reads_goal goal_place ≡ true
+    goal_read = goal_is.reads_own goal_place goal_owned
+
+-- the same by the leaves of a world, with these generations
+abbrev IsDefaultLeft : Option Move → Name → Gens → WorldState → WorldState → Type 0
+IsDefaultLeft None system gens w u = Unit {0}
+IsDefaultLeft (Some move) system gens w u = IsAtEnd (boot_default_part move system gens) w u
+
+-- what the boot default owns is at its end, where the profile is moved
+abbrev IsSetEnd : Option Move → Name → WorldState → WorldState → Type 0
+IsSetEnd None system w u = Unit {0}
+IsSetEnd (Some move) system w u = IsAtEnd (boot_default_in move system w.leaves) w u
+
+-- ---- the goal is recorded, where the profile goes back to a generation
+
+-- nothing has changed but the goal
+record_only : (moves : Option Move) (w m : WorldState) → IsRecordStep moves w m → IsOnly goal_part w m
+record_only None w m same = record { leaves = λ q none ne. seen_at m w same q ne; manager = λ call. manager_seen m w same }
+record_only (Some Set) w m same = record { leaves = λ q none ne. seen_at m w same q ne; manager = λ call. manager_seen m w same }
+record_only (Some (Point n)) w m step = (recorded_moment (goal_leaf n) w m step).only
+
+record_last : (moves : Option Move) (w r : WorldState) → seen r ≡ record_world moves w → IsRecordStep moves w r
+record_last None w r is = is
+record_last (Some Set) w r is = is
+record_last (Some (Point n)) w r is = inr is
+
+record_part_moment : (moves : Option Move) (system : Name) (gens : Gens) → IsBootGens gens → (w m : WorldState) → IsRecordStep moves w m → IsPartMoment (default_if moves system gens) w m
+record_part_moment None system gens are w m same = record { keeps = tt; only = record { leaves = λ q none ne. seen_at m w same q ne; manager = λ none. manager_seen m w same } }
+record_part_moment (Some Set) system gens are w m same = of_goal Set system gens are w m (recorded_moment (goal_leaf 0) w m (inl same))
+record_part_moment (Some (Point n)) system gens are w m step = of_goal (Point n) system gens are w m (recorded_moment (goal_leaf n) w m step)
+
+record_kept : (moves : Option Move) (w m : WorldState) → IsRecordStep moves w m → IsGoalKept moves w.leaves m.leaves
+record_kept None w m step = tt
+record_kept (Some Set) w m step = tt
+record_kept (Some (Point n)) w m step = ⊎_elim
+    (λ old. kept_first (Some (Point n)) w m (seen_at m w old profile profile_not_stage) old)
+    (λ new. kept_recorded (Some (Point n)) w.leaves m.leaves (recorded_at (Some (Point n)) w m new))
+    step
+
+-- ---- a system is made the boot default, or the profile isn't moved
 
 module _ (system : Name) (named : IsSystemPath system) (w : WorldState) where
-  set_part_moment : (sets : Bool) → IsFree (part_if sets (boot_default_in system w.leaves)) w.leaves → (m : WorldState) → IsSetStep (if_so sets system) w m → IsPartMoment (part_if sets (boot_default_in system w.leaves)) w m
-  set_part_moment true free m step = default_moment_law system w m named free step
-  set_part_moment false free m step = record { keeps = tt; only = record { leaves = λ q none ne. seen_at m w step q ne; manager = λ none. manager_seen m w step } }
+  set_part_moment : (moves : Option Move) → IsFree (default_in moves system w.leaves) w.leaves → (m : WorldState) → IsSetStep moves system w m → IsPartMoment (default_in moves system w.leaves) w m
+  set_part_moment (Some move) free m step =
+      of_default move system (gens_moved move system w.leaves) (gens_after_law move system w.leaves named) w m
+      (default_moment_law move system w m named (first_free (boot_default_in move system w.leaves) goal_part w.leaves free) step)
+  set_part_moment None free m step = record { keeps = tt; only = record { leaves = λ q none ne. seen_at m w step q ne; manager = λ none. manager_seen m w step } }
 
-  set_step : (sets : Bool) → IsFree (part_if sets (boot_default_in system w.leaves)) w.leaves → (u : WorldState) → seen u ≡ set_world (if_so sets system) w → IsSetStep (if_so sets system) w u
-  set_step true free u is = (default_end_law system w u named free is).0
-  set_step false free u is = is
+  -- the goal stays as it is
+  set_goal : (moves : Option Move) → IsFree (default_in moves system w.leaves) w.leaves → (m : WorldState) → IsSetStep moves system w m → get m.leaves goal_place ≡ get w.leaves goal_place
+  set_goal (Some move) free m step =
+      (default_moment_law move system w m named (first_free (boot_default_in move system w.leaves) goal_part w.leaves free) step).only.leaves goal_place not_of_default goal_not_stage
+  set_goal None free m step = seen_at m w step goal_place goal_not_stage
 
-  pub set_final : (sets : Bool) → IsFree (part_if sets (boot_default_in system w.leaves)) w.leaves → (u : WorldState) → seen u ≡ set_world (if_so sets system) w → (q : Name) → q ≢ stage →
-      get u.leaves q ≡ final_leaf (part_if sets (boot_default_in system w.leaves)) w.leaves q
-  set_final true free u is q ne =
-      let end = default_end_law system w u named free is in is_final (boot_default_in system w.leaves) w u (default_moment_law system w u named free end.0).only end.1 q ne
-  set_final false free u is q ne = seen_at u w is q ne
+  set_step : (moves : Option Move) → IsFree (default_in moves system w.leaves) w.leaves → (u : WorldState) → seen u ≡ set_world moves system w → IsSetStep moves system w u
+  set_step (Some move) free u is = (default_end_law move system w u named (first_free (boot_default_in move system w.leaves) goal_part w.leaves free) is).0
+  set_step None free u is = is
 
-  pub set_calls : (sets : Bool) → IsFree (part_if sets (boot_default_in system w.leaves)) w.leaves → (u : WorldState) → seen u ≡ set_world (if_so sets system) w → u.manager ≡ w.manager
-  set_calls true free u is = (default_moment_law system w u named free (default_end_law system w u named free is).0).only.manager refl
-  set_calls false free u is = manager_seen u w is
+  -- what the boot default owns is at its end
+  set_end : (moves : Option Move) → IsFree (default_in moves system w.leaves) w.leaves → (u : WorldState) → seen u ≡ set_world moves system w → IsSetEnd moves system w u
+  set_end (Some move) free u is = (default_end_law move system w u named (first_free (boot_default_in move system w.leaves) goal_part w.leaves free) is).1
+  set_end None free u is = tt
+
+  set_calls : (moves : Option Move) → IsFree (default_in moves system w.leaves) w.leaves → (u : WorldState) → seen u ≡ set_world moves system w → u.manager ≡ w.manager
+  set_calls (Some move) free u is = (set_part_moment (Some move) free u (set_step (Some move) free u is)).only.manager refl
+  set_calls None free u is = manager_seen u w is
 
   -- the boot menu at each of its moments
-  set_menu : (sets : Bool) → IsFree (part_if sets (boot_default_in system w.leaves)) w.leaves → (m : WorldState) → IsSetStep (if_so sets system) w m → IsMenuBetween w.leaves m.leaves
-  set_menu true free m step = menu_law system w m named free step
-  set_menu false free m step = menu_begins_law w.leaves m.leaves (λ q own. seen_at m w step q (menu_not_stage q own))
+  set_menu : (moves : Option Move) → IsMoveToBy moves system w.leaves → IsFree (default_in moves system w.leaves) w.leaves → (m : WorldState) → IsSetStep moves system w m → IsMenuBetween w.leaves m.leaves
+  set_menu (Some move) to free m step = menu_law move system w m named to (first_free (boot_default_in move system w.leaves) goal_part w.leaves free) step
+  set_menu None to free m step = menu_begins_law w.leaves m.leaves (λ q own. seen_at m w step q (menu_not_stage q own))
 
 -- ---- a switch of the units
 
@@ -106,18 +196,15 @@ switch_step : (switches : Bool) (system : Name) (owed : Owed) (u m : WorldState)
 switch_step true system owed u m is_owed moment = (owed, is_owed refl, moment)
 switch_step false system owed u m is_owed same = ap seen same
 
+switch_end : (switches : Bool) (system : Name) (owed : Owed) (u v : WorldState) → (switches ≡ true → IsOwedBy u system owed) → IsSwitchedIf switches system owed u v → IsSwitchEnd (if_so switches system) u v
+switch_end true system owed u v is_owed end = (owed, is_owed refl, end)
+switch_end false system owed u v is_owed same = ap seen same
+
 switch_final : (switches : Bool) (system : Name) (owed : Owed) (u v : WorldState) → IsSwitchedIf switches system owed u v → (q : Name) → q ≢ stage → get v.leaves q ≡ final_leaf (part_if switches (switch_in system u.leaves)) u.leaves q
 switch_final true system owed u v is q ne = is.leaves q ne
 switch_final false system owed u v is q ne = ap (λ (x : WorldState). get x.leaves q) is
 
 -- ---- the profile names the same while it isn't written
-
-profile_apart_stage : is_path profile stage ≡ false
-unfolding profile stage
-profile_apart_stage = refl
-
-profile_not_stage : profile ≢ stage
-profile_not_stage same = both_ways _ profile_apart_stage (subst (λ x. is_path profile x ≡ true) same (nat_list_eq_equiv.refl profile))
 
 link_not_stage : (n : ℕ) → link_path n ≢ stage
 link_not_stage n same = both_ways _ (link_apart_stage n) (subst (λ x. is_path (link_path n) x ≡ true) same (nat_list_eq_equiv.refl (link_path n)))
@@ -146,17 +233,20 @@ seen_names w m same = names_by w m (seen_at m w same profile profile_not_stage) 
 
 -- no place of the profile or of the boot menu is one of a switch of the units
 module _ (switches : Bool) (system : Name) (named : IsSystemPath system) (owners : OwnerIds) (gens : Gens) where
-  pub not_own : (q : Name) → owns_profile q || owns_boot q ≡ true → (part_if switches (switch_part system owners)).owns q ≡ false
+  pub not_own : (q : Name) → (owns_profile q || owns_boot q) || owns_goal q ≡ true → (part_if switches (switch_part system owners)).owns q ≡ false
   not_own q own = elim (cases_Bool ((part_if switches (switch_part system owners)).owns q)) [
-    | inl is ↦ absurd (both_ways _ ((are_parted switches true system owners gens).second q own) ((switch_if_is switches system named owners).reads_own q is))
+    | inl is ↦ absurd (both_ways _ ((are_parted switches (Some Set) system owners gens).second q own) ((switch_if_is switches system named owners).reads_own q is))
     | inr other ↦ other
   ]
 
   profile_not_own : (q : Name) → owns_profile q ≡ true → (part_if switches (switch_part system owners)).owns q ≡ false
-  profile_not_own q own = not_own q (or_left (owns_profile q) (owns_boot q) own)
+  profile_not_own q own = not_own q (or_left _ (owns_goal q) (or_left (owns_profile q) (owns_boot q) own))
 
   menu_not_own : (q : Name) → owns_boot q ≡ true → (part_if switches (switch_part system owners)).owns q ≡ false
-  menu_not_own q own = not_own q (or_right (owns_profile q) (owns_boot q) own)
+  menu_not_own q own = not_own q (or_left _ (owns_goal q) (or_right (owns_profile q) (owns_boot q) own))
+
+  pub goal_not_own : (part_if switches (switch_part system owners)).owns goal_place ≡ false
+  goal_not_own = not_own goal_place (or_right (owns_profile goal_place || owns_boot goal_place) (owns_goal goal_place) goal_owned)
 
   switch_names : (u m : WorldState) → IsPartMoment (part_if switches (switch_part system owners)) u m → SameNames u m
   switch_names u m moment =
@@ -168,9 +258,45 @@ module _ (switches : Bool) (system : Name) (named : IsSystemPath system) (owners
       menu_stays_law first u.leaves m.leaves before (λ q own. moment.only.leaves q (menu_not_own q own) (menu_not_stage q own))
       (λ q own. moment.only.leaves q (profile_not_own q own) (owned_other q stage own stage_not_owned))
 
-set_names : (sets : Bool) (system : Name) → IsSystemPath system → (w m : WorldState) → IsFree (part_if sets (boot_default_in system w.leaves)) w.leaves → IsSetStep (if_so sets system) w m → NamesOneOf (if_so sets system) w m
-set_names true system named w m free step = default_names_law system w m named free step
-set_names false system named w m free step = seen_names w m step
+set_names : (moves : Option Move) (system : Name) → IsSystemPath system → (w m : WorldState) → IsMoveToBy moves system w.leaves → IsFree (default_in moves system w.leaves) w.leaves → IsSetStep moves system w m →
+    NamesOneOf (if_moved moves system) w m
+set_names (Some move) system named w m to free step = default_names_law move system w m named to (first_free (boot_default_in move system w.leaves) goal_part w.leaves free) step
+set_names None system named w m to free step = seen_names w m step
+
+-- ---- nothing but the goal has changed
+
+goal_stored : is_in_store goal_place ≡ false
+unfolding is_in_store goal_place
+goal_stored = refl
+
+stage_stored : is_in_store stage ≡ false
+unfolding is_in_store stage
+stage_stored = refl
+
+goal_not_stored : (q : Name) → is_in_store q ≡ true → owns_goal q ≡ false
+goal_not_stored q stored = elim (cases_Bool (owns_goal q)) [
+  | inl own ↦ absurd (both_ways _ goal_stored (subst (λ x. is_in_store x ≡ true) (same_text q goal_place (sym own)) stored))
+  | inr other ↦ other
+]
+
+stored_not_stage : (q : Name) → is_in_store q ≡ true → q ≢ stage
+stored_not_stage q stored same = both_ways _ stage_stored (subst (λ x. is_in_store x ≡ true) same stored)
+
+module _ (w m : WorldState) (only : IsOnly goal_part w m) where
+  not_the_goal : (q : Name) → owns_profile q || owns_boot q ≡ true → owns_goal q ≡ false
+  not_the_goal q own = false_by (owns_goal q) (reads_goal q) (λ is. goal_is.reads_own q is) (goal_unread_default q own)
+
+  goal_profile : (q : Name) → owns_profile q ≡ true → get m.leaves q ≡ get w.leaves q
+  goal_profile q own = only.leaves q (not_the_goal q (or_left (owns_profile q) (owns_boot q) own)) (owned_other q stage own stage_not_owned)
+
+  goal_menu : (q : Name) → owns_boot q ≡ true → get m.leaves q ≡ get w.leaves q
+  goal_menu q own = only.leaves q (not_the_goal q (or_right (owns_profile q) (owns_boot q) own)) (menu_not_stage q own)
+
+  goal_names_same : SameNames w m
+  goal_names_same = names_by w m (goal_profile profile profile_owned) (λ n. goal_profile (link_path n) (link_owned n))
+
+  goal_store : IsSameStore m.leaves w.leaves
+  goal_store q stored = sym (only.leaves q (goal_not_stored q stored) (stored_not_stage q stored))
 
 -- what is named at a moment is named at each at which the profile is the same
 names_then : (to : Option Name) (w u m : WorldState) → NamesOneOf to w u → SameNames u m → NamesOneOf to w m
@@ -180,18 +306,13 @@ names_then (Some system) w u m before same = ⊎_elim
     (λ now. inr ((same system).1 now))
     before
 
--- ---- the end of one part after the end of another
-
-pub final_then : (p q : Part) (w u v : WorldState) → ((at : Name) → at ≢ stage → get v.leaves at ≡ final_leaf p u.leaves at) → ((at : Name) → at ≢ stage → get u.leaves at ≡ final_leaf q w.leaves at) →
-    ((at : Name) → p.owns at ≡ true → p.end u.leaves at ≡ p.end w.leaves at) → (at : Name) → at ≢ stage → get v.leaves at ≡ final_leaf (both p q) w.leaves at
-final_then p q w u v last first ends at ne = elim (cases_Bool (p.owns at)) [
-  | inl own ↦
-      last at ne ∙ ap (λ b. cond b (p.end u.leaves at) (get u.leaves at)) own ∙ ends at own
-      ∙ sym (ap (λ b. cond (b || q.owns at) (cond b (p.end w.leaves at) (q.end w.leaves at)) (get w.leaves at)) own)
-  | inr none ↦
-      last at ne ∙ ap (λ b. cond b (p.end u.leaves at) (get u.leaves at)) none ∙ first at ne
-      ∙ sym (ap (λ b. cond (b || q.owns at) (cond b (p.end w.leaves at) (q.end w.leaves at)) (get w.leaves at)) none)
-]
+-- and since each at which it is the same
+names_since : (to : Option Name) (w r m : WorldState) → SameNames w r → NamesOneOf to r m → NamesOneOf to w m
+names_since None w r m same after = λ other. (λ is. (same other).0 ((after other).0 is), λ is. (after other).1 ((same other).1 is))
+names_since (Some system) w r m same after = ⊎_elim
+    (λ (old : SameNames r m). inl (λ other. (λ is. (same other).0 ((old other).0 is), λ is. (old other).1 ((same other).1 is))))
+    (λ now. inr now)
+    after
 
 -- ---- the units at the end
 
@@ -238,44 +359,12 @@ units_end false system owed w u v is_owed same is =
 -- what is known of a command that is carried out, at its beginning
 pub record IsCarriedFrom (command : Command) (owed : Owed) (w : WorldState) : Type 0 where
   pub on : (row command w.leaves).changes ≡ true
-  pub same : (m : WorldState) → IsPartMoment (part_of command w.leaves) w m → row command m.leaves ≡ row command w.leaves
+  pub has : lacks_goal command w.leaves ≡ false
   pub named : IsSystemPath (new_system command w.leaves)
   pub free : IsFreeCommand command w.leaves
   pub is_owed : (row command w.leaves).switches ≡ true → IsOwedBy w (new_system command w.leaves) owed
 
 -- ---- what a plan says
-
--- the row of a command is the same at each moment of its parts
-pub same_row : (command : Command) (w m : WorldState) → IsPartMoment (part_of command w.leaves) w m → row command m.leaves ≡ row command w.leaves
-same_row (Command.Switch system) w m moment = refl
-same_row (Command.Test system) w m moment = refl
-same_row (Command.Boot system) w m moment = refl
-same_row (Command.DryActivate system) w m moment = refl
-
--- what a command does is the same in each world
-record HasSameFlags (one other : Row) : Type 0 where
-  changes : one.changes ≡ other.changes
-  switches : one.switches ≡ other.switches
-
-same_flags : (command : Command) (one other : Leaves) → HasSameFlags (row command one) (row command other)
-same_flags (Command.Switch system) one other = record { changes = refl; switches = refl }
-same_flags (Command.Test system) one other = record { changes = refl; switches = refl }
-same_flags (Command.Boot system) one other = record { changes = refl; switches = refl }
-same_flags (Command.DryActivate system) one other = record { changes = refl; switches = refl }
-
--- whether a command changes something
-pub changes_on : (command : Command) (leaves : Leaves) → (IsQuery command → ⊥) → (row command leaves).changes ≡ true
-changes_on command leaves changes = elim (cases_Bool (row command leaves).changes) [
-  | inl on ↦ on
-  | inr off ↦ absurd (changes (λ other. (same_flags command other leaves).changes ∙ off))
-]
-
--- whether it switches the units
-pub switches_on : (command : Command) (leaves : Leaves) → (IsBoot command → ⊥) → (row command leaves).switches ≡ true
-switches_on command leaves not_boot = elim (cases_Bool (row command leaves).switches) [
-  | inl on ↦ on
-  | inr off ↦ absurd (not_boot (λ other. (same_flags command other leaves).switches ∙ off))
-]
 
 owed_planned : (switches : Bool) (system : Name) (w : WorldState) (plan : UnitPlan) → AreUnitsPlanned switches system w plan → switches ≡ true → IsOwedBy w system (owed_of plan)
 owed_planned true system w plan planned same = (planned.lists, record { listed = planned.planned.listed; is_owed = planned.planned.planned.is_owed })
@@ -289,23 +378,36 @@ module _ (plan : Plan) (w : WorldState) (is : IsPlanOf w plan) (changes : IsQuer
   pub carried_from : IsCarriedFrom plan.command (owed_of plan.units) w
   carried_from = record {
     on = changes_on plan.command w.leaves changes;
-    same = λ m moment. same_row plan.command w m moment;
+    has = has_goal plan.command w.leaves is.not_refused;
     named = subst (λ (r : Row). IsSystemPath r.system) is.resolved is.named;
     free = free_command plan.command w.leaves is.not_refused;
     is_owed = owed_planned (row plan.command w.leaves).switches (new_system plan.command w.leaves) w plan.units planned_parts.units;
   }
 
--- the profile is set to the system where that is planned
-pub sets_same : (sets : Bool) (system : Name) (w : WorldState) (o : Option BootDefaultPlan) → IsProfilePlanned sets system w o → sets_by system o ≡ if_so sets system
-sets_same sets system w None planned = sym (ap (λ b. if_so b system) planned)
-sets_same sets system w (Some plan) planned = sym (ap (λ b. if_so b system) planned.0)
+-- the profile is moved as is planned
+pub moves_same : (moves : Option Move) (system : Name) (w : WorldState) (o : Option BootDefaultPlan) → IsProfilePlanned moves system w o → moves_of o ≡ moves
+moves_same moves system w None planned = sym planned
+moves_same moves system w (Some plan) planned = sym planned.0
 
-pub can_set : (sets : Bool) (system : Name) → IsSystemPath system → (w : WorldState) (o : Option BootDefaultPlan) → IsProfilePlanned sets system w o → IsFree (part_if sets (boot_default_in system w.leaves)) w.leaves → CanSetBy system o w
-can_set sets system named w None planned free = tt
-can_set sets system named w (Some plan) planned free = record {
+-- the goal of a rollback can be recorded
+pub can_record : (moves : Option Move) (system : Name) (gens : Gens) (w : WorldState) → IsFree (default_if moves system gens) w.leaves → CanRecordBy moves w
+can_record None system gens w free = tt
+can_record (Some Set) system gens w free = tt
+can_record (Some (Point n)) system gens w free = record {
+  stage = (can_point n system w (first_free (move_part (Point n) system) (boot_part gens) w.leaves (first_free (boot_default_part (Point n) system gens) goal_part w.leaves free))).stage;
+  place = goal_clear w (second_free (boot_default_part (Point n) system gens) goal_part w.leaves free);
+}
+
+-- a boot default that is planned can be made once the goal is recorded
+pub can_set : (moves : Option Move) (system : Name) → IsSystemPath system → (w r : WorldState) (o : Option BootDefaultPlan) → IsProfilePlanned moves system w o → IsOnly goal_part w r → IsFree (default_in moves system r.leaves) r.leaves →
+    CanSetBy system o r
+can_set moves system named w r None planned only free = tt
+can_set moves system named w r (Some plan) planned only free = record {
   named = named;
-  planned = planned.1;
-  free = subst (λ b. IsFree (part_if b (boot_default_in system w.leaves)) w.leaves) planned.0 free;
+  planned = default_plan_law plan.to system w r plan named
+      (only_beside goal_part (boot_default_in plan.to system w.leaves) (default_part_law plan.to system (gens_moved plan.to system w.leaves) (gens_after_law plan.to system w.leaves named))
+      (goal_parted plan.to system (gens_moved plan.to system w.leaves)).second refl w r only) planned.1;
+  free = first_free (boot_default_in plan.to system r.leaves) goal_part r.leaves (subst (λ mv. IsFree (default_in mv system r.leaves) r.leaves) planned.0 free);
 }
 
 -- the units are switched where an activation is planned
@@ -363,14 +465,72 @@ verdict true system plan w u v outcome planned same end states failed none =
     )
 verdict false system plan w u v outcome planned same end states failed none = (λ is. absurd (both_ways _ (ap (λ (o : Outcome). o.failed) (none refl)) is), λ left. absurd left)
 
+-- ---- the goal is removed, where the profile is moved
+
+clear_only : (moves : Option Move) (v m : WorldState) → IsClearStep moves v m → IsOnly goal_part v m
+clear_only None v m same = record { leaves = λ q none ne. ap (λ (x : WorldState). get x.leaves q) same; manager = λ call. ap (λ (x : WorldState). x.manager) same }
+clear_only (Some move) v m step = (cleared_moment v m step).only
+
+clear_part_moment : (moves : Option Move) (system : Name) (gens : Gens) → IsBootGens gens → (v m : WorldState) → IsClearStep moves v m → IsPartMoment (default_if moves system gens) v m
+clear_part_moment None system gens are v m same =
+    record { keeps = tt; only = record { leaves = λ q none ne. ap (λ (x : WorldState). get x.leaves q) same; manager = λ call. ap (λ (x : WorldState). x.manager) same } }
+clear_part_moment (Some move) system gens are v m step = of_goal move system gens are v m (cleared_moment v m step)
+
+-- the last step leaves no goal
+clear_last : (moves : Option Move) (v e : WorldState) → e ≡ cleared_by moves v → IsClearStep moves v e
+clear_last None v e is = is
+clear_last (Some move) v e is = inr is
+
+-- a journal that has all entries of a command has begun to have them
+all_entered : (command : Command) (w m : WorldState) (entries : List Entry) → AreEntries (brought_to command w.leaves) w entries → m.manager.journal ≡ w.manager.journal ++ entries → HasBegunToEnter command w m
+all_entered command w m entries are journal = record { entries = entries; are_entered = are; made = entries; rest = []; in_order = sym (append-nil entries); journal = journal }
+
+-- where the system is the boot default, each place of that is at its end, by the first world
+set_left : (moves : Option Move) (system : Name) → IsSystemPath system → (w r : WorldState) (gens : Gens) → IsBootGens gens → gens ≡ gens_to moves system w.leaves → IsPartMoment (default_if moves system gens) w r → IsFree (default_in moves system r.leaves) r.leaves → (u : WorldState) →
+    seen u ≡ set_world moves system r → IsDefaultLeft moves system gens w u
+set_left None system named w r gens are same at free u is = tt
+set_left (Some move) system named w r gens are same at free u is = λ q own.
+    set_end system named r (Some move) free u is q own
+    ∙ ap (λ (g : Gens). (boot_default_part move system g).end r.leaves q) (default_stays_law move system gens w r at.keeps.0 ∙ sym same)
+    ∙ (default_part_law move system gens are).same_end w r at.keeps.0 q own
+
+-- what the move of the profile is about is at its end once the goal is removed
+second_left : (moves : Option Move) (system : Name) (gens : Gens) → IsBootGens gens → (w r u v e : WorldState) (q : Name) → q ≢ stage → IsPartMoment (default_if moves system gens) w r → IsDefaultLeft moves system gens w u →
+    IsPartMoment (default_if moves system gens) r u → get v.leaves q ≡ get u.leaves q → e ≡ cleared_by moves v → get e.leaves q ≡ final_leaf (default_if moves system gens) w.leaves q
+second_left None system gens are w r u v e q ne at left set same is_e = ap (λ (x : WorldState). get x.leaves q) is_e ∙ same ∙ set.only.leaves q refl ne ∙ at.only.leaves q refl ne
+second_left (Some move) system gens are w r u v e q ne at left set same is_e =
+    let clear = cleared_moment v e (inr is_e) in
+    let default = boot_default_part move system gens in
+    elim (cases_Bool (default.owns q)) [
+      | inl own ↦
+          clear.only.leaves q (not_the_goal q own) ne ∙ same ∙ left q own
+          ∙ sym (ap (λ b. cond (b || owns_goal q) (cond b (default.end w.leaves q) None) (get w.leaves q)) own)
+      | inr beside ↦ elim (cases_Bool (owns_goal q)) [
+        | inl own ↦
+            cleared_at_end v e is_e q own
+            ∙ sym (ap (λ b. cond (b || owns_goal q) (cond b (default.end w.leaves q) None) (get w.leaves q)) beside ∙ ap (λ b. cond b None (get w.leaves q)) own)
+        | inr neither ↦
+            clear.only.leaves q neither ne ∙ same ∙ set.only.leaves q (or_from _ _ beside neither) ne ∙ at.only.leaves q (or_from _ _ beside neither) ne
+            ∙ sym (ap (λ b. cond (b || owns_goal q) (cond b (default.end w.leaves q) None) (get w.leaves q)) beside ∙ ap (λ b. cond b None (get w.leaves q)) neither)
+      ]
+    ]
+  where
+    not_the_goal : (at : Name) → owns_profile at || owns_boot at ≡ true → owns_goal at ≡ false
+    not_the_goal at own = false_by (owns_goal at) (reads_goal at) (λ is. goal_is.reads_own at is) (goal_unread_default at own)
+
 -- ---- the moments and the end of a command
+
+on_its_way : (moves : Option Move) (command : Command) (w m : WorldState) → IsUnderway w command m → IsOnItsWay moves command w m
+on_its_way None command w m underway = underway
+on_its_way (Some Set) command w m underway = underway
+on_its_way (Some (Point n)) command w m underway = inl underway
 
 module _ (command : Command) (owed : Owed) (w : WorldState) (carried : IsCarriedFrom command owed w) where
   abbrev switches : Bool
   switches = (row command w.leaves).switches
 
-  abbrev sets : Bool
-  sets = (row command w.leaves).sets
+  abbrev moves : Option Move
+  moves = (row command w.leaves).moves
 
   abbrev system : Name
   system = new_system command w.leaves
@@ -379,129 +539,290 @@ module _ (command : Command) (owed : Owed) (w : WorldState) (carried : IsCarried
   owners = owners_after system w.leaves
 
   abbrev gens : Gens
-  gens = gens_after system w.leaves
+  gens = gens_to moves system w.leaves
 
   abbrev first : Part
   first = part_if switches (switch_part system owners)
 
   abbrev second : Part
-  second = part_if sets (boot_default_part system gens)
+  second = default_if moves system gens
 
   first_is : IsPart first
   first_is = switch_if_is switches system carried.named owners
 
   are_gens : IsBootGens gens
-  are_gens = gens_after_law system w.leaves carried.named
+  are_gens = gens_to_law moves system w.leaves carried.named
 
   second_is : IsPart second
-  second_is = default_if_is sets system gens are_gens
+  second_is = default_if_is moves system gens are_gens
 
   both_are : IsPart (both first second)
-  both_are = parts_are switches sets system carried.named owners gens are_gens
+  both_are = parts_are switches moves system carried.named owners gens are_gens
 
   pub set_free : IsFree second w.leaves
   set_free = second_free first second w.leaves carried.free.parts
 
-  set_alone : (m : WorldState) → IsSetStep (if_so sets system) w m → IsPartMoment second w m
-  set_alone m step = set_part_moment system carried.named w sets set_free m step
+  calls_none : (o : Option Move) → (default_if o system gens).calls ≡ false
+  calls_none (Some move) = refl
+  calls_none None = refl
 
-  set_calls_none : (b : Bool) → (part_if b (boot_default_part system gens)).calls ≡ false
-  set_calls_none true = refl
-  set_calls_none false = refl
+  of_second : (v m : WorldState) → IsPartMoment second v m → IsPartMoment (both first second) v m
+  of_second v m moment = second_moment first second first_is second_is (are_parted switches moves system owners gens) v m moment
 
-  set_of_parts : (m : WorldState) → IsSetStep (if_so sets system) w m → IsPartMoment (both first second) w m
-  set_of_parts m step = second_moment first second first_is second_is (are_parted switches sets system owners gens) w m (set_alone m step)
+  -- where the goal is as it was, or recorded, the command is underway
+  underway_at : (m : WorldState) → IsPartMoment (both first second) w m → IsGoalKept moves w.leaves m.leaves → IsSteadyFor command w → IsUnderway w command m
+  underway_at m moment kept steady =
+      underway command w m carried.on (row_same command gens w m carried.has moment.keeps.1 kept) carried.has carried.named carried.free moment steady
 
-  -- each moment of making the system the boot default is one of the command
-  pub set_moment : (m : WorldState) → IsSetStep (if_so sets system) w m → IsMomentOf command w m
-  set_moment m step = record {
-    step = subst (λ b. IsStepIf b (if_so (b && sets) system) (if_so (b && switches) system) w m) (sym carried.on) (IsStepTo.Setting step);
-    underway = let moment = set_of_parts m step in underway command w m carried.on (carried.same m moment) carried.named carried.free moment;
-    entered = inl (ap (λ (k : ManagerState). k.journal) ((set_alone m step).only.manager (set_calls_none sets)));
-    named = subst (λ b. NamesOneOf (if_so (b && sets) system) w m) (sym carried.on) (set_names sets system carried.named w m set_free step);
-    menu = set_menu system carried.named w sets set_free m step;
-  }
+  step_as : (m : WorldState) → IsStepTo moves system (if_so switches system) w m → IsStepOf command w m
+  step_as m step = subst (λ b. IsStepIf b (cond b moves None) system (if_so (b && switches) system) w m) (sym carried.on) step
 
-  module _ (u : WorldState) (is : seen u ≡ set_world (if_so sets system) w) where
-    last_set : IsSetStep (if_so sets system) w u
-    last_set = set_step system carried.named w sets set_free u is
+  to_as : (b m : WorldState) → NamesOneOf (if_moved moves system) b m → NamesOneOf (set_to command w.leaves) b m
+  to_as b m names = subst (λ c. NamesOneOf (if_moved (cond c moves None) system) b m) (sym carried.on) names
 
-    at_set : IsPartMoment (both first second) w u
-    at_set = set_of_parts u last_set
+  -- ---- the goal is recorded
 
-    pub same_manager : u.manager ≡ w.manager
-    same_manager = set_calls system carried.named w sets set_free u is
+  record_alone : (m : WorldState) → IsRecordStep moves w m → IsPartMoment second w m
+  record_alone m step = record_part_moment moves system gens are_gens w m step
 
-    -- an activation sees the same as before
-    pub activation_same : IsSameFor (activation_part system owners) w u
-    activation_same =
-        only_beside second (activation_part system owners) (activation_part_law system owners carried.named) (default_parted sets system owners gens).first (default_parted sets system owners gens).manager w u
-        (set_alone u last_set).only
+  -- each moment of recording it is one of the command
+  pub record_moment : (m : WorldState) → IsRecordStep moves w m → IsMomentOf command w m
+  record_moment m step =
+      let only = record_only moves w m step in
+      record {
+        step = step_as m (IsStepTo.Recording step);
+        underway = λ steady. on_its_way moves command w m (underway_at m (of_second w m (record_alone m step)) (record_kept moves w m step) steady);
+        entered = inl (ap (λ (k : ManagerState). k.journal) (only.manager refl));
+        named = to_as w m (names_then (if_moved moves system) w w m (names_same (if_moved moves system)) (goal_names_same w m only));
+        menu = menu_begins_law w.leaves m.leaves (goal_menu w m only);
+      }
+    where
+      names_same : (to : Option Name) → NamesOneOf to w w
+      names_same None = λ other. (λ is. is, λ is. is)
+      names_same (Some name) = inl (λ other. (λ is. is, λ is. is))
 
-    -- and so the tables that it leaves have the same owners
-    same_owners : owners_after system u.leaves ≡ owners
-    same_owners = owners_law system owners w u ((activation_part_law system owners carried.named).frame w u activation_same)
+  module _ (r : WorldState) (is_r : seen r ≡ record_world moves w) where
+    last_record : IsRecordStep moves w r
+    last_record = record_last moves w r is_r
 
-    pub switch_free : IsFree (part_if switches (switch_in system u.leaves)) u.leaves
-    switch_free =
-        subst (λ (o : OwnerIds). IsFree (part_if switches (switch_part system o)) u.leaves) (sym same_owners)
-        (first_free first second u.leaves (both_are.stays_free w u at_set.keeps carried.free.parts))
+    pub only_goal : IsOnly goal_part w r
+    only_goal = record_only moves w r last_record
 
-    -- the units' part sees the same as before
-    pub owed_still : switches ≡ true → IsOwedBy u system owed
-    owed_still switched = by switches switched (are_parted switches sets system owners gens).second (carried.is_owed switched)
-      where
-        unchanged : (at : Name) → (second.owns at ≡ true → ⊥) → at ≢ stage → get u.leaves at ≡ get w.leaves at
-        unchanged at none ne = elim (cases_Bool (second.owns at)) [
-          | inl own ↦ absurd (none own)
-          | inr other ↦ (set_alone u last_set).only.leaves at other ne
+    at_record : IsPartMoment second w r
+    at_record = record_alone r last_record
+
+    recorded : IsRecorded moves r.leaves
+    recorded = recorded_at moves w r is_r
+
+    same_part : default_in moves system r.leaves ≡ second
+    same_part = default_kept moves system w r at_record.keeps
+
+    -- the boot default is as free as before
+    pub record_free : IsFree (default_in moves system r.leaves) r.leaves
+    record_free = subst (λ (part : Part). IsFree part r.leaves) (sym same_part) (second_is.stays_free w r at_record.keeps set_free)
+
+    to_r : IsMoveToBy moves system r.leaves
+    to_r = move_to_kept moves system gens w r at_record.keeps (moves_to command w.leaves)
+
+    -- ---- the system is made the boot default
+
+    set_alone : (m : WorldState) → IsSetStep moves system r m → IsPartMoment second r m
+    set_alone m step = subst (λ (part : Part). IsPartMoment part r m) same_part (set_part_moment system carried.named r moves record_free m step)
+
+    set_of_parts : (m : WorldState) → IsSetStep moves system r m → IsPartMoment (both first second) w m
+    set_of_parts m step = of_second w m (moment_then second second_is w r m at_record (set_alone m step))
+
+    set_recorded : (m : WorldState) → IsSetStep moves system r m → IsRecorded moves m.leaves
+    set_recorded m step = recorded_same moves r.leaves m.leaves (set_goal system carried.named r moves record_free m step) recorded
+
+    set_named : (m : WorldState) → IsSetStep moves system r m → NamesOneOf (if_moved moves system) w m
+    set_named m step = names_since (if_moved moves system) w r m (goal_names_same w r only_goal) (set_names moves system carried.named r m to_r record_free step)
+
+    set_between : (m : WorldState) → IsSetStep moves system r m → IsMenuBetween w.leaves m.leaves
+    set_between m step =
+        menu_since_law r.leaves w.leaves m.leaves (λ q own. sym (goal_menu w r only_goal q own)) (goal_store w r only_goal) (set_menu system carried.named r moves to_r record_free m step)
+
+    -- each moment of making the system the boot default is one of the command
+    pub set_moment : (m : WorldState) → IsSetStep moves system r m → IsMomentOf command w m
+    set_moment m step = record {
+      step = step_as m (IsStepTo.Setting r is_r step);
+      underway = λ steady. on_its_way moves command w m (underway_at m (set_of_parts m step) (kept_recorded moves w.leaves m.leaves (set_recorded m step)) steady);
+      entered = inl (ap (λ (k : ManagerState). k.journal) (((set_alone m step).only.manager (calls_none moves)) ∙ at_record.only.manager (calls_none moves)));
+      named = to_as w m (set_named m step);
+      menu = set_between m step;
+    }
+
+    module _ (u : WorldState) (is : seen u ≡ set_world moves system r) where
+      last_set : IsSetStep moves system r u
+      last_set = set_step system carried.named r moves record_free u is
+
+      alone_set : IsPartMoment second w u
+      alone_set = moment_then second second_is w r u at_record (set_alone u last_set)
+
+      at_set : IsPartMoment (both first second) w u
+      at_set = set_of_parts u last_set
+
+      pub same_manager : u.manager ≡ w.manager
+      same_manager = alone_set.only.manager (calls_none moves)
+
+      -- an activation sees the same as before
+      pub activation_same : IsSameFor (activation_part system owners) w u
+      activation_same =
+          only_beside second (activation_part system owners) (activation_part_law system owners carried.named) (default_parted moves system owners gens).first (default_parted moves system owners gens).manager w u
+          alone_set.only
+
+      -- and so the tables that it leaves have the same owners
+      same_owners : owners_after system u.leaves ≡ owners
+      same_owners = owners_law system owners w u ((activation_part_law system owners carried.named).frame w u activation_same)
+
+      pub switch_free : IsFree (part_if switches (switch_in system u.leaves)) u.leaves
+      switch_free =
+          subst (λ (o : OwnerIds). IsFree (part_if switches (switch_part system o)) u.leaves) (sym same_owners)
+          (first_free first second u.leaves (both_are.stays_free w u at_set.keeps carried.free.parts))
+
+      -- the units' part sees the same as before
+      pub owed_still : switches ≡ true → IsOwedBy u system owed
+      owed_still switched = by switches switched (are_parted switches moves system owners gens).second (carried.is_owed switched)
+        where
+          unchanged : (at : Name) → (second.owns at ≡ true → ⊥) → at ≢ stage → get u.leaves at ≡ get w.leaves at
+          unchanged at none ne = elim (cases_Bool (second.owns at)) [
+            | inl own ↦ absurd (none own)
+            | inr other ↦ alone_set.only.leaves at other ne
+          ]
+
+          by : (b : Bool) → b ≡ true → ((at : Name) → second.owns at ≡ true → (part_if b (switch_part system owners)).reads at ≡ false) → IsOwedBy w system owed → IsOwedBy u system owed
+          by true same_b apart is_owed = owed_same system w u (is_system system carried.named) (record {
+            leaves = λ at read. unchanged at (λ own. both_ways _ (apart at own) (or_left _ _ read)) (λ same. both_ways _ not_reads_stage (subst (λ x. reads_units x ≡ true) same read));
+            manager = λ call. same_manager;
+          }) owed is_owed
+          by false same_b apart is_owed = absurd (both_ways _ refl same_b)
+
+      switch_moment_of : (m : WorldState) → IsSwitchMomentIf switches system owed u m → IsPartMoment first u m
+      switch_moment_of m moment =
+          subst (λ (o : OwnerIds). IsPartMoment (part_if switches (switch_part system o)) u m) same_owners
+          (switch_if_moment switches system carried.named owed u m owed_still switch_free moment)
+
+      switch_of_parts : (m : WorldState) → IsSwitchMomentIf switches system owed u m → IsPartMoment (both first second) w m
+      switch_of_parts m moment =
+          moment_then (both first second) both_are w u m at_set
+          (first_moment first second first_is second_is (are_parted switches moves system owners gens) u m (switch_moment_of m moment))
+
+      switch_recorded : (m : WorldState) → IsSwitchMomentIf switches system owed u m → IsRecorded moves m.leaves
+      switch_recorded m moment =
+          recorded_same moves u.leaves m.leaves ((switch_moment_of m moment).only.leaves goal_place (goal_not_own switches system carried.named owners gens) goal_not_stage) (set_recorded u last_set)
+
+      switch_named : (m : WorldState) → IsSwitchMomentIf switches system owed u m → NamesOneOf (if_moved moves system) w m
+      switch_named m moment =
+          names_then (if_moved moves system) w u m (set_named u last_set) (switch_names switches system carried.named owners gens u m (switch_moment_of m moment))
+
+      switch_between : (m : WorldState) → IsSwitchMomentIf switches system owed u m → IsMenuBetween w.leaves m.leaves
+      switch_between m moment = switch_menu switches system carried.named owners gens w.leaves u m (switch_moment_of m moment) (set_between u last_set)
+
+      -- each moment of a switch of the units is one of the command
+      pub switch_moment : (m : WorldState) → IsSwitchMomentIf switches system owed u m → IsMomentOf command w m
+      switch_moment m moment = record {
+        step = step_as m (IsStepTo.Switching r u is_r is (switch_step switches system owed u m owed_still moment));
+        entered = inr (switch_enters command switches system owed w u m (sym (ap (λ b. if_so (b && switches) system) carried.on)) carried.is_owed same_manager moment);
+        underway = λ steady. on_its_way moves command w m (underway_at m (switch_of_parts m moment) (kept_recorded moves w.leaves m.leaves (switch_recorded m moment)) steady);
+        named = to_as w m (switch_named m moment);
+        menu = switch_between m moment;
+      }
+
+      module _ (v : WorldState) (end : IsSwitchedIf switches system owed u v) (moment : IsSwitchMomentIf switches system owed u v) where
+        -- ---- the goal is removed
+
+        clear_of_parts : (m : WorldState) → IsClearStep moves v m → IsPartMoment (both first second) w m
+        clear_of_parts m step = moment_then (both first second) both_are w v m (switch_of_parts v moment) (of_second v m (clear_part_moment moves system gens are_gens v m step))
+
+        units : IsUnitsEnd (if_so switches system) w v
+        units = units_end switches system owed w u v carried.is_owed same_manager end
+
+        -- the leaf that is left at each place
+        left_at : (e : WorldState) → e ≡ cleared_by moves v → (q : Name) → q ≢ stage → get e.leaves q ≡ final_leaf (both first second) w.leaves q
+        left_at e is_e q ne = elim (cases_Bool (first.owns q)) [
+          | inl own ↦
+              at_clear q (λ of_second. both_ways _ (second_unread q of_second) (first_is.reads_own q own)) ne
+              ∙ switch_final switches system owed u v end q ne
+              ∙ ap (λ (o : OwnerIds). final_leaf (part_if switches (switch_part system o)) u.leaves q) same_owners
+              ∙ ap (λ b. cond b (first.end u.leaves q) (get u.leaves q)) own ∙ first_is.same_end w u at_set.keeps.0 q own
+              ∙ sym (ap (λ b. cond (b || second.owns q) (cond b (first.end w.leaves q) (second.end w.leaves q)) (get w.leaves q)) own)
+          | inr none ↦
+              of_others q ne none
+              ∙ sym (ap (λ b. cond (b || second.owns q) (cond b (first.end w.leaves q) (second.end w.leaves q)) (get w.leaves q)) none)
         ]
+          where
+            second_unread : (at : Name) → second.owns at ≡ true → first.reads at ≡ false
+            second_unread = (are_parted switches moves system owners gens).second
 
-        by : (b : Bool) → b ≡ true → ((at : Name) → second.owns at ≡ true → (part_if b (switch_part system owners)).reads at ≡ false) → IsOwedBy w system owed → IsOwedBy u system owed
-        by true same_b apart is_owed = owed_same system w u (is_system system carried.named) (record {
-          leaves = λ at read. unchanged at (λ own. both_ways _ (apart at own) (or_left _ _ read)) (λ same. both_ways _ not_reads_stage (subst (λ x. reads_units x ≡ true) same read));
-          manager = λ call. same_manager;
-        }) owed is_owed
-        by false same_b apart is_owed = absurd (both_ways _ refl same_b)
+            clear_step : IsClearStep moves v e
+            clear_step = clear_last moves v e is_e
 
-    switch_moment_of : (m : WorldState) → IsSwitchMomentIf switches system owed u m → IsPartMoment first u m
-    switch_moment_of m moment =
-        subst (λ (o : OwnerIds). IsPartMoment (part_if switches (switch_part system o)) u m) same_owners
-        (switch_if_moment switches system carried.named owed u m owed_still switch_free moment)
+            at_clear : (at : Name) → (second.owns at ≡ true → ⊥) → at ≢ stage → get e.leaves at ≡ get v.leaves at
+            at_clear at other not_stage = elim (cases_Bool (second.owns at)) [
+              | inl own ↦ absurd (other own)
+              | inr beside ↦ (clear_part_moment moves system gens are_gens v e clear_step).only.leaves at beside not_stage
+            ]
 
-    -- each moment of a switch of the units is one of the command
-    pub switch_moment : (m : WorldState) → IsSwitchMomentIf switches system owed u m → IsMomentOf command w m
-    switch_moment m moment =
-        let part = switch_moment_of m moment in
-        let later = first_moment first second first_is second_is (are_parted switches sets system owners gens) u m part in
-        record {
-          step = subst (λ b. IsStepIf b (if_so (b && sets) system) (if_so (b && switches) system) w m) (sym carried.on)
-              (IsStepTo.Switching u is (switch_step switches system owed u m owed_still moment));
-          entered = inr (switch_enters command switches system owed w u m (sym (ap (λ b. if_so (b && switches) system) carried.on)) carried.is_owed same_manager moment);
-          underway = let moment = moment_then (both first second) both_are w u m at_set later in underway command w m carried.on (carried.same m moment) carried.named carried.free moment;
-          named = names_then (set_to command w.leaves) w u m
-              (subst (λ b. NamesOneOf (if_so (b && sets) system) w u) (sym carried.on) (set_names sets system carried.named w u set_free last_set))
-              (switch_names switches system carried.named owners gens u m part);
-          menu = switch_menu switches system carried.named owners gens w.leaves u m part (set_menu system carried.named w sets set_free u last_set);
-        }
+            -- nothing of the switch is there
+            not_switched : (at : Name) → at ≢ stage → first.owns at ≡ false → get v.leaves at ≡ get u.leaves at
+            not_switched at not_stage beside = (switch_moment_of v moment).only.leaves at beside not_stage
 
-    -- the world that both leave is the one at the end of the command
-    pub ends : (v : WorldState) → IsSwitchedIf switches system owed u v → IsEndOf command w v
-    ends v end =
-        let units = units_end switches system owed w u v carried.is_owed same_manager end in
-        let brought : if_so switches system ≡ brought_to command w.leaves = sym (ap (λ b. if_so (b && switches) system) carried.on) in
-        record {
-          final = record {
-            leaves = λ q ne.
-                final_then first second w u v
-                (λ at other. switch_final switches system owed u v end at other ∙ ap (λ (o : OwnerIds). final_leaf (part_if switches (switch_part system o)) u.leaves at) same_owners)
-                (set_final system carried.named w sets set_free u is)
-                (λ at own. first_is.same_end w u at_set.keeps.0 at own) q ne
-                ∙ sym (ap (λ b. cond b (final_leaf (part_of command w.leaves) w.leaves q) (get w.leaves q)) carried.on);
-            units = subst (λ to. AreFinalUnits to w v) brought units.units;
-            bad = units.bad;
-          };
-          entries = units.entries;
-          are_entered = subst (λ to. AreEntries to w units.entries) brought units.are_entered;
-          journal = units.journal;
-        }
+            of_others : (at : Name) → at ≢ stage → first.owns at ≡ false → get e.leaves at ≡ final_leaf second w.leaves at
+            of_others at not_stage beside = second_left moves system gens are_gens w r u v e at not_stage at_record (set_left moves system carried.named w r gens are_gens refl at_record record_free u is) (set_alone u last_set) (not_switched at not_stage beside) is_e
+
+        -- the world that the steps leave is the one at the end of the command
+        pub ends : (e : WorldState) → e ≡ cleared_by moves v → IsEndOf command w e
+        ends e is_e =
+            let brought : if_so switches system ≡ brought_to command w.leaves = sym (ap (λ b. if_so (b && switches) system) carried.on) in
+            let same : e.manager ≡ v.manager = (clear_only moves v e (clear_last moves v e is_e)).manager refl in
+            record {
+              final = record {
+                leaves = λ q ne. left_at e is_e q ne ∙ sym (ap (λ b. cond b (final_leaf (part_of command w.leaves) w.leaves q) (get w.leaves q)) carried.on);
+                units = subst (λ to. AreFinalUnits to w e) brought (units_as (if_so switches system) v e same units.units);
+                bad = ap (λ (k : ManagerState). k.bad) same ∙ units.bad;
+              };
+              entries = units.entries;
+              are_entered = subst (λ to. AreEntries to w units.entries) brought units.are_entered;
+              journal = ap (λ (k : ManagerState). k.journal) same ∙ units.journal;
+            }
+          where
+            units_as : (to : Option Name) (v e : WorldState) → e.manager ≡ v.manager → AreFinalUnits to w v → AreFinalUnits to w e
+            units_as None v e same is = (ap (λ (k : ManagerState). k.states) same ∙ is.0, ap (λ (k : ManagerState). k.loaded) same ∙ is.1)
+            units_as (Some to) v e same is = (subst (λ (k : ManagerState). AreEndStates to w (state_of k.states)) (sym same) is.0, ap (λ (k : ManagerState). k.loaded) same ∙ is.1)
+
+        -- a rollback has come to its end once the goal is gone
+        gone_on_its_way : (o : Option Move) → moves ≡ o → (m : WorldState) → m ≡ cleared_by o v → IsSteadyFor command w → IsOnItsWay o command w m
+        gone_on_its_way None same m is_m steady =
+            underway_at m (clear_of_parts m (clear_last moves v m (is_m ∙ ap (λ mv. cleared_by mv v) (sym same)))) (subst (λ mv. IsGoalKept mv w.leaves m.leaves) (sym same) tt) steady
+        gone_on_its_way (Some Set) same m is_m steady =
+            underway_at m (clear_of_parts m (clear_last moves v m (is_m ∙ ap (λ mv. cleared_by mv v) (sym same)))) (subst (λ mv. IsGoalKept mv w.leaves m.leaves) (sym same) tt) steady
+        gone_on_its_way (Some (Point n)) same m is_m steady = inr (record {
+          over = ended_over command w m (λ query. both_ways _ (query w.leaves) carried.on) (ends m (is_m ∙ ap (λ mv. cleared_by mv v) (sym same)));
+          cleared = ap (λ (x : WorldState). get x.leaves goal_place) is_m ∙ get_removed_here v.leaves goal_place;
+        })
+
+        -- before that it is underway
+        still_on_its_way : (m : WorldState) → m ≡ v → IsSteadyFor command w → IsOnItsWay moves command w m
+        still_on_its_way m same steady =
+            on_its_way moves command w m
+            (subst (λ (x : WorldState). IsUnderway w command x) (sym same) (underway_at v (switch_of_parts v moment) (kept_recorded moves w.leaves v.leaves (switch_recorded v moment)) steady))
+
+        clear_on_its_way : (o : Option Move) → moves ≡ o → (m : WorldState) → IsClearStep o v m → IsSteadyFor command w → IsOnItsWay moves command w m
+        clear_on_its_way None same m step steady = still_on_its_way m step steady
+        clear_on_its_way (Some move) same m step steady = ⊎_elim
+            (λ old. still_on_its_way m old steady)
+            (λ gone. subst (λ mv. IsOnItsWay mv command w m) (sym same) (gone_on_its_way (Some move) same m gone steady))
+            step
+
+        -- each moment of removing it is one of the command
+        pub clear_moment : (m : WorldState) → IsClearStep moves v m → IsMomentOf command w m
+        clear_moment m step =
+            let only = clear_only moves v m step in
+            record {
+              step = step_as m (IsStepTo.Clearing r u v is_r is (switch_end switches system owed u v owed_still end) step);
+              underway = λ steady. clear_on_its_way moves refl m step steady;
+              entered = inr (all_entered command w m units.entries (subst (λ to. AreEntries to w units.entries) (sym (ap (λ b. if_so (b && switches) system) carried.on)) units.are_entered)
+                  (ap (λ (k : ManagerState). k.journal) (only.manager refl) ∙ units.journal));
+              named = to_as w m (names_then (if_moved moves system) w v m (switch_named v moment) (goal_names_same v m only));
+              menu = menu_stays_law w.leaves v.leaves m.leaves (switch_between v moment) (goal_menu v m only) (goal_profile v m only);
+            }

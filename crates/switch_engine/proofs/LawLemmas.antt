@@ -1,25 +1,27 @@
 -- Runs of a command: where one begins, how one goes on from another, and how the last one ends.
-use Rattle.std.proofs.Common.{◌≡◌, ◌&&◌, ◌++◌, Bool, true, false, List, [], ◌∷◌, Option, None, Some, append_assoc, refl, sym, ap, subst, ◌∙◌, inl, inr, ⊎_elim}
+use Rattle.std.proofs.Common.{◌≡◌, ◌⊎◌, ◌&&◌, ◌++◌, ℕ, Bool, true, false, List, [], ◌∷◌, Option, None, Some, append_assoc, refl, sym, ap, subst, ◌∙◌, inl, inr, ⊎_elim}
 use Rattle.std.specs.List.{AllByRecursion}
-use Rattle.std.proofs.lemmas.Bool.{or_left, or_right}
+use Rattle.std.proofs.lemmas.Bool.{both_ways, or_left, or_right}
 use Rattle.std.proofs.lemmas.List.{append-nil}
 use Rattle.std.proofs.lemmas.List.Folds.{list_any-append}
-use Rattle.boot_entries.specs.BootDefault.{IsMakingDefault}
+use Rattle.generations.specs.declared.moving.Move.{Move}
+use Rattle.generations.specs.declared.moving.Move.TheVariants.{Point, Set}
 use Rattle.host_trait.specs.declared.entry.Act.{Act}
 use Rattle.host_trait.specs.declared.entry.Entry.{Entry}
 use Rattle.host_trait.specs.States.{UnitStates, state_of}
 use Rattle.host_trait.specs.World.{WorldState}
 use Rattle.switch_engine.specs.declared.command.Command.{Command}
-use Rattle.switch_engine.specs.Commands.{IsQuery, brought_to, if_so, new_system, row, set_to, switched_by, switched_to}
+use Rattle.switch_engine.specs.declared.row.Row.{Row}
+use Rattle.switch_engine.specs.Commands.{IsQuery, brought_to, goes_back, if_so, is_back, moved_by, new_system, row, set_to, switched_by, switched_to}
 use Rattle.switch_engine.specs.Final.{AreEntries, AreFinalUnits, IsEndOf}
-use Rattle.switch_engine.specs.Moments.{IsMomentOf, IsSetStep, IsStepIf, IsStepOf, IsStepTo, LeadsBy, NamesOneOf}
+use Rattle.switch_engine.specs.Moments.{HasComeBack, HasComeBackIn, IsMomentOf, IsOnItsWay, IsRecordStep, IsStepIf, IsStepOf, IsStepTo, LeadsBy, NamesOneOf}
 use Rattle.switch_engine.specs.Owing.{HasEntered, IsOver, IsPaidBy, IsSteadyFor, IsUnderway, OwesActTo, OwesUnit}
 use Rattle.switch_engine.specs.Rows.{refusal}
 use Rattle.switch_names.specs.Names.{Name}
 use Rattle.unit_stage.specs.Owes as units
 use Rattle.unit_stage.specs.Owes.{pays}
 use Rattle.boot_entries.proofs.MenuLemmas.{menu_begins_law}
-use Rattle.switch_engine.proofs.CarryLemmas.{changes_on}
+use Rattle.switch_engine.proofs.FlagLemmas.{changes_on}
 use Rattle.switch_engine.proofs.PaidLemmas.{all_joined, entered_owed, entered_paid, left_alone}
 
 -- ---- where a run begins
@@ -46,13 +48,19 @@ begins_underway w command none steady = record {
 begins_step : (command : Command) (w : WorldState) → IsStepOf command w w
 begins_step command w = by (row command w.leaves).changes
   where
-    set_begins : (to : Option Name) → IsSetStep to w w
-    set_begins None = refl
-    set_begins (Some system) = IsMakingDefault.Setting (inl refl)
+    record_begins : (moves : Option Move) → IsRecordStep moves w w
+    record_begins None = refl
+    record_begins (Some Set) = refl
+    record_begins (Some (Point n)) = inl refl
 
-    by : (changes : Bool) → IsStepIf changes (set_to command w.leaves) (brought_to command w.leaves) w w
-    by true = IsStepTo.Setting (set_begins (set_to command w.leaves))
+    by : (changes : Bool) → IsStepIf changes (moved_by (row command w.leaves)) (new_system command w.leaves) (brought_to command w.leaves) w w
+    by true = IsStepTo.Recording (record_begins (moved_by (row command w.leaves)))
     by false = refl
+
+begins_on_its_way : (moves : Option Move) (command : Command) (w : WorldState) → IsUnderway w command w → IsOnItsWay moves command w w
+begins_on_its_way None command w underway = underway
+begins_on_its_way (Some Set) command w underway = underway
+begins_on_its_way (Some (Point n)) command w underway = inl underway
 
 begins_named : (to : Option Name) (w : WorldState) → NamesOneOf to w w
 begins_named None w = λ other. (λ is. is, λ is. is)
@@ -62,7 +70,7 @@ begins_named (Some system) w = inl (λ other. (λ is. is, λ is. is))
 pub begins_moment : (command : Command) (w : WorldState) → refusal command w.leaves ≡ None → IsMomentOf command w w
 begins_moment command w none = record {
   step = begins_step command w;
-  underway = λ steady. begins_underway w command none steady;
+  underway = λ steady. begins_on_its_way (row command w.leaves).moves command w (begins_underway w command none steady);
   entered = inl refl;
   named = begins_named (set_to command w.leaves) w;
   menu = menu_begins_law w.leaves w.leaves (λ q own. refl);
@@ -157,8 +165,42 @@ ended_over command w v changes end =
       paid = paid.paid;
     }
 
--- however often runs of a command are cut, the last leaves what one that isn't cut leaves
-pub alike : (command : Command) (cuts : List WorldState) (w v : WorldState) → (IsQuery command → ⊥) → refusal command w.leaves ≡ None → IsSteadyFor command w → LeadsBy command cuts w v → IsOver w command v
-alike command [] w v changes none steady led = ended_over command w v changes led
-alike command (m ∷ cuts) w v changes none steady led =
-    let underway = led.0.underway steady in over_then command w m underway v (alike command cuts m v changes underway.not_refused underway.steady led.1)
+-- ---- any number of cuts
+
+-- what is on its way is underway, or a rollback has come to its end
+either : (moves : Option Move) (command : Command) (w m : WorldState) → IsOnItsWay moves command w m → IsUnderway w command m ⊎ HasComeBack command w m
+either None command w m underway = inl underway
+either (Some Set) command w m underway = inl underway
+either (Some (Point n)) command w m is = is
+
+-- where the profile doesn't go back it is underway
+never_back : (moves : Option Move) (command : Command) (w m : WorldState) → is_back moves ≡ false → IsOnItsWay moves command w m → IsUnderway w command m
+never_back None command w m none underway = underway
+never_back (Some Set) command w m none underway = underway
+never_back (Some (Point n)) command w m none is = absurd (both_ways _ none refl)
+
+-- however often runs of a command are cut that doesn't go back, the last leaves what one that isn't cut leaves
+pub alike : (command : Command) (cuts : List WorldState) (w v : WorldState) → (IsQuery command → ⊥) → goes_back command w.leaves ≡ false → refusal command w.leaves ≡ None → IsSteadyFor command w → LeadsBy command cuts w v → IsOver w command v
+alike command [] w v changes ahead none steady led = ended_over command w v changes led
+alike command (m ∷ cuts) w v changes ahead none steady led =
+    let underway = never_back (row command w.leaves).moves command w m ahead (led.0.underway steady) in
+    over_then command w m underway v
+    (alike command cuts m v changes (ap (λ (r : Row). is_back r.moves) underway.same_row ∙ ahead) underway.not_refused underway.steady led.1)
+
+come_in : (command : Command) (first w : WorldState) → IsUnderway first command w → (cuts : List WorldState) → HasComeBackIn command w cuts → HasComeBackIn command first cuts
+come_in command first w before [] none = absurd none
+come_in command first w before (m ∷ cuts) is = ⊎_elim
+    (λ here. inl (record { over = over_then command first w before m here.over; cleared = here.cleared }))
+    (λ later. inr (come_in command first w before cuts later))
+    is
+
+-- and of any command the last is over, or one of them had come to its end when it was cut
+pub come_back : (command : Command) (cuts : List WorldState) (w v : WorldState) → (IsQuery command → ⊥) → refusal command w.leaves ≡ None → IsSteadyFor command w → LeadsBy command cuts w v → IsOver w command v ⊎ HasComeBackIn command w cuts
+come_back command [] w v changes none steady led = inl (ended_over command w v changes led)
+come_back command (m ∷ cuts) w v changes none steady led = ⊎_elim
+    (λ underway. ⊎_elim
+    (λ over. inl (over_then command w m underway v over))
+    (λ come. inr (inr (come_in command w m underway cuts come)))
+    (come_back command cuts m v changes underway.not_refused underway.steady led.1))
+    (λ come. inr (inl come))
+    (either (row command w.leaves).moves command w m (led.0.underway steady))

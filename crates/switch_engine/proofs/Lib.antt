@@ -2,9 +2,13 @@ pub mod ActivationApart
 pub mod CarryLemmas
 pub mod DefinedLemmas
 pub mod FailedLemmas
+pub mod FlagLemmas
+pub mod GoalApart
+pub mod GoalKeptLemmas
 pub mod JournalLemmas
 pub mod LawLemmas
 pub mod MenuApart
+pub mod MovedPart
 pub mod PaidLemmas
 pub mod PartsLemmas
 pub mod PlaceLemmas

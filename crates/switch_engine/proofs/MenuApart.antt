@@ -101,7 +101,7 @@ owned_begins q own = elim (cases_Bool (is_path q loader_path)) [
     by (Some n) number some = subst (λ x. x ≡ menu_path (drop 12 x)) (sym (numbered_is q n number).0) (entry_is n)
 
 -- a test that fails at all that begins as the boot menu does fails at each place of it
-menu_fails : (test : Name → Bool) → ((rest : Name) → test (menu_path rest) ≡ false) → (q : Name) → owns_boot q ≡ true → test q ≡ false
+pub menu_fails : (test : Name → Bool) → ((rest : Name) → test (menu_path rest) ≡ false) → (q : Name) → owns_boot q ≡ true → test q ≡ false
 menu_fails test each q own = subst (λ x. test x ≡ false) (sym (owned_begins q own)) (each (drop 12 q))
 
 units_apart : (rest : Name) → reads_units (menu_path rest) ≡ false

@@ -1,5 +1,5 @@
 -- What a command does is a part of a switch, whichever of its parts it has.
-use Rattle.std.proofs.Common.{◌≡◌, Bool, true, false, ◌||◌, codes, refl, sym, ap, ◌∙◌, inl, inr}
+use Rattle.std.proofs.Common.{◌≡◌, Bool, true, false, ◌||◌, codes, Option, None, Some, refl, sym, ap, ◌∙◌, inl, inr}
 use Rattle.std.proofs.lemmas.Bool.{both_ways, cases_Bool, or_from}
 use Rattle.accounts_stage.specs.AccountsPart.{reads_accounts}
 use Rattle.accounts_stage.specs.Places.{owns_accounts}
@@ -12,14 +12,20 @@ use Rattle.etc_farm.specs.FarmPart.{owns_farm, reads_farm}
 use Rattle.etc_manifest.specs.Owners.{OwnerIds}
 use Rattle.generations.specs.Places.{profiles}
 use Rattle.generations.specs.declared.gens.Gens.{Gens}
+use Rattle.generations.specs.declared.moving.Move.{Move}
+use Rattle.generations.specs.declared.moving.Move.TheVariants.{Set}
+use Rattle.generations.specs.GoalPart.{goal_part, owns_goal, reads_goal}
+use Rattle.generations.proofs.GoalPartLemmas.{goal_is}
 use Rattle.generations.specs.ProfilePart.{owns_profile, reads_profile}
 use Rattle.generations.proofs.ProfileApart.{owned_fails}
-use Rattle.host_trait.specs.World.{stage}
+use Rattle.host_trait.specs.World.{Leaves, stage}
 use Rattle.owed_lists.specs.Lists.{reloads_place, restarts_place, starts_place}
 use Rattle.owed_plan.specs.Store.{IsInStore}
-use Rattle.switch_engine.specs.Rows.{part_if, parts, switch_part}
+use Rattle.switch_engine.specs.Rows.{default_if, default_part, gens_to, part_if, parts, switch_part}
 use Rattle.switch_engine.proofs.ActivationApart.{activation_apart, not_owns_store, profile_unread, profile_path}
 use Rattle.boot_entries.proofs.DefaultLemmas.{default_part_law}
+use Rattle.boot_entries.proofs.GensLemmas.{gens_after_law}
+use Rattle.switch_engine.proofs.GoalApart.{activation_unread_goal, default_unread_goal, goal_not_in_store, goal_unread_activation, goal_unread_default, goal_unread_switch, switch_unread_goal}
 use Rattle.switch_engine.proofs.MenuApart.{activation_unread, menu_not_in_store, menu_unread, menu_unread_activation, switch_unread as menu_apart}
 use Rattle.activation_stage.proofs.ActivationLemmas.{activation_part_law}
 use Rattle.switch_engine.proofs.StoreApart.{store_not_owned}
@@ -103,43 +109,71 @@ default_apart = of_default (λ q. reads_units q || (reads_accounts q || reads_fa
 default_unread : (q : Name) → owns_units q || (owns_accounts q || owns_farm q) ≡ true → reads_profile q || reads_boot q ≡ false
 default_unread q own = or_from _ _ (switch_unread q own) (menu_unread q own)
 
-pub are_parted : (switches sets : Bool) (system : Name) (owners : OwnerIds) (gens : Gens) → AreParted (part_if switches (switch_part system owners)) (part_if sets (boot_default_part system gens))
-are_parted true true system owners gens = record { first = default_unread; second = default_apart; manager = refl }
-are_parted true false system owners gens = record { first = λ q own. refl; second = λ q own. absurd (both_ways false refl own); manager = refl }
-are_parted false true system owners gens = record { first = λ q own. absurd (both_ways false refl own); second = λ q own. refl; manager = refl }
-are_parted false false system owners gens = record { first = λ q own. refl; second = λ q own. refl; manager = refl }
+-- ---- what a move of the profile is about
 
--- an activation alone is parted from a boot default too
-pub default_parted : (sets : Bool) (system : Name) (owners : OwnerIds) (gens : Gens) → AreParted (part_if sets (boot_default_part system gens)) (activation_part system owners)
-default_parted true system owners gens = record {
-  first = of_default (λ q. reads_accounts q || reads_farm q ≡ false) activation_apart activation_unread;
-  second = λ q own. or_from _ _ (profile_unread q own) (menu_unread_activation q own);
+pub goal_parted : (move : Move) (system : Name) (gens : Gens) → AreParted (boot_default_part move system gens) goal_part
+goal_parted move system gens = record { first = goal_unread_default; second = default_unread_goal; manager = refl }
+
+pub default_is : (move : Move) (system : Name) (gens : Gens) → IsBootGens gens → IsPart (default_part move system gens)
+default_is move system gens are = both_part (boot_default_part move system gens) goal_part (default_part_law move system gens are) goal_is
+
+-- what it owns is of the boot default or the goal
+of_moved : (P : Name → Type 0) → ((q : Name) → owns_profile q || owns_boot q ≡ true → P q) → ((q : Name) → owns_goal q ≡ true → P q) → (q : Name) → (owns_profile q || owns_boot q) || owns_goal q ≡ true → P q
+of_moved P default goal q own = elim (cases_Bool (owns_profile q || owns_boot q)) [
+  | inl is ↦ default q is
+  | inr other ↦ goal q (sym (ap (λ b. b || owns_goal q) other) ∙ own)
+]
+
+moved_apart : (q : Name) → (owns_profile q || owns_boot q) || owns_goal q ≡ true → reads_units q || (reads_accounts q || reads_farm q) ≡ false
+moved_apart = of_moved (λ q. reads_units q || (reads_accounts q || reads_farm q) ≡ false) default_apart switch_unread_goal
+
+moved_unread : (q : Name) → owns_units q || (owns_accounts q || owns_farm q) ≡ true → (reads_profile q || reads_boot q) || reads_goal q ≡ false
+moved_unread q own = or_from _ _ (default_unread q own) (goal_unread_switch q own)
+
+-- ---- a switch and a move of the profile, where they are made
+
+pub are_parted : (switches : Bool) (moves : Option Move) (system : Name) (owners : OwnerIds) (gens : Gens) → AreParted (part_if switches (switch_part system owners)) (default_if moves system gens)
+are_parted true (Some move) system owners gens = record { first = moved_unread; second = moved_apart; manager = refl }
+are_parted true None system owners gens = record { first = λ q own. refl; second = λ q own. absurd (both_ways false refl own); manager = refl }
+are_parted false (Some move) system owners gens = record { first = λ q own. absurd (both_ways false refl own); second = λ q own. refl; manager = refl }
+are_parted false None system owners gens = record { first = λ q own. refl; second = λ q own. refl; manager = refl }
+
+-- an activation alone is parted from a move of the profile too
+pub default_parted : (moves : Option Move) (system : Name) (owners : OwnerIds) (gens : Gens) → AreParted (default_if moves system gens) (activation_part system owners)
+default_parted (Some move) system owners gens = record {
+  first = of_moved (λ q. reads_accounts q || reads_farm q ≡ false) (of_default (λ q. reads_accounts q || reads_farm q ≡ false) activation_apart activation_unread) activation_unread_goal;
+  second = λ q own. or_from _ _ (or_from _ _ (profile_unread q own) (menu_unread_activation q own)) (goal_unread_activation q own);
   manager = refl;
 }
-default_parted false system owners gens = record { first = λ q own. absurd (both_ways false refl own); second = λ q own. refl; manager = refl }
+default_parted None system owners gens = record { first = λ q own. absurd (both_ways false refl own); second = λ q own. refl; manager = refl }
 
 pub switch_if_is : (switches : Bool) (system : Name) → IsSystemPath system → (owners : OwnerIds) → IsPart (part_if switches (switch_part system owners))
 switch_if_is true system named owners = switch_is system named owners
 switch_if_is false system named owners = none_is
 
-pub default_if_is : (sets : Bool) (system : Name) (gens : Gens) → IsBootGens gens → IsPart (part_if sets (boot_default_part system gens))
-default_if_is true system gens are = default_part_law system gens are
-default_if_is false system gens are = none_is
+pub default_if_is : (moves : Option Move) (system : Name) (gens : Gens) → IsBootGens gens → IsPart (default_if moves system gens)
+default_if_is (Some move) system gens are = default_is move system gens are
+default_if_is None system gens are = none_is
 
-pub parts_are : (switches sets : Bool) (system : Name) → IsSystemPath system → (owners : OwnerIds) (gens : Gens) → IsBootGens gens → IsPart (parts switches sets system owners gens)
-parts_are switches sets system named owners gens are =
-    both_part (part_if switches (switch_part system owners)) (part_if sets (boot_default_part system gens)) (switch_if_is switches system named owners) (default_if_is sets system gens are)
+pub parts_are : (switches : Bool) (moves : Option Move) (system : Name) → IsSystemPath system → (owners : OwnerIds) (gens : Gens) → IsBootGens gens → IsPart (parts switches moves system owners gens)
+parts_are switches moves system named owners gens are =
+    both_part (part_if switches (switch_part system owners)) (default_if moves system gens) (switch_if_is switches system named owners) (default_if_is moves system gens are)
+
+-- the generations after a move are such as a boot menu has
+pub gens_to_law : (moves : Option Move) (system : Name) (leaves : Leaves) → IsSystemPath system → IsBootGens (gens_to moves system leaves)
+gens_to_law None system leaves named = gens_after_law Set system leaves named
+gens_to_law (Some move) system leaves named = gens_after_law move system leaves named
 
 -- ---- no part writes in the store
 
 switch_not_in_store : (q : Name) → IsInStore q → owns_units q || (owns_accounts q || owns_farm q) ≡ false
 switch_not_in_store q inside = or_from _ _ (units_not_in_store q inside) (not_owns_store q inside)
 
-default_not_in_store : (q : Name) → IsInStore q → owns_profile q || owns_boot q ≡ false
-default_not_in_store q inside = or_from _ _ (store_not_owned q inside) (menu_not_in_store q inside)
+moved_not_in_store : (q : Name) → IsInStore q → (owns_profile q || owns_boot q) || owns_goal q ≡ false
+moved_not_in_store q inside = or_from _ _ (or_from _ _ (store_not_owned q inside) (menu_not_in_store q inside)) (goal_not_in_store q inside)
 
-pub not_in_store : (switches sets : Bool) (system : Name) (owners : OwnerIds) (gens : Gens) (q : Name) → IsInStore q → (parts switches sets system owners gens).owns q ≡ false
-not_in_store true true system owners gens q inside = or_from _ _ (switch_not_in_store q inside) (default_not_in_store q inside)
-not_in_store true false system owners gens q inside = or_from _ _ (switch_not_in_store q inside) refl
-not_in_store false true system owners gens q inside = default_not_in_store q inside
-not_in_store false false system owners gens q inside = refl
+pub not_in_store : (switches : Bool) (moves : Option Move) (system : Name) (owners : OwnerIds) (gens : Gens) (q : Name) → IsInStore q → (parts switches moves system owners gens).owns q ≡ false
+not_in_store true (Some move) system owners gens q inside = or_from _ _ (switch_not_in_store q inside) (moved_not_in_store q inside)
+not_in_store true None system owners gens q inside = or_from _ _ (switch_not_in_store q inside) refl
+not_in_store false (Some move) system owners gens q inside = moved_not_in_store q inside
+not_in_store false None system owners gens q inside = refl

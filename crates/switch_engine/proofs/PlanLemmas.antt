@@ -1,23 +1,26 @@
 -- Why the parts of a command are refused, by what is read of a world.
 use Rattle.std.proofs.Common.{◌≡◌, ◌↔◌, IsTrue, Bool, true, false, cond, Option, None, Some, is_none, is_some, option_map, refl, sym, ap, subst, ◌∙◌, if◌then◌else◌}
+use Rattle.std.proofs.lemmas.Bool.{both_ways}
 use Rattle.std.specs.Option.{option_or}
 use Rattle.activation_stage.specs.ActivationPart.{IsActivationPlanOf, activation_in}
 use Rattle.activation_stage.specs.declared.activation_plan.ActivationPlan.{ActivationPlan}
 use Rattle.boot_entries.specs.BootDefault.{IsDefaultPlanOf, boot_default_in}
 use Rattle.boot_entries.specs.declared.boot_default.BootDefaultPlan.{BootDefaultPlan}
+use Rattle.generations.specs.declared.moving.Move.{Move}
 use Rattle.host_trait.specs.Change.{IsSame}
 use Rattle.host_trait.specs.Host.{HostState, Passes, Told}
 use Rattle.host_trait.specs.World.{Leaves, WorldState, content_of}
 use Rattle.host_trait.proofs.Moments.{told_after}
 use Rattle.switch_engine.specs.declared.command.Command.{Command}
-use Rattle.switch_engine.specs.Commands.{if_so, new_system}
+use Rattle.switch_engine.specs.Commands.{if_so, lacks_goal, new_system}
 use Rattle.switch_engine.specs.Owing.{IsSteadyTo}
-use Rattle.switch_engine.specs.Plan.{AreUnitsPlanned, IsActivationPlanned, IsProfilePlanned}
-use Rattle.switch_engine.specs.Rows.{part_if, parts_in, parts_refusal, refusal, refusal_by, switch_in}
+use Rattle.switch_engine.specs.Plan.{AreGensBy, AreUnitsPlanned, IsActivationPlanned, IsProfilePlanned}
+use Rattle.switch_engine.specs.Rows.{part_if, parts_in, parts_refusal, refusal, refusal_by, switch_in, system_refusal}
 use Rattle.switch_engine.specs.System.{version_path}
+use Rattle.switch_engine.proofs.MovedPart.{default_in}
 use Rattle.switch_names.specs.Names.{Name}
 use Rattle.switch_parts.specs.declared.refusal.Refusal.{Refusal}
-use Rattle.switch_parts.specs.declared.refusal.Refusal.TheVariants.{InTheWay, NoSystem}
+use Rattle.switch_parts.specs.declared.refusal.Refusal.TheVariants.{InTheWay, NoPrevious, NoSystem}
 use Rattle.tree_put.specs.First.{first_in_the_way}
 use Rattle.unit_stage.specs.declared.unit_plan.UnitPlan.{UnitPlan}
 use Rattle.unit_stage.specs.Owes.{IsSteadyWorld}
@@ -25,9 +28,9 @@ use Rattle.unit_stage.specs.Plan.{IsUnitPlanOf, no_units}
 use Rattle.unit_stage.specs.System.{unit_refusal}
 use Rattle.unit_stage.specs.Units.{units_part}
 
-module _ (switches sets : Bool) (system : Name) (leaves : Leaves) where
+module _ (switches : Bool) (moves : Option Move) (system : Name) (leaves : Leaves) where
   abbrev way : Option Name
-  way = first_in_the_way ((parts_in switches sets system leaves).places leaves) leaves
+  way = first_in_the_way ((parts_in switches moves system leaves).places leaves) leaves
 
   abbrev units_reason : Option Refusal
   units_reason = (part_if switches (units_part system)).refusal leaves
@@ -36,10 +39,10 @@ module _ (switches sets : Bool) (system : Name) (leaves : Leaves) where
   activation_reason = (part_if switches (activation_in system leaves)).refusal leaves
 
   abbrev profile_reason : Option Refusal
-  profile_reason = (part_if sets (boot_default_in system leaves)).refusal leaves
+  profile_reason = (default_in moves system leaves).refusal leaves
 
   -- the reasons in their order
-  reasons : refusal_by switches sets system leaves ≡ option_or (option_map InTheWay way) (option_or (option_or units_reason activation_reason) profile_reason)
+  reasons : refusal_by switches moves system leaves ≡ option_or (option_map InTheWay way) (option_or (option_or units_reason activation_reason) profile_reason)
   reasons = by switches
     where
       by : (b : Bool) →
@@ -49,41 +52,53 @@ module _ (switches sets : Bool) (system : Name) (leaves : Leaves) where
       by false = refl
 
   -- something is in the way
-  pub way_refused : (why : Refusal) → option_map InTheWay way ≡ Some why → refusal_by switches sets system leaves ≡ Some why
+  pub way_refused : (why : Refusal) → option_map InTheWay way ≡ Some why → refusal_by switches moves system leaves ≡ Some why
   way_refused why is = reasons ∙ ap (λ o. option_or o (option_or (option_or units_reason activation_reason) profile_reason)) is
 
   module _ (free : way ≡ None) where
-    free_reasons : refusal_by switches sets system leaves ≡ option_or (option_or units_reason activation_reason) profile_reason
+    free_reasons : refusal_by switches moves system leaves ≡ option_or (option_or units_reason activation_reason) profile_reason
     free_reasons = reasons ∙ ap (λ o. option_or (option_map InTheWay o) (option_or (option_or units_reason activation_reason) profile_reason)) free
 
     -- nothing is, and so the units are refused
-    pub units_refused : (why : Refusal) → units_reason ≡ Some why → refusal_by switches sets system leaves ≡ Some why
+    pub units_refused : (why : Refusal) → units_reason ≡ Some why → refusal_by switches moves system leaves ≡ Some why
     units_refused why is = free_reasons ∙ ap (λ o. option_or (option_or o activation_reason) profile_reason) is
 
     module _ (none : units_reason ≡ None) where
       -- or they aren't, and so the activation is
-      pub activation_refused : (why : Refusal) → activation_reason ≡ Some why → refusal_by switches sets system leaves ≡ Some why
+      pub activation_refused : (why : Refusal) → activation_reason ≡ Some why → refusal_by switches moves system leaves ≡ Some why
       activation_refused why is = free_reasons ∙ ap (λ o. option_or (option_or o activation_reason) profile_reason) none ∙ ap (λ o. option_or o profile_reason) is
 
       -- or it isn't, and so the parts are refused for what the profile is refused for
-      pub profile_refused : (why : Option Refusal) → activation_reason ≡ None → profile_reason ≡ why → refusal_by switches sets system leaves ≡ why
+      pub profile_refused : (why : Option Refusal) → activation_reason ≡ None → profile_reason ≡ why → refusal_by switches moves system leaves ≡ why
       profile_refused why other is = free_reasons ∙ ap (λ o. option_or (option_or o activation_reason) profile_reason) none ∙ ap (λ o. option_or o profile_reason) other ∙ is
 
 -- what is told before a call that changes nothing is told after it
 pub told_still : {a b : HostState} {P : WorldState → Type 0} → Passes a b IsSame → Told a P → Told b P
 told_still {P = P} same told = told_after same same.tells P (λ w v is there. subst P (sym there) (told.has w is))
 
--- without a set of the profile
-pub unset_free : (system : Name) (sets : Bool) (leaves : Leaves) → sets ≡ false → (part_if sets (boot_default_in system leaves)).refusal leaves ≡ None
-unset_free system sets leaves none = ap (λ b. (part_if b (boot_default_in system leaves)).refusal leaves) none
+-- without a move of the profile
+pub unmoved_free : (system : Name) (moves : Option Move) (leaves : Leaves) → moves ≡ None → (default_in moves system leaves).refusal leaves ≡ None
+unmoved_free system moves leaves none = ap (λ mv. (default_in mv system leaves).refusal leaves) none
 
--- with one, what is said of the boot default of the system that is named
-pub default_refused : (sets : Bool) (named system : Name) (leaves : Leaves) (why : Option Refusal) → sets ≡ true → named ≡ system → (boot_default_in named leaves).refusal leaves ≡ why → (part_if sets (boot_default_in system leaves)).refusal leaves ≡ why
-default_refused sets named system leaves why on is refused =
-    ap (λ b. (part_if b (boot_default_in system leaves)).refusal leaves) on ∙ ap (λ s. (boot_default_in s leaves).refusal leaves) (sym is) ∙ refused
+-- with one, what is said of the boot default
+either_none : (o : Option Refusal) → option_or o None ≡ o
+either_none None = refl
+either_none (Some why) = refl
 
-pub default_on : (sets : Bool) (named system : Name) (w : WorldState) (plan : BootDefaultPlan) → sets ≡ true → named ≡ system → IsDefaultPlanOf named w.leaves plan → IsProfilePlanned sets system w (Some plan)
-default_on sets named system w plan on is planned = (on, subst (λ s. IsDefaultPlanOf s w.leaves plan) is planned)
+pub default_refused : (moves : Option Move) (move : Move) (system : Name) (leaves : Leaves) (why : Option Refusal) → moves ≡ Some move → (boot_default_in move system leaves).refusal leaves ≡ why → (default_in moves system leaves).refusal leaves ≡ why
+default_refused moves move system leaves why on refused =
+    ap (λ mv. (default_in mv system leaves).refusal leaves) on ∙ either_none ((boot_default_in move system leaves).refusal leaves) ∙ refused
+
+pub default_on : (moves : Option Move) (move : Move) (system : Name) (w : WorldState) (plan : BootDefaultPlan) → moves ≡ Some move → IsDefaultPlanOf move system w.leaves plan → IsProfilePlanned moves system w (Some plan)
+default_on moves move system w plan on planned = (
+  on ∙ ap Some (sym planned.to),
+  subst (λ mv. IsDefaultPlanOf mv system w.leaves plan) (sym planned.to) planned,
+)
+
+-- without generations the profile isn't moved
+pub no_gens : (moves : Option Move) (leaves : Leaves) → AreGensBy moves leaves None → moves ≡ None
+no_gens None leaves none = refl
+no_gens (Some move) leaves none = absurd (both_ways _ none refl)
 
 some_is : {X : Type 0} (o : Option X) (b : Bool) → is_some o ≡ b → is_none o ≡ (if b then false else true)
 some_is None true is = absurd cc
@@ -91,16 +106,22 @@ some_is None false is = refl
 some_is (Some x) true is = refl
 some_is (Some x) false is = absurd cc
 
+-- a command that has what goal it wants is refused for what its system is refused for
+has_its_goal : (command : Command) (leaves : Leaves) → lacks_goal command leaves ≡ false → refusal command leaves ≡ system_refusal command leaves
+has_its_goal command leaves has = ap (λ b. cond b (Some NoPrevious) (system_refusal command leaves)) has
+
 -- a system without its file is refused, whatever else is so
-pub no_system : (command : Command) (leaves : Leaves) (named : Name) → named ≡ new_system command leaves → is_some (content_of leaves (version_path named)) ≡ false → refusal command leaves ≡ Some NoSystem
-no_system command leaves named is lacks =
-    ap (λ system. cond (is_none (content_of leaves (version_path system))) (Some NoSystem) (parts_refusal command leaves)) (sym is)
+pub no_system : (command : Command) (leaves : Leaves) (named : Name) → lacks_goal command leaves ≡ false → named ≡ new_system command leaves → is_some (content_of leaves (version_path named)) ≡ false → refusal command leaves ≡ Some NoSystem
+no_system command leaves named has is lacks =
+    has_its_goal command leaves has
+    ∙ ap (λ system. cond (is_none (content_of leaves (version_path system))) (Some NoSystem) (parts_refusal command leaves)) (sym is)
     ∙ ap (λ b. cond b (Some NoSystem) (parts_refusal command leaves)) (some_is (content_of leaves (version_path named)) false lacks)
 
 -- with its file it is refused for what its parts are refused for
-pub has_system : (command : Command) (leaves : Leaves) (named : Name) → named ≡ new_system command leaves → is_some (content_of leaves (version_path named)) ≡ true → refusal command leaves ≡ parts_refusal command leaves
-has_system command leaves named is stands =
-    ap (λ system. cond (is_none (content_of leaves (version_path system))) (Some NoSystem) (parts_refusal command leaves)) (sym is)
+pub has_system : (command : Command) (leaves : Leaves) (named : Name) → lacks_goal command leaves ≡ false → named ≡ new_system command leaves → is_some (content_of leaves (version_path named)) ≡ true → refusal command leaves ≡ parts_refusal command leaves
+has_system command leaves named has is stands =
+    has_its_goal command leaves has
+    ∙ ap (λ system. cond (is_none (content_of leaves (version_path system))) (Some NoSystem) (parts_refusal command leaves)) (sym is)
     ∙ ap (λ b. cond b (Some NoSystem) (parts_refusal command leaves)) (some_is (content_of leaves (version_path named)) true stands)
 
 -- a switch of the units is refused for what their part is refused for

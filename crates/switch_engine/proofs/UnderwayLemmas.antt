@@ -1,15 +1,17 @@
 -- Where the work of a command's parts has come to a moment, the command is underway.
-use Rattle.std.proofs.Common.{◌≡◌, ◌≢◌, ◌⊎◌, ◌↔◌, ◌&&◌, Bool, true, false, cond, ◌++◌, List, [], codes, append_assoc, Option, None, Some, is_none, option_map, refl, sym, ap, subst, ◌∙◌}
+use Rattle.std.proofs.Common.{◌≡◌, ◌≢◌, ◌⊎◌, ◌↔◌, ◌&&◌, Bool, true, false, cond, ◌++◌, ℕ, List, [], codes, append_assoc, Option, None, Some, is_none, option_map, refl, sym, ap, subst, ◌∙◌}
 use Rattle.std.proofs.lemmas.List.{append-nil}
 use Rattle.std.proofs.lemmas.Option.{none-some}
 use Rattle.std.specs.FinMap.{get}
 use Rattle.std.specs.List.{AllByRecursion}
 use Rattle.activation_stage.specs.ActivationPart.{activation_part}
 use Rattle.activation_stage.specs.Owners.{owners_after}
-use Rattle.boot_entries.specs.BootDefault.{boot_default_part}
 use Rattle.etc_manifest.specs.Owners.{OwnerIds}
-use Rattle.generations.specs.After.{gens_after}
 use Rattle.generations.specs.declared.gens.Gens.{Gens}
+use Rattle.generations.specs.declared.moving.Move.{Move}
+use Rattle.generations.specs.declared.moving.Move.TheVariants.{Point}
+use Rattle.generations.specs.Goal.{goal}
+use Rattle.generations.specs.Move.{gens_moved}
 use Rattle.host_trait.specs.declared.entry.Act.{Act}
 use Rattle.host_trait.specs.declared.entry.Entry.{Entry}
 use Rattle.host_trait.specs.declared.manager_state.ManagerState.{ManagerState}
@@ -19,15 +21,14 @@ use Rattle.owed_plan.specs.Store.{AreSameInStore, IsInStore}
 use Rattle.owed_plan.proofs.StoreLemmas.{content_same}
 use Rattle.switch_engine.specs.declared.command.Command.{Command}
 use Rattle.switch_engine.specs.declared.row.Row.{Row}
-use Rattle.switch_engine.specs.Commands.{brought_by, brought_to, if_so, new_system, row, switched_by, switched_to}
+use Rattle.switch_engine.specs.Commands.{brought_by, brought_to, if_so, lacks_goal, new_system, row, switched_by, switched_to}
 use Rattle.switch_engine.specs.Final.{AreFinalUnits}
 use Rattle.switch_engine.specs.Owing.{IsPaidBy, IsSteadyFor, IsSteadyTo, IsUnderway, OwesActTo}
-use Rattle.switch_engine.specs.Rows.{final, part_if, part_of, parts, parts_in, refusal, refusal_by, switch_part}
+use Rattle.switch_engine.specs.Rows.{default_if, final, gens_to, part_of, parts, parts_in, refusal, refusal_by, switch_part, system_refusal}
 use Rattle.switch_engine.specs.System.{version_path}
 use Rattle.activation_stage.proofs.ActivationLemmas.{owners_law}
 use Rattle.boot_entries.proofs.DefaultLemmas.{default_stays_law}
-use Rattle.boot_entries.proofs.GensLemmas.{gens_after_law}
-use Rattle.switch_engine.proofs.PartsLemmas.{not_in_store, parts_are}
+use Rattle.switch_engine.proofs.PartsLemmas.{gens_to_law, not_in_store, parts_are}
 use Rattle.switch_engine.proofs.StoreApart.{store_not_stage}
 use Rattle.tree_put.specs.First.{first_in_the_way}
 use Rattle.tree_put.proofs.FirstLemmas.{none_as_listed}
@@ -38,7 +39,7 @@ use Rattle.switch_names.proofs.Below.{below_front}
 use Rattle.switch_names.proofs.StorePaths.{IsStorePath-from_named, store_path_is}
 use Rattle.switch_names.proofs.Outcomes.{option_or_parts, option_or_nothing, none_mapped}
 use Rattle.switch_parts.specs.declared.refusal.Refusal.{Refusal}
-use Rattle.switch_parts.specs.declared.refusal.Refusal.TheVariants.{InTheWay, NoSystem}
+use Rattle.switch_parts.specs.declared.refusal.Refusal.TheVariants.{InTheWay, NoPrevious, NoSystem}
 use Rattle.switch_parts.specs.Part.{IsFree, IsMomentOf, IsPart, final_leaf}
 use Rattle.switch_parts.proofs.Parts.{ends_alike, first_free}
 use Rattle.unit_stage.specs.Units.{AreUnitsUnderway, units_part}
@@ -46,37 +47,59 @@ use Rattle.unit_stage.specs.Units.{AreUnitsUnderway, units_part}
 -- ---- why a command isn't refused
 
 -- what a command has that isn't refused: its system's file stands, and its parts are free
-pub record IsFreeBy (switches sets : Bool) (system : Name) (leaves : Leaves) : Type 0 where
+pub record IsFreeBy (switches : Bool) (moves : Option Move) (system : Name) (leaves : Leaves) : Type 0 where
   pub version : is_none (content_of leaves (version_path system)) ≡ false
-  pub parts : IsFree (parts_in switches sets system leaves) leaves
+  pub parts : IsFree (parts_in switches moves system leaves) leaves
 
-abbrev refused_by : Bool → Bool → Name → Leaves → Option Refusal
-refused_by switches sets system leaves = cond (is_none (content_of leaves (version_path system))) (Some NoSystem) (refusal_by switches sets system leaves)
+abbrev refused_by : Bool → Option Move → Name → Leaves → Option Refusal
+refused_by switches moves system leaves = cond (is_none (content_of leaves (version_path system))) (Some NoSystem) (refusal_by switches moves system leaves)
 
-free_by : (switches sets : Bool) (system : Name) (leaves : Leaves) → refused_by switches sets system leaves ≡ None → IsFreeBy switches sets system leaves
-free_by switches sets system leaves none =
-    let first = split (is_none (content_of leaves (version_path system))) (refusal_by switches sets system leaves) none in
-    let second = option_or_parts (option_map InTheWay (first_in_the_way ((parts_in switches sets system leaves).places leaves) leaves)) ((parts_in switches sets system leaves).refusal leaves) first.1 in
+free_by : (switches : Bool) (moves : Option Move) (system : Name) (leaves : Leaves) → refused_by switches moves system leaves ≡ None → IsFreeBy switches moves system leaves
+free_by switches moves system leaves none =
+    let first = split (is_none (content_of leaves (version_path system))) (refusal_by switches moves system leaves) none in
+    let second = option_or_parts (option_map InTheWay (first_in_the_way ((parts_in switches moves system leaves).places leaves) leaves)) ((parts_in switches moves system leaves).refusal leaves) first.1 in
     record {
       version = first.0;
-      parts = record { way = (none_as_listed ((parts_in switches sets system leaves).places leaves) leaves).0 (none_mapped InTheWay (first_in_the_way ((parts_in switches sets system leaves).places leaves) leaves) second.0); refusal = second.1 };
+      parts = record { way = (none_as_listed ((parts_in switches moves system leaves).places leaves) leaves).0 (none_mapped InTheWay (first_in_the_way ((parts_in switches moves system leaves).places leaves) leaves) second.0); refusal = second.1 };
     }
   where
     split : (b : Bool) (o : Option Refusal) → cond b (Some NoSystem) o ≡ None → (b ≡ false) × (o ≡ None)
     split true o is = absurd (none-some NoSystem (sym is))
     split false o is = (refl, is)
 
-by_free : (switches sets : Bool) (system : Name) (leaves : Leaves) → IsFreeBy switches sets system leaves → refused_by switches sets system leaves ≡ None
-by_free switches sets system leaves free =
-    ap (λ b. cond b (Some NoSystem) (refusal_by switches sets system leaves)) free.version
-    ∙ option_or_nothing (option_map InTheWay (first_in_the_way ((parts_in switches sets system leaves).places leaves) leaves)) ((parts_in switches sets system leaves).refusal leaves)
-    (ap (option_map InTheWay) ((none_as_listed ((parts_in switches sets system leaves).places leaves) leaves).1 free.parts.way)) free.parts.refusal
+by_free : (switches : Bool) (moves : Option Move) (system : Name) (leaves : Leaves) → IsFreeBy switches moves system leaves → refused_by switches moves system leaves ≡ None
+by_free switches moves system leaves free =
+    ap (λ b. cond b (Some NoSystem) (refusal_by switches moves system leaves)) free.version
+    ∙ option_or_nothing (option_map InTheWay (first_in_the_way ((parts_in switches moves system leaves).places leaves) leaves)) ((parts_in switches moves system leaves).refusal leaves)
+    (ap (option_map InTheWay) ((none_as_listed ((parts_in switches moves system leaves).places leaves) leaves).1 free.parts.way)) free.parts.refusal
 
 abbrev pub IsFreeCommand : Command → Leaves → Type 0
-IsFreeCommand command leaves = IsFreeBy (row command leaves).switches (row command leaves).sets (new_system command leaves) leaves
+IsFreeCommand command leaves = IsFreeBy (row command leaves).switches (row command leaves).moves (new_system command leaves) leaves
+
+-- what it has of its goal too
+split_goal : (b : Bool) (o : Option Refusal) → cond b (Some NoPrevious) o ≡ None → (b ≡ false) × (o ≡ None)
+split_goal true o is = absurd (none-some NoPrevious (sym is))
+split_goal false o is = (refl, is)
+
+pub has_goal : (command : Command) (leaves : Leaves) → refusal command leaves ≡ None → lacks_goal command leaves ≡ false
+has_goal command leaves none = (split_goal (lacks_goal command leaves) (system_refusal command leaves) none).0
 
 pub free_command : (command : Command) (leaves : Leaves) → refusal command leaves ≡ None → IsFreeCommand command leaves
-free_command command leaves none = free_by (row command leaves).switches (row command leaves).sets (new_system command leaves) leaves none
+free_command command leaves none =
+    free_by (row command leaves).switches (row command leaves).moves (new_system command leaves) leaves (split_goal (lacks_goal command leaves) (system_refusal command leaves) none).1
+
+-- where a command has the same row it has a goal as before
+goal_still : (command : Command) (m w : Leaves) → row command m ≡ row command w → lacks_goal command w ≡ false → lacks_goal command m ≡ false
+goal_still (Command.Switch system) m w same has = refl
+goal_still (Command.Test system) m w same has = refl
+goal_still (Command.Boot system) m w same has = refl
+goal_still (Command.DryActivate system) m w same has = refl
+goal_still Command.Rollback m w same has = by (goal m) (goal w) (ap (λ (r : Row). r.moves) same) has
+  where
+    by : (now before : Option ℕ) → option_map Point now ≡ option_map Point before → is_none before ≡ false → is_none now ≡ false
+    by (Some n) before same has = refl
+    by None None same has = has
+    by None (Some n) same has = absurd (none-some (Point n) same)
 
 -- ---- the file that each system has
 
@@ -134,62 +157,63 @@ since_none w m same = record {
   steady = tt;
 }
 
-since_by : (switches sets : Bool) (system : Name) (owners : OwnerIds) (gens : Gens) (w m : WorldState) → IsFree (parts switches sets system owners gens) w.leaves → IsMomentOf (parts switches sets system owners gens) w m → IsSteadyTo (if_so switches system) w →
+since_by : (switches : Bool) (moves : Option Move) (system : Name) (owners : OwnerIds) (gens : Gens) (w m : WorldState) → IsFree (parts switches moves system owners gens) w.leaves → IsMomentOf (parts switches moves system owners gens) w m → IsSteadyTo (if_so switches system) w →
     IsSince (if_so switches system) w m
-since_by true sets system owners gens w m free moment steady =
-    let both = first_free (switch_part system owners) (part_if sets (boot_default_part system gens)) w.leaves free in
+since_by true moves system owners gens w m free moment steady =
+    let both = first_free (switch_part system owners) (default_if moves system gens) w.leaves free in
     let units = first_free (units_part system) (activation_part system owners) w.leaves both in
     since_units system w m (moment.keeps.0.0.underway (record { way = units.way; refusal = units.refusal }) steady)
-since_by false true system owners gens w m free moment steady = since_none w m (moment.only.manager refl)
-since_by false false system owners gens w m free moment steady = since_none w m (moment.only.manager refl)
+since_by false (Some move) system owners gens w m free moment steady = since_none w m (moment.only.manager refl)
+since_by false None system owners gens w m free moment steady = since_none w m (moment.only.manager refl)
 
 -- ---- the owners of what is put below /etc, and the generations that stand after a set
 
 -- A moment of the parts keeps the owners where the units are switched, and without that nothing asks for them. It keeps the
 -- generations where the profile is set, and without that nothing asks for these.
 module _ (system : Name) (w m : WorldState) where
-  final_owners : (switches sets : Bool) → IsMomentOf (parts_in switches sets system w.leaves) w m → (q : Name) →
-      final_leaf (parts_in switches sets system m.leaves) m.leaves q ≡ final_leaf (parts switches sets system (owners_after system w.leaves) (gens_after system m.leaves)) m.leaves q
-  final_owners true sets moment q =
-      ap (λ (o : OwnerIds). final_leaf (parts true sets system o (gens_after system m.leaves)) m.leaves q) (owners_law system (owners_after system w.leaves) w m moment.keeps.0.1)
-  final_owners false sets moment q = refl
+  final_owners : (switches : Bool) (moves : Option Move) → IsMomentOf (parts_in switches moves system w.leaves) w m → (q : Name) →
+      final_leaf (parts_in switches moves system m.leaves) m.leaves q ≡ final_leaf (parts switches moves system (owners_after system w.leaves) (gens_to moves system m.leaves)) m.leaves q
+  final_owners true moves moment q =
+      ap (λ (o : OwnerIds). final_leaf (parts true moves system o (gens_to moves system m.leaves)) m.leaves q) (owners_law system (owners_after system w.leaves) w m moment.keeps.0.1)
+  final_owners false moves moment q = refl
 
-  final_gens : (switches sets : Bool) → IsMomentOf (parts_in switches sets system w.leaves) w m → (q : Name) →
-      final_leaf (parts switches sets system (owners_after system w.leaves) (gens_after system m.leaves)) m.leaves q ≡ final_leaf (parts_in switches sets system w.leaves) m.leaves q
-  final_gens switches true moment q =
-      ap (λ (gens : Gens). final_leaf (parts switches true system (owners_after system w.leaves) gens) m.leaves q) (default_stays_law system (gens_after system w.leaves) w m moment.keeps.1)
-  final_gens switches false moment q = refl
+  final_gens : (switches : Bool) (moves : Option Move) → IsMomentOf (parts_in switches moves system w.leaves) w m → (q : Name) →
+      final_leaf (parts switches moves system (owners_after system w.leaves) (gens_to moves system m.leaves)) m.leaves q ≡ final_leaf (parts_in switches moves system w.leaves) m.leaves q
+  final_gens switches (Some move) moment q =
+      ap (λ (gens : Gens). final_leaf (parts switches (Some move) system (owners_after system w.leaves) gens) m.leaves q) (default_stays_law move system (gens_moved move system w.leaves) w m moment.keeps.1.0)
+  final_gens switches None moment q = refl
 
-  free_owners : (switches sets : Bool) → IsMomentOf (parts_in switches sets system w.leaves) w m → IsFree (parts switches sets system (owners_after system w.leaves) (gens_after system m.leaves)) m.leaves →
-      IsFree (parts_in switches sets system m.leaves) m.leaves
-  free_owners true sets moment free =
-      subst (λ (o : OwnerIds). IsFree (parts true sets system o (gens_after system m.leaves)) m.leaves) (sym (owners_law system (owners_after system w.leaves) w m moment.keeps.0.1)) free
-  free_owners false sets moment free = free
+  free_owners : (switches : Bool) (moves : Option Move) → IsMomentOf (parts_in switches moves system w.leaves) w m →
+      IsFree (parts switches moves system (owners_after system w.leaves) (gens_to moves system m.leaves)) m.leaves → IsFree (parts_in switches moves system m.leaves) m.leaves
+  free_owners true moves moment free =
+      subst (λ (o : OwnerIds). IsFree (parts true moves system o (gens_to moves system m.leaves)) m.leaves) (sym (owners_law system (owners_after system w.leaves) w m moment.keeps.0.1)) free
+  free_owners false moves moment free = free
 
-  free_gens : (switches sets : Bool) → IsMomentOf (parts_in switches sets system w.leaves) w m → IsFree (parts_in switches sets system w.leaves) m.leaves →
-      IsFree (parts switches sets system (owners_after system w.leaves) (gens_after system m.leaves)) m.leaves
-  free_gens switches true moment free =
-      subst (λ (gens : Gens). IsFree (parts switches true system (owners_after system w.leaves) gens) m.leaves) (sym (default_stays_law system (gens_after system w.leaves) w m moment.keeps.1)) free
-  free_gens switches false moment free = free
+  free_gens : (switches : Bool) (moves : Option Move) → IsMomentOf (parts_in switches moves system w.leaves) w m → IsFree (parts_in switches moves system w.leaves) m.leaves →
+      IsFree (parts switches moves system (owners_after system w.leaves) (gens_to moves system m.leaves)) m.leaves
+  free_gens switches (Some move) moment free =
+      subst (λ (gens : Gens). IsFree (parts switches (Some move) system (owners_after system w.leaves) gens) m.leaves)
+      (sym (default_stays_law move system (gens_moved move system w.leaves) w m moment.keeps.1.0)) free
+  free_gens switches None moment free = free
 
 -- ---- a command is underway
 
 module _ (command : Command) (w m : WorldState) (on : (row command w.leaves).changes ≡ true) (same : row command m.leaves ≡ row command w.leaves)
-    (named : IsSystemPath (new_system command w.leaves)) (free : IsFreeCommand command w.leaves) (moment : IsMomentOf (part_of command w.leaves) w m) where
+    (has : lacks_goal command w.leaves ≡ false) (named : IsSystemPath (new_system command w.leaves)) (free : IsFreeCommand command w.leaves) (moment : IsMomentOf (part_of command w.leaves) w m) where
   abbrev switches : Bool
   switches = (row command w.leaves).switches
 
-  abbrev sets : Bool
-  sets = (row command w.leaves).sets
+  abbrev moves : Option Move
+  moves = (row command w.leaves).moves
 
   abbrev system : Name
   system = new_system command w.leaves
 
   same_store : AreSameInStore m.leaves w.leaves
-  same_store q inside = moment.only.leaves q (not_in_store switches sets system (owners_after system w.leaves) (gens_after system w.leaves) q inside) (store_not_stage q inside)
+  same_store q inside = moment.only.leaves q (not_in_store switches moves system (owners_after system w.leaves) (gens_to moves system w.leaves) q inside) (store_not_stage q inside)
 
-  parts_is : IsPart (parts_in switches sets system w.leaves)
-  parts_is = parts_are switches sets system named (owners_after system w.leaves) (gens_after system w.leaves) (gens_after_law system w.leaves named)
+  parts_is : IsPart (parts_in switches moves system w.leaves)
+  parts_is = parts_are switches moves system named (owners_after system w.leaves) (gens_to moves system w.leaves) (gens_to_law moves system w.leaves named)
 
   same_to : switched_to command m.leaves ≡ switched_to command w.leaves
   same_to = ap switched_by same
@@ -202,25 +226,27 @@ module _ (command : Command) (w m : WorldState) (on : (row command w.leaves).cha
 
   final_same : (q : Name) → q ≢ stage → final command m.leaves q ≡ final command w.leaves q
   final_same q ne =
-      ap (λ (r : Row). cond r.changes (final_leaf (parts_in r.switches r.sets r.system m.leaves) m.leaves q) (get m.leaves q)) same
-      ∙ ap (λ b. cond b (final_leaf (parts_in switches sets system m.leaves) m.leaves q) (get m.leaves q)) on
-      ∙ final_owners system w m switches sets moment q
-      ∙ final_gens system w m switches sets moment q
-      ∙ ends_alike (parts_in switches sets system w.leaves) parts_is w m moment q ne
+      ap (λ (r : Row). cond r.changes (final_leaf (parts_in r.switches r.moves r.system m.leaves) m.leaves q) (get m.leaves q)) same
+      ∙ ap (λ b. cond b (final_leaf (parts_in switches moves system m.leaves) m.leaves q) (get m.leaves q)) on
+      ∙ final_owners system w m switches moves moment q
+      ∙ final_gens system w m switches moves moment q
+      ∙ ends_alike (parts_in switches moves system w.leaves) parts_is w m moment q ne
       ∙ sym (ap (λ b. cond b (final_leaf (part_of command w.leaves) w.leaves q) (get w.leaves q)) on)
 
-  still_free : IsFreeBy switches sets system m.leaves
+  still_free : IsFreeBy switches moves system m.leaves
   still_free = record {
     version = ap is_none (content_same m.leaves w.leaves same_store (version_path system) (version_inside system named)) ∙ free.version;
-    parts = free_owners system w m switches sets moment (free_gens system w m switches sets moment (parts_is.stays_free w m moment.keeps free.parts));
+    parts = free_owners system w m switches moves moment (free_gens system w m switches moves moment (parts_is.stays_free w m moment.keeps free.parts));
   }
 
   still_not_refused : refusal command m.leaves ≡ None
-  still_not_refused = ap (λ (r : Row). refused_by r.switches r.sets r.system m.leaves) same ∙ by_free switches sets system m.leaves still_free
+  still_not_refused =
+      ap (λ b. cond b (Some NoPrevious) (system_refusal command m.leaves)) (goal_still command m.leaves w.leaves same has)
+      ∙ ap (λ (r : Row). refused_by r.switches r.moves r.system m.leaves) same ∙ by_free switches moves system m.leaves still_free
 
   pub underway : IsSteadyFor command w → IsUnderway w command m
   underway steady =
-      let since = since_by switches sets system (owners_after system w.leaves) (gens_after system w.leaves) w m free.parts moment steady in
+      let since = since_by switches moves system (owners_after system w.leaves) (gens_to moves system w.leaves) w m free.parts moment steady in
       let to_m = sym same_to in
       record {
         same_row = same;

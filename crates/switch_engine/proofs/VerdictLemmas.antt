@@ -2,7 +2,6 @@
 use Rattle.std.proofs.Common.{◌≡◌, ◌↔◌, ◌&&◌, Bool, true, false, cond, IsSome, is_some, Option, None, Some, refl, sym, ap, subst, ◌∙◌}
 use Rattle.std.specs.FinMap.{get}
 use Rattle.activation_stage.specs.Owners.{owners_after}
-use Rattle.generations.specs.After.{gens_after}
 use Rattle.host_trait.specs.declared.unit_state.State.TheVariants.{Failed}
 use Rattle.host_trait.specs.States.{state_of}
 use Rattle.host_trait.specs.World.{Leaves, WorldState}
@@ -13,7 +12,7 @@ use Rattle.switch_engine.specs.declared.command.Command.{Command}
 use Rattle.switch_engine.specs.Commands.{brought_by, brought_to, if_so, new_system, row}
 use Rattle.switch_engine.specs.Final.{AreFinalUnits, IsEndOf, IsFinalOf, LeavesFailed, LeavesFailedAt}
 use Rattle.switch_engine.specs.Owing.{IsUnderway}
-use Rattle.switch_engine.specs.Rows.{part_of}
+use Rattle.switch_engine.specs.Rows.{gens_to, part_of}
 use Rattle.switch_engine.proofs.PartsLemmas.{not_in_store}
 use Rattle.switch_engine.proofs.StoreApart.{store_not_stage}
 use Rattle.switch_names.specs.Names.{Name}
@@ -33,7 +32,7 @@ left_in_store command w v final q inside =
     let its = row command w.leaves in
     sym (final.leaves q (store_not_stage q inside)
     ∙ ap (λ b. cond its.changes (cond b ((part_of command w.leaves).end w.leaves q) (get w.leaves q)) (get w.leaves q))
-    (not_in_store its.switches its.sets its.system (owners_after its.system w.leaves) (gens_after its.system w.leaves) q inside)
+    (not_in_store its.switches its.moves its.system (owners_after its.system w.leaves) (gens_to its.moves its.system w.leaves) q inside)
     ∙ either its.changes (get w.leaves q))
 
 -- what a system defines is what it defines in each tree with the same in the store

@@ -1,11 +1,11 @@
 //! The laws by which the promise for one cut becomes that for any number of cuts.
-ghost use Rattle.std.specs.Prelude.{◌≡◌, ◌↔◌, IsSome, List, None};
+ghost use Rattle.std.specs.Prelude.{◌≡◌, ◌⊎◌, ◌↔◌, IsSome, List, None, false};
 ghost use Rattle.boot_entries.specs.Menu.{IsMenuWhole};
 ghost use Rattle.host_trait.specs.World.{WorldState};
 ghost use Rattle.switch_engine.specs.declared.command.Command.{Command};
-ghost use Rattle.switch_engine.specs.Commands.{IsQuery, new_system, set_to};
+ghost use Rattle.switch_engine.specs.Commands.{IsQuery, goes_back, new_system, set_to};
 ghost use Rattle.switch_engine.specs.Final.{IsEndOf, IsFinalOf, LeavesFailed};
-ghost use Rattle.switch_engine.specs.Moments.{LeadsBy};
+ghost use Rattle.switch_engine.specs.Moments.{HasComeBackIn, LeadsBy};
 ghost use Rattle.switch_engine.specs.Owing.{IsOver, IsSteadyFor, IsUnderway};
 ghost use Rattle.switch_engine.specs.Rows.{refusal};
 ghost use Rattle.switch_names.specs.SystemName.{IsSystemPath};
@@ -29,10 +29,18 @@ pub fn an_ended_run_is_over()
 {}
 
 /// However often runs of a command are cut, each at any of its moments, the last leaves what a run
-/// leaves that isn't cut; each duty is paid, and no unit was touched that was owed nothing.
+/// leaves that isn't cut; each duty is paid, and no unit was touched that was owed nothing. A rollback goes
+/// one step further where a cut came after its goal was removed: see `cut_rollbacks_end_alike`.
 pub fn cut_runs_end_alike()
+    ensures { (command : Command) (cuts : List WorldState) (first last : WorldState) → (IsQuery command → ⊥) → goes_back command first.leaves ≡ false
+        → refusal command first.leaves ≡ None → IsSteadyFor command first → LeadsBy command cuts first last → IsOver first command last }
+{}
+
+/// However often runs of any command are cut, the last leaves what a run leaves that isn't cut, or one of them
+/// was cut when all was done that the first had begun, and no goal of a rollback stood any more.
+pub fn cut_rollbacks_end_alike()
     ensures { (command : Command) (cuts : List WorldState) (first last : WorldState) → (IsQuery command → ⊥) → refusal command first.leaves ≡ None
-        → IsSteadyFor command first → LeadsBy command cuts first last → IsOver first command last }
+        → IsSteadyFor command first → LeadsBy command cuts first last → IsOver first command last ⊎ HasComeBackIn command first cuts }
 {}
 
 /// A run that goes on where another was cut leaves a unit failed that the system defines exactly where

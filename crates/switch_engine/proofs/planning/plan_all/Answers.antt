@@ -40,7 +40,7 @@ returns-in_err-plan-clause-refused g c why e =
     let refused = c.in_err-plan.ensures.refused why (ap (λ f. Err f) (sym p.2 ∙ same_fault p.0 (Refused why) (sym p.1 ∙ e))) in
     told_as (told_read c.has_version.ensures.reads refused) (λ w. refusal c.args.command.now w.leaves ≡ Some why)
     (λ w is parts. has_system c.args.command.now w.leaves c.in_ok-row.row.system (ap (λ (r : Row). r.system) (c.in_ok-row.ensures w.leaves)) (sym (c.in_ok-has_version.ensures.has.has w is) ∙ c.if-not-branch.false)
-    ∙ subst (λ (r : Row). refusal_by r.switches r.sets r.system w.leaves ≡ Some why) (c.in_ok-row.ensures w.leaves) parts)
+    ∙ subst (λ (r : Row). refusal_by r.switches r.moves r.system w.leaves ≡ Some why) (c.in_ok-row.ensures w.leaves) parts)
 
 pub returns-clause-plan : goal.returns-clause-plan
 returns-clause-plan g c =
@@ -55,7 +55,7 @@ returns-clause-plan g c =
       named = subst (λ (r : Row). IsSystemPath r.system) (sym its) c.path-path.ensures.names;
       not_refused = subst (λ (command : Command). refusal command w.leaves ≡ None) (sym c.in_ok-plan.ensures.command)
           (has_system c.args.command.now w.leaves c.in_ok-row.row.system (ap (λ (r : Row). r.system) same) (sym (c.in_ok-has_version.ensures.has.has w is) ∙ c.if-not-branch.false)
-          ∙ subst (λ (r : Row). refusal_by r.switches r.sets r.system w.leaves ≡ None) same ((told_read c.has_version.ensures.reads c.in_ok-plan.ensures.not_refused).has w is));
+          ∙ subst (λ (r : Row). refusal_by r.switches r.moves r.system w.leaves ≡ None) same ((told_read c.has_version.ensures.reads c.in_ok-plan.ensures.not_refused).has w is));
     })
 
 pub returns-clause-steady : goal.returns-clause-steady
