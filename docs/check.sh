@@ -241,8 +241,7 @@ twice() {
             first[text] = FILENAME
         }' {} +
 }
-# (two lemmas on the stage's place stand twice in worlds)
-both=$(twice | grep -v '^crates/worlds/proofs/parts/troubles/show_end/Answers.antt: \(is_other\|not_the_stage\) stands in ')
+both=$(twice)
 [ -z "$both" ] || fault "$both"
 wrong=$(wrong_clauses)
 [ -z "$wrong" ] || fault "$wrong"

@@ -4,7 +4,9 @@ use Rattle.std.proofs.lemmas.Bool.{and_parts, both_ways, cases_Bool, not-true}
 use Rattle.std.proofs.lemmas.Option.{none-some}
 use Rattle.std.specs.Cmp.Lexicographic.{same_text}
 use Rattle.std.specs.List.{AllByRecursion, list_all}
-use Rattle.host_trait.specs.World.{IsClear, Leaves, WorldState, is_in_line, is_path, stage}
+use Rattle.host_trait.specs.World.{IsClear, Leaves, WorldState, is_in_line, is_path, seen, stage}
+use Rattle.host_trait.proofs.Sound.{line_turned}
+use Rattle.host_trait.proofs.Seen.{clear_seen, stage_clear_seen}
 use Rattle.switch_names.specs.Names.{Name}
 use Rattle.switch_parts.specs.Leaves.{is_among}
 use Rattle.switch_parts.proofs.LeafLemmas.{each_among}
@@ -12,6 +14,7 @@ use Rattle.tree_put.specs.Put.{AreApart}
 use Rattle.tree_put.specs.WrittenPlace.{in_the_way}
 use Rattle.tree_put.proofs.WayLemmas.{all_clear}
 use Rattle.account_text.specs.declared.tables.Tables.{Tables}
+use Rattle.users_merge.specs.declared.declared_names.Declared.{Declared}
 use Rattle.users_merge.specs.declared.merged.Merged as answered
 use Rattle.users_merge.specs.Merge.{merge_of}
 use Rattle.users_merge.specs.Order.{group_rows, passwd_rows, shadow_rows}
@@ -20,13 +23,13 @@ use Rattle.users_spec.specs.Fields.{Read}
 use Rattle.users_spec.specs.Spec.{Accounts}
 use Rattle.accounts_stage.specs.declared.accounts_plan.AccountsPlan.{AccountsPlan}
 use Rattle.tree_put.specs.declared.leaf_put.LeafPut.{LeafPut}
-use Rattle.tree_put.specs.Sequence.{ArePutsApart, CanPutAll}
-use Rattle.tree_put.proofs.SequenceLemmas.{apart_by}
+use Rattle.tree_put.specs.Sequence.{ArePutsApart, CanPutAll, with_puts}
+use Rattle.tree_put.proofs.SequenceLemmas.{apart_by, clear_after, stage_after}
 use Rattle.accounts_stage.specs.Files.{account_puts, ids_puts, names_puts, nine_puts, table_puts}
 use Rattle.accounts_stage.specs.Places.{account_names, account_places, gids_place, group_place, groups_place, memory_places, owns_accounts, passwd_place, shadow_place, table_places, uids_place, users_place}
 use Rattle.accounts_stage.specs.Plan.{IsAccountsPlanOf, IsAnswerOf, IsMergePlanned, puts_by, puts_of}
 use Rattle.accounts_stage.specs.AccountsPart.{merged_by, tables_by}
-use Rattle.accounts_stage.specs.Puts.{AreAtAccounts, answer_puts}
+use Rattle.accounts_stage.specs.Puts.{AreAtAccounts, answer_puts, first_puts}
 use Rattle.accounts_stage.specs.Standing.{declared_by, stored_in, tables_in}
 
 -- ---- the places
@@ -58,9 +61,18 @@ module _ (p : Name) (own : owns_accounts p ≡ true) where
 
 -- ---- what is put
 
-pub answer_at_places : (answer : answered.Merged) → AreAtAccounts (answer_puts answer)
-unfolding answer_puts account_names group_place passwd_place shadow_place groups_place users_place gids_place uids_place
-answer_at_places answer = (refl, (refl, (refl, (refl, (refl, (refl, (refl, (refl, (refl, tt)))))))))
+pub first_at_places : (answer : answered.Merged) → AreAtAccounts (first_puts answer)
+unfolding account_names group_place passwd_place shadow_place groups_place users_place gids_place uids_place
+first_at_places answer = (refl, (refl, (refl, (refl, (refl, (refl, (refl, tt)))))))
+
+pub names_at_places : (names : Declared) → AreAtAccounts (names_puts names)
+unfolding account_names group_place passwd_place shadow_place groups_place users_place gids_place uids_place
+names_at_places names = (refl, (refl, tt))
+
+-- the nine puts are those before the names that are declared now, and then these
+pub answer_parts : (answer : answered.Merged) (first last : List LeafPut) → first ≡ first_puts answer → last ≡ names_puts answer.declared → answer_puts answer ≡ first ++ last
+unfolding answer_puts
+answer_parts answer first last is_first is_last = λ i. sym is_first i ++ sym is_last i
 
 answer_is : (m : Merged) (answer : answered.Merged) → IsAnswerOf m answer → answer_puts answer ≡ account_puts m
 unfolding answer_puts account_puts
@@ -79,15 +91,12 @@ pub three_added :
 three_added old one two three a b d x y z added more last is_a is_b is_d =
     last ∙ ap (λ puts. puts ++ d ∷ []) (two_added old one two a b x y added more is_a is_b) ∙ append_assoc old (x ∷ y ∷ []) (d ∷ []) ∙ ap (λ put. old ++ x ∷ y ∷ put ∷ []) is_d
 
--- the puts of an answer, one list after another
-pub answer_made :
-    (none first second third last : List LeafPut) (answer : answered.Merged) → none ≡ [] → first ≡ none ++ names_puts answer.union → second ≡ first ++ ids_puts answer.remembered →
-    third ≡ second ++ table_puts answer.tables → last ≡ third ++ names_puts answer.declared → last ≡ answer_puts answer
-unfolding answer_puts
-answer_made none first second third last answer is_none is_first is_second is_third is_last =
-    is_last
-    ∙ ap (λ puts. puts ++ names_puts answer.declared)
-    (is_third ∙ ap (λ puts. puts ++ table_puts answer.tables) (is_second ∙ ap (λ puts. puts ++ ids_puts answer.remembered) (is_first ∙ ap (λ puts. puts ++ names_puts answer.union) is_none)))
+-- the puts before those of the names that are declared now, one list after another
+pub first_made :
+    (none first second third : List LeafPut) (answer : answered.Merged) → none ≡ [] → first ≡ none ++ names_puts answer.union → second ≡ first ++ ids_puts answer.remembered →
+    third ≡ second ++ table_puts answer.tables → third ≡ first_puts answer
+first_made none first second third answer is_none is_first is_second is_third =
+    is_third ∙ ap (λ puts. puts ++ table_puts answer.tables) (is_second ∙ ap (λ puts. puts ++ ids_puts answer.remembered) (is_first ∙ ap (λ puts. puts ++ names_puts answer.union) is_none))
 
 -- the puts of an answer that is planned, where there is one
 abbrev puts_if_any : Option answered.Merged → List LeafPut
@@ -134,6 +143,23 @@ can_put w puts at none = let clear = way_clear w none in record { stage = clear.
 
 pub accounts_apart : (puts : List LeafPut) → AreAtAccounts puts → ArePutsApart puts
 accounts_apart puts at = apart_by (λ p. owns_accounts p ≡ true) (λ p own. place_apart p own) (λ p q one other. places_apart p one q other) puts at
+
+-- puts at places of accounts leave these clear
+lines_apart : (q : Name) → owns_accounts q ≡ true → (puts : List LeafPut) → AreAtAccounts puts → AllByRecursion (λ (put : LeafPut). is_in_line put.at q ≡ false) puts
+lines_apart q own [] at = tt
+lines_apart q own (put ∷ puts) at = (places_apart put.at at.0 q own, lines_apart q own puts at.1)
+
+clear_then : (w v : WorldState) (puts : List LeafPut) → AreAtAccounts puts → CanPutAccounts w → seen v ≡ seen (with_puts puts w) → CanPutAccounts v
+clear_then w v puts at can came = record {
+  stage = stage_clear_seen v (with_puts puts w) came (stage_after puts w (accounts_apart puts at).stage can.stage);
+  places = λ q own. clear_seen v (with_puts puts w) q (line_turned q stage (place_apart q own).line) came (clear_after puts q w (lines_apart q own puts at) (can.places q own));
+}
+
+pub can_put_then :
+    (w v : WorldState) (first last : List LeafPut) → AreAtAccounts first → AreAtAccounts last → in_the_way account_places w.leaves ≡ None →
+    seen v ≡ seen (with_puts first w) → CanPutAll last v
+can_put_then w v first last at_first at_last none came =
+    let clear = clear_then w v first at_first (way_clear w none) came in record { stage = clear.stage; places = each_clear v clear last at_last }
 
 -- ---- the tables that a plan leaves
 

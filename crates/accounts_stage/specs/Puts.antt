@@ -1,14 +1,18 @@
 -- The puts of an answer of a merge: nixpkgs, update-users-groups.pl.
-use Rattle.std.specs.Prelude.{◌≡◌, true, List}
+use Rattle.std.specs.Prelude.{◌≡◌, ◌++◌, true, List}
 use Rattle.std.specs.List.{AllByRecursion}
 use Rattle.users_merge.specs.declared.merged.Merged.{Merged}
 use Rattle.tree_put.specs.declared.leaf_put.LeafPut.{LeafPut}
-use Rattle.accounts_stage.specs.Files.{nine_puts}
+use Rattle.accounts_stage.specs.Files.{ids_puts, names_puts, nine_puts, table_puts}
 use Rattle.accounts_stage.specs.Places.{owns_accounts}
 
 -- the puts of an answer of a merge
 unfoldable pub answer_puts : Merged → List LeafPut
 answer_puts merged = nine_puts merged.union merged.remembered merged.tables merged.declared
+
+-- the puts before those of the names that are declared now
+abbrev pub first_puts : Merged → List LeafPut
+first_puts merged = names_puts merged.union ++ (ids_puts merged.remembered ++ table_puts merged.tables)
 
 -- each put is at a place of accounts
 abbrev pub AreAtAccounts : List LeafPut → Type 0

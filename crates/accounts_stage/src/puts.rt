@@ -2,7 +2,7 @@
 ghost use Rattle.std.specs.Prelude.{◌≡◌, ◌++◌, IfOk, OnOk};
 ghost use Rattle.tree_put.specs.Sequence.{put_at};
 ghost use Rattle.accounts_stage.specs.Files.{closed_file, ids_puts, names_puts, names_text, open_file, table_puts};
-ghost use Rattle.accounts_stage.specs.Puts.{AreAtAccounts, answer_puts};
+ghost use Rattle.accounts_stage.specs.Puts.{AreAtAccounts, first_puts};
 ghost use Rattle.id_memory.specs.Json.{ids_text};
 
 use crate::names::write_names;
@@ -85,15 +85,24 @@ fn add_tables(alloc: Global, puts: &mut Listed<LeafPut>, tables: &Tables) -> Res
     puts.push(shadow)
 }
 
-/// The nine files of a merge, in the order in which they are put.
-pub fn answer_puts(alloc: Global, merged: &Merged) -> Result<Listed<LeafPut>, AllocError>
-    ensures puts { IfOk result (λ puts. puts ≡ answer_puts merged.now) }
+/// The files of a merge but for the last two, in the order in which they are put.
+pub fn first_puts(alloc: Global, merged: &Merged) -> Result<Listed<LeafPut>, AllocError>
+    ensures puts { IfOk result (λ puts. puts ≡ first_puts merged.now) }
     ensures places { IfOk result AreAtAccounts }
 {
     let mut puts = Listed::new(alloc);
     add_names(alloc, &mut puts, &merged.union)?;
     add_ids(alloc, &mut puts, &merged.remembered)?;
     add_tables(alloc, &mut puts, &merged.tables)?;
+    Ok(puts)
+}
+
+/// The last two files of a merge: the names that are declared now.
+pub fn last_puts(alloc: Global, merged: &Merged) -> Result<Listed<LeafPut>, AllocError>
+    ensures puts { IfOk result (λ puts. puts ≡ names_puts merged.now.declared) }
+    ensures places { IfOk result AreAtAccounts }
+{
+    let mut puts = Listed::new(alloc);
     add_names(alloc, &mut puts, &merged.declared)?;
     Ok(puts)
 }

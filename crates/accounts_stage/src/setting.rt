@@ -8,10 +8,11 @@ ghost use Rattle.accounts_stage.specs.Plan.{AreAccountsSet, CanSetAccounts, IsSe
 ghost use Rattle.accounts_stage.specs.Puts.{answer_puts};
 
 use crate::accounts_plan::AccountsPlan;
-use crate::puts::answer_puts;
+use crate::puts::{first_puts, last_puts};
 use host_trait::{HostFault, Tree};
 use std::alloc::Global;
 use switch_names::SystemName;
+use switch_parts::put_kept;
 use tree_put::put_all;
 use users_merge::Merged;
 
@@ -20,7 +21,9 @@ use users_merge::Merged;
 ///
 /// A leaf that stands already is left alone. All memory but that of host calls is taken before the
 /// first change. At each moment the world is, but for the stage, the one after the first so many of
-/// the nine puts.
+/// the nine puts. The tables, and what is put before them, are kept beyond a loss of power before the
+/// names that are declared now are put, so that whoever is dropped counts as declared while its row
+/// stands.
 ///
 /// Source: nixpkgs, update-users-groups.pl.
 pub fn apply<T: Tree>(alloc: Global, host: &mut T, merged: &Merged) -> Result<(), HostFault>
@@ -29,8 +32,10 @@ pub fn apply<T: Tree>(alloc: Global, host: &mut T, merged: &Merged) -> Result<()
     ensures moments { Passes (T.host host.old) (T.host host.new) (IsPutting (answer_puts merged.now)) }
     ensures cause { HasCause (T.host host.old) (T.host host.new) result }
 {
-    let puts = answer_puts(alloc, merged)?;
-    put_all(alloc, host, puts.as_slice())
+    let first = first_puts(alloc, merged)?;
+    let last = last_puts(alloc, merged)?;
+    put_kept(alloc, host, first.as_slice())?;
+    put_all(alloc, host, last.as_slice())
 }
 
 /// Sets the accounts that are planned, where the system declares any.

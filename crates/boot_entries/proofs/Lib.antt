@@ -16,4 +16,3 @@ pub mod PlanLawLemmas
 pub mod PlanLemmas
 pub mod PutLemmas
 pub mod TextLemmas
-pub mod TwoPutsLemmas

@@ -1,7 +1,7 @@
 //! Puts and removes the files of a boot menu that is planned.
 ghost use Rattle.std.specs.Prelude.{◌≡◌, IfOk, OnOk, map};
 ghost use Rattle.host_trait.specs.Host.{Becomes, Comes, HasCause, Leads, Passes, Told};
-ghost use Rattle.tree_put.specs.Sequence.{ArePutsApart, CanPutAll, IsPutting, IsRemoving, with_puts, without_places};
+ghost use Rattle.tree_put.specs.Sequence.{IsPutting, IsRemoving, with_puts, without_places};
 ghost use Rattle.boot_entries.specs.Steps.{AreEntries, CanApplyBoot, IsBootMoment, IsBootSet, boot_put, boot_puts, loader_files};
 ghost use Rattle.boot_entries.specs.Texts.{boot_file};
 
@@ -10,7 +10,8 @@ use crate::entry::loader_path;
 use host_trait::{HostFault, Leaf, Tree};
 use std::alloc::{AllocError, Global};
 use switch_names::{Bytes, Listed, Path};
-use tree_put::{LeafPut, drop_all, put_all};
+use switch_parts::put_kept;
+use tree_put::{LeafPut, drop_all};
 
 /// A file of mode 0644 that root owns, put at a place.
 fn file_at(alloc: Global, at: Path, bytes: &Bytes) -> Result<LeafPut, AllocError>
@@ -42,19 +43,6 @@ fn loader_puts(alloc: Global, loader: &Option<Bytes>) -> Result<Listed<LeafPut>,
         puts.push(file_at(alloc, at, text)?)?;
     }
     Ok(puts)
-}
-
-/// Puts leaves, one after the other, and has them kept beyond a loss of power.
-fn put_kept<T: Tree>(alloc: Global, host: &mut T, puts: &[LeafPut]) -> Result<(), HostFault>
-    requires apart { ArePutsApart puts.now }
-    requires can { Told (T.host host.old) (CanPutAll puts.now) }
-    ensures ok { OnOk result (Comes (T.host host.old) (T.host host.new) (with_puts puts.now)) }
-    ensures moments { Passes (T.host host.old) (T.host host.new) (IsPutting puts.now) }
-    ensures cause { HasCause (T.host host.old) (T.host host.new) result }
-{
-    put_all(alloc, host, puts)?;
-    host.sync(alloc)?;
-    Ok(())
 }
 
 /// Removes the leaves at some places, one after the other, and has that kept beyond a loss of power.

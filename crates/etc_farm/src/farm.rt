@@ -18,7 +18,25 @@ use std::alloc::Global;
 use switch_names::{Path, SystemName};
 use tree_put::{LeafPut, drop_all, put_all, put_if_other};
 
-/// Puts the entries that aren't blocked, and then the last clean list.
+/// Puts the entries that aren't blocked, and has all that was changed kept beyond a loss of power.
+fn put_entries_kept<T: Tree>(
+    alloc: Global,
+    host: &mut T,
+    items: &[Item],
+    blocked: &[Path],
+) -> Result<(), HostFault>
+    requires { Told (T.host host.old) (CanPutEntries items.now blocked.now) }
+    ensures ok { OnOk result (Comes (T.host host.old) (T.host host.new) (with_puts (puts_but blocked.now items.now))) }
+    ensures moments { Passes (T.host host.old) (T.host host.new) (IsPutting (puts_but blocked.now items.now)) }
+    ensures cause { HasCause (T.host host.old) (T.host host.new) result }
+{
+    put_entries(alloc, host, items, blocked)?;
+    host.sync(alloc)?;
+    Ok(())
+}
+
+/// Puts the entries that aren't blocked, and then the last clean list, once all that was changed before
+/// is kept beyond a loss of power.
 ///
 /// A cut leaves the first so many of the entries, or all of them and either clean list.
 fn finish<T: Tree>(
@@ -34,7 +52,7 @@ fn finish<T: Tree>(
     ensures moments { Passes (T.host host.old) (T.host host.new) (IsPutting (puts_but blocked.now items.now ++ list.now ∷ [])) }
     ensures cause { HasCause (T.host host.old) (T.host host.new) result }
 {
-    put_entries(alloc, host, items, blocked)?;
+    put_entries_kept(alloc, host, items, blocked)?;
     put_if_other(alloc, host, &list.at, &list.leaf)?;
     Ok(())
 }
@@ -45,7 +63,9 @@ fn finish<T: Tree>(
 /// A leaf that stands already is left alone. A cut leaves the first so many of these steps, and no
 /// other leaf. By the law `steps_are_moments` the farm's end is at each moment the one at the
 /// beginning, and each copied or direct entry whose leaf has changed is on the clean list. All memory
-/// but that of leaves and of host calls is taken before the first change.
+/// but that of leaves and of host calls is taken before the first change. What stands before the last
+/// clean list is kept beyond a loss of power before that is put, so that a copy that goes is on the
+/// list for as long as it may stand.
 ///
 /// Source: setup-etc.pl of nixpkgs.
 pub fn apply<T: Tree>(

@@ -16,7 +16,8 @@ use switch_names::{Listed, Path, Text, UnitName};
 ///
 /// Its world is the one in which each job has ended. It waits for the end of all of them before whatever could tell
 /// that one hasn't ended: before its first act, before an act on a unit of which a job may wait, before the states of
-/// units are read or definitions are loaded, and before each call that changes the tree.
+/// units are read or definitions are loaded, before each call that changes the tree, and before it has what was
+/// changed kept beyond a loss of power.
 pub struct JobHost<J: Jobs> {
     device: J,
     submitted: Option<UnitSet>,
@@ -145,8 +146,15 @@ impl<J: Jobs> Tree for JobHost<J> {
         self.device.tops(alloc)
     }
 
-    fn sync(&mut self, alloc: Global) -> Result<(), HostFault> {
-        self.device.sync(alloc)
+    fn sync(&mut self, alloc: Global) -> Result<(), HostFault>
+        ensures reads { IsReading (J.host self.old.device) (J.host self.new.device) result }
+        ensures waits { StaysWithin [] [] }
+        ensures settled { OnOk result (J.waiting self.new.device ≡ []) }
+    {
+        // What a job changes as it ends has to be kept too.
+        self.finish(alloc)?;
+        self.device.sync(alloc)?;
+        Ok(())
     }
 
     fn write_stage(&mut self, alloc: Global, leaf: &Leaf) -> Result<(), HostFault>

@@ -1,7 +1,7 @@
 //! Lines of names, values, texts and faults.
 use std::fmt::Debug;
 use std::test::Fail;
-use switch_names::{Bytes, Text, UnitName};
+use switch_names::{Bytes, Path, Text, UnitName};
 use world_text::{Lines, text_of};
 
 /// Shows a value at the end of a line.
@@ -30,6 +30,14 @@ pub fn show_words(lines: &mut Lines, texts: &[Text]) {
         lines.add_word(text.as_str());
     }
     lines.end_line();
+}
+
+/// Shows paths, one a line.
+pub fn show_paths(lines: &mut Lines, paths: &[Path]) {
+    for path in paths {
+        lines.add_word(path.as_str());
+        lines.end_line();
+    }
 }
 
 /// Shows names of units at the end of a line, after the word that says what they are.

@@ -141,6 +141,13 @@ pub fn take_all(
     Ok(Ok(()))
 }
 
+/// A host over a root that has taken steps in turn.
+pub fn worked<'a>(rt: &Failing<'a>, root: &str, steps: &[Bytes]) -> Result<Host<'a>, Fail> {
+    let mut host = FolderHost::open(rt, root)?;
+    take_all(rt.alloc(), &mut host, steps)??;
+    Ok(host)
+}
+
 /// Takes steps in turn on a new host over a root, as far as none fails.
 pub fn take_anew(
     rt: &Failing<'_>,

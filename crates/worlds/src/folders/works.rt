@@ -1,7 +1,8 @@
 //! What steps on a host leave in its folder.
 use super::failing::{Failing, Host};
 use super::files::show_manager;
-use super::steps::{take, take_all, take_anew};
+use super::steps::{take, take_anew, worked};
+use crate::writing::show_paths;
 use host_folder::FolderHost;
 use host_trait::Tree;
 use std::alloc::Global;
@@ -11,18 +12,14 @@ use switch_names::{Bytes, Path};
 use world_text::{Lines, misread, show_file, text_of};
 
 /// Shows the paths of the leaves below one.
-fn show_paths(
+fn show_listed(
     alloc: Global,
     lines: &mut Lines,
     host: &mut Host<'_>,
     under: &str,
 ) -> Result<(), Fail> {
     let under = Path::parse(alloc, under)?;
-    let paths = host.list(alloc, &under)?;
-    for path in paths.as_slice() {
-        lines.add_word(path.as_str());
-        lines.end_line();
-    }
+    show_paths(lines, host.list(alloc, &under)?.as_slice());
     Ok(())
 }
 
@@ -33,10 +30,9 @@ pub fn show_work(
     root: &str,
     steps: &[Bytes],
 ) -> Result<(), Fail> {
-    let mut host = FolderHost::open(rt, root)?;
-    take_all(rt.alloc(), &mut host, steps)??;
-    show_paths(rt.alloc(), lines, &mut host, "etc")?;
-    show_paths(rt.alloc(), lines, &mut host, "nix")?;
+    let mut host = worked(rt, root, steps)?;
+    show_listed(rt.alloc(), lines, &mut host, "etc")?;
+    show_listed(rt.alloc(), lines, &mut host, "nix")?;
     show_manager(rt, lines, root)
 }
 

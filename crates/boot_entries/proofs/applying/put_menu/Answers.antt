@@ -8,7 +8,7 @@ use Rattle.tree_put.proofs.SequenceLemmas.{putting_none}
 use Rattle.boot_entries.specs.declared.boot_texts.BootTexts.{BootTexts}
 use Rattle.boot_entries.specs.Steps.{boot_put, boot_puts, loader_files}
 use Rattle.boot_entries.proofs.ApplyLemmas.{can_entries, can_loader, entry_puts_apart, loader_puts_apart}
-use Rattle.boot_entries.proofs.TwoPutsLemmas.{both_led, first_way, second_way}
+use Rattle.switch_parts.proofs.TwoPutsLemmas.{both_led, first_way, second_way}
 use Rattle.boot_entries.proofs.applying.put_menu.Goals as goal
 
 -- the puts of a menu are those of its entries, and then those of the loader

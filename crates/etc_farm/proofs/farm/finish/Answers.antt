@@ -11,32 +11,32 @@ use Rattle.etc_farm.proofs.PlaceLemmas.{place_apart}
 use Rattle.etc_farm.proofs.PutLemmas.{can_put_last}
 use Rattle.etc_farm.proofs.farm.finish.Goals as goal
 
-pub put_entries-requires : goal.put_entries-requires
-put_entries-requires g c = c.requires.can
+pub put_entries_kept-requires : goal.put_entries_kept-requires
+put_entries_kept-requires g c = c.requires.can
 
 pub put_if_other-requires-clause-apart : goal.put_if_other-requires-clause-apart
 put_if_other-requires-clause-apart g c = subst (λ p. AreApart p stage) (sym c.requires.list) (place_apart clean_name)
 
 pub put_if_other-requires-clause-can : goal.put_if_other-requires-clause-can
 put_if_other-requires-clause-can g c =
-    told_after c.put_entries.ensures.moments c.in_ok-put_entries.ensures.ok (CanPut c.args.list.now.at) (λ w v is new.
+    told_after c.put_entries_kept.ensures.moments c.in_ok-put_entries_kept.ensures.ok (CanPut c.args.list.now.at) (λ w v is new.
     subst (λ p. CanPut p v) (sym c.requires.list) (can_put_last c.args.items.now c.args.blocked.now w v (c.requires.can.has w is) new))
 
-pub returns-in_err-put_entries-clause-moments : goal.returns-in_err-put_entries-clause-moments
-returns-in_err-put_entries-clause-moments g c =
-    passes_as c.put_entries.ensures.moments (IsPutting (puts_but c.args.blocked.now c.args.items.now ++ c.args.list.now ∷ []))
+pub returns-in_err-put_entries_kept-clause-moments : goal.returns-in_err-put_entries_kept-clause-moments
+returns-in_err-put_entries_kept-clause-moments g c =
+    passes_as c.put_entries_kept.ensures.moments (IsPutting (puts_but c.args.blocked.now c.args.items.now ++ c.args.list.now ∷ []))
     (λ w m is step. putting_more (puts_but c.args.blocked.now c.args.items.now) (c.args.list.now ∷ []) w m step)
 
 pub returns-in_err-put_if_other-clause-moments : goal.returns-in_err-put_if_other-clause-moments
 returns-in_err-put_if_other-clause-moments g c =
-    last_steps (puts_but c.args.blocked.now c.args.items.now) c.args.list.now c.put_entries.ensures.moments c.in_ok-put_entries.ensures.ok c.put_if_other.ensures.moments
+    last_steps (puts_but c.args.blocked.now c.args.items.now) c.args.list.now c.put_entries_kept.ensures.moments c.in_ok-put_entries_kept.ensures.ok c.put_if_other.ensures.moments
 
 pub returns-clause-moments : goal.returns-clause-moments
 returns-clause-moments g c =
-    last_steps (puts_but c.args.blocked.now c.args.items.now) c.args.list.now c.put_entries.ensures.moments c.in_ok-put_entries.ensures.ok c.put_if_other.ensures.moments
+    last_steps (puts_but c.args.blocked.now c.args.items.now) c.args.list.now c.put_entries_kept.ensures.moments c.in_ok-put_entries_kept.ensures.ok c.put_if_other.ensures.moments
 
 pub returns-clause-ok : goal.returns-clause-ok
-returns-clause-ok g c = last_led (puts_but c.args.blocked.now c.args.items.now) c.args.list.now c.in_ok-put_entries.ensures.ok c.in_ok-put_if_other.ensures.ok
+returns-clause-ok g c = last_led (puts_but c.args.blocked.now c.args.items.now) c.args.list.now c.in_ok-put_entries_kept.ensures.ok c.in_ok-put_if_other.ensures.ok
 
 pub returns-clause-cause : goal.returns-clause-cause
-returns-clause-cause g c = cause_ok (cause_then c.put_entries.ensures.cause c.put_if_other.ensures.cause) tt
+returns-clause-cause g c = cause_ok (cause_then c.put_entries_kept.ensures.cause c.put_if_other.ensures.cause) tt

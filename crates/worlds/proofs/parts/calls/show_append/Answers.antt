@@ -1,17 +1,8 @@
-use Rattle.std.proofs.Common.{◌≡◌, codes, false, true, sym, subst, refl, ◌∙◌}
-use Rattle.std.proofs.lemmas.Bool.{both_ways}
-use Rattle.std.specs.Cmp.Lexicographic.{nat_list_eq_equiv}
+use Rattle.std.proofs.Common.{◌≡◌, sym, ◌∙◌}
 use Rattle.host_trait.specs.Host.{HostState, Told}
-use Rattle.host_trait.specs.World.{WorldState, is_path, stage}
+use Rattle.host_trait.specs.World.{WorldState}
+use Rattle.worlds.proofs.StageLemmas.{not_the_stage}
 use Rattle.worlds.proofs.parts.calls.show_append.Goals as goal
-
-is_other : is_path (codes "etc/put") stage ≡ false
-unfolding stage
-is_other = refl
-
-not_the_stage : codes "etc/put" ≡ stage → ⊥
-not_the_stage same =
-    both_ways _ is_other (subst (λ q. is_path (codes "etc/put") q ≡ true) same (nat_list_eq_equiv.refl (codes "etc/put")))
 
 -- what is told of a host whose world is another's is told of that one
 told_as : (a b : HostState) (P : WorldState → Type 0) → b.world ≡ a.world → Told a P → Told b P

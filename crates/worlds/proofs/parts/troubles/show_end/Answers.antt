@@ -1,19 +1,10 @@
-use Rattle.std.proofs.Common.{◌≡◌, ℕ, List, codes, false, true, Some, sym, subst, refl, ◌∙◌}
-use Rattle.std.proofs.lemmas.Bool.{both_ways}
-use Rattle.std.specs.Cmp.Lexicographic.{nat_list_eq_equiv}
+use Rattle.std.proofs.Common.{◌≡◌, ℕ, List, codes, false, Some, sym, subst, refl, ◌∙◌}
 use Rattle.std.specs.FinMap.{get-empty}
 use Rattle.worlds.proofs.parts.troubles.show_end.Goals as goal
 use Rattle.host_trait.proofs.Moments.{one_world}
 use Rattle.host_trait.specs.Host.{HostState, Told}
-use Rattle.host_trait.specs.World.{IsClear, WorldState, empty_world, bytes_cmp, is_in_line, is_path, stage}
-
-is_other : is_path (codes "etc/put") stage ≡ false
-unfolding stage
-is_other = refl
-
-not_the_stage : codes "etc/put" ≡ stage → ⊥
-not_the_stage same =
-    both_ways _ is_other (subst (λ q. is_path (codes "etc/put") q ≡ true) same (nat_list_eq_equiv.refl (codes "etc/put")))
+use Rattle.host_trait.specs.World.{IsClear, WorldState, empty_world, bytes_cmp, is_in_line, stage}
+use Rattle.worlds.proofs.StageLemmas.{not_the_stage}
 
 not_below : is_in_line stage (codes "etc/put") ≡ false
 unfolding stage

@@ -2,7 +2,7 @@ use Rattle.std.proofs.Common.{◌≡◌, ap, ◌∙◌}
 use Rattle.host_trait.proofs.Moments.{goes_on_same, leads_then}
 use Rattle.host_trait.specs.World.{seen}
 use Rattle.tree_put.specs.Sequence.{IsPutting, with_puts}
-use Rattle.boot_entries.proofs.applying.put_kept.Goals as goal
+use Rattle.switch_parts.proofs.keeping.put_kept.Goals as goal
 
 pub returns-in_err-sync-clause-moments : goal.returns-in_err-sync-clause-moments
 returns-in_err-sync-clause-moments g c =
