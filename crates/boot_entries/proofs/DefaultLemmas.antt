@@ -13,10 +13,9 @@ use Rattle.generations.specs.declared.gens.Gens.{Gens}
 use Rattle.generations.specs.declared.moving.Move.{Move}
 use Rattle.generations.specs.declared.moving.Move.TheVariants.{Point, Set}
 use Rattle.generations.specs.Gens.{IsGensOf}
-use Rattle.generations.specs.Move.{IsMoveMoment, IsMoveTo, gens_moved, move_part, move_world, number_moved}
+use Rattle.generations.specs.Move.{IsMoveMoment, gens_moved, move_part, move_world, number_moved}
 use Rattle.generations.specs.Places.{IsCurrent, is_number, number_after, with_generation, with_profile}
 use Rattle.generations.specs.ProfilePart.{reads_profile}
-use Rattle.generations.specs.Set.{NamesOldOrNew}
 use Rattle.host_trait.proofs.Places.{alike}
 use Rattle.host_trait.specs.World.{Leaves, WorldState, seen}
 use Rattle.switch_names.specs.Names.{Name}

@@ -9,7 +9,6 @@ use Rattle.host_trait.specs.World.{Leaves, WorldState, seen}
 use Rattle.switch_names.specs.Names.{Name}
 use Rattle.switch_parts.proofs.Parts.{second_free}
 use Rattle.switch_parts.specs.declared.refusal.Refusal.{Refusal}
-use Rattle.switch_parts.specs.declared.refusal.Refusal.TheVariants.{GenerationsFull}
 use Rattle.switch_parts.specs.Part.{IsFree}
 use Rattle.boot_entries.specs.declared.boot_default.BootDefaultPlan.{BootDefaultPlan}
 use Rattle.boot_entries.specs.declared.boot_texts.BootTexts.{BootTexts}

@@ -1,6 +1,6 @@
 -- The part of a switch that makes a system the boot default: the profile, which is moved to it, and the boot menu of its generations.
 -- NixOS manual, "Changing the configuration"; Boot Loader Specification, "Type #1 Boot Loader Specification Entries".
-use Rattle.std.specs.Prelude.{◌≡◌, ◌++◌, ◌∷◌, false, List, [], Some, map}
+use Rattle.std.specs.Prelude.{◌≡◌, ◌++◌, ◌∷◌, false, List, [], map}
 use Rattle.generations.specs.declared.gens.Gen.{Gen}
 use Rattle.generations.specs.declared.gens.Gens.{Gens}
 use Rattle.generations.specs.declared.moving.Move.{Move}

@@ -1,10 +1,10 @@
 -- The goal of a rollback is a part of a switch.
-use Rattle.std.proofs.Common.{◌≡◌, ◌≢◌, ◌⊎◌, ◌||◌, Bool, true, false, List, [], ◌∷◌, None, Some, refl, sym, ap, subst, ◌∙◌, ⊎_elim}
+use Rattle.std.proofs.Common.{◌≡◌, ◌≢◌, true, false, [], None, refl, sym, ap, subst, ◌∙◌, ⊎_elim}
 use Rattle.std.proofs.lemmas.Bool.{both_ways, or_left, or_right}
 use Rattle.std.specs.Cmp.Lexicographic.{nat_list_eq_equiv, same_text}
 use Rattle.std.specs.FinMap.{get}
 use Rattle.host_trait.specs.declared.leaf.LeafKind.{LeafKind}
-use Rattle.host_trait.specs.World.{IsClear, WorldState, is_in_line, is_path, seen, stage, with_leaf, without_leaf}
+use Rattle.host_trait.specs.World.{IsClear, WorldState, is_in_line, is_path, stage, with_leaf, without_leaf}
 use Rattle.host_trait.proofs.Seen.{clear_seen, get_removed_here, get_removed_other, other_of, seen_at}
 use Rattle.host_trait.proofs.Sound.{clear_insert, clear_remove, get_other, line_turned, not_in_line}
 use Rattle.switch_names.specs.Names.{Name}
@@ -13,13 +13,10 @@ use Rattle.switch_parts.specs.Part.{IsAtEnd, IsFree, IsMomentOf, IsOnly, IsPart}
 use Rattle.switch_parts.proofs.LeafLemmas.{leaf_is_part}
 use Rattle.tree_put.specs.Put.{IsOldOrGone, IsOldOrNew}
 use Rattle.tree_put.specs.WrittenPlace.{in_the_way, written}
-use Rattle.tree_put.proofs.LeftLemmas.{leaf_after}
-use Rattle.tree_put.proofs.PutLemmas.{apart_ne}
 use Rattle.tree_put.proofs.WayLemmas.{clear_first}
-use Rattle.generations.specs.Goal.{goal_leaf, goal_place}
+use Rattle.generations.specs.Goal.{goal_place}
 use Rattle.generations.specs.GoalPart.{goal_part, goal_places, owns_goal, reads_goal}
 use Rattle.generations.proofs.Apart.{goal_apart}
-use Rattle.generations.proofs.AfterLemmas.{other_path}
 use Rattle.generations.proofs.ProfilePlaces.{free_first}
 
 goal_unread : reads_goal stage ≡ false

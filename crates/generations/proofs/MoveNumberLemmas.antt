@@ -1,5 +1,5 @@
 -- The number of the generation that is current after a move, by a list of the generations.
-use Rattle.std.proofs.Common.{◌≡◌, ◌^◌, ℕ, nat_lt, Bool, true, false, cond, Option, None, Some, IfSome, IsNone, refl, sym, ap, subst, ◌∙◌}
+use Rattle.std.proofs.Common.{◌≡◌, ℕ, Bool, true, false, cond, Option, None, Some, IfSome, IsNone, refl, sym, ap, ◌∙◌}
 use Rattle.host_trait.specs.World.{Leaves}
 use Rattle.switch_names.specs.Names.{Name}
 use Rattle.switch_parts.specs.declared.refusal.Refusal.TheVariants.{GenerationsFull}

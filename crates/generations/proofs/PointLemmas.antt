@@ -1,5 +1,5 @@
 -- The profile is pointed to a generation that stands.
-use Rattle.std.proofs.Common.{◌≡◌, ◌≢◌, ◌⊎◌, ◌↔◌, ◌^◌, ◌<◌, ◌&&◌, ◌||◌, ℕ, Bool, true, false, cond, List, [], ◌∷◌, map, Option, None, Some, IfSome, IsSome, is_some, option_map, refl, sym, ap, subst, ◌∙◌, inl, inr, ⊎_elim}
+use Rattle.std.proofs.Common.{◌≡◌, ◌≢◌, ◌^◌, ℕ, Bool, true, false, cond, List, [], ◌∷◌, map, Option, None, Some, IfSome, is_some, refl, sym, ap, subst, ◌∙◌, inl, inr, ⊎_elim}
 use Rattle.std.proofs.lemmas.Bool.{cases_lt}
 use Rattle.std.specs.FinMap.{get}
 use Rattle.std.specs.List.{AllByRecursion}
@@ -7,14 +7,13 @@ use Rattle.std.specs.List.Sorted.{IsStrictlySortedBy}
 use Rattle.std.specs.Ordering.{nat_cmp}
 use Rattle.host_trait.specs.declared.leaf.LeafKind.{LeafKind}
 use Rattle.host_trait.specs.declared.leaf.LeafKind.TheVariants.{Link}
-use Rattle.host_trait.specs.World.{IsClear, Leaves, WorldState, is_in_line, is_path, seen, stage, with_leaf}
+use Rattle.host_trait.specs.World.{IsClear, Leaves, WorldState, is_in_line, is_path, seen, stage}
 use Rattle.host_trait.proofs.Places.{at_same}
 use Rattle.host_trait.proofs.Seen.{clear_seen, seen_at}
 use Rattle.host_trait.proofs.Sound.{clear_insert, line_turned, not_in_line}
 use Rattle.switch_names.specs.Names.{Name}
 use Rattle.switch_names.specs.SystemName.{IsSystemPath}
-use Rattle.switch_parts.specs.Leaves.{EndsSame}
-use Rattle.switch_parts.specs.Part.{IsAtEnd, IsFree, IsMomentOf, IsOnly, IsPart, IsSameFor}
+use Rattle.switch_parts.specs.Part.{IsAtEnd, IsFree, IsMomentOf, IsOnly, IsPart}
 use Rattle.switch_parts.proofs.LeafLemmas.{leaf_is_part}
 use Rattle.tree_put.specs.Put.{CanPut, IsOldOrNew}
 use Rattle.tree_put.specs.WrittenPlace.{in_the_way, written}
@@ -35,7 +34,7 @@ use Rattle.generations.proofs.Apart.{link_profile, profile_apart}
 use Rattle.generations.proofs.BelowLemmas.{all_below, below_at, below_rising, below_same, beyond_at, list_is_below}
 use Rattle.generations.proofs.NamesLaws.{names_seen_too, unchanged}
 use Rattle.generations.proofs.Numbers.{small_number, stands_at_number}
-use Rattle.generations.proofs.ProfileApart.{link_owned, owned_other, owned_read, profile_line_read, profile_owned, stage_line_read, stage_not_owned, stage_unread}
+use Rattle.generations.proofs.ProfileApart.{link_owned, owned_other, owned_read, profile_line_read, profile_owned, stage_line_read, stage_unread}
 use Rattle.generations.proofs.ProfileLemmas.{owned_not_stage}
 use Rattle.generations.proofs.ProfilePlaces.{free_first}
 use Rattle.generations.proofs.SetLaws.{generation_of, generation_seen, profile_keeps}

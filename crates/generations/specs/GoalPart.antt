@@ -1,5 +1,5 @@
 -- The part that removes the goal of a rollback: Nix manual, "Profiles".
-use Rattle.std.specs.Prelude.{◌||◌, ◌∷◌, Bool, false, List, [], Option, None}
+use Rattle.std.specs.Prelude.{◌||◌, ◌∷◌, Bool, false, List, [], None}
 use Rattle.generations.specs.Goal.{goal_place}
 use Rattle.host_trait.specs.World.{is_path}
 use Rattle.switch_names.specs.Names.{Name}

@@ -1,7 +1,6 @@
-use Rattle.std.proofs.Common.{Option, Some, sym, ap, ◌∙◌}
+use Rattle.std.proofs.Common.{Option, sym, ap, ◌∙◌}
 use Rattle.std.specs.Option.{option_and_then}
 use Rattle.switch_names.specs.Names.{Name}
-use Rattle.generations.specs.declared.gens.Gen.{Gen}
 use Rattle.generations.specs.Gens.{listed_at}
 use Rattle.generations.proofs.Lists.{listed_found, listed_passed}
 use Rattle.generations.proofs.gens.system_of.Goals as goal
