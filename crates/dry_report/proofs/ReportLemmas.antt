@@ -3,6 +3,7 @@ use Rattle.std.proofs.Common.{◌≡◌, ℕ, Bool, true, false, List, Option, N
 use Rattle.activation_stage.specs.ActivationPart.{IsActivationPlanOf}
 use Rattle.activation_stage.specs.declared.activation_plan.ActivationPlan.{ActivationPlan}
 use Rattle.boot_entries.specs.declared.boot_default.BootDefaultPlan.{BootDefaultPlan}
+use Rattle.generations.specs.declared.moving.Move.{Move}
 use Rattle.host_trait.specs.States.{state_of}
 use Rattle.host_trait.specs.World.{Leaves, WorldState}
 use Rattle.owed_lists.specs.declared.lists.Lists.{Lists}
@@ -24,7 +25,7 @@ use Rattle.unit_stage.specs.System.{current_system}
 use Rattle.std.proofs.lemmas.Bool.{both_ways}
 use Rattle.dry_report.proofs.ActivationLemmas.{one_report}
 use Rattle.dry_report.specs.Activation.{IsActivationReport}
-use Rattle.dry_report.specs.Report.{IsReport, IsReportBy, IsUnitReport, number_if, number_of, profile_report, report_of}
+use Rattle.dry_report.specs.Report.{IsReport, IsReportBy, IsUnitReport, number_by, number_of, profile_report, report_of}
 
 -- ---- one report
 
@@ -48,7 +49,7 @@ one_by false number system w one other is also = is ∙ sym also
 
 pub one_told : (command : Command) (w : WorldState) (one other : List ℕ) → IsReport command w one → IsReport command w other → one ≡ other
 one_told command w one other is also =
-    let its = row command w.leaves in one_by its.switches (number_if its.sets its.system w.leaves) its.system w one other is also
+    let its = row command w.leaves in one_by its.switches (number_by its.moves its.system w.leaves) its.system w one other is also
 
 -- ---- the text of a plan
 
@@ -70,9 +71,9 @@ unit_report_is system w plan number told text is is_told same = record {
 }
 
 -- the number of a plan is that of its world
-number_is : (sets : Bool) (system : Name) (w : WorldState) (o : Option BootDefaultPlan) → IsProfilePlanned sets system w o → option_map (λ profile. profile.number) o ≡ number_if sets system w.leaves
-number_is sets system w None planned = sym (ap (λ b. number_if b system w.leaves) planned)
-number_is sets system w (Some plan) planned = ap Some planned.1.number ∙ sym (ap (λ b. number_if b system w.leaves) planned.0)
+number_is : (moves : Option Move) (system : Name) (w : WorldState) (o : Option BootDefaultPlan) → IsProfilePlanned moves system w o → option_map (λ profile. profile.number) o ≡ number_by moves system w.leaves
+number_is moves system w None planned = sym (ap (λ mv. number_by mv system w.leaves) planned)
+number_is moves system w (Some plan) planned = ap Some planned.1.number ∙ sym (ap (λ mv. number_by mv system w.leaves) planned.0)
 
 planned_by : (switches : Bool) (system : Name) (w : WorldState) (plan : UnitPlan) (number : Option ℕ) (told text : List ℕ) → AreUnitsPlanned switches system w plan → switches ≡ true →
     IsActivationReport system w.leaves told → text ≡ report_of plan.from system number plan.duties plan.left told → IsReportBy switches number system w text
@@ -93,7 +94,7 @@ IsTold plan text = (leaves : Leaves) (planned : ActivationPlan) → plan.activat
 
 -- the report of a row is that of its command
 abbrev IsReportOf : Row → WorldState → List ℕ → Type 0
-IsReportOf its w text = IsReportBy its.switches (number_if its.sets its.system w.leaves) its.system w text
+IsReportOf its w text = IsReportBy its.switches (number_by its.moves its.system w.leaves) its.system w text
 
 -- where the units are switched
 pub units_reported : (w : WorldState) (plan : Plan) (text : List ℕ) → IsPlanOf w plan → plan.row.switches ≡ true → IsTold plan text → IsReport plan.command w text
@@ -102,13 +103,13 @@ units_reported w plan text is on same =
     let found = activation_planned plan.row.switches system w plan.activation is.planned.activation on in
     let told = same w.leaves found.0 found.1 found.2 in
     subst (λ (its : Row). IsReportOf its w text) is.resolved
-    (planned_by plan.row.switches system w plan.units (number_if plan.row.sets system w.leaves) told.0 text is.planned.units on told.1
-    (told.2 ∙ ap (λ number. report_of plan.units.from system number plan.units.duties plan.units.left told.0) (number_is plan.row.sets system w plan.profile is.planned.profile)))
+    (planned_by plan.row.switches system w plan.units (number_by plan.row.moves system w.leaves) told.0 text is.planned.units on told.1
+    (told.2 ∙ ap (λ number. report_of plan.units.from system number plan.units.duties plan.units.left told.0) (number_is plan.row.moves system w plan.profile is.planned.profile)))
 
 -- where the profile alone is set
 pub profile_reported : (w : WorldState) (plan : Plan) (text : List ℕ) → IsPlanOf w plan → plan.row.switches ≡ false → text ≡ profile_report plan.row.system (number_of plan) → IsReport plan.command w text
 profile_reported w plan text is off same =
     let system = plan.row.system in
     subst (λ (its : Row). IsReportOf its w text) is.resolved
-    (subst (λ b. IsReportBy b (number_if plan.row.sets system w.leaves) system w text) (sym off)
-    (same ∙ ap (profile_report system) (number_is plan.row.sets system w plan.profile is.planned.profile)))
+    (subst (λ b. IsReportBy b (number_by plan.row.moves system w.leaves) system w text) (sym off)
+    (same ∙ ap (profile_report system) (number_is plan.row.moves system w plan.profile is.planned.profile)))

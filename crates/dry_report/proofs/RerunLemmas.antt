@@ -9,7 +9,12 @@ use Rattle.boot_entries.specs.BootPart.{boot_part}
 use Rattle.boot_entries.specs.Steps.{with_menu}
 use Rattle.generations.specs.After.{gens_after}
 use Rattle.generations.specs.declared.gens.Gens.{Gens}
-use Rattle.generations.specs.Places.{link_name, number_after, profile, set_end}
+use Rattle.generations.specs.declared.moving.Move.{Move}
+use Rattle.generations.specs.declared.moving.Move.TheVariants.{Point, Set}
+use Rattle.generations.specs.Goal.{goal_leaf, goal_place}
+use Rattle.generations.specs.GoalPart.{goal_part}
+use Rattle.generations.specs.Move.{move_world}
+use Rattle.generations.specs.Places.{link_name, number_after, profile}
 use Rattle.generations.specs.ProfilePart.{profile_part}
 use Rattle.generations.proofs.Apart.{one_link}
 use Rattle.generations.proofs.Numbers.{below_bound}
@@ -19,61 +24,74 @@ use Rattle.generations.proofs.SetLaws.{number_is}
 use Rattle.generations.proofs.NamesLaws.{link_text}
 use Rattle.host_trait.specs.declared.leaf.LeafKind.TheVariants.{Link}
 use Rattle.host_trait.specs.declared.manager_state.ManagerState.{ManagerState}
-use Rattle.host_trait.specs.World.{Leaves, WorldState, seen, stage}
+use Rattle.host_trait.specs.World.{Leaves, WorldState, seen, stage, with_leaf}
+use Rattle.owed_plan.specs.declared.owed.Owed.{Owed}
+use Rattle.unit_stage.specs.Plan.{no_units, owed_of}
 use Rattle.switch_engine.specs.declared.command.Command.{Command}
 use Rattle.switch_engine.specs.declared.row.Row.{Row}
-use Rattle.switch_engine.specs.Commands.{brought_by, brought_to, if_so, new_system, row, set_to, switched_by}
+use Rattle.switch_engine.specs.Commands.{brought_by, brought_to, goes_back, if_so, moved_by, new_system, row, switched_by}
 use Rattle.switch_engine.specs.Final.{AreFinalUnits, IsFinalOf}
 use Rattle.activation_stage.specs.Owners.{owners_after}
 use Rattle.etc_manifest.specs.Owners.{OwnerIds}
-use Rattle.switch_engine.specs.Moments.{IsMomentOf, IsStepIf, LeadsBy, set_world}
+use Rattle.switch_engine.specs.Carried.{IsSwitchMomentIf, IsSwitchedIf, cleared_by}
+use Rattle.switch_engine.specs.Moments.{IsMomentOf, IsStepIf, LeadsBy, record_world, set_world}
 use Rattle.switch_engine.specs.Owing.{IsSteadyTo, IsUnderway}
-use Rattle.switch_engine.specs.Rows.{final, part_if, part_of, parts, parts_in, refusal, switch_in}
-use Rattle.switch_engine.proofs.CarryLemmas.{final_then, set_calls, set_final}
-use Rattle.switch_engine.proofs.UnderwayLemmas.{free_command}
+use Rattle.switch_engine.specs.Rows.{final, part_if, parts, parts_in, refusal, switch_in}
+use Rattle.switch_engine.proofs.CarryLemmas.{IsCarriedFrom, ends}
+use Rattle.switch_engine.proofs.LawLemmas.{never_back}
+use Rattle.switch_engine.proofs.MovedPart.{default_in}
+use Rattle.switch_engine.proofs.UnderwayLemmas.{free_command, has_goal}
 use Rattle.switch_names.specs.Names.{Name}
 use Rattle.switch_names.specs.SystemName.{IsSystemPath}
 use Rattle.switch_parts.specs.Part.{IsFree, final_leaf}
 use Rattle.switch_parts.proofs.Parts.{first_free, second_free}
-use Rattle.dry_report.specs.Report.{IsReport, IsReportBy, KeepsReport, number_if, profile_report}
+use Rattle.dry_report.specs.Report.{IsReport, IsReportBy, KeepsReport, number_by, profile_report}
 
--- ---- the number that a set of the profile alone gives its system
+-- ---- the number that a move of the profile alone gives its system
 
--- nothing is in the way of a set of the profile where its command isn't refused
-set_free : (command : Command) (leaves : Leaves) → refusal command leaves ≡ None → IsFree (part_if (row command leaves).sets (boot_default_in (row command leaves).system leaves)) leaves
-set_free command leaves none =
+-- nothing is in the way of a move of the profile where its command isn't refused
+move_free : (command : Command) (leaves : Leaves) → refusal command leaves ≡ None → IsFree (default_in (row command leaves).moves (row command leaves).system leaves) leaves
+move_free command leaves none =
     let its = row command leaves in
-    second_free (part_if its.switches (switch_in its.system leaves)) (part_if its.sets (boot_default_in its.system leaves)) leaves (free_command command leaves none).parts
+    second_free (part_if its.switches (switch_in its.system leaves)) (default_in its.moves its.system leaves) leaves (free_command command leaves none).parts
 
 -- the profile names it at the end
-profile_end : (system : Name) (owners : OwnerIds) (gens : Gens) (leaves : Leaves) → final_leaf (parts false true system owners gens) leaves profile ≡ Some (Link (link_name (number_after leaves system)))
+profile_end : (system : Name) (owners : OwnerIds) (gens : Gens) (leaves : Leaves) → final_leaf (parts false (Some Set) system owners gens) leaves profile ≡ Some (Link (link_name (number_after leaves system)))
 unfolding profile
 profile_end system owners gens leaves = refl
 
+-- a command that brings no units into use doesn't go back
+not_back : (command : Command) (leaves : Leaves) → brought_to command leaves ≡ None → goes_back command leaves ≡ false
+not_back (Command.Switch system) leaves none = refl
+not_back (Command.Test system) leaves none = refl
+not_back (Command.Boot system) leaves none = refl
+not_back (Command.DryActivate system) leaves none = refl
+not_back Command.Rollback leaves none = absurd (none-some (new_system Command.Rollback leaves) (sym none))
+
 module _ (command : Command) (its : Row) (on : its.changes ≡ true) (off : its.switches ≡ false) where
-  abbrev sets : Bool
-  sets = its.sets
+  abbrev moves : Option Move
+  moves = its.moves
 
   abbrev system : Name
   system = its.system
 
-  module _ (named : sets ≡ true) where
+  module _ (named : moves ≡ Some Set) where
     final_link : (leaves : Leaves) → row command leaves ≡ its → final command leaves profile ≡ Some (Link (link_name (number_after leaves system)))
     final_link leaves is =
         let owners = owners_after system leaves in
         let gens = gens_after system leaves in
-        ap (λ (r : Row). cond r.changes (final_leaf (parts_in r.switches r.sets r.system leaves) leaves profile) (get leaves profile)) is
-        ∙ (λ i. cond (on i) (final_leaf (parts (off i) (named i) system owners gens) leaves profile) (get leaves profile))
+        ap (λ (r : Row). cond r.changes (final_leaf (parts_in r.switches r.moves r.system leaves) leaves profile) (get leaves profile)) is
+        ∙ (λ i. cond (on i) (final_leaf (parts_in (off i) (named i) system leaves) leaves profile) (get leaves profile))
         ∙ profile_end system owners gens leaves
 
     small_number : (leaves : Leaves) → row command leaves ≡ its → refusal command leaves ≡ None → number_after leaves system < 2 ^ 64
     small_number leaves is none =
-        let free = subst (λ b. IsFree (part_if b (boot_default_in system leaves)) leaves) named (subst (λ (r : Row). IsFree (part_if r.sets (boot_default_in r.system leaves)) leaves) is (set_free command leaves none)) in
-        let further = number_of_free system leaves (first_free (profile_part system) (boot_part (gens_after system leaves)) leaves free) in
+        let free = subst (λ mv. IsFree (default_in mv system leaves) leaves) named (subst (λ (r : Row). IsFree (default_in r.moves r.system leaves) leaves) is (move_free command leaves none)) in
+        let further = number_of_free system leaves (first_free (profile_part system) (boot_part (gens_after system leaves)) leaves (first_free (boot_default_in Set system leaves) goal_part leaves free)) in
         let below = below_bound (number_after leaves system) (number_is leaves system further) in
         omega arith
 
-    module _ (w m : WorldState) (here : row command w.leaves ≡ its) (not_refused : refusal command w.leaves ≡ None) (underway : IsUnderway w command m) (end : WorldState) (is_end : IsFinalOf command w end) where
+  module _ (w m : WorldState) (here : row command w.leaves ≡ its) (not_refused : refusal command w.leaves ≡ None) (underway : IsUnderway w command m) (end : WorldState) (is_end : IsFinalOf command w end) where
       there : row command m.leaves ≡ its
       there = underway.same_row ∙ here
 
@@ -88,60 +106,65 @@ module _ (command : Command) (its : Row) (on : its.changes ≡ true) (off : its.
           (link_text _ _ (sym (final_link m.leaves there) ∙ same_final ∙ final_link w.leaves here))
 
   number_same : (w m : WorldState) → row command w.leaves ≡ its → refusal command w.leaves ≡ None → IsUnderway w command m → (end : WorldState) → IsFinalOf command w end →
-      number_if sets system m.leaves ≡ number_if sets system w.leaves
-  number_same w m here none underway end is_end = elim (cases_Bool sets) [
-    | inl named ↦
-        ap (λ b. number_if b system m.leaves) named ∙ ap Some (same_number named w m here none underway end is_end)
-        ∙ sym (ap (λ b. number_if b system w.leaves) named)
-    | inr not ↦ ap (λ b. number_if b system m.leaves) not ∙ sym (ap (λ b. number_if b system w.leaves) not)
-  ]
+      number_by moves system m.leaves ≡ number_by moves system w.leaves
+  number_same w m here none underway end is_end = by moves refl
+    where
+      by : (o : Option Move) → moves ≡ o → number_by moves system m.leaves ≡ number_by moves system w.leaves
+      by None is = ap (λ mv. number_by mv system m.leaves) is ∙ sym (ap (λ mv. number_by mv system w.leaves) is)
+      by (Some Set) is =
+          ap (λ mv. number_by mv system m.leaves) is ∙ ap Some (same_number is w m here none underway end is_end) ∙ sym (ap (λ mv. number_by mv system w.leaves) is)
+      by (Some (Point n)) is = ap (λ mv. number_by mv system m.leaves) is ∙ sym (ap (λ mv. number_by mv system w.leaves) is)
 
-  underway_from : (w m : WorldState) → row command w.leaves ≡ its → IsMomentOf command w m → IsUnderway w command m
-  underway_from w m here moment =
-      moment.underway (subst (λ (r : Row). IsSteadyTo (switched_by r) w) (sym here) (subst (λ b. IsSteadyTo (if_so b system) w) (sym off) tt))
+  underway_from : (w m : WorldState) → row command w.leaves ≡ its → goes_back command w.leaves ≡ false → IsMomentOf command w m → IsUnderway w command m
+  underway_from w m here ahead moment =
+      never_back (row command w.leaves).moves command w m ahead
+      (moment.underway (subst (λ (r : Row). IsSteadyTo (switched_by r) w) (sym here) (subst (λ b. IsSteadyTo (if_so b system) w) (sym off) tt)))
 
-  set_reports : (w m : WorldState) → row command w.leaves ≡ its → refusal command w.leaves ≡ None → IsMomentOf command w m → (end : WorldState) → IsFinalOf command w end → (text : List ℕ) → IsReport command m text ↔ IsReport command w text
-  set_reports w m here none moment end is_end text =
-      let underway = underway_from w m here moment in
-      let same : profile_report system (number_if sets system m.leaves) ≡ profile_report system (number_if sets system w.leaves) = ap (profile_report system) (number_same w m here none underway end is_end) in
-      subst (λ (r : Row). IsReportBy r.switches (number_if r.sets r.system m.leaves) r.system m text ↔ IsReport command w text) (sym (underway.same_row ∙ here))
-      (subst (λ (r : Row). IsReportBy its.switches (number_if sets system m.leaves) system m text ↔ IsReportBy r.switches (number_if r.sets r.system w.leaves) r.system w text) (sym here)
-      (subst (λ b. IsReportBy b (number_if sets system m.leaves) system m text ↔ IsReportBy b (number_if sets system w.leaves) system w text) (sym off)
+  set_reports : (w m : WorldState) → row command w.leaves ≡ its → goes_back command w.leaves ≡ false → refusal command w.leaves ≡ None → IsMomentOf command w m → (end : WorldState) → IsFinalOf command w end → (text : List ℕ) →
+      IsReport command m text ↔ IsReport command w text
+  set_reports w m here ahead none moment end is_end text =
+      let underway = underway_from w m here ahead moment in
+      let same : profile_report system (number_by moves system m.leaves) ≡ profile_report system (number_by moves system w.leaves) = ap (profile_report system) (number_same w m here none underway end is_end) in
+      subst (λ (r : Row). IsReportBy r.switches (number_by r.moves r.system m.leaves) r.system m text ↔ IsReport command w text) (sym (underway.same_row ∙ here))
+      (subst (λ (r : Row). IsReportBy its.switches (number_by moves system m.leaves) system m text ↔ IsReportBy r.switches (number_by r.moves r.system w.leaves) r.system w text) (sym here)
+      (subst (λ b. IsReportBy b (number_by moves system m.leaves) system m text ↔ IsReportBy b (number_by moves system w.leaves) system w text) (sym off)
       (λ is. is ∙ same, λ is. is ∙ sym same)))
 
 -- a world that the command leaves
 module _ (command : Command) (w : WorldState) (on : (row command w.leaves).changes ≡ true) (off : (row command w.leaves).switches ≡ false)
     (named : IsSystemPath (row command w.leaves).system) (none : refusal command w.leaves ≡ None) where
-  abbrev its_sets : Bool
-  its_sets = (row command w.leaves).sets
+  abbrev its_moves : Option Move
+  its_moves = (row command w.leaves).moves
 
   abbrev its_system : Name
   its_system = (row command w.leaves).system
 
-  set_end_of : (b : Bool) → (end : WorldState) × (seen end ≡ set_world (if_so b its_system) w)
-  set_end_of true = (with_menu (menu_after its_system w.leaves) (set_end its_system w), refl)
-  set_end_of false = (w, refl)
+  abbrev nothing : Owed
+  nothing = owed_of no_units
+
+  carried : IsCarriedFrom command nothing w
+  carried = record { on = on; has = has_goal command w.leaves none; named = named; free = free_command command w.leaves none; is_owed = λ switched. absurd (both_ways _ off switched) }
+
+  recorded_in : (moves : Option Move) → (r : WorldState) × (seen r ≡ record_world moves w)
+  recorded_in None = (w, refl)
+  recorded_in (Some Set) = (w, refl)
+  recorded_in (Some (Point n)) = (with_leaf goal_place (goal_leaf n) w, refl)
+
+  set_in : (moves : Option Move) (r : WorldState) → (u : WorldState) × (seen u ≡ set_world moves its_system r)
+  set_in None r = (r, refl)
+  set_in (Some move) r = (with_menu (menu_after move its_system r.leaves) (move_world move its_system r), refl)
+
+  abbrev first_left : WorldState
+  first_left = (set_in its_moves (recorded_in its_moves).0).0
 
   abbrev left : WorldState
-  left = (set_end_of its_sets).0
-
-  abbrev left_set : seen left ≡ set_world (if_so its_sets its_system) w
-  left_set = (set_end_of its_sets).1
-
-  same_manager : left.manager ≡ w.manager
-  same_manager = set_calls its_system named w its_sets (set_free command w.leaves none) left left_set
+  left = cleared_by its_moves first_left
 
   is_left : IsFinalOf command w left
-  is_left = record {
-    leaves = λ q ne.
-        final_then (part_if (row command w.leaves).switches (switch_in its_system w.leaves)) (part_if its_sets (boot_default_in its_system w.leaves)) w left left
-        (λ at other. sym (ap (λ b. final_leaf (part_if b (switch_in its_system w.leaves)) left.leaves at) off)) (set_final its_system named w its_sets (set_free command w.leaves none) left left_set)
-        (λ at own. absurd (both_ways false refl (subst (λ b. (part_if b (switch_in its_system w.leaves)).owns at ≡ true) off own))) q ne
-        ∙ sym (ap (λ b. cond b (final_leaf (part_of command w.leaves) w.leaves q) (get w.leaves q)) on);
-    units = subst (λ to. AreFinalUnits to w left) (sym ((λ i. if_so (on i && off i) its_system)))
-        (ap (λ (k : ManagerState). k.states) same_manager, ap (λ (k : ManagerState). k.loaded) same_manager);
-    bad = ap (λ (k : ManagerState). k.bad) same_manager;
-  }
+  is_left =
+      let r = recorded_in its_moves in
+      let u = set_in its_moves r.0 in
+      (ends command nothing w carried r.0 r.1 u.0 u.1 u.0 (subst (λ b. IsSwitchedIf b its_system nothing u.0 u.0) (sym off) refl) (subst (λ b. IsSwitchMomentIf b its_system nothing u.0 u.0) (sym off) refl) left refl).final
 
 -- ---- a moment, and a chain of them
 
@@ -158,12 +181,12 @@ keeps_same command w m same units text =
     (λ is. subst (λ (x : WorldState). IsReport command x text) same is, λ is. subst (λ (x : WorldState). IsReport command x text) (sym same) is)
 
 abbrev Step : Command → WorldState → WorldState → Bool → Type 0
-Step command w m changes = IsStepIf changes (set_to command w.leaves) (brought_to command w.leaves) w m
+Step command w m changes = IsStepIf changes (moved_by (row command w.leaves)) (new_system command w.leaves) (brought_to command w.leaves) w m
 
 -- a moment keeps the report where the command leaves some world
 keeps_by : (command : Command) (w m : WorldState) → refusal command w.leaves ≡ None → IsMomentOf command w m → (end : WorldState) → IsFinalOf command w end → KeepsReport command w m
 keeps_by command w m none moment end is_end units text = elim (cases_Bool (row command w.leaves).changes) [
-  | inl on ↦ set_reports command (row command w.leaves) on (no_units (row command w.leaves) on units) w m refl none moment end is_end text
+  | inl on ↦ set_reports command (row command w.leaves) on (no_units (row command w.leaves) on units) w m refl (not_back command w.leaves units) none moment end is_end text
   | inr query ↦ keeps_same command w m (subst (Step command w m) query moment.step) units text
 ]
 
@@ -179,7 +202,7 @@ keeps_report command w m named none moment units text = elim (cases_Bool (row co
 -- the row is the same at a moment of a command that switches no units
 row_kept : (command : Command) (w m : WorldState) → brought_to command w.leaves ≡ None → IsMomentOf command w m → row command m.leaves ≡ row command w.leaves
 row_kept command w m units moment = elim (cases_Bool (row command w.leaves).changes) [
-  | inl on ↦ (underway_from command (row command w.leaves) on (no_units (row command w.leaves) on units) w m refl moment).same_row
+  | inl on ↦ (underway_from command (row command w.leaves) on (no_units (row command w.leaves) on units) w m refl (not_back command w.leaves units) moment).same_row
   | inr query ↦ ap (λ (x : WorldState). row command x.leaves) (subst (Step command w m) query moment.step)
 ]
 
@@ -192,7 +215,7 @@ keeps_then command first w m same before after units text =
 -- a command that switches no units isn't refused where it is made again
 still_free : (command : Command) (w m : WorldState) → brought_to command w.leaves ≡ None → refusal command w.leaves ≡ None → IsMomentOf command w m → refusal command m.leaves ≡ None
 still_free command w m units none moment = elim (cases_Bool (row command w.leaves).changes) [
-  | inl on ↦ (underway_from command (row command w.leaves) on (no_units (row command w.leaves) on units) w m refl moment).not_refused
+  | inl on ↦ (underway_from command (row command w.leaves) on (no_units (row command w.leaves) on units) w m refl (not_back command w.leaves units) moment).not_refused
   | inr query ↦ subst (λ (x : WorldState). refusal command x.leaves ≡ None) (sym (subst (Step command w m) query moment.step)) none
 ]
 
@@ -204,7 +227,7 @@ final_of_led command (m ∷ cuts) w v units none led =
     elim (cases_Bool (row command w.leaves).changes) [
       | inl on ↦
           let off = no_units (row command w.leaves) on units in
-          ((underway_from command (row command w.leaves) on off w m refl led.0).same_end v).0 last
+          ((underway_from command (row command w.leaves) on off w m refl (not_back command w.leaves units) led.0).same_end v).0 last
       | inr query ↦ subst (λ (x : WorldState). IsFinalOf command x v) (subst (Step command w m) query led.0.step) last
     ]
 

@@ -2,7 +2,8 @@
 use Rattle.std.specs.Prelude.{◌≡◌, ◌↔◌, ℕ, ◌++◌, Bool, true, false, List, [], ◌∷◌, Option, None, Some, codes, filter, not, option_map, if◌then◌else◌}
 use Rattle.std.specs.Fmt.{decimal}
 use Rattle.std.specs.List.{flat_map}
-use Rattle.generations.specs.Places.{number_after}
+use Rattle.generations.specs.declared.moving.Move.{Move}
+use Rattle.generations.specs.Move.{number_moved}
 use Rattle.host_trait.specs.States.{state_of}
 use Rattle.host_trait.specs.World.{Leaves, WorldState}
 use Rattle.host_trait.specs.Words.{act_word}
@@ -40,7 +41,7 @@ stop_lines duties = flat_map duty_line (filter (λ duty. is_stop duty.act) dutie
 abbrev pub other_lines : List Duty → List ℕ
 other_lines duties = flat_map duty_line (filter (λ duty. not (is_stop duty.act)) duties)
 
--- the line of the generation that the profile is set to, where it is set
+-- the line of the generation that the profile names then, where it is moved
 abbrev pub generation_line : Option ℕ → List ℕ
 generation_line None = []
 generation_line (Some number) = line (codes "generation") (decimal number)
@@ -58,7 +59,7 @@ report_front from to number duties left =
 abbrev pub report_of : Option Name → Name → Option ℕ → List Duty → List Name → List ℕ → List ℕ
 report_of from to number duties left activation = report_front from to number duties left ++ (activation ++ other_lines duties)
 
--- the report of a switch of the units to a system, from a world, and the number of the generation where the profile is set
+-- the report of a switch of the units to a system, from a world, and the number of the generation where the profile is moved
 pub record IsUnitReport (number : Option ℕ) (system : Name) (w : WorldState) (text : List ℕ) : Type 0 where
   pub lists : Lists
   pub owed : Owed
@@ -67,19 +68,20 @@ pub record IsUnitReport (number : Option ℕ) (system : Name) (w : WorldState) (
   pub is_activation : IsActivationReport system w.leaves activation
   pub is_text : text ≡ report_of (current_system w.leaves) system number (calls_of owed (state_of w.manager.states)) owed.left activation
 
--- the report of a set of the profile: the system, and the number of its generation
+-- the report of a move of the profile alone: the system, and the number of its generation
 abbrev pub profile_report : Name → Option ℕ → List ℕ
 profile_report system number = line (codes "to") system ++ generation_line number
 
--- the number of the generation that a plan sets the profile to, where it does
+-- the number of the generation to which a plan moves the profile, where it does
 abbrev pub number_of : Plan → Option ℕ
 number_of plan = option_map (λ profile. profile.number) plan.profile
 
--- the number of the generation that a system gets, where the profile is set to it
-abbrev pub number_if : Bool → Name → Leaves → Option ℕ
-number_if sets system leaves = if sets then Some (number_after leaves system) else None
+-- the number of the generation that is current after a move of the profile to a system, where it is moved
+abbrev pub number_by : Option Move → Name → Leaves → Option ℕ
+number_by None system leaves = None
+number_by (Some move) system leaves = Some (number_moved move system leaves)
 
--- the report about a system, to which the units are switched, or which the profile is set to alone
+-- the report about a system, to which the units are switched, or the profile alone is moved
 abbrev pub IsReportBy : Bool → Option ℕ → Name → WorldState → List ℕ → Type 0
 IsReportBy true number system w text = IsUnitReport number system w text
 IsReportBy false number system w text = text ≡ profile_report system number
@@ -87,7 +89,7 @@ IsReportBy false number system w text = text ≡ profile_report system number
 -- the report of a command, from a world
 abbrev pub IsReport : Command → WorldState → List ℕ → Type 0
 IsReport command w text =
-    let its = row command w.leaves in IsReportBy its.switches (number_if its.sets its.system w.leaves) its.system w text
+    let its = row command w.leaves in IsReportBy its.switches (number_by its.moves its.system w.leaves) its.system w text
 
 -- From the second of two worlds a command makes the report that it makes from the first, unless it switches units: what
 -- a switch of them has done it doesn't report again.

@@ -97,7 +97,7 @@ fn system_text(system: Option<&SystemName>) -> &str
     }
 }
 
-/// Writes the line of the generation that the profile is set to, where it is set.
+/// Writes the line of the generation that the profile names then, where it is moved.
 fn write_generation(alloc: Global, out: &mut Vec<u8>, number: Option<u32>) -> Result<(), AllocError>
     ensures { OnOk result (out.new.items ≡ out.old.items ++ generation_line number) }
 {
@@ -108,7 +108,7 @@ fn write_generation(alloc: Global, out: &mut Vec<u8>, number: Option<u32>) -> Re
     Ok(())
 }
 
-/// Writes the two systems, the generation where the profile is set, the stops, and the changed units
+/// Writes the two systems, the generation where the profile is moved, the stops, and the changed units
 /// that get nothing.
 fn write_front(alloc: Global, out: &mut Vec<u8>, plan: &Plan) -> Result<(), AllocError>
     ensures { OnOk result (out.new.items ≡ out.old.items ++ report_front plan.now.units.from plan.now.row.system (number_of plan.now) plan.now.units.duties plan.now.units.left) }
@@ -135,7 +135,7 @@ fn write_activated(
     }
 }
 
-/// The report of a switch of the units: the two systems, the generation where the profile is set, the
+/// The report of a switch of the units: the two systems, the generation where the profile is moved, the
 /// stops, the changed units that get nothing, the accounts and /etc, and the other calls, a line each.
 fn unit_report(alloc: Global, plan: &Plan) -> Result<Bytes, AllocError>
     ensures { IfOk result (λ text. (leaves : Leaves) (planned : ActivationPlan) → plan.now.activation ≡ Some planned → IsActivationPlanOf plan.now.row.system leaves planned
@@ -149,7 +149,7 @@ fn unit_report(alloc: Global, plan: &Plan) -> Result<Bytes, AllocError>
     Ok(Bytes::from_vec(out))
 }
 
-/// The report of a set of the profile: the system, and the number of its generation.
+/// The report of a move of the profile alone: the system, and the number of its generation.
 fn profile_report(alloc: Global, plan: &Plan) -> Result<Bytes, AllocError>
     ensures { IfOk result (λ text. text ≡ profile_report plan.now.row.system (number_of plan.now)) }
 {
@@ -160,7 +160,7 @@ fn profile_report(alloc: Global, plan: &Plan) -> Result<Bytes, AllocError>
 }
 
 /// The report of a planned command: what it does to the units, to the accounts and to `/etc`, and the
-/// generation that it makes.
+/// generation that it makes or goes back to.
 ///
 /// Source: the lines of switch-to-configuration, NixOS manual, "Unit handling".
 pub fn report(alloc: Global, plan: &Plan) -> Result<Bytes, AllocError>

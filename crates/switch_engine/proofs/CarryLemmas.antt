@@ -115,12 +115,12 @@ not_of_default = elim (cases_Bool (owns_profile goal_place || owns_boot goal_pla
 
 -- the same by the leaves of a world, with these generations
 abbrev IsDefaultLeft : Option Move → Name → Gens → WorldState → WorldState → Type 0
-IsDefaultLeft None system gens w u = Unit {0}
+IsDefaultLeft None system gens w u = Prim.Unit {0}
 IsDefaultLeft (Some move) system gens w u = IsAtEnd (boot_default_part move system gens) w u
 
 -- what the boot default owns is at its end, where the profile is moved
 abbrev IsSetEnd : Option Move → Name → WorldState → WorldState → Type 0
-IsSetEnd None system w u = Unit {0}
+IsSetEnd None system w u = Prim.Unit {0}
 IsSetEnd (Some move) system w u = IsAtEnd (boot_default_in move system w.leaves) w u
 
 -- ---- the goal is recorded, where the profile goes back to a generation
@@ -475,6 +475,11 @@ clear_part_moment : (moves : Option Move) (system : Name) (gens : Gens) → IsBo
 clear_part_moment None system gens are v m same =
     record { keeps = tt; only = record { leaves = λ q none ne. ap (λ (x : WorldState). get x.leaves q) same; manager = λ call. ap (λ (x : WorldState). x.manager) same } }
 clear_part_moment (Some move) system gens are v m step = of_goal move system gens are v m (cleared_moment v m step)
+
+-- at the beginning it stands as it was
+pub clear_begins : (moves : Option Move) (w m : WorldState) → m ≡ w → IsClearStep moves w m
+clear_begins None w m same = same
+clear_begins (Some move) w m same = inl same
 
 -- the last step leaves no goal
 clear_last : (moves : Option Move) (v e : WorldState) → e ≡ cleared_by moves v → IsClearStep moves v e

@@ -73,7 +73,7 @@ abbrev pub IsMoveToBy : Option Move → Name → Leaves → Type 0
 IsMoveToBy None system leaves = Unit {0}
 IsMoveToBy (Some move) system leaves = IsMoveTo move system leaves
 
-names_it : (o : Option (Option Name)) → names_system o ≡ true → o ≡ Some (Some (named_by o))
+pub names_it : (o : Option (Option Name)) → names_system o ≡ true → o ≡ Some (Some (named_by o))
 names_it None is = absurd (both_ways _ refl is)
 names_it (Some None) is = absurd (both_ways _ refl is)
 names_it (Some (Some system)) is = refl
@@ -96,7 +96,7 @@ move_to_kept (Some (Point n)) system gens w m keeps to = generation_of m.leaves 
 
 -- ---- the row
 
-abbrev back : Option ℕ → Leaves → Row
+abbrev pub back : Option ℕ → Leaves → Row
 back o leaves = record { system = system_of o leaves; moves = option_map Point o; switches = true; changes = true }
 
 pub row_same : (command : Command) (gens : Gens) (w m : WorldState) → lacks_goal command w.leaves ≡ false → (default_if (row command w.leaves).moves (new_system command w.leaves) gens).Keeps w m →

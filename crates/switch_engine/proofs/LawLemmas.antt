@@ -174,7 +174,7 @@ either (Some Set) command w m underway = inl underway
 either (Some (Point n)) command w m is = is
 
 -- where the profile doesn't go back it is underway
-never_back : (moves : Option Move) (command : Command) (w m : WorldState) → is_back moves ≡ false → IsOnItsWay moves command w m → IsUnderway w command m
+pub never_back : (moves : Option Move) (command : Command) (w m : WorldState) → is_back moves ≡ false → IsOnItsWay moves command w m → IsUnderway w command m
 never_back None command w m none underway = underway
 never_back (Some Set) command w m none underway = underway
 never_back (Some (Point n)) command w m none is = absurd (both_ways _ none refl)

@@ -13,6 +13,7 @@ pub mod PaidLemmas
 pub mod PartsLemmas
 pub mod PlaceLemmas
 pub mod PlanLemmas
+pub mod ResolveLemmas
 pub mod StoreApart
 pub mod SwitchLemmas
 pub mod UnderwayLemmas

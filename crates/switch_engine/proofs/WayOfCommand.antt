@@ -1,5 +1,6 @@
--- The steps of a planned command over a host: its system is made the boot default, and then the units are switched.
-use Rattle.std.proofs.Common.{◌≡◌, ◌↔◌, ◌&&◌, Bool, List, IfOk, IsTrue, OnOk, is_some, true, false, Option, Some, Result, Ok, Err, refl, sym, ap, subst, ◌∙◌, inl, inr}
+-- The steps of a planned command over a host: the goal of a rollback is recorded, its system is made the boot default, the units
+-- are switched, and the goal is removed.
+use Rattle.std.proofs.Common.{◌≡◌, ◌↔◌, ◌&&◌, Bool, List, IfOk, IsTrue, OnOk, is_some, true, false, Option, None, Some, Result, Ok, Err, refl, sym, ap, subst, ◌∙◌, inl, inr}
 use Rattle.std.specs.FinMap.{empty}
 use Rattle.host_trait.specs.declared.tree.HostFault.{HostFault}
 use Rattle.host_trait.specs.Host.{HostState, Leads, Passes, Told}
@@ -9,13 +10,17 @@ use Rattle.owed_plan.specs.declared.owed.Owed.{Owed}
 use Rattle.switch_engine.specs.declared.outcome.Outcome.{Outcome}
 use Rattle.switch_engine.specs.declared.plan.Plan.{Plan}
 use Rattle.switch_engine.specs.declared.row.Row.{Row}
-use Rattle.switch_engine.specs.Carried.{CanSetBy, CanSwitchBy, IsSwitchMomentIf, IsSwitchedIf, sets_by}
+use Rattle.switch_engine.specs.Carried.{CanRecordBy, CanSetBy, CanSwitchBy, IsPrepared, IsPreparing, IsSwitchMomentIf, IsSwitchedIf, cleared_by, moves_of}
 use Rattle.switch_engine.specs.Commands.{IsBoot, IsQuery, if_so, row}
 use Rattle.switch_engine.specs.Final.{HasFailed, IsEndOf, LeavesFailed, LeavesFailedAt}
-use Rattle.switch_engine.specs.Moments.{IsMomentOf, IsSetStep, set_world}
+use Rattle.switch_engine.specs.Moments.{IsClearStep, IsMomentOf, record_world}
 use Rattle.switch_engine.specs.Plan.{ArePlanned, IsPlanOf}
-use Rattle.switch_engine.proofs.CarryLemmas.{IsCarriedFrom, activation_same, can_set, can_switch, carried_from, changes_on, ends, none_failed, owed_still, planned_parts, same_manager, set_free, set_moment, sets_same, switch_free, switch_moment, switches_on, switches_same, verdict}
+use Rattle.switch_engine.specs.Rows.{gens_to}
+use Rattle.generations.specs.declared.moving.Move.{Move}
+use Rattle.switch_engine.proofs.CarryLemmas.{IsCarriedFrom, activation_same, can_record, can_set, can_switch, carried_from, clear_moment, ends, moves_same, none_failed, only_goal, owed_still, planned_parts, record_free, record_moment, same_manager, set_free, set_moment, switch_free, switch_moment, switches_same, verdict}
+use Rattle.switch_engine.proofs.FlagLemmas.{changes_on, switches_on}
 use Rattle.switch_engine.proofs.LawLemmas.{begins_moment}
+use Rattle.switch_engine.proofs.WayOfSwitch.{leads_both}
 use Rattle.switch_names.specs.Names.{Name}
 use Rattle.unit_defs.specs.declared.unit.Unit.{Unit}
 use Rattle.unit_stage.specs.Plan.{owed_of}
@@ -27,12 +32,19 @@ failed_of true defs (Ok outcome) failed none = failed refl
 failed_of false defs (Ok outcome) failed none = none_failed defs outcome (none refl)
 failed_of switches defs (Err f) failed none = tt
 
+-- the units have been switched where the profile was moved before, or needn't be
+record HasSwitched (moves : Option Move) (switches : Bool) (system : Name) (owed : Owed) (w v : WorldState) : Type 0 where
+  u : WorldState
+  prepared : IsPrepared moves system w u
+  end : IsSwitchedIf switches system owed u v
+  moment : IsSwitchMomentIf switches system owed u v
+
 module _ (plan : Plan) (changes : IsQuery plan.command → ⊥) {a : HostState} (planned : Told a (λ w. IsPlanOf w plan)) where
   abbrev switches : WorldState → Bool
   switches w = (row plan.command w.leaves).switches
 
-  abbrev sets : WorldState → Bool
-  sets w = (row plan.command w.leaves).sets
+  abbrev moves : WorldState → Option Move
+  moves w = (row plan.command w.leaves).moves
 
   abbrev named : WorldState → Name
   named w = (row plan.command w.leaves).system
@@ -40,6 +52,9 @@ module _ (plan : Plan) (changes : IsQuery plan.command → ⊥) {a : HostState} 
   -- whether an activation is planned
   abbrev by : Bool
   by = is_some plan.activation
+
+  abbrev planned_moves : Option Move
+  planned_moves = moves_of plan.profile
 
   abbrev owed : Owed
   owed = owed_of plan.units
@@ -53,33 +68,47 @@ module _ (plan : Plan) (changes : IsQuery plan.command → ⊥) {a : HostState} 
   pub begins : Passes a a (IsMomentOf plan.command)
   begins = started (IsMomentOf plan.command) (λ w is. begins_moment plan.command w (planned.has w is).not_refused)
 
+  same_moves : (w : WorldState) → a.world ≡ Some w → planned_moves ≡ moves w
+  same_moves w is = moves_same (moves w) (named w) w plan.profile (parts w is).profile
+
+  pub record_can : Told a (CanRecordBy planned_moves)
+  record_can =
+      told_as planned (CanRecordBy planned_moves)
+      (λ w is planned. subst (λ mv. CanRecordBy mv w) (sym (same_moves w is)) (can_record (moves w) (named w) (gens_to (moves w) (named w) w.leaves) w (set_free plan.command owed w (from w is))))
+
+  recorded_as : (w r : WorldState) → a.world ≡ Some w → seen r ≡ record_world planned_moves w → seen r ≡ record_world (moves w) w
+  recorded_as w r is is_r = subst (λ mv. seen r ≡ record_world mv w) (same_moves w is) is_r
+
+  -- the units are switched where an activation is planned
+  is_by : (w : WorldState) → a.world ≡ Some w → by ≡ switches w
+  is_by w is = switches_same (switches w) (named w) w plan.activation (parts w is).activation
+
   module _ (system : Name) (is_to : system ≡ plan.row.system) where
     to : (w : WorldState) → a.world ≡ Some w → system ≡ named w
     to w is = is_to ∙ ap (λ (r : Row). r.system) (planned.has w is).resolved
 
-    pub profile_can : Told a (CanSetBy system plan.profile)
+    pub profile_can : Told a (λ w. (r : WorldState) → seen r ≡ record_world planned_moves w → CanSetBy system plan.profile r)
     profile_can =
-        told_as planned (CanSetBy system plan.profile)
-        (λ w is planned. subst (λ s. CanSetBy s plan.profile w) (sym (to w is))
-        (can_set (sets w) (named w) (from w is).named w plan.profile (parts w is).profile (set_free plan.command owed w (from w is))))
+        told_as planned (λ w. (r : WorldState) → seen r ≡ record_world planned_moves w → CanSetBy system plan.profile r)
+        (λ w is planned r is_r.
+        let recorded = recorded_as w r is is_r in
+        subst (λ s. CanSetBy s plan.profile r) (sym (to w is))
+        (can_set (moves w) (named w) (from w is).named w r plan.profile (parts w is).profile (only_goal plan.command owed w (from w is) r recorded) (record_free plan.command owed w (from w is) r recorded)))
 
-    same_set : (w : WorldState) → a.world ≡ Some w → sets_by system plan.profile ≡ if_so (sets w) (named w)
-    same_set w is = ap (λ s. sets_by s plan.profile) (to w is) ∙ sets_same (sets w) (named w) w plan.profile (parts w is).profile
+    module _ {b : HostState} (way : Passes a b (IsPreparing planned_moves system)) where
+      preparing : (w m : WorldState) → a.world ≡ Some w → IsPreparing (moves w) (named w) w m → IsMomentOf plan.command w m
+      preparing w m is (IsPreparing.Recording step) = record_moment plan.command owed w (from w is) m step
+      preparing w m is (IsPreparing.Setting r is_r step) = set_moment plan.command owed w (from w is) r is_r m step
 
-    -- the units are switched where an activation is planned
-    is_by : (w : WorldState) → a.world ≡ Some w → by ≡ switches w
-    is_by w is = switches_same (switches w) (named w) w plan.activation (parts w is).activation
+      prepare_as : (w m : WorldState) → a.world ≡ Some w → IsPreparing planned_moves system w m → IsMomentOf plan.command w m
+      prepare_as w m is step = preparing w m is (subst (λ mv. IsPreparing mv (named w) w m) (same_moves w is) (subst (λ s. IsPreparing planned_moves s w m) (to w is) step))
 
-    module _ {b : HostState} (set_way : Passes a b (IsSetStep (sets_by system plan.profile))) where
-      set_as : (w m : WorldState) → a.world ≡ Some w → IsSetStep (sets_by system plan.profile) w m → IsMomentOf plan.command w m
-      set_as w m is step = set_moment plan.command owed w (from w is) m (subst (λ (to : Option Name). IsSetStep to w m) (same_set w is) step)
+      pub prepare_moments : Passes a b (IsMomentOf plan.command)
+      prepare_moments = passes_as way (IsMomentOf plan.command) prepare_as
 
-      pub set_moments : Passes a b (IsMomentOf plan.command)
-      set_moments = passes_as set_way (IsMomentOf plan.command) set_as
-
-      module _ (led : Leads a b (λ w u. seen u ≡ set_world (sets_by system plan.profile) w)) where
-        came : (w u : WorldState) → a.world ≡ Some w → seen u ≡ set_world (sets_by system plan.profile) w → seen u ≡ set_world (if_so (sets w) (named w)) w
-        came w u is set = subst (λ (to : Option Name). seen u ≡ set_world to w) (same_set w is) set
+      module _ (led : Leads a b (IsPrepared planned_moves system)) where
+        came : (w u : WorldState) → a.world ≡ Some w → IsPrepared planned_moves system w u → IsPrepared (moves w) (named w) w u
+        came w u is prepared = subst (λ mv. IsPrepared mv (named w) w u) (same_moves w is) (subst (λ s. IsPrepared planned_moves s w u) (to w is) prepared)
 
         module _ (last : Name) (is_last : last ≡ plan.row.system) where
           to_last : (w : WorldState) → a.world ≡ Some w → last ≡ named w
@@ -87,12 +116,12 @@ module _ (plan : Plan) (changes : IsQuery plan.command → ⊥) {a : HostState} 
 
           pub units_can : Told b (CanSwitchBy last plan.units plan.activation)
           units_can =
-              told_after set_way led (CanSwitchBy last plan.units plan.activation)
-              (λ w u is set. let from_w = from w is in let there = came w u is set in
+              told_after way led (CanSwitchBy last plan.units plan.activation)
+              (λ w u is prepared. let from_w = from w is in let at = came w u is prepared in
               subst (λ s. CanSwitchBy s plan.units plan.activation u) (sym (to_last w is))
               (can_switch (switches w) (named w) from_w.named w u plan.units plan.activation (parts w is).units (parts w is).activation
-              (same_manager plan.command owed w from_w u there) (owed_still plan.command owed w from_w u there) (activation_same plan.command owed w from_w u there)
-              (switch_free plan.command owed w from_w u there)))
+              (same_manager plan.command owed w from_w at.recorded at.is_recorded u at.is_set) (owed_still plan.command owed w from_w at.recorded at.is_recorded u at.is_set)
+              (activation_same plan.command owed w from_w at.recorded at.is_recorded u at.is_set) (switch_free plan.command owed w from_w at.recorded at.is_recorded u at.is_set)))
 
           moment_as : (w u m : WorldState) → a.world ≡ Some w → IsSwitchMomentIf by last owed u m → IsSwitchMomentIf (switches w) (named w) owed u m
           moment_as w u m is moment = subst (λ b. IsSwitchMomentIf b (named w) owed u m) (is_by w is) (subst (λ s. IsSwitchMomentIf by s owed u m) (to_last w is) moment)
@@ -100,38 +129,63 @@ module _ (plan : Plan) (changes : IsQuery plan.command → ⊥) {a : HostState} 
           end_as : (w u v : WorldState) → a.world ≡ Some w → IsSwitchedIf by last owed u v → IsSwitchedIf (switches w) (named w) owed u v
           end_as w u v is end = subst (λ b. IsSwitchedIf b (named w) owed u v) (is_by w is) (subst (λ s. IsSwitchedIf by s owed u v) (to_last w is) end)
 
-          pub all_moments : {d : HostState} → Passes b d (IsSwitchMomentIf by last owed) → Passes a d (IsMomentOf plan.command)
-          all_moments second =
-              goes_on set_way led second (IsMomentOf plan.command) set_as
-              (λ w u m is is_u set moment. switch_moment plan.command owed w (from w is) u (came w u is set) m (moment_as w u m is moment))
+          module _ {d : HostState} (second : Passes b d (IsSwitchMomentIf by last owed)) where
+            pub switch_moments : Passes a d (IsMomentOf plan.command)
+            switch_moments =
+                goes_on way led second (IsMomentOf plan.command) prepare_as
+                (λ w u m is is_u prepared moment. let at = came w u is prepared in switch_moment plan.command owed w (from w is) at.recorded at.is_recorded u at.is_set m (moment_as w u m is moment))
 
-          -- what the outcome says of the units where they are switched
-          pub states_of : {d : HostState} → Passes b d (IsSwitchMomentIf by last owed) → (r : Result Outcome HostFault) → IfOk r (λ outcome. IsTrue by → Told d (λ v. outcome.states ≡ v.manager.states)) →
-              IfOk r (λ outcome. (IsBoot plan.command → ⊥) → Told d (λ v. outcome.states ≡ v.manager.states))
-          states_of second (Err f) told = tt
-          states_of {d = d} second (Ok outcome) told = λ not_boot. record {
-            has = λ v is_v. elim (none_or_some a.world) [
-              | inl none ↦ absurd (none_not_some d.world v ((all_moments second).silent none) is_v)
-              | inr some ↦ (told (is_by some.0 some.1 ∙ switches_on plan.command some.0.leaves not_boot)).has v is_v
-            ];
-          }
+            module _ (done : Leads b d (IsSwitchedIf by last owed)) where
+              switched_to : Leads a d (λ w v. HasSwitched (moves w) (switches w) (named w) owed w v)
+              switched_to =
+                  leads_then led (leads_both done second.tells (λ u v. IsSwitchedIf by last owed u v × IsSwitchMomentIf by last owed u v) (λ u v end moment. (end, moment)))
+                  (λ w v. HasSwitched (moves w) (switches w) (named w) owed w v)
+                  (λ w u v is is_u prepared both. record { u = u; prepared = came w u is prepared; end = end_as w u v is both.0; moment = moment_as w u v is both.1 })
 
-          pub comes_to_end : {d : HostState} → Leads b d (IsSwitchedIf by last owed) → Leads a d (IsEndOf plan.command)
-          comes_to_end second =
-              leads_then led second (IsEndOf plan.command)
-              (λ w u v is is_u set end. ends plan.command owed w (from w is) u (came w u is set) v (end_as w u v is end))
+              module _ {e : HostState} (third : Passes d e (IsClearStep planned_moves)) where
+                clear_as : (w v m : WorldState) → a.world ≡ Some w → HasSwitched (moves w) (switches w) (named w) owed w v → IsClearStep planned_moves v m → IsMomentOf plan.command w m
+                clear_as w v m is switched step =
+                    clear_moment plan.command owed w (from w is) switched.prepared.recorded switched.prepared.is_recorded switched.u switched.prepared.is_set v switched.end switched.moment m
+                    (subst (λ mv. IsClearStep mv v m) (same_moves w is) step)
 
-          pub verdict_of : (d : HostState) (r : Result Outcome HostFault) → OnOk r (Leads b d (IsSwitchedIf by last owed)) → IfOk r (λ outcome. IsTrue by → Told d (λ v. outcome.states ≡ v.manager.states)) →
-              IfOk r (λ outcome. IsTrue by → IsTrue outcome.failed ↔ HasFailed plan.units.defs outcome.states) → (by ≡ false → IfOk r (λ outcome. outcome ≡ record { states = empty; failed = false })) →
-              IfOk r (λ outcome. Told a (λ w. IsTrue outcome.failed ↔ LeavesFailed plan.command w))
-          verdict_of d (Err f) second states failed none = tt
-          verdict_of d (Ok outcome) second states failed none = record {
-            has = λ w is.
-                let u = led.to w is in
-                let v = second.to u.0 u.1 in
-                subst (λ b. IsTrue outcome.failed ↔ LeavesFailedAt (if_so (b && switches w) (named w)) w) (sym (changes_on plan.command w.leaves changes))
-                (verdict (switches w) (named w) plan.units w u.0 v.0 outcome (parts w is).units (same_manager plan.command owed w (from w is) u.0 (came w u.0 is u.2)) (end_as w u.0 v.0 is v.2)
-                (λ on. (states (is_by w is ∙ on)).has v.0 v.1)
-                (failed_of by plan.units.defs (Ok outcome) failed none)
-                (λ off. none (is_by w is ∙ off)));
-          }
+                pub all_moments : Passes a e (IsMomentOf plan.command)
+                all_moments = goes_on switch_moments switched_to third (IsMomentOf plan.command) (λ w m is moment. moment) (λ w v m is is_v switched step. clear_as w v m is switched step)
+
+                module _ (cleared : Leads d e (λ v x. x ≡ cleared_by planned_moves v)) where
+                  pub comes_to_end : Leads a e (IsEndOf plan.command)
+                  comes_to_end =
+                      leads_then switched_to cleared (IsEndOf plan.command)
+                      (λ w v x is is_v switched is_x.
+                      ends plan.command owed w (from w is) switched.prepared.recorded switched.prepared.is_recorded switched.u switched.prepared.is_set v switched.end switched.moment x
+                      (is_x ∙ ap (λ mv. cleared_by mv v) (same_moves w is)))
+
+                  same_states : (o : Option Move) (v x : WorldState) → x ≡ cleared_by o v → v.manager.states ≡ x.manager.states
+                  same_states None v x is = sym (ap (λ (y : WorldState). y.manager.states) is)
+                  same_states (Some move) v x is = sym (ap (λ (y : WorldState). y.manager.states) is)
+
+                  module _ (outcome : Outcome) (told : IsTrue by → Told d (λ v. outcome.states ≡ v.manager.states)) where
+                    -- what the outcome says of the units where they are switched
+                    pub states_of : (IsBoot plan.command → ⊥) → Told e (λ x. outcome.states ≡ x.manager.states)
+                    states_of not_boot = record {
+                      has = λ x is_x. elim (none_or_some a.world) [
+                        | inl none ↦ absurd (none_not_some e.world x (all_moments.silent none) is_x)
+                        | inr some ↦
+                            (told_after third cleared (λ y. outcome.states ≡ y.manager.states)
+                            (λ v y is_v is_y. (told (is_by some.0 some.1 ∙ switches_on plan.command some.0.leaves not_boot)).has v is_v ∙ same_states planned_moves v y is_y)).has x is_x
+                      ];
+                    }
+
+              module _ (outcome : Outcome) (told : IsTrue by → Told d (λ v. outcome.states ≡ v.manager.states)) (failed : IsTrue by → IsTrue outcome.failed ↔ HasFailed plan.units.defs outcome.states)
+                  (none : by ≡ false → outcome ≡ record { states = empty; failed = false }) where
+                pub verdict_of : Told a (λ w. IsTrue outcome.failed ↔ LeavesFailed plan.command w)
+                verdict_of = record {
+                  has = λ w is.
+                      let u = led.to w is in
+                      let v = done.to u.0 u.1 in
+                      let at = came w u.0 is u.2 in
+                      subst (λ b. IsTrue outcome.failed ↔ LeavesFailedAt (if_so (b && switches w) (named w)) w) (sym (changes_on plan.command w.leaves changes))
+                      (verdict (switches w) (named w) plan.units w u.0 v.0 outcome (parts w is).units (same_manager plan.command owed w (from w is) at.recorded at.is_recorded u.0 at.is_set) (end_as w u.0 v.0 is v.2)
+                      (λ on. (told (is_by w is ∙ on)).has v.0 v.1)
+                      (failed_of by plan.units.defs (Ok outcome) failed none)
+                      (λ off. none (is_by w is ∙ off)));
+                }

@@ -27,7 +27,7 @@ use Rattle.unit_stage.specs.Units.{units_part}
 use Rattle.unit_stage.proofs.TableLemmas.{can_stops}
 
 -- what a host comes to has what two calls say of it
-leads_both : {a b : HostState} {P Q : WorldState → WorldState → Type 0} → Leads a b P → Leads a b Q → (R : WorldState → WorldState → Type 0) → ((w v : WorldState) → P w v → Q w v → R w v) → Leads a b R
+pub leads_both : {a b : HostState} {P Q : WorldState → WorldState → Type 0} → Leads a b P → Leads a b Q → (R : WorldState → WorldState → Type 0) → ((w v : WorldState) → P w v → Q w v → R w v) → Leads a b R
 leads_both {b = b} {P = P} first second R both = record {
   to = λ w is.
       let one = first.to w is in let two = second.to w is in

@@ -144,9 +144,9 @@ fn clear_back<T: Tree>(
     ensures moments { Passes (T.host host.old) (T.host host.new) (IsClearStep (moves_of (option_copied plan.entry))) }
     ensures cause { HasCause (T.host host.old) (T.host host.new) result }
 {
-    if plan.is_none() {
+    let Some(_plan) = plan else {
         return Ok(());
-    }
+    };
     host.sync(alloc)?;
     clear_goal(alloc, host)
 }

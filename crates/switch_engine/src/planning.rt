@@ -42,14 +42,16 @@ fn gens_for<T: Tree>(
     ensures gens { IfOk result (λ gens. Told (T.host host.old) (λ w. AreGensBy row.now.moves w.leaves gens)) }
     ensures reads { IsReading (T.host host.old) (T.host host.new) result }
 {
-    if row.moves.is_none() {
+    let Some(_to) = row.moves else {
         return Ok(None);
+    };
+    match known {
+        Some(gens) => Ok(Some(gens)),
+        None => {
+            let gens = all(alloc, host)?;
+            Ok(Some(gens))
+        }
     }
-    if let Some(gens) = known {
-        return Ok(Some(gens));
-    }
-    let gens = all(alloc, host)?;
-    Ok(Some(gens))
 }
 
 /// Refuses where something is in the way of a place that a row writes.
@@ -176,7 +178,8 @@ pub fn plan_all<H: Manager>(
     ensures refused { (why : Refusal) → IsErrOf result (Refused why) → Told (H.host host.old) (λ w. refusal command.now w.leaves ≡ Some why) }
     ensures reads { IsReadingOf (H.host host.old) (H.host host.new) (IsErrOf result (Host Device)) }
 {
-    let Resolved { row, gens } = resolve(alloc, host, command)?;
+    let resolved = resolve(alloc, host, command)?;
+    let Resolved { row, gens } = resolved;
     let _path = row.system.path();
     if !has_version(alloc, host, &row.system)? {
         return Err(PlanFault::Refused(Refusal::NoSystem));

@@ -4,9 +4,9 @@ use Rattle.boot_entries.specs.declared.boot_default.BootDefaultPlan.{BootDefault
 use Rattle.host_trait.specs.Host.{Leads, Passes, Told}
 use Rattle.host_trait.specs.World.{seen}
 use Rattle.host_trait.proofs.Moments.{started}
-use Rattle.switch_engine.specs.Carried.{CanSetBy, sets_by}
+use Rattle.switch_engine.specs.Carried.{CanSetBy, moves_of}
 use Rattle.switch_engine.specs.Moments.{IsSetStep, set_world}
-use Rattle.switch_names.specs.Names.{Name}
+use Rattle.generations.specs.declared.moving.Move.{Move}
 use Rattle.switch_engine.proofs.carrying.set_profile.Goals as goal
 
 pub make_boot_default-requires-clause-sound : goal.make_boot_default-requires-clause-sound
@@ -18,20 +18,20 @@ make_boot_default-requires-clause-can g c =
 
 pub returns-in-Some-clause-ok : goal.returns-in-Some-clause-ok
 returns-in-Some-clause-ok g c =
-    subst (λ (to : Option Name). OnOk c.make_boot_default.result (Leads (g.T.Tree.host c.args.host.now) (g.T.Tree.host c.make_boot_default.new.host) (λ w u. seen u ≡ set_world to w)))
-    (sym (ap (sets_by c.args.system.now) (ap option_copied c.in-Some.is))) c.make_boot_default.ensures.ok
+    subst (λ (moves : Option Move). OnOk c.make_boot_default.result (Leads (g.T.Tree.host c.args.host.now) (g.T.Tree.host c.make_boot_default.new.host) (λ w u. seen u ≡ set_world moves c.args.system.now w)))
+    (sym (ap moves_of (ap option_copied c.in-Some.is))) c.make_boot_default.ensures.ok
 
 pub returns-in-Some-clause-moments : goal.returns-in-Some-clause-moments
 returns-in-Some-clause-moments g c =
-    subst (λ (to : Option Name). Passes (g.T.Tree.host c.args.host.now) (g.T.Tree.host c.make_boot_default.new.host) (IsSetStep to))
-    (sym (ap (sets_by c.args.system.now) (ap option_copied c.in-Some.is))) c.make_boot_default.ensures.moments
+    subst (λ (moves : Option Move). Passes (g.T.Tree.host c.args.host.now) (g.T.Tree.host c.make_boot_default.new.host) (IsSetStep moves c.args.system.now))
+    (sym (ap moves_of (ap option_copied c.in-Some.is))) c.make_boot_default.ensures.moments
 
 pub returns-in-None-clause-ok : goal.returns-in-None-clause-ok
 returns-in-None-clause-ok g c =
-    subst (λ (to : Option Name). Leads (g.T.Tree.host c.args.host.now) (g.T.Tree.host c.args.host.now) (λ w u. seen u ≡ set_world to w))
-    (sym (ap (sets_by c.args.system.now) (ap option_copied c.in-None.is))) (record { to = λ w is. (w, is, refl) })
+    subst (λ (moves : Option Move). Leads (g.T.Tree.host c.args.host.now) (g.T.Tree.host c.args.host.now) (λ w u. seen u ≡ set_world moves c.args.system.now w))
+    (sym (ap moves_of (ap option_copied c.in-None.is))) (record { to = λ w is. (w, is, refl) })
 
 pub returns-in-None-clause-moments : goal.returns-in-None-clause-moments
 returns-in-None-clause-moments g c =
-    subst (λ (to : Option Name). Passes (g.T.Tree.host c.args.host.now) (g.T.Tree.host c.args.host.now) (IsSetStep to))
-    (sym (ap (sets_by c.args.system.now) (ap option_copied c.in-None.is))) (started (IsSetStep None) (λ w is. refl))
+    subst (λ (moves : Option Move). Passes (g.T.Tree.host c.args.host.now) (g.T.Tree.host c.args.host.now) (IsSetStep moves c.args.system.now))
+    (sym (ap moves_of (ap option_copied c.in-None.is))) (started (IsSetStep None c.args.system.now) (λ w is. refl))

@@ -1,26 +1,19 @@
-use Rattle.std.proofs.Common.{false, [], ◌∷◌, ◌++◌, sym, subst, ap, ◌∙◌}
+use Rattle.std.proofs.Common.{◌++◌}
 use Rattle.std.proofs.lemmas.Result.{on_ok_weaker}
-use Rattle.tree_put.specs.WrittenPlace.{AreApartFromStage, written}
-use Rattle.host_trait.specs.World.{stage}
-use Rattle.switch_engine.proofs.PlaceLemmas.{boot_are, stage_apart}
-use Rattle.tree_put.proofs.AddedLemmas.{apart_joined, joined_three}
-use Rattle.generations.specs.After.{gens_after}
-use Rattle.generations.specs.ProfilePart.{profile_places}
-use Rattle.boot_entries.specs.BootDefault.{menu_places}
+use Rattle.tree_put.proofs.AddedLemmas.{joined_two}
+use Rattle.boot_entries.specs.BootPart.{boot_places}
+use Rattle.generations.specs.GoalPart.{goal_places}
+use Rattle.generations.specs.Move.{gens_moved, move_places}
 use Rattle.switch_engine.proofs.places.add_default.Goals as goal
 
 pub returns-clause-places : goal.returns-clause-places
 returns-clause-places c =
-    on_ok_weaker c.add_stage.result
-    (λ staged leaves is.
-    let system = c.args.system.now in
-    let list = (gens_after system leaves).list in
-    joined_three c.args.places.now c.add_profile_places.new.places c.add_menu_places.new.places c.add_stage.new.places (profile_places leaves system) (menu_places list) (written false stage ∷ [])
-    (c.in_ok-add_profile_places.ensures.places leaves is) (c.in_ok-add_menu_places.ensures.places leaves is) staged
-    ∙ ap (λ ps. c.args.places.now ++ (profile_places leaves system ++ ps)) (sym (boot_are list)))
-    c.add_stage.ensures
+    on_ok_weaker c.add_goal_place.result
+    (λ added leaves is.
+    let system = c.args.system.now in let to = c.args.to in
+    joined_two c.args.places.now c.add_boot_default.new.places c.add_goal_place.new.places (move_places to system leaves ++ boot_places (gens_moved to system leaves).list) goal_places
+    (c.in_ok-add_boot_default.ensures.places leaves is) added)
+    c.add_goal_place.ensures.places
 
 pub returns-clause-apart : goal.returns-clause-apart
-returns-clause-apart c before =
-    let menu = c.in_ok-add_menu_places.ensures.apart (c.in_ok-add_profile_places.ensures.apart before) in
-    on_ok_weaker c.add_stage.result (λ staged. subst AreApartFromStage (sym staged) (apart_joined _ (written false stage ∷ []) menu stage_apart)) c.add_stage.ensures
+returns-clause-apart c before = c.add_goal_place.ensures.apart (c.in_ok-add_boot_default.ensures.apart before)

@@ -1,15 +1,22 @@
-use Rattle.std.proofs.Common.{◌≡◌, Err, None, Option, Some, refl, sym, ap, subst, ◌∙◌}
+use Rattle.std.proofs.Common.{◌≡◌, Err, Some, sym, ap, ◌∙◌}
 use Rattle.std.proofs.lemmas.Result.{err_from_is_err_and}
-use Rattle.generations.specs.declared.gens.Gens.{Gens}
-use Rattle.generations.specs.Gens.{IsGensOf}
 use Rattle.host_trait.specs.declared.tree.HostFault.TheVariants.{Device}
-use Rattle.host_trait.specs.Host.{Told}
 use Rattle.host_trait.proofs.Moments.{told_as}
 use Rattle.host_trait.proofs.Readings.{nothing_read_of}
-use Rattle.switch_engine.specs.Plan.{AreGensBy, IsProfilePlanned}
 use Rattle.switch_engine.specs.Rows.{default_if, gens_to}
 use Rattle.switch_parts.specs.declared.plan_fault.PlanFault.TheVariants.{Host, Refused}
 use Rattle.switch_parts.proofs.Faults.{no_err}
 use Rattle.unit_stage.proofs.KnownLemmas.{same_fault}
-use Rattle.switch_engine.proofs.PlanLemmas.{default_on, default_refused, no_gens, unmoved_free}
+use Rattle.switch_engine.proofs.PlanLemmas.{default_refused}
 use Rattle.switch_engine.proofs.planning.plan_profile.Goals as goal
+
+pub returns-in_default-clause-reads : goal.returns-in_default-clause-reads
+returns-in_default-clause-reads g c = nothing_read_of _ (λ e. absurd (no_err _ (Host Device) e))
+
+pub returns-in_err-plan-clause-refused : goal.returns-in_err-plan-clause-refused
+returns-in_err-plan-clause-refused g c why e =
+    let p = err_from_is_err_and c.from_residual.result c.from_residual.ensures.1 in
+    let its = c.args.row.now in
+    told_as (c.in_err-plan.ensures.refused why (ap (λ f. Err f) (sym p.2 ∙ same_fault p.0 (Refused why) (sym p.1 ∙ e))))
+    (λ w. (default_if its.moves its.system (gens_to its.moves its.system w.leaves)).refusal w.leaves ≡ Some why)
+    (λ w is refused. default_refused its.moves c.in-Some.to its.system w.leaves (Some why) c.in-Some.is refused)

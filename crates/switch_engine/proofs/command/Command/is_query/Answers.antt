@@ -11,17 +11,23 @@ on_empty command = (row command empty).changes
 pub returns-in-Switch : goal.returns-in-Switch
 returns-in-Switch c = (
   λ t. absurd (both_ways false refl t),
-  λ query. absurd (both_ways (row c.args.self.now empty).changes (query empty) (⊎_elim (λ p. ap on_empty p.1) (λ rest. ⊎_elim (λ p. ap on_empty p.1) (λ p. ap on_empty p.1) rest) c.in-Switch.is)),
+  λ query. absurd (both_ways (row c.args.self.now empty).changes (query empty) (⊎_elim (λ p. ap on_empty p.1) (λ rest. ⊎_elim (λ p. ap on_empty p.1) (λ others. ⊎_elim (λ p. ap on_empty p.1) (λ is. ap on_empty is) others) rest) c.in-Switch.is)),
 )
 
 pub returns-in-Switch-2 : goal.returns-in-Switch-2
 returns-in-Switch-2 c = (
   λ t. absurd (both_ways false refl t),
-  λ query. absurd (both_ways (row c.args.self.now empty).changes (query empty) (⊎_elim (λ p. ap on_empty p.1) (λ rest. ⊎_elim (λ p. ap on_empty p.1) (λ p. ap on_empty p.1) rest) c.in-Switch.is)),
+  λ query. absurd (both_ways (row c.args.self.now empty).changes (query empty) (⊎_elim (λ p. ap on_empty p.1) (λ rest. ⊎_elim (λ p. ap on_empty p.1) (λ others. ⊎_elim (λ p. ap on_empty p.1) (λ is. ap on_empty is) others) rest) c.in-Switch.is)),
 )
 
 pub returns-in-Switch-3 : goal.returns-in-Switch-3
 returns-in-Switch-3 c = (
   λ t. absurd (both_ways false refl t),
-  λ query. absurd (both_ways (row c.args.self.now empty).changes (query empty) (⊎_elim (λ p. ap on_empty p.1) (λ rest. ⊎_elim (λ p. ap on_empty p.1) (λ p. ap on_empty p.1) rest) c.in-Switch.is)),
+  λ query. absurd (both_ways (row c.args.self.now empty).changes (query empty) (⊎_elim (λ p. ap on_empty p.1) (λ rest. ⊎_elim (λ p. ap on_empty p.1) (λ others. ⊎_elim (λ p. ap on_empty p.1) (λ is. ap on_empty is) others) rest) c.in-Switch.is)),
+)
+
+pub returns-in-Switch-4 : goal.returns-in-Switch-4
+returns-in-Switch-4 c = (
+  λ t. absurd (both_ways false refl t),
+  λ query. absurd (both_ways (row c.args.self.now empty).changes (query empty) (⊎_elim (λ p. ap on_empty p.1) (λ rest. ⊎_elim (λ p. ap on_empty p.1) (λ others. ⊎_elim (λ p. ap on_empty p.1) (λ is. ap on_empty is) others) rest) c.in-Switch.is)),
 )

@@ -1,0 +1,23 @@
+use Rattle.std.specs.Option.{option_copied}
+use Rattle.host_trait.proofs.Moments.{goes_on, leads_then, passes_as}
+use Rattle.switch_engine.specs.Carried.{IsPrepared, IsPreparing, moves_of}
+use Rattle.switch_engine.specs.Carried.IsPreparing.{Recording, Setting}
+use Rattle.switch_engine.proofs.carrying.prepare.Goals as goal
+
+pub returns-in_err-record_back-clause-moments : goal.returns-in_err-record_back-clause-moments
+returns-in_err-record_back-clause-moments g c = passes_as c.record_back.ensures.moments (IsPreparing (moves_of (option_copied c.args.plan)) c.args.system.now) (λ w m is step. Recording step)
+
+pub returns-in_err-set_profile-clause-moments : goal.returns-in_err-set_profile-clause-moments
+returns-in_err-set_profile-clause-moments g c =
+    goes_on c.record_back.ensures.moments c.in_ok-record_back.ensures.ok c.set_profile.ensures.moments (IsPreparing (moves_of (option_copied c.args.plan)) c.args.system.now)
+    (λ w m is step. Recording step) (λ w r m is is_r recorded step. Setting r recorded step)
+
+pub returns-clause-ok : goal.returns-clause-ok
+returns-clause-ok g c =
+    leads_then c.in_ok-record_back.ensures.ok c.in_ok-set_profile.ensures.ok (IsPrepared (moves_of (option_copied c.args.plan)) c.args.system.now)
+    (λ w r u is is_r recorded set. record { recorded = r; is_recorded = recorded; is_set = set })
+
+pub returns-clause-moments : goal.returns-clause-moments
+returns-clause-moments g c =
+    goes_on c.record_back.ensures.moments c.in_ok-record_back.ensures.ok c.set_profile.ensures.moments (IsPreparing (moves_of (option_copied c.args.plan)) c.args.system.now)
+    (λ w m is step. Recording step) (λ w r m is is_r recorded step. Setting r recorded step)
