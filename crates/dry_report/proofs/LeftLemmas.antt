@@ -28,7 +28,7 @@ use Rattle.switch_engine.specs.declared.row.Row.{Row}
 use Rattle.switch_engine.specs.Commands.{IsBoot, IsQuery, if_so, row, switched_to}
 use Rattle.switch_engine.specs.Final.{AreFinalUnits, IsFinalOf, IsLeftFailed, is_failed, is_failed_of}
 use Rattle.switch_engine.specs.Plan.{ArePlanned, AreUnitsPlanned, IsPlanOf}
-use Rattle.switch_engine.proofs.CarryLemmas.{changes_on}
+use Rattle.switch_engine.proofs.FlagLemmas.{changes_on}
 use Rattle.switch_engine.proofs.DefinedLemmas.{defined_same}
 use Rattle.switch_engine.proofs.FailedLemmas.{failed_from}
 use Rattle.switch_names.specs.Names.{IsListOf, Name, has, is_name}

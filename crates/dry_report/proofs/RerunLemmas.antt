@@ -1,5 +1,5 @@
 -- A command that switches no units makes the same report where it was cut and is made again.
-use Rattle.std.proofs.Common.{◌≡◌, ◌^◌, ◌<◌, ◌&&◌, ◌↔◌, ℕ, Bool, true, false, cond, List, [], ◌∷◌, None, Some, refl, sym, ap, subst, ◌∙◌, inl, inr, arith}
+use Rattle.std.proofs.Common.{◌≡◌, ◌^◌, ◌<◌, ◌&&◌, ◌↔◌, ℕ, Bool, true, false, cond, List, [], ◌∷◌, Option, None, Some, refl, sym, ap, subst, ◌∙◌, inl, inr, arith}
 use Rattle.std.proofs.lemmas.Bool.{both_ways, cases_Bool}
 use Rattle.std.proofs.lemmas.Option.{none-some}
 use Rattle.std.specs.FinMap.{get}
@@ -23,14 +23,14 @@ use Rattle.generations.proofs.ProfilePlaces.{number_of_free}
 use Rattle.generations.proofs.SetLaws.{number_is}
 use Rattle.generations.proofs.NamesLaws.{link_text}
 use Rattle.host_trait.specs.declared.leaf.LeafKind.TheVariants.{Link}
-use Rattle.host_trait.specs.declared.manager_state.ManagerState.{ManagerState}
 use Rattle.host_trait.specs.World.{Leaves, WorldState, seen, stage, with_leaf}
 use Rattle.owed_plan.specs.declared.owed.Owed.{Owed}
-use Rattle.unit_stage.specs.Plan.{no_units, owed_of}
+use Rattle.unit_stage.specs.Plan as unit_plans
+use Rattle.unit_stage.specs.Plan.{owed_of}
 use Rattle.switch_engine.specs.declared.command.Command.{Command}
 use Rattle.switch_engine.specs.declared.row.Row.{Row}
 use Rattle.switch_engine.specs.Commands.{brought_by, brought_to, goes_back, if_so, moved_by, new_system, row, switched_by}
-use Rattle.switch_engine.specs.Final.{AreFinalUnits, IsFinalOf}
+use Rattle.switch_engine.specs.Final.{IsFinalOf}
 use Rattle.activation_stage.specs.Owners.{owners_after}
 use Rattle.etc_manifest.specs.Owners.{OwnerIds}
 use Rattle.switch_engine.specs.Carried.{IsSwitchMomentIf, IsSwitchedIf, cleared_by}
@@ -91,7 +91,7 @@ module _ (command : Command) (its : Row) (on : its.changes ≡ true) (off : its.
         let below = below_bound (number_after leaves system) (number_is leaves system further) in
         omega arith
 
-  module _ (w m : WorldState) (here : row command w.leaves ≡ its) (not_refused : refusal command w.leaves ≡ None) (underway : IsUnderway w command m) (end : WorldState) (is_end : IsFinalOf command w end) where
+    module _ (w m : WorldState) (here : row command w.leaves ≡ its) (not_refused : refusal command w.leaves ≡ None) (underway : IsUnderway w command m) (end : WorldState) (is_end : IsFinalOf command w end) where
       there : row command m.leaves ≡ its
       there = underway.same_row ∙ here
 
@@ -140,7 +140,7 @@ module _ (command : Command) (w : WorldState) (on : (row command w.leaves).chang
   its_system = (row command w.leaves).system
 
   abbrev nothing : Owed
-  nothing = owed_of no_units
+  nothing = owed_of unit_plans.no_units
 
   carried : IsCarriedFrom command nothing w
   carried = record { on = on; has = has_goal command w.leaves none; named = named; free = free_command command w.leaves none; is_owed = λ switched. absurd (both_ways _ off switched) }
