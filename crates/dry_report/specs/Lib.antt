@@ -1,4 +1,5 @@
 pub mod Activation
 pub mod Close
+pub mod GenerationList
 pub mod Lines
 pub mod Report
