@@ -168,7 +168,7 @@ ended_over command w v changes end =
 -- ---- any number of cuts
 
 -- what is on its way is underway, or a rollback has come to its end
-either : (moves : Option Move) (command : Command) (w m : WorldState) → IsOnItsWay moves command w m → IsUnderway w command m ⊎ HasComeBack command w m
+pub either : (moves : Option Move) (command : Command) (w m : WorldState) → IsOnItsWay moves command w m → IsUnderway w command m ⊎ HasComeBack command w m
 either None command w m underway = inl underway
 either (Some Set) command w m underway = inl underway
 either (Some (Point n)) command w m is = is
@@ -187,7 +187,7 @@ alike command (m ∷ cuts) w v changes ahead none steady led =
     over_then command w m underway v
     (alike command cuts m v changes (ap (λ (r : Row). is_back r.moves) underway.same_row ∙ ahead) underway.not_refused underway.steady led.1)
 
-come_in : (command : Command) (first w : WorldState) → IsUnderway first command w → (cuts : List WorldState) → HasComeBackIn command w cuts → HasComeBackIn command first cuts
+pub come_in : (command : Command) (first w : WorldState) → IsUnderway first command w → (cuts : List WorldState) → HasComeBackIn command w cuts → HasComeBackIn command first cuts
 come_in command first w before [] none = absurd none
 come_in command first w before (m ∷ cuts) is = ⊎_elim
     (λ here. inl (record { over = over_then command first w before m here.over; cleared = here.cleared }))

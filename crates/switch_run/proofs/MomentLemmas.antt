@@ -1,12 +1,13 @@
 -- The moments of a run.
-use Rattle.std.proofs.Common.{◌≡◌, Option, None, Some, refl, sym, subst}
+use Rattle.std.proofs.Common.{◌≡◌, false, Option, None, Some, refl, sym, subst}
 use Rattle.host_trait.specs.World.{WorldState}
 use Rattle.switch_engine.specs.declared.command.Command.{Command}
-use Rattle.switch_engine.specs.Commands.{IsQuery, brought_to, new_system, set_to}
+use Rattle.switch_engine.specs.Commands.{IsQuery, brought_to, lacks_goal, moved_by, new_system, row}
 use Rattle.switch_engine.specs.Moments as engine
 use Rattle.switch_engine.specs.Moments.{IsStepIf}
 use Rattle.switch_engine.specs.Rows.{refusal}
 use Rattle.switch_engine.proofs.LawLemmas.{begins_moment}
+use Rattle.switch_engine.proofs.UnderwayLemmas.{has_goal}
 use Rattle.switch_names.specs.SystemName.{IsSystemPath}
 use Rattle.switch_parts.specs.declared.refusal.Refusal.{Refusal}
 use Rattle.dry_report.proofs.RerunLemmas.{keeps_report, keeps_same}
@@ -31,13 +32,13 @@ pub of_query : (command : Command) (w m : WorldState) → IsQuery command → Is
 of_query command w m query moment = by (refusal command w.leaves) moment
   where
     by : (o : Option Refusal) → IsMomentBy o command w m → m ≡ w
-    by None moment = subst (λ b. IsStepIf b (set_to command w.leaves) (brought_to command w.leaves) w m) (query w.leaves) moment.step
+    by None moment = subst (λ b. IsStepIf b (moved_by (row command w.leaves)) (new_system command w.leaves) (brought_to command w.leaves) w m) (query w.leaves) moment.step
     by (Some why) moment = moment
 
 -- the report is kept at each moment
-pub of_report : (command : Command) (w m : WorldState) → IsSystemPath (new_system command w.leaves) → IsMomentOf (Some command) w m → KeepsReport command w m
+pub of_report : (command : Command) (w m : WorldState) → (lacks_goal command w.leaves ≡ false → IsSystemPath (new_system command w.leaves)) → IsMomentOf (Some command) w m → KeepsReport command w m
 of_report command w m named moment = by (refusal command w.leaves) refl moment
   where
     by : (o : Option Refusal) → refusal command w.leaves ≡ o → IsMomentBy o command w m → KeepsReport command w m
-    by None none moment = keeps_report command w m named none moment
+    by None none moment = keeps_report command w m (named (has_goal command w.leaves none)) none moment
     by (Some why) is same = keeps_same command w m same

@@ -9,7 +9,7 @@ use Rattle.host_trait.specs.World.{Leaves, WorldState}
 use Rattle.host_trait.proofs.Moments.{each_moment, passes_as, told_as, none_not_some}
 use Rattle.switch_engine.specs.declared.command.Command.{Command}
 use Rattle.switch_engine.specs.declared.command.Command.TheVariants.{Test, DryActivate}
-use Rattle.switch_engine.specs.Commands.{IsQuery, new_system}
+use Rattle.switch_engine.specs.Commands.{IsQuery, lacks_goal, new_system}
 use Rattle.switch_engine.specs.Final.{IsEndOf}
 use Rattle.switch_engine.specs.Rows.{refusal}
 use Rattle.switch_names.specs.SystemName.{IsSystemPath}
@@ -178,7 +178,7 @@ module _ {host_state after : HostState} {sink put : SinkState} (given : Option C
   queries command some query =
       passes_as is.moments IsSame (λ w m told moment. of_query command w m query (subst (λ (g : Option Command). IsMomentOf g w m) some moment))
 
-  pub same_report : (command : Command) → ((leaves : Leaves) → IsSystemPath (new_system command leaves)) → given ≡ Some command → Passes host_state after (KeepsReport command)
+  pub same_report : (command : Command) → ((leaves : Leaves) → lacks_goal command leaves ≡ false → IsSystemPath (new_system command leaves)) → given ≡ Some command → Passes host_state after (KeepsReport command)
   same_report command named some =
       passes_as is.moments (KeepsReport command) (λ w m told moment. of_report command w m (named w.leaves) (subst (λ (g : Option Command). IsMomentOf g w m) some moment))
 

@@ -1,5 +1,5 @@
 -- Runs of the same words, of which all but the last are cut.
-use Rattle.std.proofs.Common.{◌≡◌, ℕ, List, [], ◌∷◌, Option, None, Some, sym, ap, subst, ◌∙◌}
+use Rattle.std.proofs.Common.{◌≡◌, ◌⊎◌, ℕ, false, List, [], ◌∷◌, Option, None, Some, sym, ap, subst, ◌∙◌, inl, inr, ⊎_elim}
 use Rattle.host_trait.specs.States.{UnitStates, state_of}
 use Rattle.host_trait.specs.World.{WorldState}
 use Rattle.owed_lists.specs.declared.lists.Lists.{Lists}
@@ -8,11 +8,15 @@ use Rattle.owed_plan.specs.declared.owed.Owed.{Owed}
 use Rattle.owed_plan.specs.FinalStates.{final_state}
 use Rattle.owed_plan.specs.Owed.{IsOwed}
 use Rattle.owed_plan.specs.Systems.{systems_at}
+use Rattle.generations.specs.declared.moving.Move.{Move}
+use Rattle.generations.specs.declared.moving.Move.TheVariants.{Point, Set}
 use Rattle.switch_engine.specs.declared.command.Command.{Command}
-use Rattle.switch_engine.specs.Commands.{brought_to}
+use Rattle.switch_engine.specs.declared.row.Row.{Row}
+use Rattle.switch_engine.specs.Commands.{IsQuery, brought_to, goes_back, is_back, row}
 use Rattle.switch_engine.specs.Final.{AreFinalUnits, IsFinalOf}
-use Rattle.switch_engine.specs.Moments.{LeadsBy}
-use Rattle.switch_engine.specs.Owing.{IsOver, IsSteadyFor}
+use Rattle.switch_engine.specs.Moments as moments
+use Rattle.switch_engine.specs.Moments.{HasComeBackIn, IsOnItsWay, LeadsBy}
+use Rattle.switch_engine.specs.Owing.{IsOver, IsSteadyFor, IsUnderway}
 use Rattle.switch_engine.specs.Rows.{refusal}
 use Rattle.switch_engine.proofs.LawLemmas as engine
 use Rattle.switch_names.specs.Names.{Name}
@@ -26,19 +30,46 @@ use Rattle.unit_stage.specs.System.{current_system, definitions_of}
 
 -- ---- runs of words are runs of their command
 
-lead_by : (words : List (List ℕ)) (command : Command) → command_of words ≡ Some command → (cuts : List WorldState) (w v : WorldState) →
-    refusal command w.leaves ≡ None → IsSteadyFor command w → RunsLead words cuts w v → LeadsBy command cuts w v
-lead_by words command given [] w v none steady led = led command given
-lead_by words command given (m ∷ cuts) w v none steady led =
-    let here = subst (λ (o : Option Command). IsMomentOf o w m) given led.0 in
-    let moment = subst (λ (o : Option Refusal). IsMomentBy o command w m) none here in
-    let underway = moment.underway steady in
-    (moment, lead_by words command given cuts m v underway.not_refused underway.steady led.1)
+moment_of : (words : List (List ℕ)) (command : Command) → command_of words ≡ Some command → (w m : WorldState) → refusal command w.leaves ≡ None → IsMomentOf (command_of words) w m → moments.IsMomentOf command w m
+moment_of words command given w m none moment =
+    subst (λ (o : Option Refusal). IsMomentBy o command w m) none (subst (λ (o : Option Command). IsMomentOf o w m) given moment)
 
-pub over : (words : List (List ℕ)) (cuts : List WorldState) (first last : WorldState) → (may : MayBeCut words first) → RunsLead words cuts first last → IsOver first may.command last
-over words cuts first last may led =
-    engine.alike may.command cuts first last may.changes may.not_refused may.steady
-    (lead_by words may.command may.given cuts first last may.not_refused may.steady led)
+lead_by : (words : List (List ℕ)) (command : Command) → command_of words ≡ Some command → (cuts : List WorldState) (w v : WorldState) → goes_back command w.leaves ≡ false →
+    refusal command w.leaves ≡ None → IsSteadyFor command w → RunsLead words cuts w v → LeadsBy command cuts w v
+lead_by words command given [] w v ahead none steady led = led command given
+lead_by words command given (m ∷ cuts) w v ahead none steady led =
+    let moment = moment_of words command given w m none led.0 in
+    let underway = engine.never_back (row command w.leaves).moves command w m ahead (moment.underway steady) in
+    (moment, lead_by words command given cuts m v (ap (λ (r : Row). is_back r.moves) underway.same_row ∙ ahead) underway.not_refused underway.steady led.1)
+
+pub over : (words : List (List ℕ)) (cuts : List WorldState) (first last : WorldState) → (may : MayBeCut words first) → goes_back may.command first.leaves ≡ false → RunsLead words cuts first last → IsOver first may.command last
+over words cuts first last may ahead led =
+    engine.alike may.command cuts first last may.changes ahead may.not_refused may.steady
+    (lead_by words may.command may.given cuts first last ahead may.not_refused may.steady led)
+
+come_by : (words : List (List ℕ)) (command : Command) → command_of words ≡ Some command → (IsQuery command → ⊥) → (cuts : List WorldState) (w v : WorldState) → refusal command w.leaves ≡ None → IsSteadyFor command w →
+    RunsLead words cuts w v → IsOver w command v ⊎ HasComeBackIn command w cuts
+come_by words command given changes [] w v none steady led = inl (engine.ended_over command w v changes (led command given))
+come_by words command given changes (m ∷ cuts) w v none steady led = ⊎_elim
+    (λ underway. ⊎_elim
+    (λ over. inl (engine.over_then command w m underway v over))
+    (λ come. inr (inr (engine.come_in command w m underway cuts come)))
+    (come_by words command given changes cuts m v underway.not_refused underway.steady led.1))
+    (λ come. inr (inl come))
+    (engine.either (row command w.leaves).moves command w m ((moment_of words command given w m none led.0).underway steady))
+
+pub back : (words : List (List ℕ)) (cuts : List WorldState) (first last : WorldState) → (may : MayBeCut words first) → RunsLead words cuts first last → IsOver first may.command last ⊎ HasComeBackIn may.command first cuts
+back words cuts first last may led = come_by words may.command may.given may.changes cuts first last may.not_refused may.steady led
+
+-- ---- what is on its way since one world is so since an earlier one
+
+pub on_its_way_then : (moves : Option Move) (command : Command) (first w m : WorldState) → IsUnderway first command w → IsOnItsWay moves command w m → IsOnItsWay moves command first m
+on_its_way_then None command first w m before underway = engine.stays_underway command first w before m underway
+on_its_way_then (Some Set) command first w m before underway = engine.stays_underway command first w before m underway
+on_its_way_then (Some (Point n)) command first w m before is = ⊎_elim
+    (λ underway. inl (engine.stays_underway command first w before m underway))
+    (λ come. inr (record { over = engine.over_then command first w before m come.over; cleared = come.cleared }))
+    is
 
 -- ---- a command leaves one world to see
 
@@ -79,6 +110,6 @@ one_end command w v u is also = record {
   loaded = one_loaded (brought_to command w.leaves) w v u is.units also.units;
 }
 
-pub alike : (words : List (List ℕ)) (cuts : List WorldState) (first last uncut : WorldState) → MayBeCut words first → RunsLead words cuts first last → RunsLead words [] first uncut → LooksAlike last uncut
-alike words cuts first last uncut may led straight =
-    one_end may.command first last uncut (over words cuts first last may led).final (straight may.command may.given).final
+pub alike : (words : List (List ℕ)) (cuts : List WorldState) (first last uncut : WorldState) → (may : MayBeCut words first) → goes_back may.command first.leaves ≡ false → RunsLead words cuts first last → RunsLead words [] first uncut → LooksAlike last uncut
+alike words cuts first last uncut may ahead led straight =
+    one_end may.command first last uncut (over words cuts first last may ahead led).final (straight may.command may.given).final

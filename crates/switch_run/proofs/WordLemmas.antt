@@ -1,11 +1,18 @@
 -- The words of a command.
-use Rattle.std.proofs.Common.{◌≡◌, ℕ, Bool, true, false, List, [], ◌∷◌, Option, None, Some, cond, is_none, option_and_then, ap, refl, sym, subst, ◌∙◌}
+use Rattle.std.proofs.Common.{◌≡◌, ℕ, Bool, true, false, codes, nat_eq, List, [], ◌∷◌, Option, None, Some, cond, is_none, option_and_then, ap, refl, sym, subst, ◌∙◌}
 use Rattle.std.proofs.lemmas.Option.{none-some}
 use Rattle.generations.specs.Places.{system_of}
 use Rattle.host_trait.specs.World.{Leaves}
 use Rattle.switch_engine.specs.declared.command.Command.{Command}
-use Rattle.switch_engine.specs.declared.command.Command.TheVariants.{Switch, Test, Boot, DryActivate}
-use Rattle.switch_engine.specs.Commands.{new_system}
+use Rattle.switch_engine.specs.declared.command.Command.TheVariants.{Switch, Test, Boot, DryActivate, Rollback}
+use Rattle.switch_engine.specs.Commands.{lacks_goal, named_by, new_system, system_of as system_of_goal}
+use Rattle.switch_engine.proofs.GoalKeptLemmas.{names_it}
+use Rattle.generations.specs.Goal.{goal}
+use Rattle.generations.specs.Places.{generation_at}
+use Rattle.generations.proofs.AfterLemmas.{named_at}
+use Rattle.generations.proofs.GoalLemmas.{goal_names}
+use Rattle.std.proofs.lemmas.Bool.{both_ways}
+use Rattle.std.specs.Cmp.Lexicographic.{pointwise}
 use Rattle.switch_names.specs.declared.name_fault.NameFault.{NameFault}
 use Rattle.switch_names.specs.SystemName.{IsSystemPath, system_fault, system_path}
 use Rattle.switch_names.proofs.StorePaths.{IsSystemPath-from_named}
@@ -32,13 +39,24 @@ module _ (system : List ℕ) (named : IsSystemPath system) (leaves : Leaves) (co
   named_for false false false true is = named_as (DryActivate system) refl is
   named_for false false false false is = absurd (none-some command is)
 
--- words give a command for a system alone
-pub named_of : (words : List (List ℕ)) (command : Command) → command_of words ≡ Some command → (leaves : Leaves) → IsSystemPath (new_system command leaves)
-named_of [] command is leaves = absurd (none-some command is)
-named_of (verb ∷ []) command is leaves = absurd (none-some command is)
-named_of (verb ∷ word ∷ []) command is leaves = by (system_fault word) refl is
+-- a rollback that has a goal is about the system that it names
+named_back : (leaves : Leaves) (o : Option ℕ) → goal leaves ≡ o → is_none o ≡ false → IsSystemPath (system_of_goal o leaves)
+named_back leaves None is has = absurd (both_ways _ has refl)
+named_back leaves (Some n) is has = named_at leaves n (Some (named_by (generation_at leaves n))) (names_it (generation_at leaves n) (goal_names leaves n is))
+
+-- words give a command for a system, or a rollback
+pub named_of : (words : List (List ℕ)) (command : Command) → command_of words ≡ Some command → (leaves : Leaves) → lacks_goal command leaves ≡ false → IsSystemPath (new_system command leaves)
+named_of [] command is leaves has = absurd (none-some command is)
+named_of (verb ∷ []) command is leaves has = by (pointwise nat_eq verb (codes "rollback")) is has
+  where
+    by : (b : Bool) → cond b (Some Rollback) None ≡ Some command → lacks_goal command leaves ≡ false → IsSystemPath (new_system command leaves)
+    by true is has =
+        let same = same_command Rollback command is in
+        subst (λ (c : Command). IsSystemPath (new_system c leaves)) same (named_back leaves (goal leaves) refl (subst (λ (c : Command). lacks_goal c leaves ≡ false) (sym same) has))
+    by false is has = absurd (none-some command is)
+named_of (verb ∷ word ∷ []) command is leaves has = by (system_fault word) refl is
   where
     by : (fault : Option NameFault) → system_fault word ≡ fault → option_and_then (command_for verb) (cond (is_none fault) (Some (system_path word)) None) ≡ Some command → IsSystemPath (new_system command leaves)
     by None none is = named_for (system_path word) (IsSystemPath-from_named word none) leaves command _ _ _ _ is
     by (Some fault) because is = absurd (none-some command is)
-named_of (verb ∷ word ∷ more ∷ rest) command is leaves = absurd (none-some command is)
+named_of (verb ∷ word ∷ more ∷ rest) command is leaves has = absurd (none-some command is)

@@ -3,7 +3,7 @@ use Rattle.std.specs.Prelude.{ℕ, List, [], ◌∷◌, codes, nat_eq, Option, N
 use Rattle.std.specs.Cmp.Lexicographic.{pointwise}
 use Rattle.generations.specs.Places.{system_of}
 use Rattle.switch_engine.specs.declared.command.Command.{Command}
-use Rattle.switch_engine.specs.declared.command.Command.TheVariants.{Switch, Test, Boot, DryActivate}
+use Rattle.switch_engine.specs.declared.command.Command.TheVariants.{Switch, Test, Boot, DryActivate, Rollback}
 
 -- the command that a word gives for a system, or none
 abbrev pub command_for : List ℕ → List ℕ → Option Command
@@ -14,9 +14,13 @@ command_for verb system =
     else if pointwise nat_eq verb (codes "dry-activate") then Some (DryActivate system)
     else None
 
+-- the command that a word gives alone, or none
+abbrev pub command_alone : List ℕ → Option Command
+command_alone verb = if pointwise nat_eq verb (codes "rollback") then Some Rollback else None
+
 -- the command that words give, or none
 abbrev pub command_of : List (List ℕ) → Option Command
 command_of [] = None
-command_of (verb ∷ []) = None
+command_of (verb ∷ []) = command_alone verb
 command_of (verb ∷ word ∷ []) = option_and_then (command_for verb) (system_of word)
 command_of (verb ∷ word ∷ more ∷ rest) = None

@@ -4,7 +4,7 @@ use Rattle.std.specs.Fmt.{decimal}
 use Rattle.switch_parts.specs.declared.refusal.MapFile.{MapFile}
 use Rattle.switch_parts.specs.declared.refusal.MapFile.TheVariants.{Gid, Uid}
 use Rattle.switch_parts.specs.declared.refusal.Refusal.{Refusal}
-use Rattle.switch_parts.specs.declared.refusal.Refusal.TheVariants.{EtcEntry, GenerationsFull, IdMap, InTheWay, NoFreeId, NoSystem, Owner, Reserved, Table, UnitText, UnknownGroup, UsersSpec}
+use Rattle.switch_parts.specs.declared.refusal.Refusal.TheVariants.{EtcEntry, GenerationsFull, IdMap, InTheWay, NoFreeId, NoPrevious, NoSystem, Owner, Reserved, Table, UnitText, UnknownGroup, UsersSpec}
 use Rattle.switch_parts.specs.declared.refusal.TableFile.{TableFile}
 use Rattle.switch_parts.specs.declared.refusal.TableFile.TheVariants.{Group, Passwd, Shadow}
 use Rattle.users_spec.specs.declared.place.Place.{Place}
@@ -51,6 +51,7 @@ map_text Gid = codes "gid-map"
 
 -- why a command was refused
 abbrev pub refusal_text : Refusal → List ℕ
+refusal_text NoPrevious = codes "no previous generation"
 refusal_text NoSystem = codes "no such system"
 refusal_text (InTheWay path) = codes "in the way: " ++ path
 refusal_text (UnitText unit line) = codes "unit " ++ (unit ++ (codes " line " ++ decimal line))

@@ -1,6 +1,8 @@
 //! What holds of runs that are cut and made again.
-ghost use Rattle.std.specs.Prelude.{ℕ, List, []};
+ghost use Rattle.std.specs.Prelude.{◌≡◌, ◌⊎◌, ℕ, List, [], false};
 ghost use Rattle.host_trait.specs.World.{WorldState};
+ghost use Rattle.switch_engine.specs.Commands.{goes_back};
+ghost use Rattle.switch_engine.specs.Moments.{HasComeBackIn};
 ghost use Rattle.switch_engine.specs.Owing.{IsOver};
 ghost use Rattle.switch_run.specs.Runs.{LooksAlike, MayBeCut, RunsLead};
 
@@ -9,9 +11,18 @@ ghost use Rattle.switch_run.specs.Runs.{LooksAlike, MayBeCut, RunsLead};
 /// has got it under the new definitions, and no unit was touched that was owed nothing.
 ///
 /// Between the runs nobody else changes the world. A cut is the end of the process, a fault of the host or want of memory.
+/// This is about each command that changes something but a rollback, of which `cut_rollbacks_end_as_one` speaks.
 pub fn cut_runs_end_as_one()
-    ensures alike { (words : List (List ℕ)) (cuts : List WorldState) (first last uncut : WorldState) → MayBeCut words first
-        → RunsLead words cuts first last → RunsLead words [] first uncut → LooksAlike last uncut }
+    ensures alike { (words : List (List ℕ)) (cuts : List WorldState) (first last uncut : WorldState) → (may : MayBeCut words first)
+        → goes_back may.command first.leaves ≡ false → RunsLead words cuts first last → RunsLead words [] first uncut → LooksAlike last uncut }
     ensures over { (words : List (List ℕ)) (cuts : List WorldState) (first last : WorldState) → (may : MayBeCut words first)
-        → RunsLead words cuts first last → IsOver first may.command last }
+        → goes_back may.command first.leaves ≡ false → RunsLead words cuts first last → IsOver first may.command last }
+{}
+
+/// However often rollbacks are cut, the one that then comes to its end leaves what one leaves that isn't cut, and so for
+/// what the units were owed; or one of them was cut when it had done all that, and had removed its goal: then the next one
+/// has begun anew, one generation further back.
+pub fn cut_rollbacks_end_as_one()
+    ensures { (words : List (List ℕ)) (cuts : List WorldState) (first last : WorldState) → (may : MayBeCut words first)
+        → RunsLead words cuts first last → IsOver first may.command last ⊎ HasComeBackIn may.command first cuts }
 {}

@@ -11,7 +11,7 @@ mod status;
 mod top_call;
 mod words;
 
-pub use laws::cut_runs_end_as_one;
+pub use laws::{cut_rollbacks_end_as_one, cut_runs_end_as_one};
 pub use status::Status;
 pub use top_call::run;
 pub use words::read_words;

@@ -89,6 +89,7 @@ pub fn refusal_text(alloc: Global, refusal: &Refusal) -> Result<String, AllocErr
     ensures { IfOk result (λ text. string_bytes text ≡ refusal_text refusal.now) }
 {
     match refusal {
+        Refusal::NoPrevious => String::from_str(alloc, "no previous generation"),
         Refusal::NoSystem => String::from_str(alloc, "no such system"),
         Refusal::InTheWay(path) => format!(in alloc; "in the way: {}", path.as_str()),
         Refusal::UnitText { unit, line } => format!(in alloc; "unit {} line {line}", unit.as_str()),

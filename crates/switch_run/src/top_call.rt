@@ -6,8 +6,9 @@ ghost use Rattle.host_trait.specs.Sink.{Puts};
 ghost use Rattle.host_trait.specs.World.{WorldState};
 ghost use Rattle.switch_engine.specs.declared.command.Command.{Command};
 ghost use Rattle.switch_engine.specs.declared.command.Command.TheVariants.{Test, DryActivate};
-ghost use Rattle.switch_engine.specs.Commands.{IsQuery};
+ghost use Rattle.switch_engine.specs.Commands.{IsQuery, row};
 ghost use Rattle.switch_engine.specs.Final.{IsEndOf};
+ghost use Rattle.switch_engine.specs.Moments.{IsOnItsWay};
 ghost use Rattle.switch_engine.specs.Owing.{IsOver, IsUnderway};
 ghost use Rattle.switch_engine.specs.Rows.{refusal};
 ghost use Rattle.switch_parts.specs.declared.refusal.Refusal.{Refusal};
@@ -78,9 +79,9 @@ pub fn run<H: Manager, S: Sink>(alloc: Global, words: &[Text], host: &mut H, out
     ensures moments { Passes (H.host host.old) (H.host host.new) (IsMomentOf (command_of words.now)) }
 
     // However often runs of these words were cut before, since one that wasn't refused began in a steady world: each
-    // moment is underway from there, and the end is the one that it has.
+    // moment is underway from there, or a rollback has come to its end, and the end is the one that it has.
     ensures after_cuts { (command : Command) (first : WorldState) → command_of words.now ≡ Some command → Told (H.host host.old) (λ w. IsUnderway first command w)
-        → EachMoment (H.host host.old) (H.host host.new) (λ w m. IsUnderway first command m) }
+        → EachMoment (H.host host.old) (H.host host.new) (λ w m. IsOnItsWay (row command first.leaves).moves command first m) }
     ensures after_cuts_ended { (command : Command) (first : WorldState) → command_of words.now ≡ Some command → (IsQuery command → ⊥) → IsEnded result
         → Told (H.host host.old) (λ w. IsUnderway first command w) → Leads (H.host host.old) (H.host host.new) (λ w v. IsOver first command v) }
 {

@@ -1,7 +1,7 @@
 //! The words of a command.
 ghost use Rattle.std.specs.Prelude.{◌≡◌, IfOk, option_and_then};
 ghost use Rattle.generations.specs.Places.{system_of};
-ghost use Rattle.switch_run.specs.Commands.{command_for, command_of};
+ghost use Rattle.switch_run.specs.Commands.{command_alone, command_for, command_of};
 
 use std::alloc::{AllocError, Global};
 use switch_engine::Command;
@@ -37,6 +37,16 @@ fn command_for(verb: &Text, system: SystemName) -> Option<Command>
     None
 }
 
+/// The command that a word gives alone, or none.
+fn read_alone(verb: &Text) -> Option<Command>
+    ensures { result ≡ command_alone verb.now }
+{
+    if verb.as_str() == "rollback" {
+        return Some(Command::Rollback);
+    }
+    None
+}
+
 /// The command that two words give, or none.
 fn read_pair(alloc: Global, verb: &Text, word: &Text) -> Result<Option<Command>, AllocError>
     ensures { IfOk result (λ command. command ≡ option_and_then (command_for verb.now) (system_of word.now)) }
@@ -52,6 +62,7 @@ pub fn read_words(alloc: Global, words: &[Text]) -> Result<Option<Command>, Allo
     ensures { IfOk result (λ command. command ≡ command_of words.now) }
 {
     match words {
+        [verb] => Ok(read_alone(verb)),
         [verb, word] => read_pair(alloc, verb, word),
         _ => Ok(None),
     }
