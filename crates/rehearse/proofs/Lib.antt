@@ -1,0 +1,4 @@
+pub mod AttemptLemmas
+pub mod CutLemmas
+pub mod HeldLemmas
+pub mod RunLemmas

@@ -1,0 +1,13 @@
+//! A command on a host in memory that is cut, or fails, and is run again until it comes to its end.
+#![tactic(auto)]
+
+mod attempt;
+mod cut;
+mod running;
+mod summary;
+mod trouble;
+
+pub use cut::Cut;
+pub use running::{through, through_all};
+pub use summary::{End, Summary};
+pub use trouble::Trouble;
