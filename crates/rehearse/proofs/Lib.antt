@@ -1,4 +1,5 @@
 pub mod AttemptLemmas
 pub mod CutLemmas
+pub mod GeneratedLemmas
 pub mod HeldLemmas
 pub mod RunLemmas

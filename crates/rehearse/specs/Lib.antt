@@ -1,3 +1,4 @@
 pub mod Ends
+pub mod Generated
 pub mod Through
 pub mod Troubles

@@ -3,11 +3,13 @@
 
 mod attempt;
 mod cut;
+mod generated;
 mod running;
 mod summary;
 mod trouble;
 
 pub use cut::Cut;
+pub use generated::{Generated, generate, generate_of};
 pub use running::{through, through_all};
 pub use summary::{End, Summary};
 pub use trouble::Trouble;

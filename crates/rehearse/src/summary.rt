@@ -13,10 +13,17 @@ pub enum End {
 }
 
 /// How often a command was run, and how it ended.
-#[derive(Debug, Drop)]
+#[derive(Debug)]
 pub struct Summary {
     /// How many runs there were.
     pub runs: u64,
     /// How the last one ended.
     pub end: End,
+}
+
+/// One call: a derived drop is proved anew in each function that lets one go.
+impl Drop for Summary {
+    fn drop(self) {
+        let Summary { runs: _, end: _ } = self;
+    }
 }
