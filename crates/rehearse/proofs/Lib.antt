@@ -2,4 +2,5 @@ pub mod AttemptLemmas
 pub mod CutLemmas
 pub mod GeneratedLemmas
 pub mod HeldLemmas
+pub mod RehearsalLemmas
 pub mod RunLemmas

@@ -38,6 +38,20 @@ impl Drop for Generated {
     }
 }
 
+impl Generated {
+    /// Its world, its new system, and the cuts.
+    pub fn into_parts(self) -> (World, SystemName, Listed<Cut>)
+        ensures { result ≡ (self.world, self.system, self.cuts) }
+    {
+        let Generated {
+            world,
+            system,
+            cuts,
+        } = self;
+        (world, system, cuts)
+    }
+}
+
 /// A world after a switch to the old system.
 fn settle(alloc: Global, world: World) -> Result<World, AllocError>
     ensures { IfOk result (IsSettled world) }
