@@ -1,5 +1,5 @@
 //! One run of a command, without a report.
-ghost use Rattle.std.specs.Prelude.{◌≡◌, IfOk};
+ghost use Rattle.std.specs.Prelude.{◌↔◌, IfOk, IsTrue};
 ghost use Rattle.host_trait.specs.Host.{HasCause, Leads, Passes};
 ghost use Rattle.rehearse.specs.Ends.{HasEnded, IsHeld, IsRepeatable};
 
@@ -7,6 +7,13 @@ use crate::summary::End;
 use host_trait::{HostFault, Manager};
 use std::alloc::Global;
 use switch_engine::{Command, PlanFault, carry_out, plan_all};
+
+/// Whether a run of a command goes on where another was cut.
+pub fn is_repeatable(command: &Command) -> bool
+    ensures { IsTrue result ↔ IsRepeatable command.now }
+{
+    !command.is_query()
+}
 
 /// Plans a command and carries it out.
 pub(crate) fn attempt<H: Manager>(

@@ -1,4 +1,5 @@
-//! A command on a host in memory that is cut, or fails, and is run again until it comes to its end.
+//! A command on a host in memory that is cut, or fails, and is run again until it comes to its end; and a made machine, a
+//! switch of which is rehearsed so.
 #![tactic(auto)]
 
 mod attempt;
@@ -9,6 +10,7 @@ mod running;
 mod summary;
 mod trouble;
 
+pub use attempt::is_repeatable;
 pub use cut::Cut;
 pub use generated::{Generated, generate, generate_of};
 pub use rehearsing::{rehearsal, rehearsal_of};
