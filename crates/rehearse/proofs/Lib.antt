@@ -1,0 +1,6 @@
+pub mod AttemptLemmas
+pub mod CutLemmas
+pub mod GeneratedLemmas
+pub mod HeldLemmas
+pub mod RehearsalLemmas
+pub mod RunLemmas

@@ -1,0 +1,19 @@
+//! A command on a host in memory that is cut, or fails, and is run again until it comes to its end; and a made machine, a
+//! switch of which is rehearsed so.
+#![tactic(auto)]
+
+mod attempt;
+mod cut;
+mod generated;
+mod rehearsing;
+mod running;
+mod summary;
+mod trouble;
+
+pub use attempt::is_repeatable;
+pub use cut::Cut;
+pub use generated::{Generated, generate, generate_of};
+pub use rehearsing::{rehearsal, rehearsal_of};
+pub use running::{through, through_all};
+pub use summary::{End, Summary};
+pub use trouble::Trouble;
