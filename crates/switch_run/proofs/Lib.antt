@@ -1,4 +1,5 @@
 pub mod EndingLemmas
+pub mod ListingLemmas
 pub mod MomentLemmas
 pub mod RunLemmas
 pub mod RunsLemmas

@@ -1,5 +1,6 @@
 pub mod Commands
 pub mod Ending
+pub mod Listing
 pub mod Moments
 pub mod Output
 pub mod RefusalTexts

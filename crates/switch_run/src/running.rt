@@ -5,10 +5,12 @@ ghost use Rattle.switch_engine.specs.Plan.{IsPlanOf, IsSound};
 ghost use Rattle.switch_run.specs.declared.run_fault.RunFault.TheVariants.{Sink};
 ghost use Rattle.switch_run.specs.Commands.{command_of};
 ghost use Rattle.switch_run.specs.Ending.{HasReported, IsEnding, IsSinkCaused};
+ghost use Rattle.switch_run.specs.Listing.{IsListing};
 
 use crate::run_fault::RunFault;
 use crate::words::read_words;
-use dry_report::{close, report};
+use dry_report::{close, generation_list, report};
+use generations::all;
 use host_trait::{Manager, Sink};
 use std::alloc::Global;
 use switch_engine::{Command, Plan, carry_out, plan_all};
@@ -71,4 +73,20 @@ pub fn run_words<H: Manager, S: Sink>(
         Some(command) => run_command(alloc, host, out, &command),
         None => Err(RunFault::Usage),
     }
+}
+
+/// Puts the list of the generations that stand, and changes nothing.
+///
+/// Source: nix-env(1), "--list-generations".
+pub fn run_list<H: Manager, S: Sink>(
+    alloc: Global,
+    host: &mut H,
+    out: &mut S,
+) -> Result<bool, RunFault>
+    ensures { IsListing (H.host host.old) (H.host host.new) (S.sink out.old) (S.sink out.new) result }
+{
+    let gens = all(alloc, host)?;
+    let text = generation_list(alloc, &gens)?;
+    out.put(text.as_slice())?;
+    Ok(false)
 }

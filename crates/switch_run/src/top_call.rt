@@ -1,5 +1,5 @@
 //! The whole of a run.
-ghost use Rattle.std.specs.Prelude.{◌≡◌, ◌⊎◌, [], ℕ, List, None, Some, IsTrue};
+ghost use Rattle.std.specs.Prelude.{◌≡◌, ◌⊎◌, [], ℕ, List, None, Some, IsTrue, true, false};
 ghost use Rattle.host_trait.specs.Change.{IsSame};
 ghost use Rattle.host_trait.specs.Host.{EachMoment, Told, Leads, Passes, Rose};
 ghost use Rattle.host_trait.specs.Sink.{Puts};
@@ -14,12 +14,14 @@ ghost use Rattle.switch_engine.specs.Rows.{refusal};
 ghost use Rattle.switch_parts.specs.declared.refusal.Refusal.{Refusal};
 ghost use Rattle.dry_report.specs.Report.{KeepsReport};
 ghost use Rattle.switch_run.specs.Commands.{command_of};
+ghost use Rattle.switch_run.specs.Listing.{IsInList, IsListOf, asks_list};
 ghost use Rattle.switch_run.specs.Moments.{IsMomentOf};
 ghost use Rattle.switch_run.specs.Output.{IsBrokenOff, IsFailedOutput, IsIdle, IsPutFirst, IsWhole};
 ghost use Rattle.switch_run.specs.Run.{Answers, IsBroken, IsEnded, IsVerdict};
 
-use crate::running::run_words;
+use crate::running::{run_list, run_words};
 use crate::status::{Status, status_of};
+use crate::words::asks_list;
 use host_trait::{Manager, Sink};
 use std::alloc::Global;
 use switch_names::Text;
@@ -32,9 +34,17 @@ use switch_names::Text;
 /// `each_moment`.
 pub fn run<H: Manager, S: Sink>(alloc: Global, words: &[Text], host: &mut H, out: &mut S) -> Status
     // Words that give no command.
-    ensures usage { result ≡ Status.Usage → command_of words.now ≡ None }
-    ensures no_command { command_of words.now ≡ None → (result ≡ Status.Usage) ⊎ (result ≡ Status.NoMemory) }
-    ensures usage_output { command_of words.now ≡ None → Puts (S.sink out.old) (S.sink out.new) (λ more. more ≡ []) }
+    ensures usage { result ≡ Status.Usage → (command_of words.now ≡ None) × (asks_list words.now ≡ false) }
+    ensures no_command { command_of words.now ≡ None → asks_list words.now ≡ false → (result ≡ Status.Usage) ⊎ (result ≡ Status.NoMemory) }
+    ensures usage_output { command_of words.now ≡ None → asks_list words.now ≡ false → Puts (S.sink out.old) (S.sink out.new) (λ more. more ≡ []) }
+
+    // Words that ask for the list of the generations. Nothing changes, and the list is put whole; a beginning of it,
+    // where the output fails; or nothing, where the host fails or memory is wanting.
+    ensures list { asks_list words.now ≡ true → IsEnded result → (result ≡ Status.Done) × Told (H.host host.old) (λ w. Puts (S.sink out.old) (S.sink out.new) (IsListOf w)) }
+    ensures list_begun { asks_list words.now ≡ true → result ≡ Status.SinkFault → Told (H.host host.old) (λ w. Puts (S.sink out.old) (S.sink out.new) (IsInList w)) }
+    ensures list_broken { asks_list words.now ≡ true → IsBroken result → Puts (S.sink out.old) (S.sink out.new) (λ more. more ≡ []) }
+    ensures list_changes_nothing { asks_list words.now ≡ true → Passes (H.host host.old) (H.host host.new) IsSame }
+    ensures list_completes { asks_list words.now ≡ true → ¬ Rose (H.host host.old).faults (H.host host.new).faults → ¬ Rose (S.sink out.old).faults (S.sink out.new).faults → (result ≡ Status.Done) ⊎ (result ≡ Status.NoMemory) }
 
     // A refusal is the world's. Where there is one, nothing is put and nothing changes, whatever is answered.
     ensures refused { (why : Refusal) → result ≡ Status.Refused why → (command : Command) → command_of words.now ≡ Some command → Told (H.host host.old) (λ w. refusal command w.leaves ≡ Some why) }
@@ -85,6 +95,10 @@ pub fn run<H: Manager, S: Sink>(alloc: Global, words: &[Text], host: &mut H, out
     ensures after_cuts_ended { (command : Command) (first : WorldState) → command_of words.now ≡ Some command → (IsQuery command → ⊥) → IsEnded result
         → Told (H.host host.old) (λ w. IsUnderway first command w) → Leads (H.host host.old) (H.host host.new) (λ w v. IsOver first command v) }
 {
+    if asks_list(words) {
+        let listed = run_list(alloc, host, out);
+        return status_of(listed);
+    }
     let ending = run_words(alloc, words, host, out);
     status_of(ending)
 }

@@ -2,6 +2,7 @@
 ghost use Rattle.std.specs.Prelude.{◌≡◌, IfOk, option_and_then};
 ghost use Rattle.generations.specs.Places.{system_of};
 ghost use Rattle.switch_run.specs.Commands.{command_alone, command_for, command_of};
+ghost use Rattle.switch_run.specs.Listing.{asks_list};
 
 use std::alloc::{AllocError, Global};
 use switch_engine::Command;
@@ -65,5 +66,15 @@ pub fn read_words(alloc: Global, words: &[Text]) -> Result<Option<Command>, Allo
         [verb] => Ok(read_alone(verb)),
         [verb, word] => read_pair(alloc, verb, word),
         _ => Ok(None),
+    }
+}
+
+/// Whether words ask for the list of the generations.
+pub fn asks_list(words: &[Text]) -> bool
+    ensures { result ≡ asks_list words.now }
+{
+    match words {
+        [verb] => verb.as_str() == "generations",
+        _ => false,
     }
 }
