@@ -3,11 +3,9 @@ use Rattle.std.proofs.Common.{◌≡◌, ◌⊎◌, ℕ, Bool, true, false, List
 use Rattle.std.proofs.lemmas.Bool.{both_ways}
 use Rattle.std.proofs.lemmas.Option.{none-some}
 use Rattle.std.specs.Cmp.Lexicographic.{pointwise, same_text}
-use Rattle.host_trait.specs.Change.{IsSame}
 use Rattle.host_trait.specs.declared.tree.HostFault.TheVariants as host
 use Rattle.host_trait.specs.Host.{HostState, IsHost, EachMoment, Passes, Rose, Told}
 use Rattle.host_trait.specs.Sink.{Puts, SinkState}
-use Rattle.host_trait.specs.World.{WorldState}
 use Rattle.host_trait.proofs.Moments.{each_moment, passes_as}
 use Rattle.switch_engine.specs.declared.command.Command.{Command}
 use Rattle.switch_engine.specs.declared.command.Command.TheVariants.{Rollback}
@@ -16,7 +14,7 @@ use Rattle.switch_run.specs.Commands.{command_of}
 use Rattle.switch_run.specs.declared.run_fault.RunFault.{RunFault}
 use Rattle.switch_run.specs.declared.run_fault.RunFault.TheVariants as fault
 use Rattle.switch_run.specs.declared.status.Status.{Status}
-use Rattle.switch_run.specs.declared.status.Status.TheVariants.{Done, Usage, Refused, HostFault, SinkFault, UnitsFailed, NoMemory}
+use Rattle.switch_run.specs.declared.status.Status.TheVariants.{Done, Usage, Refused, HostFault, SinkFault, NoMemory}
 use Rattle.switch_run.specs.Listing.{HasListed, IsInList, IsListing, IsListOf, asks_list}
 use Rattle.switch_run.specs.Moments.{IsMomentOf}
 use Rattle.switch_run.specs.Run.{IsBroken, IsEnded, status_of}

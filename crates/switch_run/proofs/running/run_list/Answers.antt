@@ -1,4 +1,4 @@
-use Rattle.std.proofs.Common.{◌≡◌, Bool, false, Err, Ok, Result, ap, subst, sym, refl, ◌∙◌}
+use Rattle.std.proofs.Common.{Bool, false, Err, Result, ap, subst, sym, refl, ◌∙◌}
 use Rattle.std.proofs.lemmas.Result.{err_from_is_err_and}
 use Rattle.std.specs.Result.{IsErrOf}
 use Rattle.host_trait.specs.declared.tree.HostFault.TheVariants.{Device}
