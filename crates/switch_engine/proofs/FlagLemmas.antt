@@ -1,5 +1,5 @@
 -- What a command does wherever it begins.
-use Rattle.std.proofs.Common.{◌≡◌, Bool, true, refl, ◌∙◌, inl, inr}
+use Rattle.std.proofs.Common.{◌≡◌, true, refl, ◌∙◌, inl, inr}
 use Rattle.std.proofs.lemmas.Bool.{cases_Bool}
 use Rattle.host_trait.specs.World.{Leaves}
 use Rattle.switch_engine.specs.declared.command.Command.{Command}

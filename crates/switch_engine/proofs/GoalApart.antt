@@ -1,10 +1,10 @@
 -- No other part looks at the goal of a rollback, and the goal's part looks at nothing that they own.
-use Rattle.std.proofs.Common.{◌≡◌, ◌≢◌, ◌||◌, ◌++◌, ℕ, Bool, true, false, codes, Option, None, Some, is_some, refl, sym, ap, subst, ◌∙◌, inl, inr}
+use Rattle.std.proofs.Common.{◌≡◌, ◌≢◌, ◌||◌, ◌++◌, ℕ, Bool, true, false, codes, None, is_some, refl, sym, ap, subst, ◌∙◌, inl, inr}
 use Rattle.std.proofs.lemmas.Bool.{both_ways, cases_Bool, or_from}
 use Rattle.std.specs.Cmp.Lexicographic.{nat_list_eq_equiv, same_text}
 use Rattle.std.specs.List.{AllByRecursion}
 use Rattle.accounts_stage.specs.AccountsPart.{reads_accounts}
-use Rattle.accounts_stage.specs.Places.{account_names, account_places, gids_place, group_place, groups_place, memory_places, owns_accounts, passwd_place, shadow_place, table_places, uids_place, users_place}
+use Rattle.accounts_stage.specs.Places.{account_names, gids_place, group_place, groups_place, memory_places, owns_accounts, passwd_place, shadow_place, table_places, uids_place, users_place}
 use Rattle.boot_entries.specs.BootPart.{reads_boot}
 use Rattle.boot_entries.specs.Places.{entries_folder, loader_path, numbered, owns_boot}
 use Rattle.boot_entries.proofs.NumberLemmas.{bears_numbered}

@@ -1,5 +1,5 @@
 -- At each moment of a rollback before its goal is removed it has the row that it had.
-use Rattle.std.proofs.Common.{◌≡◌, ◌≢◌, ℕ, true, false, Option, None, Some, is_none, option_map, refl, sym, ap, subst, ◌∙◌}
+use Rattle.std.proofs.Common.{◌≡◌, ◌≢◌, ℕ, true, false, Option, None, Some, is_none, option_map, refl, ap, subst, ◌∙◌}
 use Rattle.std.proofs.lemmas.Bool.{both_ways}
 use Rattle.std.specs.FinMap.{get}
 use Rattle.generations.specs.declared.gens.Gens.{Gens}
@@ -8,7 +8,7 @@ use Rattle.generations.specs.declared.moving.Move.TheVariants.{Point, Set}
 use Rattle.generations.specs.Goal.{IsBefore, goal, goal_leaf, goal_place, names_system}
 use Rattle.generations.specs.Goal.IsBefore.{Recorded, Unrecorded}
 use Rattle.generations.specs.Move.{IsMoveTo}
-use Rattle.generations.specs.Places.{generation_at, link_path, profile}
+use Rattle.generations.specs.Places.{generation_at, profile}
 use Rattle.generations.proofs.GoalLemmas.{goal_law, goal_names}
 use Rattle.generations.proofs.PointLemmas.{links_stay}
 use Rattle.generations.proofs.SetLaws.{generation_of}

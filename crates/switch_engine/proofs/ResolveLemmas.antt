@@ -1,7 +1,7 @@
 -- What a rollback does, by the generations that are read.
-use Rattle.std.proofs.Common.{◌≡◌, ℕ, true, Option, None, Some, sym, ap, ◌∙◌}
-use Rattle.std.proofs.lemmas.Option.{none-some, same_Some}
-use Rattle.std.specs.Option.{option_and_then, option_copied}
+use Rattle.std.proofs.Common.{◌≡◌, ℕ, true, Option, Some, sym, ap, ◌∙◌}
+use Rattle.std.proofs.lemmas.Option.{same_Some}
+use Rattle.std.specs.Option.{option_and_then}
 use Rattle.generations.specs.declared.gens.Gens.{Gens}
 use Rattle.generations.specs.declared.moving.Move.TheVariants.{Point}
 use Rattle.generations.specs.Gens.{IsGensOf, listed_at}
@@ -10,7 +10,6 @@ use Rattle.generations.specs.Places.{generation_at}
 use Rattle.generations.proofs.GoalLemmas.{goal_names}
 use Rattle.host_trait.specs.World.{Leaves}
 use Rattle.switch_engine.specs.declared.command.Command.TheVariants.{Rollback}
-use Rattle.switch_engine.specs.declared.row.Row.{Row}
 use Rattle.switch_engine.specs.Commands.{named_by, row}
 use Rattle.switch_engine.proofs.GoalKeptLemmas.{back, names_it}
 use Rattle.switch_names.specs.Names.{Name}

@@ -1,5 +1,5 @@
 -- A run that is underway leaves the same units failed from each of its moments.
-use Rattle.std.proofs.Common.{◌≡◌, ◌↔◌, ◌&&◌, Bool, true, false, cond, IsSome, is_some, Option, None, Some, refl, sym, ap, subst, ◌∙◌}
+use Rattle.std.proofs.Common.{◌≡◌, ◌↔◌, ◌&&◌, Bool, true, false, cond, IsSome, is_some, None, Some, refl, sym, ap, subst, ◌∙◌}
 use Rattle.std.specs.FinMap.{get}
 use Rattle.activation_stage.specs.Owners.{owners_after}
 use Rattle.host_trait.specs.declared.unit_state.State.TheVariants.{Failed}

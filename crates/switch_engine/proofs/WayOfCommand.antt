@@ -1,6 +1,6 @@
 -- The steps of a planned command over a host: the goal of a rollback is recorded, its system is made the boot default, the units
 -- are switched, and the goal is removed.
-use Rattle.std.proofs.Common.{◌≡◌, ◌↔◌, ◌&&◌, Bool, List, IfOk, IsTrue, OnOk, is_some, true, false, Option, None, Some, Result, Ok, Err, refl, sym, ap, subst, ◌∙◌, inl, inr}
+use Rattle.std.proofs.Common.{◌≡◌, ◌↔◌, ◌&&◌, Bool, List, IfOk, IsTrue, is_some, true, false, Option, None, Some, Result, Ok, Err, refl, sym, ap, subst, ◌∙◌, inl, inr}
 use Rattle.std.specs.FinMap.{empty}
 use Rattle.host_trait.specs.declared.tree.HostFault.{HostFault}
 use Rattle.host_trait.specs.Host.{HostState, Leads, Passes, Told}

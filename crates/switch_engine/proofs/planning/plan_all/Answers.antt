@@ -10,7 +10,6 @@ use Rattle.switch_engine.specs.declared.row.Row.{Row}
 use Rattle.switch_engine.specs.Commands.{row, switched_by}
 use Rattle.switch_engine.specs.Owing.{IsSteadyFor, IsSteadyTo}
 use Rattle.switch_engine.specs.Plan.{ArePlanned, IsPlanOf}
-use Rattle.switch_engine.specs.Resolved.{IsResolved}
 use Rattle.switch_engine.specs.Rows.{refusal, refusal_by}
 use Rattle.switch_engine.proofs.PlanLemmas.{has_system, no_system, told_still}
 use Rattle.switch_names.specs.SystemName.{IsSystemPath}
