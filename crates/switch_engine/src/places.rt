@@ -94,7 +94,11 @@ fn add_default_if(
 }
 
 /// Adds the places of a switch of the units, where they are switched.
-fn add_switch_if(alloc: Global, places: &mut Listed<WrittenPlace>, row: &Row) -> Result<(), AllocError>
+fn add_switch_if(
+    alloc: Global,
+    places: &mut Listed<WrittenPlace>,
+    row: &Row,
+) -> Result<(), AllocError>
     ensures places { OnOk result ((leaves : Leaves) (owners : OwnerIds) → places.new ≡ places.old ++ (part_if row.now.switches (switch_part row.now.system owners)).places leaves) }
     ensures apart { AreApartFromStage places.old → OnOk result (AreApartFromStage places.new) }
 {
