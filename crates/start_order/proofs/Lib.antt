@@ -1,0 +1,10 @@
+pub mod CheckLemmas
+pub mod CycleLemmas
+pub mod GraphLemmas
+pub mod MarkLemmas
+pub mod OrderLemmas
+pub mod StepLemmas
+pub mod TakeLemmas
+pub mod UnderWayLemmas
+pub mod WaitLemmas
+pub mod WalkLemmas
