@@ -1,3 +1,4 @@
+pub mod BetweenLemmas
 pub mod CheckLemmas
 pub mod CycleLemmas
 pub mod GraphLemmas

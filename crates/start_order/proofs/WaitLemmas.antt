@@ -2,7 +2,9 @@
 use Rattle.std.proofs.Common.{◌≡◌, ◌&&◌, ◌||◌, cond, Bool, true, false, List, [], ◌∷◌, filter, map, Some, refl, sym, ap, subst, ◌∙◌}
 use Rattle.std.specs.List.{AllByRecursion, find, list_any, slice_get}
 use Rattle.std.specs.List.Sorted.{IsStrictlySortedBy}
-use Rattle.std.specs.declared.cmp.Ordering.TheVariants.{Less}
+use Rattle.std.specs.Ordering.{ordering_then}
+use Rattle.std.specs.declared.cmp.Ordering.{Ordering}
+use Rattle.std.specs.declared.cmp.Ordering.TheVariants.{Less, Equal, Greater}
 use Rattle.std.proofs.lemmas.List.Kept.{IsStrictlySortedBy-filter}
 use Rattle.std.proofs.lemmas.Map.Lookups.{btree_set_from_contains}
 use Rattle.host_trait.specs.Bytes.{bytes_cmp}
@@ -36,10 +38,11 @@ has_befores [] before unit = refl
 has_befores (e ∷ edges) before unit =
     has_step e edges before unit (is_name unit e.after) ∙ ap (λ b. is_name before e.before && is_name unit e.after || b) (has_befores edges before unit)
 
-edge_less : (one other : Edge) (unit : Name) (b : Bool) → is_name one.before other.before ≡ b → cond b (bytes_cmp one.after other.after) (bytes_cmp one.before other.before) ≡ Less →
+edge_less : (one other : Edge) (unit : Name) (order : Ordering) → bytes_cmp one.before other.before ≡ order → ordering_then order (bytes_cmp one.after other.after) ≡ Less →
     is_name unit one.after ≡ true → is_name unit other.after ≡ true → bytes_cmp one.before other.before ≡ Less
-edge_less one other unit false apart less here there = less
-edge_less one other unit true same less here there =
+edge_less one other unit Less is less here there = is
+edge_less one other unit Greater is less here there = absurd (let no : Greater ≡ Less = less in cc)
+edge_less one other unit Equal is less here there =
     let after : one.after ≡ other.after = sym (name_exact unit one.after here) ∙ name_exact unit other.after there in
     absurd (never_both (is_name one.after other.after) (subst (λ k. is_name one.after k ≡ true) after (name_itself one.after)) (less_is_other one.after other.after less))
 
@@ -53,7 +56,7 @@ above_befores : (one : Edge) (edges : List Edge) (unit : Name) → is_name unit 
     AllByRecursion (λ y. bytes_cmp one.before y ≡ Less) (befores_of edges unit)
 above_befores one [] unit here less = tt
 above_befores one (e ∷ edges) unit here less =
-    above_step one e edges unit (is_name unit e.after) (λ there. edge_less one e unit (is_name one.before e.before) refl less.0 here there) (above_befores one edges unit here less.1)
+    above_step one e edges unit (is_name unit e.after) (λ there. edge_less one e unit (bytes_cmp one.before e.before) refl less.0 here there) (above_befores one edges unit here less.1)
 
 sorted_step : (e : Edge) (edges : List Edge) (unit : Name) (b : Bool) → (b ≡ true → AllByRecursion (λ y. bytes_cmp e.before y ≡ Less) (befores_of edges unit)) →
     IsStrictlySortedBy bytes_cmp (befores_of edges unit) →
