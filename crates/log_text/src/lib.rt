@@ -6,6 +6,8 @@ pub mod laws;
 mod lines;
 mod lists;
 mod log;
+#[cfg(test)]
+mod tests;
 mod writing;
 
 pub use block::{Block, first_block};
