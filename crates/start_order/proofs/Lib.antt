@@ -3,6 +3,7 @@ pub mod CheckLemmas
 pub mod CycleLemmas
 pub mod GraphLemmas
 pub mod MarkLemmas
+pub mod OneLemmas
 pub mod OrderLemmas
 pub mod StepLemmas
 pub mod TakeLemmas

@@ -35,6 +35,14 @@ RisingLaw =
     (units : List Name) (edges : List Edge) (order : List Name) (one other : Name) → IsStrictlySortedBy bytes_cmp units → IsOrder units edges order →
     (first : IsBroken units edges order one) (second : IsBroken units edges order other) → first.turn < second.turn → bytes_cmp one other ≡ Less
 
+-- a unit has one cycle
+abbrev pub OneCycleLaw : Type 0
+OneCycleLaw = (edges : List Edge) (left : List Name) (unit : Name) (one other : List Name) → IsCycle edges left unit one → IsCycle edges left unit other → one ≡ other
+
+-- there is one answer
+abbrev pub OneAnswerLaw : Type 0
+OneAnswerLaw = (units : List Name) (edges : List Edge) (one other : Ordered) → IsOrdered units edges one → IsOrdered units edges other → one ≡ other
+
 -- where no edge leads from a unit to itself, a cycle is a ring
 abbrev pub CycleLaw : Type 0
 CycleLaw =

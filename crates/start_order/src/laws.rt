@@ -1,5 +1,5 @@
 //! What holds of every order.
-ghost use Rattle.start_order.specs.Laws.{CheckLaw, CycleLaw, EdgeLaw, OneOrderLaw, RearrangedLaw, RisingLaw};
+ghost use Rattle.start_order.specs.Laws.{CheckLaw, CycleLaw, EdgeLaw, OneAnswerLaw, OneCycleLaw, OneOrderLaw, RearrangedLaw, RisingLaw};
 
 /// An order has each unit, and each once.
 pub fn an_order_is_a_rearrangement()
@@ -9,6 +9,16 @@ pub fn an_order_is_a_rearrangement()
 /// There is one order.
 pub fn one_order_is_there()
     ensures { OneOrderLaw }
+{}
+
+/// A unit has one cycle.
+pub fn one_cycle_is_there()
+    ensures { OneCycleLaw }
+{}
+
+/// There is one answer: one order, one list of broken units and one of their cycles.
+pub fn one_answer_is_there()
+    ensures { OneAnswerLaw }
 {}
 
 /// What stands before a unit is ahead of it, unless the unit was taken while none was free.
