@@ -1,10 +1,13 @@
 -- The units by their places, with those before and after each: systemd.unit(5), "Before=, After=".
 use Rattle.std.specs.Prelude.{◌≡◌, ◌≢◌, ◌++◌, ◌&&◌, ℕ, not, Bool, true, false, List, [], ◌∷◌, length, map, take, filter, Some, slice_get, slice_index_or}
 use Rattle.std.specs.List.{list_any}
+use Rattle.std.specs.List.Sorted.{IsStrictlySortedBy}
 use Rattle.std.specs.Option.{unwrap_or}
+use Rattle.host_trait.specs.Bytes.{bytes_cmp}
 use Rattle.start_order.specs.declared.edge.Edge.{Edge}
 use Rattle.start_order.specs.declared.graph.Graph.{Graph}
 use Rattle.start_order.specs.declared.marks.Marks.{Marks}
+use Rattle.start_order.specs.Edges.{AreEdges}
 use Rattle.start_order.specs.Order.{is_free}
 use Rattle.switch_names.specs.Names.{Name, has, is_name}
 
@@ -29,10 +32,12 @@ pub record AreRows (units : List Name) (rows : List (List ℕ)) (names_of : Name
   pub many : length rows ≡ length units
   pub each : (k : ℕ) (unit : Name) (row : List ℕ) → slice_get units k ≡ Some unit → slice_get rows k ≡ Some row → ArePlaces units row (names_of unit)
 
--- each unit has the places of those before it and of those after it
-pub record IsGraph (units : List Name) (edges : List Edge) (graph : Graph) : Type 0 where
-  pub befores : AreRows units graph.befores (befores_of edges)
-  pub afters : AreRows units graph.afters (afters_of edges)
+-- units in order and the edges between them, and each unit has the places of those before it and of those after it
+pub record IsGraph (graph : Graph) : Type 0 where
+  pub units_sorted : IsStrictlySortedBy bytes_cmp graph.units.now
+  pub edges_between : AreEdges graph.units.now graph.edges.now
+  pub befores_are : AreRows graph.units.now graph.befores (befores_of graph.edges.now)
+  pub afters_are : AreRows graph.units.now graph.afters (afters_of graph.edges.now)
 
 -- one row has one place more
 pub record IsPushed (old : List (List ℕ)) (at place : ℕ) (new : List (List ℕ)) : Type 0 where

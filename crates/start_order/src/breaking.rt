@@ -2,7 +2,6 @@
 ghost use Rattle.std.specs.Prelude.{◌≡◌, ◌&&◌, true, None, Some, OnOk, option_copied};
 ghost use Rattle.std.specs.List.Sorted.{IsStrictlySortedBy};
 ghost use Rattle.host_trait.specs.Bytes.{bytes_cmp};
-ghost use Rattle.start_order.specs.Edges.{edge_cmp};
 ghost use Rattle.start_order.specs.Graph.{AreMarks, IsGraph};
 ghost use Rattle.start_order.specs.Order.{is_free};
 ghost use Rattle.start_order.specs.Progress.{IsBreak, stuck_unit};
@@ -34,30 +33,26 @@ fn stuck_unit<'a>(
 /// Adds the least unit that is left to the broken ones and its cycle to theirs, where none is free.
 pub(crate) fn add_broken(
     alloc: Global,
-    units: &[UnitName],
-    edges: &[Edge],
+    graph: &Graph<'_>,
     left: &BTreeSet<UnitName>,
     free: &BTreeSet<UnitName>,
-    graph: &Graph,
     marks: &mut Marks,
     ordered: &mut Ordered,
 ) -> Result<(), AllocError>
-    requires units { IsStrictlySortedBy bytes_cmp units.now }
-    requires graph { IsGraph units.now edges.now graph.now }
-    requires marks { AreMarks units.now edges.now left.now.keys marks.old }
-    requires among { (name : Name) → has left.now.keys name ≡ true → has units.now name ≡ true }
-    requires edges { IsStrictlySortedBy edge_cmp edges.now }
+    requires graph { IsGraph graph.now }
+    requires marks { AreMarks graph.now.units.now graph.now.edges.now left.now.keys marks.old }
+    requires among { (name : Name) → has left.now.keys name ≡ true → has graph.now.units.now name ≡ true }
     requires left { IsStrictlySortedBy bytes_cmp left.now.keys }
     requires free { IsStrictlySortedBy bytes_cmp free.now.keys }
-    requires are { (unit : Name) → has free.now.keys unit ≡ (is_free edges.now left.now.keys unit && has left.now.keys unit) }
-    ensures marks { OnOk result (AreMarks units.now edges.now left.now.keys marks.new) }
-    ensures none { OnOk result (stuck_unit edges.now left.now.keys ≡ None → ordered.new ≡ ordered.old) }
-    ensures broken { OnOk result ((unit : Name) → stuck_unit edges.now left.now.keys ≡ Some unit → IsBreak edges.now left.now.keys unit ordered.old ordered.new) }
+    requires are { (unit : Name) → has free.now.keys unit ≡ (is_free graph.now.edges.now left.now.keys unit && has left.now.keys unit) }
+    ensures marks { OnOk result (AreMarks graph.now.units.now graph.now.edges.now left.now.keys marks.new) }
+    ensures none { OnOk result (stuck_unit graph.now.edges.now left.now.keys ≡ None → ordered.new ≡ ordered.old) }
+    ensures broken { OnOk result ((unit : Name) → stuck_unit graph.now.edges.now left.now.keys ≡ Some unit → IsBreak graph.now.edges.now left.now.keys unit ordered.old ordered.new) }
 {
-    if let Some(unit) = stuck_unit(edges, left, free) {
+    if let Some(unit) = stuck_unit(graph.edges, left, free) {
         ordered
             .cycles
-            .push(cycle_of(alloc, units, edges, left, graph, marks, unit)?)?;
+            .push(cycle_of(alloc, graph, left, marks, unit)?)?;
         ordered.broken.push(unit.copy(alloc)?)?;
     }
     Ok(())

@@ -10,16 +10,21 @@ use crate::edge::Edge;
 use std::alloc::{AllocError, Global};
 use switch_names::{Listed, UnitName};
 
-/// For each unit the places of those from which and to which an edge leads, in the order of the edges.
-pub(crate) struct Graph {
+/// Units and the edges between them, and for each unit the places of those from which and to which an edge leads, in the order of
+/// the edges.
+pub(crate) struct Graph<'a> {
+    pub(crate) units: &'a [UnitName],
+    pub(crate) edges: &'a [Edge],
     pub(crate) befores: Listed<Listed<usize>>,
     pub(crate) afters: Listed<Listed<usize>>,
 }
 
 /// One call: a derived drop is proved anew in each function that lets one go.
-impl Drop for Graph {
+impl<'a> Drop for Graph<'a> {
     fn drop(self) {
         let Graph {
+            units: _,
+            edges: _,
             befores: _,
             afters: _,
         } = self;

@@ -3,7 +3,6 @@ ghost use Rattle.std.specs.Prelude.{◌≡◌, ◌<◌, ◌&&◌, ℕ, All, leng
 ghost use Rattle.std.specs.List.{list_any};
 ghost use Rattle.std.specs.List.Sorted.{IsStrictlySortedBy};
 ghost use Rattle.host_trait.specs.Bytes.{bytes_cmp};
-ghost use Rattle.start_order.specs.Edges.{edge_cmp};
 ghost use Rattle.start_order.specs.Graph.{AreMarks, IsGraph, is_open};
 ghost use Rattle.start_order.specs.Order.{is_free, waits_for};
 ghost use Rattle.switch_names.specs.Names.{Name, has};
@@ -75,67 +74,57 @@ fn passed_of(row: &[usize], taken: &Listed<bool>, known: usize) -> usize
 
 /// What the unit at a place waits for: the least of the units that are left and stand before it.
 pub(crate) fn waits_at<'a>(
-    units: &'a [UnitName],
-    _edges: &[Edge],
+    graph: &Graph<'a>,
     _left: &BTreeSet<UnitName>,
-    graph: &Graph,
     marks: &mut Marks,
     at: usize,
 ) -> Option<&'a UnitName>
-    requires edges { IsStrictlySortedBy edge_cmp _edges.now }
     requires left { IsStrictlySortedBy bytes_cmp _left.now.keys }
-    requires graph { IsGraph units.now _edges.now graph.now }
-    requires marks { AreMarks units.now _edges.now _left.now.keys marks.old }
-    requires there { at < length units.now }
-    ensures waits { (unit : Name) → slice_get units.now at ≡ Some unit → option_copied result ≡ waits_for _edges.now _left.now.keys unit }
-    ensures marks { AreMarks units.now _edges.now _left.now.keys marks.new }
+    requires graph { IsGraph graph.now }
+    requires marks { AreMarks graph.now.units.now graph.now.edges.now _left.now.keys marks.old }
+    requires there { at < length graph.now.units.now }
+    ensures waits { (unit : Name) → slice_get graph.now.units.now at ≡ Some unit → option_copied result ≡ waits_for graph.now.edges.now _left.now.keys unit }
+    ensures marks { AreMarks graph.now.units.now graph.now.edges.now _left.now.keys marks.new }
 {
     let row = row_at(&graph.befores, at);
     let known = known_at(marks, at);
     let passed = passed_of(row, &marks.taken, known);
     let _known = marks.passed.replace(at, passed);
-    unit_of(units, row, passed)
+    unit_of(graph.units, row, passed)
 }
 
 /// The least of the units that are left and stand before this one.
 pub(crate) fn waits_for<'a>(
-    units: &'a [UnitName],
-    edges: &[Edge],
+    graph: &Graph<'a>,
     left: &BTreeSet<UnitName>,
-    graph: &Graph,
     marks: &mut Marks,
     unit: &UnitName,
 ) -> Option<&'a UnitName>
-    requires units { IsStrictlySortedBy bytes_cmp units.now }
-    requires edges { IsStrictlySortedBy edge_cmp edges.now }
     requires left { IsStrictlySortedBy bytes_cmp left.now.keys }
-    requires graph { IsGraph units.now edges.now graph.now }
-    requires marks { AreMarks units.now edges.now left.now.keys marks.old }
-    requires there { has units.now unit.now ≡ true }
-    ensures waits { option_copied result ≡ waits_for edges.now left.now.keys unit.now }
-    ensures marks { AreMarks units.now edges.now left.now.keys marks.new }
+    requires graph { IsGraph graph.now }
+    requires marks { AreMarks graph.now.units.now graph.now.edges.now left.now.keys marks.old }
+    requires there { has graph.now.units.now unit.now ≡ true }
+    ensures waits { option_copied result ≡ waits_for graph.now.edges.now left.now.keys unit.now }
+    ensures marks { AreMarks graph.now.units.now graph.now.edges.now left.now.keys marks.new }
 {
-    waits_at(units, edges, left, graph, marks, place_in(units, unit))
+    waits_at(graph, left, marks, place_in(graph.units, unit))
 }
 
 /// Whether the unit at a place is left and free.
 pub(crate) fn is_free_at(
-    units: &[UnitName],
-    edges: &[Edge],
+    graph: &Graph<'_>,
     left: &BTreeSet<UnitName>,
-    graph: &Graph,
     marks: &mut Marks,
     at: usize,
 ) -> bool
-    requires edges { IsStrictlySortedBy edge_cmp edges.now }
     requires left { IsStrictlySortedBy bytes_cmp left.now.keys }
-    requires graph { IsGraph units.now edges.now graph.now }
-    requires marks { AreMarks units.now edges.now left.now.keys marks.old }
-    requires there { at < length units.now }
-    ensures free { (unit : Name) → slice_get units.now at ≡ Some unit → result ≡ (has left.now.keys unit && is_free edges.now left.now.keys unit) }
-    ensures marks { AreMarks units.now edges.now left.now.keys marks.new }
+    requires graph { IsGraph graph.now }
+    requires marks { AreMarks graph.now.units.now graph.now.edges.now left.now.keys marks.old }
+    requires there { at < length graph.now.units.now }
+    ensures free { (unit : Name) → slice_get graph.now.units.now at ≡ Some unit → result ≡ (has left.now.keys unit && is_free graph.now.edges.now left.now.keys unit) }
+    ensures marks { AreMarks graph.now.units.now graph.now.edges.now left.now.keys marks.new }
 {
-    !is_taken(&marks.taken, at) && waits_at(units, edges, left, graph, marks, at).is_none()
+    !is_taken(&marks.taken, at) && waits_at(graph, left, marks, at).is_none()
 }
 
 /// No unit is taken, and nothing is known of those before each.

@@ -37,29 +37,23 @@ pub fn order(
     };
     let (units, edges) = (units.as_slice(), edges.as_slice());
     let (befores, afters) = rows_of(alloc, units, edges)?;
-    let graph = Graph { befores, afters };
+    let graph = Graph {
+        units,
+        edges,
+        befores,
+        afters,
+    };
     let mut left = set_of(alloc, units)?;
     let mut marks = no_marks(alloc, units, edges, &left)?;
-    let mut free = free_of(alloc, units, edges, &left, &graph, &mut marks)?;
+    let mut free = free_of(alloc, &graph, &left, &mut marks)?;
     for _ in 0..u64::MAX {
-        add_broken(
-            alloc,
-            units,
-            edges,
-            &left,
-            &free,
-            &graph,
-            &mut marks,
-            &mut ordered,
-        )?;
+        add_broken(alloc, &graph, &left, &free, &mut marks, &mut ordered)?;
         let Some(unit) = take_next(edges, &mut left, &mut free) else {
             return Ok(ordered);
         };
         let at = place_in(units, &unit);
         let _was = marks.taken.replace(at, true);
-        release(
-            alloc, units, edges, &left, &graph, &mut marks, &mut free, at,
-        )?;
+        release(alloc, &graph, &left, &mut marks, &mut free, at)?;
         ordered.units.push(unit)?;
     }
     Err(AllocError)

@@ -4,13 +4,11 @@ ghost use Rattle.std.specs.List.{position_or_len};
 ghost use Rattle.std.specs.List.Sorted.{IsStrictlySortedBy};
 ghost use Rattle.host_trait.specs.Bytes.{bytes_cmp};
 ghost use Rattle.start_order.specs.Cycles.{IsCycle};
-ghost use Rattle.start_order.specs.Edges.{edge_cmp};
 ghost use Rattle.start_order.specs.Graph.{AreMarks, IsGraph};
 ghost use Rattle.start_order.specs.Order.{is_stuck};
 ghost use Rattle.switch_names.specs.Names.{Name, has, is_name};
 
 use crate::copying::copy_units;
-use crate::edge::Edge;
 use crate::graph::Graph;
 use crate::marks::{Marks, waits_for};
 use crate::names::place_of;
@@ -36,23 +34,19 @@ pub fn part_from(
 /// The cycle in which a walk ends that goes from a unit to what it waits for, while none is free.
 pub(crate) fn cycle_of(
     alloc: Global,
-    units: &[UnitName],
-    edges: &[Edge],
+    graph: &Graph<'_>,
     left: &BTreeSet<UnitName>,
-    graph: &Graph,
     marks: &mut Marks,
     unit: &UnitName,
 ) -> Result<Cycle, AllocError>
-    requires units { IsStrictlySortedBy bytes_cmp units.now }
-    requires edges { IsStrictlySortedBy edge_cmp edges.now }
     requires left { IsStrictlySortedBy bytes_cmp left.now.keys }
-    requires graph { IsGraph units.now edges.now graph.now }
-    requires marks { AreMarks units.now edges.now left.now.keys marks.old }
-    requires among { (name : Name) → has left.now.keys name ≡ true → has units.now name ≡ true }
-    requires stuck { is_stuck edges.now left.now.keys ≡ true }
+    requires graph { IsGraph graph.now }
+    requires marks { AreMarks graph.now.units.now graph.now.edges.now left.now.keys marks.old }
+    requires among { (name : Name) → has left.now.keys name ≡ true → has graph.now.units.now name ≡ true }
+    requires stuck { is_stuck graph.now.edges.now left.now.keys ≡ true }
     requires is_left { has left.now.keys unit.now ≡ true }
-    ensures marks { OnOk result (AreMarks units.now edges.now left.now.keys marks.new) }
-    ensures cycle { IfOk result (λ cycle. IsCycle edges.now left.now.keys unit.now cycle.units) }
+    ensures marks { OnOk result (AreMarks graph.now.units.now graph.now.edges.now left.now.keys marks.new) }
+    ensures cycle { IfOk result (λ cycle. IsCycle graph.now.edges.now left.now.keys unit.now cycle.units) }
 {
     let mut walk = Listed::new(alloc);
     let mut seen = UnitSet::new(alloc);
@@ -63,9 +57,7 @@ pub(crate) fn cycle_of(
                 units: part_from(alloc, walk.as_slice(), &next)?,
             });
         }
-        let after = waits_for(units, edges, left, graph, marks, &next)
-            .unwrap()
-            .copy(alloc)?;
+        let after = waits_for(graph, left, marks, &next).unwrap().copy(alloc)?;
         walk.push(std::mem::replace(&mut next, after))?;
     }
     Err(AllocError)

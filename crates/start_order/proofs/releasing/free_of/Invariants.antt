@@ -8,5 +8,5 @@ use Rattle.start_order.proofs.releasing.free_of.Given as goal
 
 abbrev pub invariant-loop-at : goal.invariant-loop-at
 invariant-loop-at l =
-    AreMarks l.units l.edges l.left.keys l.marks × IsStrictlySortedBy bytes_cmp l.set.keys
-    × ((unit : Name) → has l.set.keys unit ≡ list_any (is_free_one l.edges l.left.keys unit) (take l.at l.units))
+    AreMarks l.graph.units.now l.graph.edges.now l.left.keys l.marks × IsStrictlySortedBy bytes_cmp l.set.keys
+    × ((unit : Name) → has l.set.keys unit ≡ list_any (is_free_one l.graph.edges.now l.left.keys unit) (take l.at l.graph.units.now))

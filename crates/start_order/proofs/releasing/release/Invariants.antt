@@ -8,6 +8,6 @@ use Rattle.start_order.proofs.releasing.release.Given as goal
 
 abbrev pub invariant-loop-place : goal.invariant-loop-place
 invariant-loop-place l =
-    AreMarks l.units l.edges l.left.keys l.marks × IsStrictlySortedBy bytes_cmp l.free.keys
+    AreMarks l.graph.units.now l.graph.edges.now l.left.keys l.marks × IsStrictlySortedBy bytes_cmp l.free.keys
     × ((unit : Name) → has l.free.keys unit ≡ (has l.initial.free.keys unit
-    || list_any (λ place. is_free_one l.edges l.left.keys unit (unit_at l.units place)) (take l.place-index l.row)))
+    || list_any (λ place. is_free_one l.graph.edges.now l.left.keys unit (unit_at l.graph.units.now place)) (take l.place-index l.row)))
