@@ -25,7 +25,7 @@ then_same Less other = refl
 then_same Equal other = refl
 then_same Greater other = refl
 
-pair_among : (pairs : List (Name × Name)) (before after : Name) → list_any (is_at (pair_cmp (before, after))) pairs ≡ has_pair pairs before after
+pub pair_among : (pairs : List (Name × Name)) (before after : Name) → list_any (is_at (pair_cmp (before, after))) pairs ≡ has_pair pairs before after
 pair_among [] before after = refl
 pair_among (pair ∷ pairs) before after =
     ap (λ b. b || list_any (is_at (pair_cmp (before, after))) pairs) (then_same (bytes_cmp before pair.0) (bytes_cmp after pair.1))

@@ -5,6 +5,7 @@ pub mod GraphLemmas
 pub mod MarkLemmas
 pub mod OneLemmas
 pub mod OrderLemmas
+pub mod SameEdgeLemmas
 pub mod StepLemmas
 pub mod TakeLemmas
 pub mod UnderWayLemmas

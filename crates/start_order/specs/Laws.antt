@@ -35,6 +35,11 @@ RisingLaw =
     (units : List Name) (edges : List Edge) (order : List Name) (one other : Name) → IsStrictlySortedBy bytes_cmp units → IsOrder units edges order →
     (first : IsBroken units edges order one) (second : IsBroken units edges order other) → first.turn < second.turn → bytes_cmp one other ≡ Less
 
+-- edges are told by which unit they put before which
+abbrev pub OneEdgesLaw : Type 0
+OneEdgesLaw =
+    (units : List Name) (one other : List Edge) → AreEdges units one → AreEdges units other → ((before after : Name) → is_before one before after ≡ is_before other before after) → one ≡ other
+
 -- a unit has one cycle
 abbrev pub OneCycleLaw : Type 0
 OneCycleLaw = (edges : List Edge) (left : List Name) (unit : Name) (one other : List Name) → IsCycle edges left unit one → IsCycle edges left unit other → one ≡ other

@@ -1,5 +1,5 @@
 //! What holds of every order.
-ghost use Rattle.start_order.specs.Laws.{CheckLaw, CycleLaw, EdgeLaw, OneAnswerLaw, OneCycleLaw, OneOrderLaw, RearrangedLaw, RisingLaw};
+ghost use Rattle.start_order.specs.Laws.{CheckLaw, CycleLaw, EdgeLaw, OneAnswerLaw, OneCycleLaw, OneEdgesLaw, OneOrderLaw, RearrangedLaw, RisingLaw};
 
 /// An order has each unit, and each once.
 pub fn an_order_is_a_rearrangement()
@@ -9,6 +9,11 @@ pub fn an_order_is_a_rearrangement()
 /// There is one order.
 pub fn one_order_is_there()
     ensures { OneOrderLaw }
+{}
+
+/// There is one list of edges that puts some units before others.
+pub fn one_list_of_edges_is_there()
+    ensures { OneEdgesLaw }
 {}
 
 /// A unit has one cycle.
