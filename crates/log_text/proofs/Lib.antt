@@ -1,0 +1,5 @@
+pub mod BlockLemmas
+pub mod LineLemmas
+pub mod ReadLemmas
+pub mod SomeLemmas
+pub mod TornLemmas

@@ -1,0 +1,13 @@
+pub mod BetweenLemmas
+pub mod CheckLemmas
+pub mod CycleLemmas
+pub mod GraphLemmas
+pub mod MarkLemmas
+pub mod OneLemmas
+pub mod OrderLemmas
+pub mod SameEdgeLemmas
+pub mod StepLemmas
+pub mod TakeLemmas
+pub mod UnderWayLemmas
+pub mod WaitLemmas
+pub mod WalkLemmas
