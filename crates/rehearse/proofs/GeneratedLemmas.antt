@@ -1,22 +1,15 @@
 -- A made machine whose old system is brought into use.
-use Rattle.std.proofs.Common.{◌≡◌, [], Some, true, false, subst, arith}
-use Rattle.std.specs.FinMap.{empty}
+use Rattle.std.proofs.Common.{◌≡◌, [], Some, subst, arith}
 use Rattle.host_trait.specs.Host.{HostState}
 use Rattle.host_trait.specs.World.{WorldState}
 use Rattle.host_trait.proofs.Moments.{one_world}
 use Rattle.made_world.specs.Putting.{old_system}
 use Rattle.rehearse.specs.declared.summary.Summary.{Summary}
-use Rattle.rehearse.specs.Ends.{HasEnded, IsRepeatable}
+use Rattle.rehearse.specs.Ends.{HasEnded}
 use Rattle.rehearse.specs.Generated.{IsSettled}
 use Rattle.rehearse.specs.Through.{IsRunThrough}
 use Rattle.switch_engine.specs.declared.command.Command.TheVariants.{Switch}
 use Rattle.switch_names.specs.Names.{Name}
-
-differ : true ≡ false → ⊥
-differ is = cc
-
-pub switch_repeatable : (system : Name) → IsRepeatable (Switch system)
-switch_repeatable system query = differ (query empty)
 
 -- without a cut there is one run
 pub settled_by : {a b : HostState} (system : Name) (summary : Summary) (w v : WorldState) → IsRunThrough (Switch system) a b [] summary → a.world ≡ Some w → b.world ≡ Some v → system ≡ old_system → IsSettled w v

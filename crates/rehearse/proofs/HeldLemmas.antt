@@ -6,12 +6,13 @@ use Rattle.rehearse.specs.declared.summary.End.TheVariants.{Done, UnitsFailed, R
 use Rattle.rehearse.specs.Ends.{HasEnded, IsComplete, IsHeld, IsHeldBy, IsRepeatable, IsVerdict}
 use Rattle.rehearse.specs.Through.{IsThrough}
 use Rattle.switch_engine.specs.declared.command.Command.{Command}
+use Rattle.switch_engine.specs.Commands.{row}
 use Rattle.switch_engine.specs.Moments.{IsMomentOf}
 use Rattle.switch_engine.specs.Owing.{IsSteadyFor, IsUnderway}
 use Rattle.switch_engine.specs.Rows.{refusal}
 use Rattle.switch_parts.specs.declared.refusal.Refusal.{Refusal}
 use Rattle.host_trait.proofs.Moments.{none_not_some}
-use Rattle.switch_engine.proofs.LawLemmas.{begins_underway, ended_over, over_then, stays_underway}
+use Rattle.switch_engine.proofs.LawLemmas.{begins_underway, ended_over, never_back, over_then, stays_underway}
 use Rattle.switch_engine.proofs.VerdictLemmas.{same_verdict}
 
 module _ (command : Command) where
@@ -30,7 +31,8 @@ module _ (command : Command) where
 
   -- a moment of a run that isn't refused
   pub held_moment : IsRepeatable command → (w m : WorldState) → refusal command w.leaves ≡ None → IsMomentOf command w m → IsHeld command w m
-  held_moment repeatable w m none moment = subst (λ (o : Option Refusal). IsHeldBy o command w m) (sym none) (λ steady. moment.underway steady)
+  held_moment repeatable w m none moment = subst (λ (o : Option Refusal). IsHeldBy o command w m) (sym none)
+      (λ steady. never_back (row command w.leaves).moves command w m (repeatable.ahead w.leaves) (moment.underway steady))
 
   -- a moment of a run that goes on where another was cut
   pub held_then : (g w m : WorldState) → IsHeld command g w → IsHeld command w m → IsHeld command g m
@@ -48,7 +50,7 @@ module _ (command : Command) where
     complete_through : (how : End) (g w v : WorldState) → ((why : Refusal) → how ≡ Refused why → ⊥) → IsHeld command g w → IsComplete command how w v →
         (IsVerdict command how w → IsUnderway g command w → IsVerdict command how g) → IsThrough command how g v
     complete_through how g w v not_refused held done verdict = record {
-      over = λ none steady. over_then command g w (underway_from g w none held steady) v (ended_over command w v repeatable done.end);
+      over = λ none steady. over_then command g w (underway_from g w none held steady) v (ended_over command w v repeatable.changes done.end);
       verdict = λ none steady. verdict done.verdict (underway_from g w none held steady);
       refused = λ why is. absurd (none_not_some (refusal command w.leaves) why done.not_refused (ap (λ (x : WorldState). refusal command x.leaves) (same_from g w why is held) ∙ is));
       left_refused = λ why is. absurd (not_refused why is);

@@ -1,19 +1,20 @@
 -- How a run of a command ends, and what each of its moments keeps.
-use Rattle.std.specs.Prelude.{◌≡◌, Option, None, Some}
-use Rattle.host_trait.specs.World.{WorldState}
+use Rattle.std.specs.Prelude.{◌≡◌, false, Option, None, Some}
+use Rattle.host_trait.specs.World.{Leaves, WorldState}
 use Rattle.rehearse.specs.declared.summary.End.{End}
 use Rattle.rehearse.specs.declared.summary.End.TheVariants.{Done, UnitsFailed, Refused}
 use Rattle.switch_engine.specs.declared.command.Command.{Command}
-use Rattle.switch_engine.specs.Commands.{IsQuery, new_system}
+use Rattle.switch_engine.specs.Commands.{IsQuery, goes_back, new_system}
 use Rattle.switch_engine.specs.Final.{IsEndOf, LeavesFailed}
 use Rattle.switch_engine.specs.Owing.{IsSteadyFor, IsUnderway}
 use Rattle.switch_engine.specs.Rows.{refusal}
 use Rattle.switch_names.specs.SystemName.{IsSystemPath}
 use Rattle.switch_parts.specs.declared.refusal.Refusal.{Refusal}
 
--- a command of which a run goes on where another was cut: it isn't a query
-abbrev pub IsRepeatable : Command → Type 0
-IsRepeatable command = IsQuery command → ⊥
+-- a command of which a run goes on where another was cut: it changes something, and never takes the profile back
+pub record IsRepeatable (command : Command) : Type 0 where
+  pub changes : IsQuery command → ⊥
+  pub ahead : (leaves : Leaves) → goes_back command leaves ≡ false
 
 -- a run of a command keeps this of a world, given why the command is refused there: from a steady world a run that isn't
 -- refused is underway, and one that is refused has changed nothing

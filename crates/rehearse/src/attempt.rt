@@ -8,11 +8,18 @@ use host_trait::{HostFault, Manager};
 use std::alloc::Global;
 use switch_engine::{Command, PlanFault, carry_out, plan_all};
 
-/// Whether a run of a command goes on where another was cut.
+/// Whether a run of a command goes on where another was cut: it changes something, and never takes the profile back. A
+/// rollback that is cut once its goal is removed goes back one generation further when it is made again.
 pub fn is_repeatable(command: &Command) -> bool
     ensures { IsTrue result ↔ IsRepeatable command.now }
 {
-    !command.is_query()
+    match command {
+        Command::Switch(_) | Command::Test(_) | Command::Boot(_) => true,
+        // it has no end to come to
+        Command::DryActivate(_) => false,
+        // once its goal is removed, it would go back one generation further
+        Command::Rollback => false,
+    }
 }
 
 /// Plans a command and carries it out.

@@ -1,4 +1,5 @@
-use Rattle.rehearse.proofs.GeneratedLemmas.{settled_by, switch_repeatable}
+use Rattle.rehearse.proofs.GeneratedLemmas.{settled_by}
+use Rattle.rehearse.proofs.RepeatableLemmas.{switch_repeatable}
 use Rattle.rehearse.proofs.generated.settle.Goals as goal
 
 pub through-requires : goal.through-requires

@@ -1,7 +1,7 @@
 use Rattle.std.proofs.Common.{◌≡◌, ◌≤◌, ◌+◌, ◌++◌, ℕ, length, ap, ◌∙◌, arith}
 use Rattle.made_world.specs.Draws.{state_at}
 use Rattle.rehearse.specs.Rehearsal.{made_text}
-use Rattle.rehearse.proofs.GeneratedLemmas.{switch_repeatable}
+use Rattle.rehearse.proofs.RepeatableLemmas.{switch_repeatable}
 use Rattle.rehearse.proofs.RehearsalLemmas.{length_drawn, rehearsed_from}
 use Rattle.rehearse.proofs.rehearsing.rehearsal_of.Goals as goal
 
