@@ -23,9 +23,9 @@
 # a switch tells what is left to do. Each place is tried with one kill, and with a second one at the same
 # place of the run after it, where that run comes to it.
 #
-# A rollback that is killed after the removal of its goal has come to its end (its row says so): then the files have to be as
-# the uncut run leaves them, no second kill is tried, and the next run has to end as a further rollback does. At any other
-# place it has to go to the same generation.
+# A rollback that is killed after the removal of its goal has come to its end (its row says `over`): then the files have to be as
+# the uncut run leaves them, no second kill is tried, and the next run has to end as a further rollback does. So it has to after
+# one that ended before the place of its second kill (`ended`). At any other place it has to go to the same generation.
 #
 # Then a switch of a root of 500 units, 2,000 entries below /etc and 60 users is killed after a time taken at random, below
 # that of the uncut run, at least as often as MOMENTS says (60), up to three times in a row on one root. Then a run comes
@@ -263,11 +263,12 @@ is_back() {
 # judges. The first must be killed, at the call with this number among all: where it isn't, as may be on a machine that is
 # busy, the row begins anew, twice at most.
 row() {
-    local verdict=ok kills=0 try status anew=2 left=$final wanted=$ends note=
+    local verdict=ok kills=0 try hit status anew=2 left=$final wanted=$ends note=
     "$make"
     for ((try = 1; try <= $5; try++)); do
+        hit=
         if killed_run "$2" "$3"; then
-            kills=$((kills + 1))
+            kills=$((kills + 1)) hit=yes
         fi
         if [ $try = 1 ] && { [ $kills = 0 ] || [ "$(call_count)" != "$4" ]; }; then
             if [ $anew != 0 ]; then
@@ -279,8 +280,8 @@ row() {
         fi
         judge_moment
         if is_back; then
-            left=$further wanted=$further_ends note=', over'
-            backs=$((backs + 1))
+            left=$further wanted=$further_ends note=', ended'
+            [ -z "$hit" ] || { note=', over' && backs=$((backs + 1)); }
             break
         fi
     done
