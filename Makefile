@@ -16,7 +16,7 @@ INSTALLED := $(PROGRAM):bin/nixswitch tools/import:bin/nixswitch-import tools/ex
 help: ## lists the targets
 	@sed -n 's/^\([a-z]*\):[^#]*## \(.*\)/make \1: \2/p' Makefile
 
-run: ## shows a boot and a switch on copies of the example roots: unproved, until make build has built the program
+run: ## shows a boot, a switch and a rollback on copies of the example roots: unproved, until make build has built the program
 	@if $(MAKE) -qs $(PROGRAM); then echo "Each crate of this program was proved before it was built."; bench/example.sh $(PROGRAM); \
 	else bench/example.sh; fi
 

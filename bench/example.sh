@@ -1,5 +1,5 @@
 #!/bin/sh
-# Shows a boot, a dry run and a switch on copies of the example roots, and a switch that is killed and run again.
+# Shows a boot, a dry run, a switch and the way back on copies of the example roots, and a switch that is killed and run again.
 #
 # bench/example.sh [PROGRAM]
 #
@@ -88,7 +88,7 @@ show_cut() {
         failed=1
     fi
     look cat cut/tree/nix/var/nixswitch.stage
-    show 4-again 4 cut switch nix/store/web-24.11
+    show 8-again 4 cut switch nix/store/web-24.11
     if look diff -r example cut; then
         echo "no difference"
     else
@@ -100,12 +100,17 @@ rm -rf "$scratch"
 mkdir -p "$runs" || exit 1
 cp -r crates/nixswitch/data/root crates/nixswitch/data/example "$scratch" || exit 1
 cp -r crates/nixswitch/data/example "$scratch/cut" || exit 1
+cp -r crates/nixswitch/data/example "$scratch/back" || exit 1
 if [ -z "$program" ]; then
     echo "The program of this run isn't proved: its sources are compiled as they stand, in one to two minutes."
     echo "make build proves it, which takes up to half an hour the first time; from then on make run shows that one."
     plan 1-boot root boot nix/store/a-sys
     plan 2-dry-activate example dry-activate nix/store/web-24.11
     plan 3-switch example switch nix/store/web-24.11
+    plan 4-old back switch nix/store/web-24.05
+    plan 5-new back switch nix/store/web-24.11
+    plan 6-rollback back rollback
+    plan 7-further back rollback
     if ! (cd crates/nixswitch && rt try --cases "$runs") >"$runs/stdout" 2>"$runs/stderr"; then
         cat "$runs/stderr" >&2
         exit 1
@@ -128,6 +133,12 @@ look cat example/tree/etc/static example/tree/etc/systemd/system/metrics.service
 look cat example/tree/nix/var/nix/profiles/system-1-link example/tree/nix/var/nix/profiles/system
 look cat example/tree/boot/loader/entries/nixos-generation-1.conf example/tree/boot/loader/loader.conf
 look cat example/tree/run/current-system example/manager
+echo
+show 4-old 0 back switch nix/store/web-24.05
+show 5-new 4 back switch nix/store/web-24.11
+show 6-rollback 0 back rollback
+look cat back/tree/nix/var/nix/profiles/system back/tree/boot/loader/loader.conf
+show 7-further 2 back rollback
 echo
 if [ -n "$program" ] && strace -o "$runs/calls" true 2>"$runs/stderr"; then
     show_cut

@@ -32,12 +32,18 @@ fresh() {
     echo secret >"$work/outside/file"
 }
 
-# What lies outside the root: each file with its bytes, each folder, each link.
+# What a folder holds: each file with its bytes, each folder, each link.
+holding() {
+    (cd "$1" && find . -printf '%y %p %l %m\n' | sort && find . -type f -exec cksum {} + | sort)
+}
+
+# What lies outside the root.
 outside() {
-    (cd "$work/outside" && find . -printf '%y %p %l %m\n' | sort && find . -type f -exec cksum {} + | sort)
+    holding "$work/outside"
 }
 
 command=boot
+argument=nix/store/a-sys
 inject=
 place=$work/root
 output=$work/stdout
@@ -50,13 +56,13 @@ judge() {
     [ "$2" = ok ]
 }
 
-# run NAME STATUS [FAULT]: makes the command with the system in the root and judges the row. A fault of the host has this
-# pattern as its second line.
+# run NAME STATUS [FAULT]: makes the command with the system in the root, or alone where none is set, and judges the row. A
+# fault of the host has this pattern as its second line.
 run() {
     before=$(outside)
     : >"$work/opened"
     # shellcheck disable=SC2086
-    timeout 10 $trace $inject "$program" "$place" "$command" nix/store/a-sys >"$output" 2>"$work/stderr"
+    timeout 10 $trace $inject "$program" "$place" "$command" ${argument:+"$argument"} >"$output" 2>"$work/stderr"
     status=$?
     verdict=ok
     [ "$status" = "$2" ] || verdict="status $status, not $2"
@@ -260,6 +266,90 @@ fresh && mkdir -p "$system/etc" "$tree/etc/a/b" && printf 'F 0644 0 0\n' >"$syst
 run "empty folders where an entry of /etc is to stand" 0
 fresh && mkdir -p "$system/etc" && printf 'L /nix/store/../../../../outside/file\n' >"$system/etc/a" && printf 'F 0644 0 0\n0644\n' >"$system/etc/a.mode"
 run "a copy of what leads out of the tree" 2
+
+# A rollback, and what stands where its goal is recorded.
+recorded=$lists/rollback-goal
+
+# generations NUMBER: a root with two systems, of which each has a generation. This one is the current one.
+generations() {
+    fresh
+    cp -r "$tree/nix/store/a-sys" "$tree/nix/store/b-sys"
+    mkdir -p "$profiles" "$lists"
+    printf 'L /nix/store/a-sys\n' >"$profiles/system-1-link"
+    printf 'L /nix/store/b-sys\n' >"$profiles/system-2-link"
+    printf 'L system-%d-link\n' "$1" >"$profiles/system"
+}
+
+# run_back NAME [NUMBER]: makes a rollback that has to go to the generation of this number, by default the first, and leave no
+# goal.
+run_back() {
+    run "$1" 0 || return
+    if [ "$(cat "$profiles/system")" = "L system-${2-1}-link" ] && [ ! -e "$recorded" ]; then
+        judge "it goes to generation ${2-1}, and leaves no goal" ok
+    else
+        judge "it goes to generation ${2-1}, and leaves no goal" "$(cat "$profiles/system")"
+    fi
+}
+
+# refused NAME LINE: makes a command that has to be refused by this line, and to change nothing in the root.
+refused() {
+    local within
+    within=$(holding "$work/root")
+    run "$1" 2 || return
+    if [ "$(cat "$work/stderr")" != "refused: $2" ]; then
+        judge "it says why" "said: $(cat "$work/stderr")"
+    elif [ -s "$output" ] || [ "$(holding "$work/root")" != "$within" ]; then
+        judge "it puts nothing and changes nothing" "it does"
+    fi
+}
+
+command=rollback
+generations 2
+run "a rollback with a word too many" 1
+argument=
+run_back "a rollback"
+refused "the same rollback again, at the first generation" "no previous generation"
+fresh
+refused "a rollback without a generation" "no previous generation"
+generations 2 && printf 'L /tmp\n' >"$profiles/system-1-link"
+refused "no generation before names a system" "no previous generation"
+generations 3
+refused "the profile names no generation that stands" "no previous generation"
+generations 2 && rm "$tree/nix/store/a-sys/nixos-version"
+refused "the system of the generation before isn't there" "no such system"
+generations 1 && printf 'F 0644 0 0\n2\n' >"$recorded"
+run_back "a goal above the current generation" 2
+generations 2 && printf 'F 0644 0 0\n2\n' >"$recorded"
+run_back "a goal that is the current generation" 2
+generations 2 && printf 'F 0644 0 0\n7\n' >"$recorded"
+run_back "a goal that is no generation"
+generations 2 && printf 'L /tmp\n' >"$profiles/system-3-link" && printf 'F 0644 0 0\n3\n' >"$recorded"
+run_back "a goal that names no system"
+generations 2 && printf 'F 0644 0 0\n02\n' >"$recorded"
+run_back "a goal with a zero before it"
+generations 2 && { printf 'F 0644 0 0\n2' && head -c 70000000 /dev/zero | tr '\0' 0; } >"$recorded"
+run_back "a goal of seventy megabytes"
+generations 2 && printf 'L ../../outside/file\n' >"$recorded"
+run_back "a goal that leads out of the tree"
+generations 2 && mkdir -p "$recorded/a/b"
+run_back "empty folders where the goal is recorded"
+generations 2 && mkdir -p "$recorded" && printf 'L x\n' >"$recorded/leaf"
+refused "a folder with a leaf where the goal is recorded" "in the way: run/nixos/rollback-goal"
+generations 2 && ln -s "$work/outside/file" "$recorded"
+run "the goal is a link of the file system" 3 "run/nixos/rollback-goal: $link"
+generations 2 && mkfifo "$recorded"
+run "the goal is a pipe" 3 "run/nixos/rollback-goal: $link"
+generations 2 && echo junk >"$recorded"
+run "a goal that is no node" 3 "run/nixos/rollback-goal: not a node file"
+command=boot
+argument=nix/store/a-sys
+generations 2 && printf 'F 0644 0 0\n1\n' >"$recorded"
+run "a boot where a goal is recorded" 0
+if [ -e "$recorded" ]; then judge "it leaves no goal" "it does"; else judge "it leaves no goal" ok; fi
+command=test
+generations 2 && printf 'F 0644 0 0\n1\n' >"$recorded"
+run "a test where a goal is recorded" 0
+if [ -e "$recorded" ]; then judge "it leaves the goal" ok; else judge "it leaves the goal" "it doesn't"; fi
 
 # What is written can be read again, however long it is. What no host wrote isn't read to its end.
 long() {

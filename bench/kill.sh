@@ -5,9 +5,10 @@
 #
 # Needs bash 5, awk, the coreutils, findutils, and strace with leave to trace.
 #
-# An uncut run is traced first, from four roots: a boot without a profile, a boot with three generations whose profile is
+# An uncut run is traced first, from six roots: a boot without a profile, a boot with three generations whose profile is
 # the second and whose boot menu is of the second and of one that is gone, a test of the example root, which sets its
-# accounts, makes its /etc and switches its units, and a switch of it, which makes a generation and its boot menu too.
+# accounts, makes its /etc and switches its units, a switch of it, which makes a generation and its boot menu too, a rollback
+# of it from the third generation to the second, and a switch where a rollback was killed that had recorded its goal.
 # Then each of its calls that change a file or write to standard output is a place for
 # the kill, twice: at its entry, where the call has no effect, and after it. As strace kills at an entry only, the kill
 # after a call is at the entry of the one that follows. strace counts each kind of call by itself, so a place is named by
@@ -21,6 +22,10 @@
 # were reloaded, restarted or started under which definitions. A boot has to put the same output again;
 # a switch tells what is left to do. Each place is tried with one kill, and with a second one at the same
 # place of the run after it, where that run comes to it.
+#
+# A rollback that is killed after the removal of its goal has come to its end (its row says `over`): then the files have to be as
+# the uncut run leaves them, no second kill is tried, and the next run has to end as a further rollback does. So it has to after
+# one that ended before the place of its second kill (`ended`). At any other place it has to go to the same generation.
 #
 # Then a switch of a root of 500 units, 2,000 entries below /etc and 60 users is killed after a time taken at random, below
 # that of the uncut run, at least as often as MOMENTS says (60), up to three times in a row on one root. Then a run comes
@@ -37,6 +42,7 @@ fi
 tree=$root/tree
 profiles=$tree/nix/var/nix/profiles
 menu=$tree/boot/loader
+recorded=$tree/run/nixos/rollback-goal
 passed=0
 failed=0
 
@@ -77,6 +83,35 @@ make_example() {
 # The example root, and a switch, which makes a generation first.
 make_switch() {
     make_example
+    words=(switch nix/store/web-24.11)
+    goal=/nix/store/web-24.11
+}
+
+# Keeps the example root with three generations, of which the first and the third are of the new system and the second of the
+# old one, and the third is in use.
+keep_third() {
+    local system
+    make_example
+    for system in web-24.11 web-24.05 web-24.11; do
+        "$program" "$root" switch nix/store/$system >"$work/stdout" 2>"$work/stderr"
+    done
+    rm -rf "$work/third"
+    cp -r "$root" "$work/third"
+}
+
+# That root, and a rollback, which goes to the second generation.
+make_rollback() {
+    words=(rollback)
+    goal=/nix/store/web-24.05
+    rm -rf "$root"
+    cp -r "$work/third" "$root"
+}
+
+# That root, where a rollback has recorded its goal and was killed then, and a switch to the system in use, which keeps its
+# generation and removes the goal.
+make_recorded() {
+    make_rollback
+    printf 'F 0644 0 0\n2\n' >"$recorded"
     words=(switch nix/store/web-24.11)
     goal=/nix/store/web-24.11
 }
@@ -219,15 +254,21 @@ judge_moment() {
     judge_menu
 }
 
+# Says whether a rollback has come to its end: all is as the uncut run leaves it.
+is_back() {
+    [ "${words[0]}" = rollback ] && [ ! -e "$recorded" ] && [ "$(files)" = "$final" ]
+}
+
 # row NAME KIND NUMBER CALLS TRIES: tries to kill that many runs at a place, ends the next one, and
 # judges. The first must be killed, at the call with this number among all: where it isn't, as may be on a machine that is
 # busy, the row begins anew, twice at most.
 row() {
-    local verdict=ok kills=0 try status anew=2
+    local verdict=ok kills=0 try hit status anew=2 left=$final wanted=$ends note=
     "$make"
     for ((try = 1; try <= $5; try++)); do
+        hit=
         if killed_run "$2" "$3"; then
-            kills=$((kills + 1))
+            kills=$((kills + 1)) hit=yes
         fi
         if [ $try = 1 ] && { [ $kills = 0 ] || [ "$(call_count)" != "$4" ]; }; then
             if [ $anew != 0 ]; then
@@ -238,13 +279,18 @@ row() {
             verdict='was not killed there'
         fi
         judge_moment
+        if is_back; then
+            left=$further wanted=$further_ends note=', ended'
+            [ -z "$hit" ] || { note=', over' && backs=$((backs + 1)); }
+            break
+        fi
     done
     carry
     status=$?
     [ "${words[0]}" != boot ] || cmp -s "$work/stdout" "$work/output" || verdict='the next run has another output'
-    [ "$(files)" = "$final" ] || verdict='the next run leaves other files'
-    [ $status = "$ends" ] || verdict="the next run ends with $status: $(cat "$work/stderr")"
-    note "$1, kills: $kills of $5" "$verdict"
+    [ "$(files)" = "$left" ] || verdict='the next run leaves other files'
+    [ $status = "$wanted" ] || verdict="the next run ends with $status: $(cat "$work/stderr")"
+    note "$1, kills: $kills of $5$note" "$verdict"
 }
 
 # root_rows NAME MAKE STATUS: the rows of one root, whose uncut run ends with this status.
@@ -264,11 +310,31 @@ root_rows() {
     final=$(files)
     cp "$work/stdout" "$work/output"
     places >"$work/places"
+    [ "${words[0]}" != rollback ] || go_further
     echo "$1: the profile names $was, $(wc -l <"$work/places") places"
+    backs=0
     while read -r kind number calls place; do
         row "$place" "$kind" "$number" "$calls" 1
         row "$place" "$kind" "$number" "$calls" 2
     done <"$work/places"
+    [ "${words[0]}" != rollback ] || judge_backs
+}
+
+# Sets `further` and `further_ends` to what a further rollback leaves and ends with, which has to go to the first generation.
+go_further() {
+    carry
+    further_ends=$?
+    further=$(files)
+    [ "$(cat "$profiles/system")" = 'L system-1-link' ] && [ $further_ends = 4 ] || note 'a further rollback' "went wrong: $(cat "$work/stderr")"
+}
+
+# Judges at how many places a rollback had come to its end: after the removal of its goal, and so at some and not at most.
+judge_backs() {
+    if [ $backs -gt 0 ] && [ $backs -lt $(($(wc -l <"$work/places") / 2)) ]; then
+        note "rows in which a rollback was killed when it had come to its end: $backs" ok
+    else
+        note "rows in which a rollback was killed when it had come to its end: $backs" 'some are wanted, and not most'
+    fi
 }
 
 # The root of many units, as it was before its switch.
@@ -339,6 +405,9 @@ root_rows 'a boot without a profile' make_empty 0
 root_rows 'a boot with three generations, the profile at the second' make_three 0
 root_rows 'a test of the example root' make_example 4
 root_rows 'a switch of the example root' make_switch 4
+keep_third
+root_rows 'a rollback of the example root from its third generation' make_rollback 0
+root_rows 'a switch where a rollback has recorded its goal' make_recorded 4
 moment_rows
 echo "$passed passed, $failed failed"
 [ $failed = 0 ]

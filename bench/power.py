@@ -501,6 +501,7 @@ class Trial:
         self.words = words
         self.start = start
         self.store = os.path.join(scratch, "store")
+        self.further = None
 
     def run(self, root, before=()):
         with open(os.devnull, "wb") as nowhere:
@@ -524,6 +525,9 @@ class Trial:
             for line in lines:
                 reader.read(line)
         self.last = read_root(root)
+        if list(self.words) == ["rollback"]:
+            self.further_status = self.run(root)
+            self.further = read_root(root)
         self.put_done = disk.put_done
         followed = disk.state(lambda folder: disk.moment, lambda file: file.now())
         if followed != self.last:
@@ -545,14 +549,16 @@ class Trial:
                     file.write(data)
 
     def rerun(self, state, units):
-        """Runs the same command on a state, and says how it ended."""
+        """Runs the same command on a state, and says how it ended. Where a rollback had come to its end, a further one is wanted."""
         root = os.path.join(self.scratch, "root-%d" % os.getpid())
         self.make(root, state)
+        over = self.further is not None and difference(self.last, state, units) is None
+        last, wanted, word = (self.further, self.further_status, "further the same") if over else (self.last, self.status, "same")
         status = self.run(root)
-        if status not in ((self.status,) if units else (0, 4)):
+        if status not in ((wanted,) if units else (0, 4)):
             return "stuck with %d" % status
-        differs = difference(self.last, read_root(root), units)
-        return "another end: " + differs if differs else "same"
+        differs = difference(last, read_root(root), units)
+        return "another end: " + differs if differs else word
 
     def verdicts(self, kept, state):
         """What is found of a state, each with the word by which it is counted."""

@@ -1,14 +1,16 @@
 #!/bin/bash
-# Draws the steps of a switch of the example root, as the program takes them: the picture of docs/SWITCH.md.
+# Draws the steps of a switch of the example root, as the program takes them, or of a rollback: the pictures of docs/SWITCH.md.
 #
-# bench/steps.sh [PROGRAM]
+# bench/steps.sh [PROGRAM [rollback]]
 #
 # Needs bash, awk, the coreutils, and strace with leave to trace. It runs the switch on a copy of
 # crates/nixswitch/data/example under strace, and draws a line for each rename and each removal below the root, and for
 # what is put on standard output. A rename of the manager's file is drawn as the act that its journal has gained, or as the
-# load of definitions. It ends with 1 where the switch doesn't end with the status of a failed unit.
+# load of definitions. With `rollback` the system in use is made a generation and the switch is made, and then the way back is
+# drawn. It ends with 1 where a run doesn't end with its status: 4 to the system that has a failed unit, and 0 to the other.
 . "$(dirname "$0")/common.sh"
 find_program "$@"
+way=${2-switch}
 if ! strace -o "$work/calls" true 2>"$work/stderr"; then
     echo "strace isn't there or may not trace" >&2
     exit 1
@@ -28,6 +30,8 @@ function group_of(place) {
         return "profile"
     if (place ~ /^boot\//)
         return "boot"
+    if (place == "run/nixos/rollback-goal")
+        return "goal"
     if (place ~ /^run\/nixos\//)
         return "lists"
     if (place ~ /^var\/lib\/nixos\// || place ~ /^etc\/(group|passwd|shadow)$/)
@@ -42,7 +46,7 @@ function place_of(call) {
     return call
 }
 # What the manager's new state has that the old one hadn't: an act, or the definitions that it has loaded.
-function draw_act(    count, lines, at, acts) {
+function draw_act(    count, lines, at, acts, act) {
     count = split(state, lines, /\\n/)
     for (at = 1; at <= count; at++)
         if (lines[at] ~ /^(stop|reload|restart|start) /)
@@ -82,12 +86,33 @@ function draw_act(    count, lines, at, acts) {
 }
 AWK
 
-cp -r "$here/crates/nixswitch/data/example" "$root"
-strace -f -y -s 1000000 -e trace=write,rename,renameat,renameat2,unlink,unlinkat -o "$work/calls" \
-    "$program" "$root" switch nix/store/web-24.11 >"$work/stdout" 2>"$work/stderr"
-status=$?
-awk -v root="$root/" -f "$work/draw.awk" "$work/calls"
-if [ $status != 4 ]; then
-    echo "the switch ended with $status: $(cat "$work/stderr")" >&2
+# carry STATUS WORDS..: runs a command, which has to end with this status. What stands in `tracing` goes before it.
+tracing=()
+carry() {
+    local wanted=$1 status
+    shift
+    "${tracing[@]}" "$program" "$root" "$@" >"$work/stdout" 2>"$work/stderr"
+    status=$?
+    [ $status = "$wanted" ] && return
+    echo "$*: it ended with $status: $(cat "$work/stderr")" >&2
     exit 1
+}
+
+cp -r "$here/crates/nixswitch/data/example" "$root"
+trace=(strace -f -y -s 1000000 -e trace=write,rename,renameat,renameat2,unlink,unlinkat -o "$work/calls")
+# What the journal has before the run that is drawn.
+known() {
+    grep -cE '^(stop|reload|restart|start) ' "$root/manager"
+}
+if [ "$way" = rollback ]; then
+    carry 0 switch nix/store/web-24.05
+    carry 4 switch nix/store/web-24.11
+    known=$(known)
+    tracing=("${trace[@]}")
+    carry 0 rollback
+else
+    known=$(known)
+    tracing=("${trace[@]}")
+    carry 4 switch nix/store/web-24.11
 fi
+awk -v root="$root/" -v known="$known" -f "$work/draw.awk" "$work/calls"

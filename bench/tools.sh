@@ -435,6 +435,7 @@ try_completions() {
         holds "bash completes a quoted root and a slash" [ "$(typed 'nixswitch "my root" dry\t/nix/store/b\t')" = '<my root><dry-activate></nix/store/b=sys>' ]
         holds "bash completes behind an equals sign" [ "$(typed 'nixswitch my\\ root boot nix/store/b=\t')" = '<my root><boot><nix/store/b=sys>' ]
         holds "bash offers no folder that is no system" [ "$(typed 'nixswitch my\\ root test nix/store/n\tx')" = '<my root><test><nix/store/nx>' ]
+        holds "bash offers no system for a rollback" [ "$(typed 'nixswitch my\\ root ro\t nix/store/a\tx')" = '<my root><rollback><nix/store/ax>' ]
         holds "bash completes an option" [ "$(typed 'nixswitch --v\t')" = '<--version>' ]
         typed 'nixswitch "$(touch touched)" sw\t\025' >"$work/none"
         holds "bash runs nothing of the line" [ ! -e "$work/touched" ]
@@ -443,8 +444,9 @@ try_completions() {
     fi
     if fish -c true 2>"$work/none"; then
         holds "fish completes a root" [ "$(fished 'nixswitch my')" = 'my root/ ' ]
-        holds "fish offers the commands" [ "$(fished 'nixswitch my\ root ')" = 'boot dry-activate switch test ' ]
+        holds "fish offers the commands" [ "$(fished 'nixswitch my\ root ')" = 'boot dry-activate rollback switch test ' ]
         holds "fish offers the systems" [ "$(fished 'nixswitch "my root" test ')" = 'nix/store/a-sys nix/store/b=sys ' ]
+        holds "fish offers no system for a rollback" [ -z "$(fished 'nixswitch "my root" rollback ')" ]
     else
         echo "left out: fish isn't here"
     fi

@@ -3,6 +3,12 @@ function __nixswitch_words
     test (count (commandline -opc)) = $argv[1]
 end
 
+# Whether the words so far are a root and a command that takes a system.
+function __nixswitch_takes_system
+    set -l words (commandline -opc)
+    test (count $words) = 3; and contains -- $words[3] switch test boot dry-activate
+end
+
 function __nixswitch_systems
     set -l root (commandline -opc)[2]
     for file in $root/tree/nix/store/*/nixos-version
@@ -18,7 +24,8 @@ complete -c nixswitch -n '__nixswitch_words 2' -a switch -d 'boot default, and b
 complete -c nixswitch -n '__nixswitch_words 2' -a test -d 'brought into use'
 complete -c nixswitch -n '__nixswitch_words 2' -a boot -d 'boot default'
 complete -c nixswitch -n '__nixswitch_words 2' -a dry-activate -d 'what test would do'
-complete -c nixswitch -n '__nixswitch_words 3' -a '(__nixswitch_systems)' -d 'a built system'
+complete -c nixswitch -n '__nixswitch_words 2' -a rollback -d 'back to the generation before'
+complete -c nixswitch -n __nixswitch_takes_system -a '(__nixswitch_systems)' -d 'a built system'
 complete -c nixswitch-import -l here -d 'this machine too'
 complete -c nixswitch-import -l current -d 'the system is in use'
 complete -c nixswitch-import -l machine -r -a '(__fish_complete_directories)' -d 'etc and var/lib/nixos below'

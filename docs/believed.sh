@@ -3,7 +3,7 @@
 #
 # docs/believed.sh
 #
-# It begins with the clauses of `run` and of the law `cut_runs_end_as_one` (crates/switch_run), and with those of the traits
+# It begins with the clauses of `run` and of the laws on cut runs (`cut_..` in crates/switch_run), and with those of the traits
 # (crates/host_trait), and follows each name of a definition to where it stands, and from there on. docs/check.sh holds the
 # page to it, and writes it with --write. Needs find, sort and awk.
 cd "$(dirname "$0")/.." || exit 1
@@ -140,7 +140,12 @@ find crates/*/specs crates/*/src -name '*.antt' -o -name '*.rt' | LC_ALL=C sort 
         }
     }
     /^pub fn run</ && FILENAME == "crates/switch_run/src/top_call.rt" { root = "run"; run_at = FNR }
-    /^pub fn cut_runs_end_as_one/ && FILENAME == "crates/switch_run/src/laws.rt" { root = "run"; law_at = FNR }
+    /^pub fn cut_/ && FILENAME == "crates/switch_run/src/laws.rt" {
+        root = "run"
+        name = $3
+        sub(/[^a-z_].*$/, "", name)
+        laws = laws (laws_count++ ? " and\n" : "") "[`" name "`](../" FILENAME "#L" FNR ")"
+    }
     !/^ *#\[/ && !/^ *$/ { doc = "" }
     root != "" {
         module_of[root, module]
@@ -220,8 +225,8 @@ find crates/*/specs crates/*/src -name '*.antt' -o -name '*.rt' | LC_ALL=C sort 
         }
         printf "<!-- docs/believed.sh makes this page; write it by make docs. -->\n# What must be believed\n\n"
         printf "The prover shows that the code does what the contracts say. That the contracts say what a reader wants is for the reader\n"
-        printf "to see. The promise is that of [`run`](../crates/switch_run/src/top_call.rt#L%d) and of the law\n", run_at
-        printf "[`cut_runs_end_as_one`](../crates/switch_run/src/laws.rt#L%d), and this page has all on which their clauses stand: of\n", law_at
+        printf "to see. The promise is that of [`run`](../crates/switch_run/src/top_call.rt#L%d) and of the %s\n", run_at, (laws_count > 1 ? "laws" : "law")
+        printf "%s, and this page has all on which their clauses stand: of\n", laws
         printf "%d definitions in `specs/` the %d that they reach, and %d more that only the traits reach. The other %d, told at the end,\n", definitions, behind_run, behind_traits, definitions - behind_run - behind_traits
         printf "only help to say what single functions do; a mistake in one of them can make no clause of `run` wrong.\n\n"
         printf "The promise itself is said in `switch_run/specs/Runs.antt` and `Moments.antt` and in `switch_engine/specs/Owing.antt` and\n"
@@ -239,7 +244,7 @@ find crates/*/specs crates/*/src -name '*.antt' -o -name '*.rt' | LC_ALL=C sort 
             rows[n + 1] = row
         }
         for (at = 1; at <= count; at++) print rows[at]
-        printf "\n## The definitions behind `run` and the law\n"
+        printf "\n## The definitions behind `run` and the %s\n", (laws_count > 1 ? "laws" : "law")
         show("run")
         printf "\n## Those that only the traits reach\n"
         show("traits")
