@@ -14,4 +14,4 @@ mod words;
 pub use laws::{cut_rollbacks_end_as_one, cut_runs_end_as_one};
 pub use status::Status;
 pub use top_call::run;
-pub use words::read_words;
+pub use words::{asks_list, read_words};

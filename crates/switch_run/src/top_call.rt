@@ -32,6 +32,9 @@ use switch_names::Text;
 /// end leaves what one that wasn't cut leaves: the same tree, accounts, profile, boot menu and states of units.
 /// That is the law `cut_runs_end_as_one`, since each world that a cut may leave is a moment of the command by
 /// `each_moment`.
+///
+/// A `rollback` is promised the same until its last step, by `cut_rollbacks_end_as_one`. The word `generations` alone puts the list
+/// of the generations that stand, as nix-env(1) does with `--list-generations`, and changes nothing.
 pub fn run<H: Manager, S: Sink>(alloc: Global, words: &[Text], host: &mut H, out: &mut S) -> Status
     // Words that give no command.
     ensures usage { result ≡ Status.Usage → (command_of words.now ≡ None) × (asks_list words.now ≡ false) }
@@ -43,6 +46,7 @@ pub fn run<H: Manager, S: Sink>(alloc: Global, words: &[Text], host: &mut H, out
     ensures list { asks_list words.now ≡ true → IsEnded result → (result ≡ Status.Done) × Told (H.host host.old) (λ w. Puts (S.sink out.old) (S.sink out.new) (IsListOf w)) }
     ensures list_begun { asks_list words.now ≡ true → result ≡ Status.SinkFault → Told (H.host host.old) (λ w. Puts (S.sink out.old) (S.sink out.new) (IsInList w)) }
     ensures list_broken { asks_list words.now ≡ true → IsBroken result → Puts (S.sink out.old) (S.sink out.new) (λ more. more ≡ []) }
+    ensures list_never_refused { asks_list words.now ≡ true → (why : Refusal) → result ≡ Status.Refused why → ⊥ }
     ensures list_changes_nothing { asks_list words.now ≡ true → Passes (H.host host.old) (H.host host.new) IsSame }
     ensures list_completes { asks_list words.now ≡ true → ¬ Rose (H.host host.old).faults (H.host host.new).faults → ¬ Rose (S.sink out.old).faults (S.sink out.new).faults → (result ≡ Status.Done) ⊎ (result ≡ Status.NoMemory) }
 
