@@ -17,6 +17,7 @@ const HELP: &str = "\
 nixswitch makes a built NixOS system the one of a root folder.
 
 usage: nixswitch ROOT switch|test|boot|dry-activate SYSTEM
+       nixswitch ROOT rollback
        nixswitch --help | --version
 
 ROOT is a folder with the file tree below ROOT/tree, one node file for each file or link.
@@ -27,6 +28,8 @@ switch SYSTEM        makes the system the boot default, as boot does, and brings
 test SYSTEM          brings the system into use, and leaves the profile and the boot menu as they are
 boot SYSTEM          makes a generation for the system, points the profile to it, and makes the boot menu
 dry-activate SYSTEM  says what bringing the system into use would do, and changes nothing
+rollback             points the profile back to the greatest generation below the current one that names a system, makes
+                     the boot menu, and brings that system into use; cut and run again, it goes to the same generation
 
 One run goes on at a time in a ROOT: another one ends with 3 at once, and nobody else may change the tree meanwhile.
 The line that stands for a wrong usage also names commands that are still to come.
