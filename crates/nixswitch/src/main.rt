@@ -10,14 +10,14 @@ use std::process::ExitCode;
 use std::rt::Files;
 use std::{env, io};
 use switch_names::Text;
-use switch_run::{Status, read_words, run};
+use switch_run::{Status, asks_list, read_words, run};
 
 /// What `--help` prints.
 const HELP: &str = "\
 nixswitch makes a built NixOS system the one of a root folder.
 
 usage: nixswitch ROOT switch|test|boot|dry-activate SYSTEM
-       nixswitch ROOT rollback
+       nixswitch ROOT rollback|generations
        nixswitch --help | --version
 
 ROOT is a folder with the file tree below ROOT/tree, one node file for each file or link.
@@ -30,6 +30,7 @@ boot SYSTEM          makes a generation for the system, points the profile to it
 dry-activate SYSTEM  says what bringing the system into use would do, and changes nothing
 rollback             points the profile back to the greatest generation below the current one that names a system, makes
                      the boot menu, and brings that system into use; cut and run again, it goes to the same generation
+generations          lists the generations: the number, the system, and a mark at the current one; it changes nothing
 
 One run goes on at a time in a ROOT: another one ends with 3 at once, and nobody else may change the tree meanwhile.
 The line that stands for a wrong usage also names commands that are still to come.
@@ -140,6 +141,9 @@ fn run_line(rt: &HostRuntime, line: &[Text]) -> End {
     let [root, words @ ..] = line else {
         return End::plain(Status::Usage);
     };
+    if asks_list(words) {
+        return run_alone(rt, root.as_str(), words);
+    }
     match read_words(rt.alloc(), words) {
         Ok(Some(_)) => run_alone(rt, root.as_str(), words),
         Ok(None) => End::plain(Status::Usage),
