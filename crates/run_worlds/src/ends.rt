@@ -2,7 +2,7 @@
 use super::changes::show_changes;
 use super::statuses::{show_after, show_status, whole_world};
 use host_memory::{MemoryHost, MemorySink};
-use host_trait::Manager;
+use host_trait::{Manager, World};
 use std::alloc::{AllocError, Global};
 use std::test::Fail;
 use switch_names::{Bytes, Text};
@@ -81,7 +81,19 @@ pub fn show_run(
     show_outcome(alloc, lines, &mut host, text_of(put)?, text_of(words)?)
 }
 
-/// Shows how a run over the world of these places ends, and what is other in the world then.
+/// Shows how a run of these words ends, of which a put may fail, and what is other in the world then than before.
+pub fn show_changing_end(
+    alloc: Global,
+    lines: &mut Lines,
+    before: &World,
+    host: &mut MemoryHost,
+    (put, words): (&str, &str),
+) -> Result<(), Fail> {
+    show_end(alloc, lines, host, put, words)?;
+    show_changes(alloc, lines, before, host.world())
+}
+
+/// Shows the same of a run over the world of these places.
 pub fn show_changing_run(
     alloc: Global,
     lines: &mut Lines,
@@ -91,6 +103,6 @@ pub fn show_changing_run(
 ) -> Result<(), Fail> {
     let before = host_of(alloc, places)?;
     let mut host = host_of(alloc, places)?;
-    show_end(alloc, lines, &mut host, text_of(put)?, text_of(words)?)?;
-    show_changes(alloc, lines, before.world(), host.world())
+    let run = (text_of(put)?, text_of(words)?);
+    show_changing_end(alloc, lines, before.world(), &mut host, run)
 }

@@ -13,7 +13,7 @@ use self::ends::{show_changing_run, show_run};
 use self::folders::show_folder;
 use self::reports::show_switch;
 use self::statuses::show_fault_statuses;
-use self::troubles::show_troubles;
+use self::troubles::{show_cut_and_then, show_troubles};
 use std::io;
 use std::test::Fail;
 use switch_names::Bytes;
@@ -40,6 +40,9 @@ impl Commands for Runs<'_> {
             }
             ("fail" | "again" | "cut", [words, places @ ..]) => {
                 show_troubles(alloc, lines, command, words, places)
+            }
+            ("then", [number, words, then, places @ ..]) => {
+                show_cut_and_then(alloc, lines, (number, words, then), places)
             }
             ("folder", [root, words]) => show_folder(self.rt, lines, root, words),
             ("faults", _) => show_fault_statuses(alloc, lines),

@@ -1,5 +1,5 @@
-//! Runs whose calls fail or are cut, and the same runs made again.
-use super::ends::{show_outcome, sink_of, status_of};
+//! Runs whose calls fail or are cut, and the same runs or others made then.
+use super::ends::{show_changing_end, show_outcome, sink_of, status_of};
 use super::statuses::{show_all_but_the_journal, show_status};
 use host_memory::MemoryHost;
 use std::alloc::{AllocError, Global};
@@ -104,4 +104,22 @@ pub fn show_troubles(
         }
     }
     Ok(())
+}
+
+/// Shows how a run of some words over the world of these places ends, which is cut where the number says, and then a run
+/// of other words: of both, what is other in the world then than before the first.
+pub fn show_cut_and_then(
+    alloc: Global,
+    lines: &mut Lines,
+    (number, words, then): (&Bytes, &Bytes, &Bytes),
+    places: &[Bytes],
+) -> Result<(), Fail> {
+    let before = host_of(alloc, places)?;
+    let mut host = host_of(alloc, places)?;
+    trouble(alloc, &mut host, "cut", text_of(number)?.parse::<u64>()?)?;
+    let cut_run = ("-", text_of(words)?);
+    show_changing_end(alloc, lines, before.world(), &mut host, cut_run)?;
+    host.revive();
+    let next_run = ("-", text_of(then)?);
+    show_changing_end(alloc, lines, before.world(), &mut host, next_run)
 }
