@@ -325,7 +325,9 @@ go_further() {
     carry
     further_ends=$?
     further=$(files)
-    [ "$(cat "$profiles/system")" = 'L system-1-link' ] && [ $further_ends = 4 ] || note 'a further rollback' "went wrong: $(cat "$work/stderr")"
+    if [ "$(cat "$profiles/system")" != 'L system-1-link' ] || [ $further_ends != 4 ]; then
+        note 'a further rollback' "went wrong: $(cat "$work/stderr")"
+    fi
 }
 
 # Judges at how many places a rollback had come to its end: after the removal of its goal, and so at some and not at most.

@@ -99,7 +99,7 @@ carry() {
 }
 
 cp -r "$here/crates/nixswitch/data/example" "$root"
-trace=(strace -f -y -s 1000000 -e trace=write,rename,renameat,renameat2,unlink,unlinkat -o "$work/calls")
+trace=(strace -f -y -s 1000000 -e 'trace=write,rename,renameat,renameat2,unlink,unlinkat' -o "$work/calls")
 # What the journal has before the run that is drawn.
 known() {
     grep -cE '^(stop|reload|restart|start) ' "$root/manager"
