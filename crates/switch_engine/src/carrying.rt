@@ -4,14 +4,16 @@ ghost use Rattle.std.specs.FinMap.{empty};
 ghost use Rattle.std.specs.Option.{option_copied};
 ghost use Rattle.boot_entries.specs.BootDefault.{IsDefaultFor};
 ghost use Rattle.boot_entries.specs.declared.boot_default.BootDefaultPlan.{BootDefaultPlan};
-ghost use Rattle.host_trait.specs.World.{WorldState, seen};
-ghost use Rattle.host_trait.specs.Host.{Told, Leads, Passes, HasCause};
+ghost use Rattle.generations.specs.Goal.{goal_leaf, goal_place};
+ghost use Rattle.host_trait.specs.World.{WorldState, seen, with_leaf};
+ghost use Rattle.host_trait.specs.Host.{Told, Leads, Comes, Passes, HasCause};
 ghost use Rattle.switch_engine.specs.Carried.{CanRecordBy, CanSetBy, CanSwitch, CanSwitchBy, IsPrepared, IsPreparing, IsSwitchMomentIf, IsSwitchedIf, cleared_by, moves_of};
 ghost use Rattle.switch_engine.specs.Commands.{IsBoot, IsQuery};
 ghost use Rattle.switch_engine.specs.Final.{HasFailed, IsEndOf, LeavesFailed};
 ghost use Rattle.switch_engine.specs.Moments.{IsClearStep, IsMomentOf, IsRecordStep, IsSetStep, IsSwitchMoment, IsSwitched, record_world, set_world};
 ghost use Rattle.switch_engine.specs.Plan.{IsPlanOf, IsSound};
 ghost use Rattle.unit_stage.specs.Plan.{owed_of};
+ghost use Rattle.tree_put.specs.Put.{CanPut, IsOldOrNew};
 ghost use Rattle.unit_stage.specs.System.{system_leaf};
 
 use crate::outcome::{Outcome, has_failed};
@@ -24,7 +26,19 @@ use std::alloc::Global;
 use switch_names::SystemName;
 use unit_stage::{UnitPlan, bring_units, calls_of, stop_units, system_leaf};
 
-/// Records the goal of a rollback, where the profile goes back to a generation.
+/// Records the goal of a rollback, and has it kept beyond a loss of power.
+fn record_kept<T: Tree>(alloc: Global, host: &mut T, number: u32) -> Result<(), HostFault>
+    requires { Told (T.host host.old) (CanPut goal_place) }
+    ensures ok { OnOk result (Comes (T.host host.old) (T.host host.new) (with_leaf goal_place (goal_leaf number))) }
+    ensures moments { Passes (T.host host.old) (T.host host.new) (IsOldOrNew goal_place (goal_leaf number)) }
+    ensures cause { HasCause (T.host host.old) (T.host host.new) result }
+{
+    record_goal(alloc, host, number)?;
+    host.sync(alloc)?;
+    Ok(())
+}
+
+/// Records the goal of a rollback where the profile goes back to a generation.
 fn record_back<T: Tree>(
     alloc: Global,
     host: &mut T,
@@ -40,7 +54,7 @@ fn record_back<T: Tree>(
     };
     match plan.to {
         Move::Set => Ok(()),
-        Move::Point(number) => record_goal(alloc, host, number),
+        Move::Point(number) => record_kept(alloc, host, number),
     }
 }
 
@@ -188,12 +202,13 @@ fn prepare<T: Tree>(
 /// Carries a planned command out.
 ///
 /// A rollback records its goal first. A set of the profile makes the generation where it is new, and then points
-/// the profile to it, as a rollback does to one that stands; both then make the boot menu: it puts the entries of the generations that name systems, then what the boot loader reads
-/// first, and removes the entries of generations that don't stand. A switch of the units records the
-/// lists, stops units, sets the accounts, makes `/etc`, puts the link to the new system, loads its
-/// definitions, and reloads, restarts and starts units. Each list goes after the last of its calls. A
-/// command that does both moves the profile and makes the boot menu first. One that moves the profile removes the
-/// goal of a rollback last. What each leaves is kept beyond a loss of power before it answers `Ok`.
+/// the profile to it, as a rollback does to one that stands; both then make the boot menu: it puts the entries of
+/// the generations that name systems, then what the boot loader reads first, and removes the entries of
+/// generations that don't stand. A switch of the units records the lists, stops units, sets the accounts, makes
+/// `/etc`, puts the link to the new system, loads its definitions, and reloads, restarts and starts units. Each
+/// list goes after the last of its calls. A command that does both moves the profile and makes the boot menu
+/// first. One that moves the profile removes the goal of a rollback last. What each leaves is kept beyond a loss of
+/// power before it answers `Ok`.
 /// Source: NixOS manual, "What happens during a system switch?"; Boot Loader Specification, "Type #1 Boot
 /// Loader Specification Entries".
 pub fn carry_out<H: Manager>(alloc: Global, host: &mut H, plan: &Plan) -> Result<Outcome, HostFault>

@@ -19,8 +19,8 @@ returns-in_default-clause-moments g c =
     subst (λ (moves : Option Move). Passes (g.T.Tree.host c.args.host.now) (g.T.Tree.host c.args.host.now) (IsRecordStep moves))
     (ap (λ o. moves_of (option_copied o)) (none_left c.args.plan c.in_default.not-Some)) (started (IsRecordStep None) (λ w is. refl))
 
-pub record_goal-requires : goal.record_goal-requires
-record_goal-requires g c =
+pub record_kept-requires : goal.record_kept-requires
+record_kept-requires g c =
     subst (λ (moves : Option Move). Told (g.T.Tree.host c.args.host.now) (CanRecordBy moves)) (ap (λ o. moves_of (option_copied o)) c.in-Some.is ∙ ap Some c.in-Point.is) c.requires
 
 pub returns-in-Set-clause-ok : goal.returns-in-Set-clause-ok
@@ -35,10 +35,10 @@ returns-in-Set-clause-moments g c =
 
 pub returns-in-Point-clause-ok : goal.returns-in-Point-clause-ok
 returns-in-Point-clause-ok g c =
-    subst (λ (moves : Option Move). OnOk c.record_goal.result (Leads (g.T.Tree.host c.args.host.now) (g.T.Tree.host c.record_goal.new.host) (λ w r. seen r ≡ record_world moves w)))
-    (sym (ap (λ o. moves_of (option_copied o)) c.in-Some.is ∙ ap Some c.in-Point.is)) c.record_goal.ensures.ok
+    subst (λ (moves : Option Move). OnOk c.record_kept.result (Leads (g.T.Tree.host c.args.host.now) (g.T.Tree.host c.record_kept.new.host) (λ w r. seen r ≡ record_world moves w)))
+    (sym (ap (λ o. moves_of (option_copied o)) c.in-Some.is ∙ ap Some c.in-Point.is)) c.record_kept.ensures.ok
 
 pub returns-in-Point-clause-moments : goal.returns-in-Point-clause-moments
 returns-in-Point-clause-moments g c =
-    subst (λ (moves : Option Move). Passes (g.T.Tree.host c.args.host.now) (g.T.Tree.host c.record_goal.new.host) (IsRecordStep moves))
-    (sym (ap (λ o. moves_of (option_copied o)) c.in-Some.is ∙ ap Some c.in-Point.is)) c.record_goal.ensures.moments
+    subst (λ (moves : Option Move). Passes (g.T.Tree.host c.args.host.now) (g.T.Tree.host c.record_kept.new.host) (IsRecordStep moves))
+    (sym (ap (λ o. moves_of (option_copied o)) c.in-Some.is ∙ ap Some c.in-Point.is)) c.record_kept.ensures.moments
