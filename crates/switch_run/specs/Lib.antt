@@ -4,6 +4,7 @@ pub mod Listing
 pub mod Moments
 pub mod Output
 pub mod RefusalTexts
+pub mod Rehearsing
 pub mod Run
 pub mod Runs
 pub mod StatusTexts

@@ -5,6 +5,7 @@
 
 mod laws;
 mod refusal_text;
+mod rehearsing;
 mod run_fault;
 mod running;
 mod status;
@@ -14,4 +15,4 @@ mod words;
 pub use laws::{cut_rollbacks_end_as_one, cut_runs_end_as_one};
 pub use status::Status;
 pub use top_call::run;
-pub use words::{asks_list, read_words};
+pub use words::{asks_list, read_words, rehearsed_word};

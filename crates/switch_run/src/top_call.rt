@@ -16,12 +16,14 @@ ghost use Rattle.dry_report.specs.Report.{KeepsReport};
 ghost use Rattle.switch_run.specs.Commands.{command_of};
 ghost use Rattle.switch_run.specs.Listing.{IsInList, IsListOf, asks_list};
 ghost use Rattle.switch_run.specs.Moments.{IsMomentOf};
+ghost use Rattle.switch_run.specs.Rehearsing.{AsksRehearsal, IsInRehearsal, Tells};
 ghost use Rattle.switch_run.specs.Output.{IsBrokenOff, IsFailedOutput, IsIdle, IsPutFirst, IsWhole};
 ghost use Rattle.switch_run.specs.Run.{Answers, IsBroken, IsEnded, IsVerdict};
 
+use crate::rehearsing::run_rehearsal;
 use crate::running::{run_list, run_words};
 use crate::status::{Status, status_of};
-use crate::words::asks_list;
+use crate::words::{asks_list, rehearsed_word};
 use host_trait::{Manager, Sink};
 use std::alloc::Global;
 use switch_names::Text;
@@ -34,12 +36,13 @@ use switch_names::Text;
 /// `each_moment`.
 ///
 /// A `rollback` is promised the same until its last step, by `cut_rollbacks_end_as_one`. The word `generations` alone puts the list
-/// of the generations that stand, as nix-env(1) does with `--list-generations`, and changes nothing.
+/// of the generations that stand, as nix-env(1) does with `--list-generations`, and changes nothing. `rehearse` with a number
+/// switches a made machine in memory under cuts, tells what came of it, and touches nothing of the host.
 pub fn run<H: Manager, S: Sink>(alloc: Global, words: &[Text], host: &mut H, out: &mut S) -> Status
     // Words that give no command.
-    ensures usage { result ≡ Status.Usage → (command_of words.now ≡ None) × (asks_list words.now ≡ false) }
-    ensures no_command { command_of words.now ≡ None → asks_list words.now ≡ false → (result ≡ Status.Usage) ⊎ (result ≡ Status.NoMemory) }
-    ensures usage_output { command_of words.now ≡ None → asks_list words.now ≡ false → Puts (S.sink out.old) (S.sink out.new) (λ more. more ≡ []) }
+    ensures usage { result ≡ Status.Usage → (command_of words.now ≡ None) × (asks_list words.now ≡ false) × ((number : ℕ) → AsksRehearsal words.now number → ⊥) }
+    ensures no_command { command_of words.now ≡ None → asks_list words.now ≡ false → ((number : ℕ) → AsksRehearsal words.now number → ⊥) → (result ≡ Status.Usage) ⊎ (result ≡ Status.NoMemory) }
+    ensures usage_output { command_of words.now ≡ None → asks_list words.now ≡ false → ((number : ℕ) → AsksRehearsal words.now number → ⊥) → Puts (S.sink out.old) (S.sink out.new) (λ more. more ≡ []) }
 
     // Words that ask for the list of the generations. Nothing changes, and the list is put whole; a beginning of it,
     // where the output fails; or nothing, where the host fails or memory is wanting.
@@ -49,6 +52,15 @@ pub fn run<H: Manager, S: Sink>(alloc: Global, words: &[Text], host: &mut H, out
     ensures list_never_refused { asks_list words.now ≡ true → (why : Refusal) → result ≡ Status.Refused why → ⊥ }
     ensures list_changes_nothing { asks_list words.now ≡ true → Passes (H.host host.old) (H.host host.new) IsSame }
     ensures list_completes { asks_list words.now ≡ true → ¬ Rose (H.host host.old).faults (H.host host.new).faults → ¬ Rose (S.sink out.old).faults (S.sink out.new).faults → (result ≡ Status.Done) ⊎ (result ≡ Status.NoMemory) }
+
+    // Words that ask for a rehearsal. The host isn't touched, and the text is put whole, or a beginning of it where the
+    // output fails; or nothing, where memory is wanting.
+    ensures rehearsal { (number : ℕ) → AsksRehearsal words.now number → IsEnded result → (result ≡ Status.Done) × Puts (S.sink out.old) (S.sink out.new) (Tells number) }
+    ensures rehearsal_begun { (number : ℕ) → AsksRehearsal words.now number → result ≡ Status.SinkFault → Puts (S.sink out.old) (S.sink out.new) (IsInRehearsal number) }
+    ensures rehearsal_broken { (number : ℕ) → AsksRehearsal words.now number → IsBroken result → Puts (S.sink out.old) (S.sink out.new) (λ more. more ≡ []) }
+    ensures rehearsal_never_refused { (number : ℕ) → AsksRehearsal words.now number → (why : Refusal) → result ≡ Status.Refused why → ⊥ }
+    ensures rehearsal_touches_nothing { (number : ℕ) → AsksRehearsal words.now number → Passes (H.host host.old) (H.host host.new) IsSame × ((H.host host.new).faults ≡ (H.host host.old).faults) }
+    ensures rehearsal_completes { (number : ℕ) → AsksRehearsal words.now number → ¬ Rose (S.sink out.old).faults (S.sink out.new).faults → (result ≡ Status.Done) ⊎ (result ≡ Status.NoMemory) }
 
     // A refusal is the world's. Where there is one, nothing is put and nothing changes, whatever is answered.
     ensures refused { (why : Refusal) → result ≡ Status.Refused why → (command : Command) → command_of words.now ≡ Some command → Told (H.host host.old) (λ w. refusal command w.leaves ≡ Some why) }
@@ -102,6 +114,10 @@ pub fn run<H: Manager, S: Sink>(alloc: Global, words: &[Text], host: &mut H, out
     if asks_list(words) {
         let listed = run_list(alloc, host, out);
         return status_of(listed);
+    }
+    if let Some(word) = rehearsed_word(words) {
+        let told = run_rehearsal(alloc, word, out);
+        return status_of(told);
     }
     let ending = run_words(alloc, words, host, out);
     status_of(ending)

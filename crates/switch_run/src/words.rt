@@ -1,8 +1,9 @@
 //! The words of a command.
-ghost use Rattle.std.specs.Prelude.{◌≡◌, IfOk, option_and_then};
+ghost use Rattle.std.specs.Prelude.{◌≡◌, IfOk, MatchOption, None, Some, option_and_then};
 ghost use Rattle.generations.specs.Places.{system_of};
 ghost use Rattle.switch_run.specs.Commands.{command_alone, command_for, command_of};
 ghost use Rattle.switch_run.specs.Listing.{asks_list};
+ghost use Rattle.switch_run.specs.Rehearsing.{rehearsed_word};
 
 use std::alloc::{AllocError, Global};
 use switch_engine::Command;
@@ -76,5 +77,15 @@ pub fn asks_list(words: &[Text]) -> bool
     match words {
         [verb] => verb.as_str() == "generations",
         _ => false,
+    }
+}
+
+/// What stands behind the word `rehearse`, or none.
+pub fn rehearsed_word(words: &[Text]) -> Option<&Text>
+    ensures { MatchOption result (rehearsed_word words.now ≡ None) (λ word. rehearsed_word words.now ≡ Some word.now) }
+{
+    match words {
+        [verb, word] if verb.as_str() == "rehearse" => Some(word),
+        _ => None,
     }
 }
