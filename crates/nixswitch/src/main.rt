@@ -10,7 +10,7 @@ use std::process::ExitCode;
 use std::rt::Files;
 use std::{env, io};
 use switch_names::Text;
-use switch_run::{Status, asks_list, read_words, run};
+use switch_run::{Status, asks_list, read_words, rehearsed_word, run};
 
 /// What `--help` prints.
 const HELP: &str = "\
@@ -18,6 +18,7 @@ nixswitch makes a built NixOS system the one of a root folder.
 
 usage: nixswitch ROOT switch|test|boot|dry-activate SYSTEM
        nixswitch ROOT rollback|generations
+       nixswitch ROOT rehearse NUMBER
        nixswitch --help | --version
 
 ROOT is a folder with the file tree below ROOT/tree, one node file for each file or link.
@@ -31,9 +32,10 @@ dry-activate SYSTEM  says what bringing the system into use would do, and change
 rollback             points the profile back to the greatest generation below the current one that names a system, makes
                      the boot menu, and brings that system into use; cut and run again, it goes to the same generation
 generations          lists the generations: the number, the system, and a mark at the current one; it changes nothing
+rehearse NUMBER      makes a machine from the number, in memory alone, switches it under cuts until that ends, and tells what it
+                     has left; ROOT is neither read nor changed
 
 One run goes on at a time in a ROOT: another one ends with 3 at once, and nobody else may change the tree meanwhile.
-The line that stands for a wrong usage also names commands that are still to come.
 
 exit status: 0 done, 1 usage, 2 refused, 3 fault of the host, 4 units failed, 5 no memory, 6 fault of the output
 ";
@@ -136,13 +138,17 @@ fn run_alone(rt: &HostRuntime, root: &str, words: &[Text]) -> End {
     }
 }
 
-/// Runs the words of the command line, whose first names the root folder. Words that give no command need none.
+/// Runs the words of the command line, whose first names the root folder. Words that give no command need none, and neither does
+/// a rehearsal.
 fn run_line(rt: &HostRuntime, line: &[Text]) -> End {
     let [root, words @ ..] = line else {
         return End::plain(Status::Usage);
     };
     if asks_list(words) {
         return run_alone(rt, root.as_str(), words);
+    }
+    if rehearsed_word(words).is_some() {
+        return run_on(rt, rt.alloc(), root.as_str(), syncing_of(rt), words);
     }
     match read_words(rt.alloc(), words) {
         Ok(Some(_)) => run_alone(rt, root.as_str(), words),
