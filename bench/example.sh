@@ -1,5 +1,6 @@
 #!/bin/sh
-# Shows a boot, a dry run, a switch and the way back on copies of the example roots, and a switch that is killed and run again.
+# Shows a boot, a dry run, a switch, the way back and the generations on copies of the example roots, and a switch that is killed and
+# run again.
 #
 # bench/example.sh [PROGRAM]
 #
@@ -88,7 +89,7 @@ show_cut() {
         failed=1
     fi
     look cat cut/tree/nix/var/nixswitch.stage
-    show 8-again 4 cut switch nix/store/web-24.11
+    show 9-again 4 cut switch nix/store/web-24.11
     if look diff -r example cut; then
         echo "no difference"
     else
@@ -110,7 +111,8 @@ if [ -z "$program" ]; then
     plan 4-old back switch nix/store/web-24.05
     plan 5-new back switch nix/store/web-24.11
     plan 6-rollback back rollback
-    plan 7-further back rollback
+    plan 7-list back generations
+    plan 8-further back rollback
     if ! (cd crates/nixswitch && rt try --cases "$runs") >"$runs/stdout" 2>"$runs/stderr"; then
         cat "$runs/stderr" >&2
         exit 1
@@ -138,7 +140,8 @@ show 4-old 0 back switch nix/store/web-24.05
 show 5-new 4 back switch nix/store/web-24.11
 show 6-rollback 0 back rollback
 look cat back/tree/nix/var/nix/profiles/system back/tree/boot/loader/loader.conf
-show 7-further 2 back rollback
+show 7-list 0 back generations
+show 8-further 2 back rollback
 echo
 if [ -n "$program" ] && strace -o "$runs/calls" true 2>"$runs/stderr"; then
     show_cut
