@@ -351,6 +351,47 @@ generations 2 && printf 'F 0644 0 0\n1\n' >"$recorded"
 run "a test where a goal is recorded" 0
 if [ -e "$recorded" ]; then judge "it leaves the goal" ok; else judge "it leaves the goal" "it doesn't"; fi
 
+# list NAME LINES: lists the generations, which has to put these lines and to change nothing in the root.
+list() {
+    local within
+    within=$(holding "$work/root")
+    run "$1" 0 || return
+    if [ "$(cat "$output")" != "$2" ]; then
+        judge "it puts these lines" "it puts: $(cat "$output")"
+    elif [ "$(holding "$work/root")" != "$within" ]; then
+        judge "it changes nothing" "it does"
+    fi
+}
+
+command=generations
+generations 2
+run "a list with a word too many" 1
+argument=
+list "a list of the generations" $'1 nix/store/a-sys\n2 nix/store/b-sys current'
+fresh
+list "a list where there are none" ''
+generations 3 && printf 'L ../../../../outside/file\n' >"$profiles/system-1-link"
+list "a list with a generation that leads out of the tree" $'1 -\n2 nix/store/b-sys'
+generations 2 && printf 'F 0644 0 0\n' >"$profiles/system-3-link"
+list "a list with a generation that is a file" $'1 nix/store/a-sys\n2 nix/store/b-sys current\n3 -'
+generations 2 && ln -s "$work/outside/file" "$profiles/system-3-link"
+run "a generation is a link of the file system" 3 "nix/var/nix/profiles/system-3-link: $link"
+generations 2 && mkfifo "$profiles/system-3-link"
+run "a generation is a pipe" 3 "nix/var/nix/profiles/system-3-link: $link"
+generations 2 && echo junk >"$profiles/system-3-link"
+run "a generation is no node" 3 "nix/var/nix/profiles/system-3-link: not a node file"
+
+# A rehearsal looks at no root.
+command=rehearse
+argument=1
+fresh && rm -rf "$tree" && ln -s "$work/outside/tree" "$tree" && mkfifo "$work/root/manager"
+run "a rehearsal, whatever stands in the root" 0
+place= run "a rehearsal without a root" 0
+argument=01
+run "a rehearsal of a number with a zero before it" 1
+command=test
+argument=nix/store/a-sys
+
 # What is written can be read again, however long it is. What no host wrote isn't read to its end.
 long() {
     head -c 70000000 /dev/zero | tr '\0' "$1"

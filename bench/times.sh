@@ -10,6 +10,7 @@
 #   accounts  65536 (rows)                reading and writing account tables, a specification and a map of ids
 #   plan      1000 4000 16000 (units)     planning what a switch owes the units, beside a plain read of the same
 #   order     16384 (units)               putting units in order by the edges between them
+#   leaves    5000 10000 .. 80000         making a world in memory of so many leaves
 #   dry       500 4000 16000 (units)      a dry run
 #   test      500 4000 16000 (units)      a test of a system of which a tenth is another
 #   etc       1000 16000 131072           a switch of so many entries below /etc
@@ -21,10 +22,10 @@
 # row, and further rows of some kinds. It ends with 1 where a run fails, where what it leaves isn't what was expected, or where a
 # bound is passed. It is no part of the gate.
 #
-# Needs bash 5, awk, grep and the coreutils, and the toolchain's rt for `units`, `accounts`, `plan` and `order`, which build a
-# small program each. The memory is left out where /usr/bin/time isn't there, and the calls where strace isn't there or may not
+# Needs bash 5, awk, grep and the coreutils, and the toolchain's rt for `units`, `accounts`, `plan`, `order` and `leaves`, which build
+# a small program each. The memory is left out where /usr/bin/time isn't there, and the calls where strace isn't there or may not
 # trace. Where rustc is there, `dry` and `test` are compared with bench/plain_switch.rs, which does the same to the same files.
-kinds='units accounts plan order dry test etc boot switch'
+kinds='units accounts plan order leaves dry test etc boot switch'
 if [ $# -eq 0 ]; then
     failed=0
     for kind in $kinds; do

@@ -1,0 +1,107 @@
+# Making a world in memory of so many leaves, a hundred in a folder, put in another order than that of their paths.
+#
+# A row has the milliseconds of the quickest of five without what makes the paths, the most memory that the program had at
+# once, and how much longer it took than the row before. 80,000 leaves may take a second, and twice as many leaves 2.3 times as long, from
+# 20,000 on.
+# shellcheck shell=bash disable=SC2034,SC2154
+default_sizes=(5000 10000 20000 40000 80000)
+
+rows() {
+    local size told micros least peak before=0 last=0
+    find_tools
+    print_row leaves milliseconds 'peak KiB'
+    for size in "$@"; do
+        least=
+        for _ in 1 2 3 4 5; do
+            told=$("$built" leaves "$size") || exit 1
+            [ "${told%% *}" = "$size" ] || wrong "$size" "the world has ${told%% *} leaves"
+            micros=${told##* }
+            if [ -z "$least" ] || [ "$micros" -lt "$least" ]; then
+                least=$micros
+            fi
+        done
+        peak=-
+        if [ -n "$timed" ]; then
+            /usr/bin/time -f %M -o "$work/peak" "$built" leaves "$size" >"$work/stdout"
+            peak=$(tail -n 1 "$work/peak")
+        fi
+        print_row "$size" "$(thousandths "$least")" "$peak"
+        [ "$size" != 80000 ] || [ "$least" -le 1000000 ] || wrong "$size" 'a world took more than a second'
+        if [ "$last" -ge 20000 ] && [ "$size" = $((2 * last)) ]; then
+            [ $((10 * least)) -le $((23 * before)) ] || wrong "$size" "it took more than 2.3 times as long as $last"
+        fi
+        before=$least
+        last=$size
+    done
+}
+
+build_small leaves_world host_trait switch_names <<'RATTLE'
+//! Makes a world of so many leaves in memory, and prints how many it has and the microseconds.
+#![tactic(auto)]
+
+use host_trait::{Leaf, World};
+use std::alloc::Global;
+use std::time::Instant;
+use std::{env, io};
+use switch_names::{Bytes, Path};
+
+/// The path of a leaf.
+fn path_of(alloc: Global, number: u64) -> Option<Path> {
+    let (folder, name) = (number / 100, number % 100);
+    let text = format!(in alloc; "etc/d{folder}/f{name}").ok()?;
+    Path::parse(alloc, text.as_str()).ok()
+}
+
+/// The paths of so many leaves, by this step from one to the next.
+fn paths_of(alloc: Global, step: u64, count: u64) -> Option<Vec<Path>> {
+    let mut paths = Vec::new(alloc);
+    for number in 0..count {
+        paths
+            .push(path_of(alloc, number.wrapping_mul(step) % count)?)
+            .ok()?;
+    }
+    Some(paths)
+}
+
+/// Puts a file at each path.
+fn world_of(alloc: Global, paths: Vec<Path>) -> Option<World> {
+    let mut world = World::new(alloc);
+    for path in paths {
+        let bytes = Bytes::from_slice(alloc, b"entry\n").ok()?;
+        let _was = world
+            .set_leaf(alloc, path, Leaf::file(bytes, 0o644, 0, 0))
+            .ok()?;
+    }
+    Some(world)
+}
+
+/// Makes a world, and prints what it took.
+fn make(rt: &HostRuntime, step: u64, count: u64) -> io::Result<()> {
+    if count == 0 {
+        return Ok(());
+    }
+    let Some(paths) = paths_of(rt.alloc(), step, count) else {
+        return Ok(());
+    };
+    let from = Instant::now(rt)?;
+    let Some(world) = world_of(rt.alloc(), paths) else {
+        return Ok(());
+    };
+    let spent = from.elapsed(rt)?.as_micros();
+    let made = world.leaf_count();
+    println!(rt; "{made} {spent}")?;
+    Ok(())
+}
+
+fn main(rt: HostRuntime) -> io::Result<()> {
+    let mut arguments = env::args(&rt)?;
+    let _program = arguments.next();
+    let _word = arguments.next();
+    let (Some(step), Some(count)) = (arguments.next(), arguments.next()) else {
+        return Ok(());
+    };
+    let step = step.as_str().parse::<u64>().unwrap_or(1);
+    let count = count.as_str().parse::<u64>().unwrap_or(0);
+    make(&rt, step, count)
+}
+RATTLE
