@@ -1,37 +1,42 @@
-# Making a world in memory of so many leaves, a hundred in a folder, put in another order than that of their paths.
+# Making a world in memory of so many leaves, a hundred in a folder.
 #
-# A row has the milliseconds of the quickest of five without what makes the paths, the most memory that the program had at
-# once, and how much longer it took than the row before. 80,000 leaves may take a second, and twice as many leaves 2.3 times as long, from
-# 20,000 on.
+# A row has the milliseconds of the quickest of nine without what makes the paths, in the order of their numbers and scattered, and the
+# most memory that the program had at once. 80,000 leaves in order may take a second, and 5.3 times as long as 20,000.
 # shellcheck shell=bash disable=SC2034,SC2154
 default_sizes=(5000 10000 20000 40000 80000)
 
-rows() {
-    local size told micros least peak before=0 last=0
-    find_tools
-    print_row leaves milliseconds 'peak KiB'
-    for size in "$@"; do
-        least=
-        for _ in 1 2 3 4 5; do
-            told=$("$built" leaves "$size") || exit 1
-            [ "${told%% *}" = "$size" ] || wrong "$size" "the world has ${told%% *} leaves"
+# quickest_world STEP SIZE: sets `micros` to the microseconds of the quickest of nine worlds.
+quickest_world() {
+    local told
+    micros=
+    for _ in 1 2 3 4 5 6 7 8 9; do
+        told=$("$built" leaves "$1" "$2") || exit 1
+        [ "${told%% *}" = "$2" ] || wrong "$2" "the world has ${told%% *} leaves"
+        if [ -z "$micros" ] || [ "${told##* }" -lt "$micros" ]; then
             micros=${told##* }
-            if [ -z "$least" ] || [ "$micros" -lt "$least" ]; then
-                least=$micros
-            fi
-        done
+        fi
+    done
+}
+
+rows() {
+    local size micros ordered peak twenty=
+    find_tools
+    print_row leaves 'in order' scattered 'peak KiB'
+    for size in "$@"; do
+        quickest_world 1 "$size"
+        ordered=$micros
+        quickest_world 7919 "$size"
         peak=-
         if [ -n "$timed" ]; then
-            /usr/bin/time -f %M -o "$work/peak" "$built" leaves "$size" >"$work/stdout"
+            /usr/bin/time -f %M -o "$work/peak" "$built" leaves 7919 "$size" >"$work/stdout"
             peak=$(tail -n 1 "$work/peak")
         fi
-        print_row "$size" "$(thousandths "$least")" "$peak"
-        [ "$size" != 80000 ] || [ "$least" -le 1000000 ] || wrong "$size" 'a world took more than a second'
-        if [ "$last" -ge 20000 ] && [ "$size" = $((2 * last)) ]; then
-            [ $((10 * least)) -le $((23 * before)) ] || wrong "$size" "it took more than 2.3 times as long as $last"
+        print_row "$size" "$(thousandths "$ordered")" "$(thousandths "$micros")" "$peak"
+        [ "$size" != 20000 ] || twenty=$ordered
+        if [ "$size" = 80000 ]; then
+            [ "$ordered" -le 1000000 ] || wrong "$size" 'a world took more than a second'
+            [ -z "$twenty" ] || [ $((10 * ordered)) -le $((53 * twenty)) ] || wrong "$size" 'it took more than 5.3 times as long as 20000'
         fi
-        before=$least
-        last=$size
     done
 }
 
