@@ -4,12 +4,14 @@
 
 mod changes;
 mod ends;
+mod fallen;
 mod folders;
 mod reports;
 mod statuses;
 mod troubles;
 
 use self::ends::{show_changing_run, show_run};
+use self::fallen::show_fallen;
 use self::folders::show_folder;
 use self::reports::show_switch;
 use self::statuses::show_fault_statuses;
@@ -46,6 +48,7 @@ impl Commands for Runs<'_> {
             }
             ("folder", [root, words]) => show_folder(self.rt, lines, root, words),
             ("faults", _) => show_fault_statuses(alloc, lines),
+            ("fallen", [system, places @ ..]) => show_fallen(self.rt, lines, system, places),
             ("report", places) => show_switch(alloc, lines, places),
             _ => misread(),
         }
