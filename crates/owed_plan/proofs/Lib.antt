@@ -2,6 +2,7 @@ pub mod ActiveLemmas
 pub mod CalledLemmas
 pub mod CoreLemmas
 pub mod DecisionLemmas
+pub mod EdgeLemmas
 pub mod ExistLemmas
 pub mod FinalLemmas
 pub mod LinkedLemmas

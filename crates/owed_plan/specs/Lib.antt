@@ -8,6 +8,7 @@ pub mod Linked
 pub mod Lists
 pub mod Owed
 pub mod Pull
+pub mod StartEdges
 pub mod Steady
 pub mod Store
 pub mod Systems

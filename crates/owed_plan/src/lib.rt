@@ -5,6 +5,7 @@
 mod collecting;
 mod deciding;
 mod duty;
+mod edges;
 mod known;
 pub mod laws;
 mod owed;
@@ -14,6 +15,7 @@ mod steady;
 mod touched;
 
 pub use duty::{Duty, calls};
+pub use edges::order_edges;
 pub use owed::Owed;
 pub use planning::plan;
 pub use steady::is_steady;
