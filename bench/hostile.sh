@@ -267,6 +267,45 @@ run "empty folders where an entry of /etc is to stand" 0
 fresh && mkdir -p "$system/etc" && printf 'L /nix/store/../../../../outside/file\n' >"$system/etc/a" && printf 'F 0644 0 0\n0644\n' >"$system/etc/a.mode"
 run "a copy of what leads out of the tree" 2
 
+# What can be seen before units are stopped is seen before.
+
+# stopping: a root on which a switch stops a unit, sets accounts and puts an entry of /etc.
+stopping() {
+    fresh
+    cp -r "$system" "$tree/nix/store/b-sys"
+    mkdir -p "$tree/nix/store/b-sys/etc/systemd/system" "$system/etc" "$tree/etc" "$tree/run" "$tree/var/lib/nixos"
+    printf 'F 0644 0 0\n[Service]\n' >"$tree/nix/store/b-sys/etc/systemd/system/a.service"
+    printf 'L /nix/store/b-sys\n' >"$tree/run/current-system"
+    printf 'loaded /nix/store/b-sys/etc\nactive a.service\n' >"$work/root/manager"
+    printf 'F 0644 0 0\n' >"$system/etc/a"
+    printf 'F 0644 0 0\n{"mutableUsers":true,"groups":[],"users":[]}' >"$system/users-groups.json"
+}
+
+# untouched PLACE WHAT: makes the switch with a node of the file system at this place of the tree, which has to end with a fault
+# there and change nothing.
+untouched() {
+    local within
+    within=$(holding "$work/root")
+    run "$2: a fault" 3 "$1: $link" || return
+    if [ ! -s "$output" ] && [ "$(holding "$work/root")" = "$within" ]; then
+        judge "and nothing is stopped" ok
+    else
+        judge "and nothing is stopped" "something is"
+    fi
+}
+
+stopping
+run "a switch that stops a unit" 0
+grep -q '^stop a.service$' "$output"
+judge "it does" "$([ $? = 0 ] && echo ok || echo "it doesn't")"
+for at in etc/a etc/static etc/.clean etc/passwd etc/group etc/shadow var/lib/nixos/uid-map var/lib/nixos/gid-map \
+    var/lib/nixos/declarative-users var/lib/nixos/declarative-groups run/nixos/start-list; do
+    stopping && mkdir -p "$tree/$(dirname "$at")" && ln -s "$work/outside/file" "$tree/$at"
+    untouched "$at" "a link of the file system at $at"
+    stopping && mkdir -p "$tree/$(dirname "$at")" && mkfifo "$tree/$at"
+    untouched "$at" "a pipe at $at"
+done
+
 # A rollback, and what stands where its goal is recorded.
 recorded=$lists/rollback-goal
 

@@ -27,6 +27,7 @@ complete -c nixswitch -n '__nixswitch_words 2' -a dry-activate -d 'what test wou
 complete -c nixswitch -n '__nixswitch_words 2' -a rollback -d 'back to the generation before'
 complete -c nixswitch -n '__nixswitch_words 2' -a generations -d 'which there are'
 complete -c nixswitch -n '__nixswitch_words 2' -a rehearse -d 'a made machine, in memory'
+complete -c nixswitch -n '__nixswitch_words 2' -a rehearse-jobs -d 'a made machine, whose jobs end later'
 complete -c nixswitch -n __nixswitch_takes_system -a '(__nixswitch_systems)' -d 'a built system'
 complete -c nixswitch-import -l here -d 'this machine too'
 complete -c nixswitch-import -l current -d 'the system is in use'

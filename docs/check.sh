@@ -4,7 +4,7 @@
 # docs/check.sh [--write]
 #
 # The crates of crates.txt stand in groups, each below its heading. Each crate has a heading in docs/CRATES.md and a row with
-# its group in the table of docs/ARCHITECTURE.md. What each crate may use and who uses it, in docs/ARCHITECTURE.md, is what
+# its group in the table of docs/ARCHITECTURE.md, whose picture has each but those of the tests. What each crate may use and who uses it, in docs/ARCHITECTURE.md, is what
 # crates.txt says, without the crates of the kit, and docs/BELIEVED.md is what docs/believed.sh prints: --write writes them
 # anew. Each file to which a page links is there. README.md has at most 130 lines, and no cell of it more than 200 characters.
 #
@@ -91,6 +91,28 @@ ungrouped=$(grouped | while read -r crate group; do
     grep -q "^| $group | \`$crate\` |" "$page" || echo "$page: no row for the crate $crate in the group $group"
 done)
 [ -z "$ungrouped" ] || fault "$ungrouped"
+
+# The crates in the picture of docs/ARCHITECTURE.md: the first words in its boxes.
+pictured() {
+    awk '
+        /^```/ { if (inside) exit; inside = 1; next }
+        inside {
+            count = split($0, cells, "|")
+            for (at = 2; at < count; at++)
+                if (match(cells[at], /^ *[a-z_]+/)) {
+                    name = substr(cells[at], 1, RLENGTH)
+                    sub(/^ +/, "", name)
+                    print name
+                }
+        }' "$page"
+}
+unpictured=$({
+    pictured | sed 's/$/ pictured/'
+    grouped
+} | awk -v page="$page" '
+    $2 == "pictured" && NF == 2 { shown[$1]; next }
+    $2 != "tests" && !($1 in shown) { print page ": the crate " $1 " is not in the picture" }')
+[ -z "$unpictured" ] || fault "$unpictured"
 for crate in $(crates); do
     grep -q "^## $crate\$" docs/CRATES.md || fault "docs/CRATES.md: no heading for the crate $crate"
 done

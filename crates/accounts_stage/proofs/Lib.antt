@@ -1,3 +1,4 @@
+pub mod AgainLemmas
 pub mod AnsweringLemmas
 pub mod ApartLemmas
 pub mod BackLemmas

@@ -1,7 +1,7 @@
 -- What holds of setting accounts at each moment: nixpkgs, update-users-groups.pl, which writes its files one after another.
 use Rattle.host_trait.specs.World.{WorldState}
 use Rattle.switch_names.specs.Names.{Name}
-use Rattle.switch_parts.specs.Part.{IsAtEnd, IsFree, IsMomentOf, IsOnly, IsPart, IsSameFor}
+use Rattle.switch_parts.specs.Part.{IsAtEnd, IsDone, IsFree, IsMomentOf, IsOnly, IsPart, IsSameFor}
 use Rattle.switch_names.specs.SystemName.{IsSystemPath}
 use Rattle.accounts_stage.specs.declared.accounts_plan.AccountsPlan.{AccountsPlan}
 use Rattle.accounts_stage.specs.AccountsPart.{accounts_part}
@@ -22,6 +22,12 @@ abbrev pub AccountsEndLaw : Type 0
 AccountsEndLaw =
     (system : Name) (w v : WorldState) → IsSystemPath system → IsFree (accounts_part system) w.leaves → AreAccountsSet system w v →
     IsAtEnd (accounts_part system) w v × IsOnly (accounts_part system) w v
+
+-- where the accounts are set, and nothing else has changed that the part looks at, it keeps what it kept, and setting them again leaves what stands
+abbrev pub AccountsAgainLaw : Type 0
+AccountsAgainLaw =
+    (system : Name) (w v : WorldState) → IsSystemPath system → IsFree (accounts_part system) w.leaves → IsDone (accounts_part system) w v →
+    (accounts_part system).Keeps w v × IsAtEnd (accounts_part system) v v
 
 -- a plan stays one where nothing has changed that the part looks at
 abbrev pub AccountsPlanLaw : Type 0

@@ -14,7 +14,7 @@ mod stored;
 mod written_places;
 
 pub use accounts_plan::AccountsPlan;
-pub use laws::{account_plans_stay, setting_accounts_is_a_part};
+pub use laws::{account_plans_stay, set_accounts_stay, setting_accounts_is_a_part};
 pub use planning::plan_accounts;
 pub use reading::read_tables;
 pub use setting::{apply, set_accounts};

@@ -1,12 +1,11 @@
 -- What holds of an activation at each moment.
-use Rattle.std.proofs.Common.{◌≡◌, length, Option, None, Some, refl, sym, ap, subst, ◌∙◌, inl, inr, ⊎_elim, arith}
+use Rattle.std.proofs.Common.{◌≡◌, Option, None, Some, refl, sym, ap, subst, ◌∙◌, inl, inr, ⊎_elim}
 use Rattle.std.proofs.lemmas.Bool.{or_left, or_right}
-use Rattle.std.proofs.lemmas.List.{take_all}
 use Rattle.std.specs.Option.{option_or}
 use Rattle.switch_names.specs.Names.{Name}
 use Rattle.switch_names.specs.SystemName.{IsSystemPath}
 use Rattle.host_trait.specs.Host.{HostState, Leads, Passes}
-use Rattle.host_trait.specs.World.{Leaves, WorldState, seen}
+use Rattle.host_trait.specs.World.{Leaves, WorldState}
 use Rattle.host_trait.proofs.Moments.{one_world}
 use Rattle.switch_parts.specs.declared.refusal.Refusal.{Refusal}
 use Rattle.switch_parts.specs.Part.{IsAtEnd, IsFree, IsMomentOf, IsOnly, IsPart, IsSameFor, Part}
@@ -17,8 +16,8 @@ use Rattle.etc_farm.specs.EtcPart.{CanPutEtc, IsEtcPlanOf, etc_part, refusal_in}
 use Rattle.etc_farm.specs.Making.{IsMakingEtc}
 use Rattle.etc_farm.proofs.EtcLemmas.{etc_frame, etc_is, etc_plan_law}
 use Rattle.accounts_stage.specs.AccountsPart.{accounts_part, accounts_refusal, tables_after}
-use Rattle.tree_put.specs.Sequence.{with_puts}
-use Rattle.accounts_stage.specs.Plan.{AreAccountsSet, CanSetAccounts, IsSettingAccounts, puts_of}
+use Rattle.accounts_stage.specs.Plan.{AreAccountsSet, CanSetAccounts}
+use Rattle.accounts_stage.proofs.AgainLemmas.{set_is_setting}
 use Rattle.accounts_stage.proofs.EndLemmas.{end_law}
 use Rattle.accounts_stage.proofs.MomentLemmas.{moment_law}
 use Rattle.accounts_stage.proofs.PartLemmas.{part_law, plan_law}
@@ -69,16 +68,8 @@ module _ (system : Name) (named : IsSystemPath system) (w : WorldState) (free : 
   pub accounts_end : (u : WorldState) → AreAccountsSet system w u → IsAtEnd (accounts_part system) w u
   accounts_end u set = (end_law system w u named free set).0
 
-  -- the last of the moments is one of them
-  set_is_setting : (u : WorldState) → AreAccountsSet system w u → IsSettingAccounts system w u
-  set_is_setting u set = record {
-    count = length (puts_of system w.leaves);
-    some = omega arith;
-    world = set ∙ ap (λ puts. seen (with_puts puts w)) (sym (take_all (length (puts_of system w.leaves)) (puts_of system w.leaves) (omega arith)));
-  }
-
   set_moment : (u : WorldState) → AreAccountsSet system w u → IsMomentOf (accounts_part system) w u
-  set_moment u set = moment_law system w u named free (set_is_setting u set)
+  set_moment u set = moment_law system w u named free (set_is_setting system w u set)
 
 pub activation_moment_law : ActivationMomentLaw
 activation_moment_law system w m named free (Setting setting) =
@@ -92,7 +83,7 @@ activation_moment_law system w m named free (Making u set making step) =
 
 -- ---- the owners, and the plan
 
-owners_same : (system : Name) (w m : Leaves) → tables_after system m ≡ tables_after system w → owners_after system m ≡ owners_after system w
+pub owners_same : (system : Name) (w m : Leaves) → tables_after system m ≡ tables_after system w → owners_after system m ≡ owners_after system w
 unfolding owners_after
 owners_same system w m same = ap owners_in same
 

@@ -1,3 +1,5 @@
 pub mod ActivationLemmas
+pub mod AgainLemmas
 pub mod OwnerLemmas
 pub mod PartedLemmas
+pub mod RebootLemmas

@@ -5,10 +5,10 @@ use Rattle.accounts_stage.specs.Plan.{AreAccountsSet, IsAccountsPlanOf, IsSettin
 use Rattle.etc_farm.specs.EtcPart.{IsEtcPlanOf, etc_part}
 use Rattle.etc_farm.specs.Making.{IsMakingEtc}
 use Rattle.etc_manifest.specs.Owners.{OwnerIds}
-use Rattle.host_trait.specs.World.{Leaves, WorldState}
+use Rattle.host_trait.specs.World.{IsSound, Leaves, WorldState}
 use Rattle.switch_names.specs.Names.{Name}
 use Rattle.switch_names.specs.SystemName.{IsSystemPath}
-use Rattle.switch_parts.specs.Part.{IsAtEnd, IsFree, IsMomentOf, IsOnly, IsPart, IsSameFor, Part, both}
+use Rattle.switch_parts.specs.Part.{IsAtEnd, IsDone, IsFree, IsMomentOf, IsOnly, IsPart, IsSameFor, Part, both}
 use Rattle.activation_stage.specs.declared.activation_plan.ActivationPlan.{ActivationPlan}
 use Rattle.activation_stage.specs.Owners.{owners_after}
 
@@ -64,3 +64,9 @@ abbrev pub ActivationPlanLaw : Type 0
 ActivationPlanLaw =
     (system : Name) (w u : WorldState) (plan : ActivationPlan) → IsSystemPath system → IsSameFor (activation_in system w.leaves) w u →
     IsActivationPlanOf system w.leaves plan → IsActivationPlanOf system u.leaves plan
+
+-- where an activation is done, and nothing else has changed that it looks at, the next one leaves what stands
+abbrev pub ActivationAgainLaw : Type 0
+ActivationAgainLaw =
+    (system : Name) (w v : WorldState) → IsSystemPath system → IsSound w.leaves → IsFree (activation_in system w.leaves) w.leaves →
+    IsDone (activation_in system w.leaves) w v → IsAtEnd (activation_in system v.leaves) v v

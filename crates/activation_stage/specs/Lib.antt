@@ -1,2 +1,3 @@
 pub mod ActivationPart
 pub mod Owners
+pub mod Reboot

@@ -18,4 +18,5 @@ pub use laws::{
     boot_entries_are_a_part, boot_entries_come_to_their_end, boot_menus_stand, boot_plans_stay,
     making_a_boot_default_is_a_part,
 };
+pub use menu_places::add_places_of;
 pub use planning::texts;

@@ -4,7 +4,7 @@ ghost use Rattle.std.specs.List.{filter_map};
 ghost use Rattle.std.specs.List.Sorted.{IsStrictlySortedBy};
 ghost use Rattle.host_trait.specs.World.{bytes_cmp};
 ghost use Rattle.switch_names.specs.Names.{Name, has};
-ghost use Rattle.tree_put.specs.WrittenPlace.{written};
+ghost use Rattle.tree_put.specs.WrittenPlace.{AreApartFromStage, written};
 ghost use Rattle.boot_entries.specs.BootDefault.{menu_places};
 ghost use Rattle.boot_entries.specs.BootPart.{place_if};
 
@@ -64,7 +64,8 @@ pub fn add_places_of(
     places: &mut Listed<WrittenPlace>,
     list: &[Gen],
 ) -> Result<(), AllocError>
-    ensures { OnOk result (places.new ≡ places.old ++ menu_places list.now) }
+    ensures places { OnOk result (places.new ≡ places.old ++ menu_places list.now) }
+    ensures apart { AreApartFromStage places.old → OnOk result (AreApartFromStage places.new) }
 {
     let entries = entries_of(alloc, list)?;
     add_unread(places, entries)?;

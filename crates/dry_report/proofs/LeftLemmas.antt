@@ -20,7 +20,7 @@ use Rattle.owed_lists.specs.declared.lists.Lists.{Lists}
 use Rattle.owed_plan.specs.declared.owed.Owed.{Owed}
 use Rattle.owed_plan.specs.Owed.{IsOwed, Reloads, Restarts, Starts, Stops}
 use Rattle.owed_plan.specs.Systems.{systems_at}
-use Rattle.owed_lists.proofs.ListLemmas.{one_list, same_lists}
+use Rattle.owed_lists.proofs.ListLemmas.{one_list}
 use Rattle.owed_plan.proofs.SystemLemmas.{none_kept}
 use Rattle.switch_engine.specs.declared.command.Command.{Command}
 use Rattle.switch_engine.specs.declared.plan.Plan.{Plan}
@@ -39,17 +39,18 @@ use Rattle.unit_stage.specs.declared.unit_plan.UnitPlan.{UnitPlan}
 use Rattle.unit_stage.specs.End.{AreEndStates, state_after}
 use Rattle.unit_stage.specs.Plan.{IsOwedBy}
 use Rattle.unit_stage.specs.System.{current_system}
+use Rattle.unit_stage.proofs.WaitingLemmas.{same_waiting}
 use Rattle.dry_report.specs.Close.{IsClosing, IsClosingBy, IsClosingTo, IsUnitClosing, close_of, failed_in}
 use Rattle.dry_report.proofs.CloseLemmas.{failed_units}
 
 -- ---- a command has one closing text
 
 -- what is owed is one, but for the units that are left
-same_end : (w : WorldState) (system : Name) (one other : Owed) → IsOwedBy w system one → IsOwedBy w system other → (unit : Name) → state_after system one w unit ≡ state_after system other w unit
+same_end : (w : WorldState) (system : Name) (one other : Owed) → IsOwedBy false w system one → IsOwedBy false w system other → (unit : Name) → state_after system one w unit ≡ state_after system other w unit
 same_end w system one other is also unit =
     let systems = systems_at w.leaves (current_system w.leaves) system in
     let states = state_of w.manager.states in
-    let same = same_lists w.leaves is.0 also.0 is.1.listed also.1.listed in
+    let same = same_waiting false w.leaves system is.0 also.0 is.1.listed also.1.listed in
     let these : IsOwed systems states is.0 other = subst (λ (l : Lists). IsOwed systems states l other) (sym same) also.1.is_owed in
     let owed : (stops reloads restarts starts : List Name) → Owed = λ stops reloads restarts starts. record { stops = stops; reloads = reloads; restarts = restarts; starts = starts; left = one.left } in
     λ i. state_after system
@@ -60,7 +61,7 @@ same_end w system one other is also unit =
     (one_list one.starts other.starts (Starts systems states is.0) is.1.is_owed.starts these.starts i))
     w unit
 
-same_failed : (w : WorldState) (system : Name) (one other : Owed) → IsOwedBy w system one → IsOwedBy w system other → (unit : Name) → IsLeftFailed system other w unit → IsLeftFailed system one w unit
+same_failed : (w : WorldState) (system : Name) (one other : Owed) → IsOwedBy false w system one → IsOwedBy false w system other → (unit : Name) → IsLeftFailed system other w unit → IsLeftFailed system one w unit
 same_failed w system one other is also unit left = record { failed = same_end w system one other is also unit ∙ left.failed; defined = left.defined }
 
 one_unit_closing : (system : Name) (w : WorldState) (one other : List ℕ) → IsUnitClosing system w one → IsUnitClosing system w other → one ≡ other
@@ -174,7 +175,7 @@ left_failed system w owed defs states are final = record {
   );
 }
 
-units_close : (system : Name) (w : WorldState) (defs : List Unit) (states now : UnitStates) → AreDefsOf w.leaves system defs → AreEndStates system w (state_of now) → states ≡ now → IsUnitClosing system w (close_of (failed_in defs states))
+units_close : (system : Name) (w : WorldState) (defs : List Unit) (states now : UnitStates) → AreDefsOf w.leaves system defs → AreEndStates false system w (state_of now) → states ≡ now → IsUnitClosing system w (close_of (failed_in defs states))
 units_close system w defs states now are end same = record {
   owed = end.0;
   is_owed = end.1;

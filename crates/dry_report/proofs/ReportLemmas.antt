@@ -1,5 +1,5 @@
 -- A world has one report of a command, and the text of its plan is that.
-use Rattle.std.proofs.Common.{◌≡◌, ℕ, Bool, true, false, List, Option, None, Some, Result, Ok, Err, IfOk, option_map, refl, ap, ap₂, sym, subst, ◌∙◌}
+use Rattle.std.proofs.Common.{◌≡◌, ℕ, Bool, true, false, List, Option, None, Some, Result, Ok, Err, IfOk, option_map, refl, ap, sym, subst, ◌∙◌}
 use Rattle.activation_stage.specs.ActivationPart.{IsActivationPlanOf}
 use Rattle.activation_stage.specs.declared.activation_plan.ActivationPlan.{ActivationPlan}
 use Rattle.boot_entries.specs.declared.boot_default.BootDefaultPlan.{BootDefaultPlan}
@@ -11,7 +11,6 @@ use Rattle.owed_plan.specs.declared.owed.Owed.{Owed}
 use Rattle.owed_plan.specs.Calls.{calls_of}
 use Rattle.owed_plan.specs.Owed.{IsPlan}
 use Rattle.owed_plan.specs.Systems.{systems_at}
-use Rattle.owed_lists.proofs.ListLemmas.{same_lists}
 use Rattle.owed_plan.proofs.ListLemmas.{one_owed}
 use Rattle.switch_engine.specs.declared.command.Command.{Command}
 use Rattle.switch_engine.specs.declared.plan.Plan.{Plan}
@@ -20,28 +19,39 @@ use Rattle.switch_engine.specs.Commands.{row}
 use Rattle.switch_engine.specs.Plan.{AreUnitsPlanned, IsActivationPlanned, IsPlanOf, IsProfilePlanned}
 use Rattle.switch_names.specs.Names.{Name}
 use Rattle.unit_stage.specs.declared.unit_plan.UnitPlan.{UnitPlan}
+use Rattle.unit_defs.specs.Units.{text_of}
+use Rattle.unit_stage.specs.Order.{AreOrderedAt}
 use Rattle.unit_stage.specs.Plan.{IsPlannedIn, IsUnitPlanOf, owed_of}
 use Rattle.unit_stage.specs.System.{current_system}
 use Rattle.std.proofs.lemmas.Bool.{both_ways}
+use Rattle.unit_stage.proofs.OrderLemmas.{one_in_order}
+use Rattle.unit_stage.proofs.WaitingLemmas.{same_waiting}
 use Rattle.dry_report.proofs.ActivationLemmas.{one_report}
 use Rattle.dry_report.specs.Activation.{IsActivationReport}
 use Rattle.dry_report.specs.Report.{IsReport, IsReportBy, IsUnitReport, number_by, number_of, profile_report, report_of}
 
 -- ---- one report
 
-same_planned : (w : WorldState) (system : Name) (lists others : Lists) (one other : Owed) → IsPlannedIn w system lists one → IsPlannedIn w system others other → one ≡ other
+same_planned : (w : WorldState) (system : Name) (lists others : Lists) (one other : Owed) → IsPlannedIn false w system lists one → IsPlannedIn false w system others other → one ≡ other
 same_planned w system lists others one other is also =
     one_owed (systems_at w.leaves (current_system w.leaves) system) (state_of w.manager.states) lists one other is.planned
     (subst (λ (l : Lists). IsPlan (systems_at w.leaves (current_system w.leaves) system) (state_of w.manager.states) l other)
-    (sym (same_lists w.leaves lists others is.listed also.listed)) also.planned)
+    (sym (same_waiting false w.leaves system lists others is.listed also.listed)) also.planned)
 
 one_unit_report : (number : Option ℕ) (system : Name) (w : WorldState) (one other : List ℕ) → IsUnitReport number system w one → IsUnitReport number system w other → one ≡ other
 one_unit_report number system w one other is also =
     is.is_text
-    ∙ ap₂ (λ (owed : Owed) told. report_of (current_system w.leaves) system number (calls_of owed (state_of w.manager.states)) owed.left told)
-    (same_planned w system is.lists also.lists is.owed also.owed is.planned also.planned)
-    (one_report system w.leaves is.activation also.activation is.is_activation also.is_activation)
+    ∙ (λ i. report_of (current_system w.leaves) system number (calls_of (owed i) (ordered i).units (state_of w.manager.states)) (owed i).left (told i) (ordered i).cycles)
     ∙ sym also.is_text
+  where
+    owed : is.owed ≡ also.owed
+    owed = same_planned w system is.lists also.lists is.owed also.owed is.planned also.planned
+
+    ordered : is.ordered ≡ also.ordered
+    ordered = one_in_order (text_of w.leaves system) also.owed.starts is.ordered also.ordered (subst (λ (o : Owed). AreOrderedAt w.leaves system o is.ordered) owed is.in_order) also.in_order
+
+    told : is.activation ≡ also.activation
+    told = one_report system w.leaves is.activation also.activation is.is_activation also.is_activation
 
 one_by : (switches : Bool) (number : Option ℕ) (system : Name) (w : WorldState) (one other : List ℕ) → IsReportBy switches number system w one → IsReportBy switches number system w other → one ≡ other
 one_by true number system w one other is also = one_unit_report number system w one other is also
@@ -57,17 +67,19 @@ pub if_ok_as : {T E : Type 0} {P : T → Type 0} (r : Result T E) → IfOk r P �
 if_ok_as (Ok x) holds Q weaker = weaker x holds
 if_ok_as (Err e) holds Q weaker = tt
 
-unit_report_is : (system : Name) (w : WorldState) (plan : UnitPlan) (number : Option ℕ) (told text : List ℕ) → IsUnitPlanOf system w plan → IsActivationReport system w.leaves told →
-    text ≡ report_of plan.from system number plan.duties plan.left told → IsUnitReport number system w text
+unit_report_is : (system : Name) (w : WorldState) (plan : UnitPlan) (number : Option ℕ) (told text : List ℕ) → IsUnitPlanOf false system w plan → IsActivationReport system w.leaves told →
+    text ≡ report_of plan.from system number plan.duties plan.left told plan.ordered.cycles → IsUnitReport number system w text
 unit_report_is system w plan number told text is is_told same = record {
   lists = is.lists;
   owed = owed_of plan;
   planned = is.planned;
+  ordered = plan.ordered;
+  in_order = is.in_order;
   activation = told;
   is_activation = is_told;
   is_text = same
-      ∙ ap (λ from. report_of from system number plan.duties plan.left told) is.from
-      ∙ ap (λ duties. report_of (current_system w.leaves) system number duties plan.left told) is.duties;
+      ∙ ap (λ from. report_of from system number plan.duties plan.left told plan.ordered.cycles) is.from
+      ∙ ap (λ duties. report_of (current_system w.leaves) system number duties plan.left told plan.ordered.cycles) is.duties;
 }
 
 -- the number of a plan is that of its world
@@ -76,7 +88,7 @@ number_is moves system w None planned = sym (ap (λ mv. number_by mv system w.le
 number_is moves system w (Some plan) planned = ap Some planned.1.number ∙ sym (ap (λ mv. number_by mv system w.leaves) planned.0)
 
 planned_by : (switches : Bool) (system : Name) (w : WorldState) (plan : UnitPlan) (number : Option ℕ) (told text : List ℕ) → AreUnitsPlanned switches system w plan → switches ≡ true →
-    IsActivationReport system w.leaves told → text ≡ report_of plan.from system number plan.duties plan.left told → IsReportBy switches number system w text
+    IsActivationReport system w.leaves told → text ≡ report_of plan.from system number plan.duties plan.left told plan.ordered.cycles → IsReportBy switches number system w text
 planned_by true system w plan number told text is on is_told same = unit_report_is system w plan number told text is is_told same
 planned_by false system w plan number told text is on is_told same = absurd (both_ways _ refl on)
 
@@ -90,7 +102,7 @@ activation_planned switches system w (Some planned) is on = (planned, refl, is.1
 abbrev pub IsTold : Plan → List ℕ → Type 0
 IsTold plan text = (leaves : Leaves) (planned : ActivationPlan) → plan.activation ≡ Some planned → IsActivationPlanOf plan.row.system leaves planned →
     (told : List ℕ) × IsActivationReport plan.row.system leaves told
-    × (text ≡ report_of plan.units.from plan.row.system (number_of plan) plan.units.duties plan.units.left told)
+    × (text ≡ report_of plan.units.from plan.row.system (number_of plan) plan.units.duties plan.units.left told plan.units.ordered.cycles)
 
 -- the report of a row is that of its command
 abbrev IsReportOf : Row → WorldState → List ℕ → Type 0
@@ -104,7 +116,7 @@ units_reported w plan text is on same =
     let told = same w.leaves found.0 found.1 found.2 in
     subst (λ (its : Row). IsReportOf its w text) is.resolved
     (planned_by plan.row.switches system w plan.units (number_by plan.row.moves system w.leaves) told.0 text is.planned.units on told.1
-    (told.2 ∙ ap (λ number. report_of plan.units.from system number plan.units.duties plan.units.left told.0) (number_is plan.row.moves system w plan.profile is.planned.profile)))
+    (told.2 ∙ ap (λ number. report_of plan.units.from system number plan.units.duties plan.units.left told.0 plan.units.ordered.cycles) (number_is plan.row.moves system w plan.profile is.planned.profile)))
 
 -- where the profile alone is set
 pub profile_reported : (w : WorldState) (plan : Plan) (text : List ℕ) → IsPlanOf w plan → plan.row.switches ≡ false → text ≡ profile_report plan.row.system (number_of plan) → IsReport plan.command w text

@@ -142,8 +142,15 @@ module _ (command : Command) (w : WorldState) (on : (row command w.leaves).chang
   abbrev nothing : Owed
   nothing = owed_of unit_plans.no_units
 
-  carried : IsCarriedFrom command nothing w
-  carried = record { on = on; has = has_goal command w.leaves none; named = named; free = free_command command w.leaves none; is_owed = λ switched. absurd (both_ways _ off switched) }
+  carried : IsCarriedFrom command nothing [] w
+  carried = record {
+    on = on;
+    has = has_goal command w.leaves none;
+    named = named;
+    free = free_command command w.leaves none;
+    is_owed = λ switched. absurd (both_ways _ off switched);
+    is_ordered = λ switched. absurd (both_ways _ off switched);
+  }
 
   recorded_in : (moves : Option Move) → (r : WorldState) × (seen r ≡ record_world moves w)
   recorded_in None = (w, refl)
@@ -164,7 +171,7 @@ module _ (command : Command) (w : WorldState) (on : (row command w.leaves).chang
   is_left =
       let r = recorded_in its_moves in
       let u = set_in its_moves r.0 in
-      (ends command nothing w carried r.0 r.1 u.0 u.1 u.0 (subst (λ b. IsSwitchedIf b its_system nothing u.0 u.0) (sym off) refl) (subst (λ b. IsSwitchMomentIf b its_system nothing u.0 u.0) (sym off) refl) left refl).final
+      (ends command nothing [] w carried r.0 r.1 u.0 u.1 u.0 (subst (λ b. IsSwitchedIf b its_system nothing [] u.0 u.0) (sym off) refl) (subst (λ b. IsSwitchMomentIf b its_system nothing [] u.0 u.0) (sym off) refl) left refl).final
 
 -- ---- a moment, and a chain of them
 

@@ -11,10 +11,13 @@ use Rattle.owed_lists.specs.declared.lists.Lists.{Lists}
 use Rattle.owed_plan.specs.declared.duty.Duty.{Duty}
 use Rattle.owed_plan.specs.declared.owed.Owed.{Owed}
 use Rattle.owed_plan.specs.Calls.{calls_of}
+use Rattle.start_order.specs.declared.ordered.Cycle.{Cycle}
+use Rattle.start_order.specs.declared.ordered.Ordered.{Ordered}
 use Rattle.switch_engine.specs.declared.command.Command.{Command}
 use Rattle.switch_engine.specs.declared.plan.Plan.{Plan}
 use Rattle.switch_engine.specs.Commands.{brought_to, row}
 use Rattle.switch_names.specs.Names.{Name}
+use Rattle.unit_stage.specs.Order.{AreOrderedAt}
 use Rattle.unit_stage.specs.Owes.{is_stop}
 use Rattle.unit_stage.specs.Plan.{IsPlannedIn}
 use Rattle.unit_stage.specs.System.{current_system}
@@ -41,6 +44,10 @@ stop_lines duties = flat_map duty_line (filter (λ duty. is_stop duty.act) dutie
 abbrev pub other_lines : List Duty → List ℕ
 other_lines duties = flat_map duty_line (filter (λ duty. not (is_stop duty.act)) duties)
 
+-- the line of a cycle: its units, each of which is to be started after the next one
+abbrev pub cycle_line : Cycle → List ℕ
+cycle_line cycle = codes "cycle" ++ (flat_map (λ unit. 32 ∷ unit) cycle.units ++ 10 ∷ [])
+
 -- the line of the generation that the profile names then, where it is moved
 abbrev pub generation_line : Option ℕ → List ℕ
 generation_line None = []
@@ -55,18 +62,20 @@ report_front from to number duties left =
     ++ stop_lines duties
     ++ flat_map (line (codes "leave")) left
 
--- then what is told of the accounts and of /etc, and the other calls
-abbrev pub report_of : Option Name → Name → Option ℕ → List Duty → List Name → List ℕ → List ℕ
-report_of from to number duties left activation = report_front from to number duties left ++ (activation ++ other_lines duties)
+-- then what is told of the accounts and of /etc, the cycles among the starts, and the other calls
+abbrev pub report_of : Option Name → Name → Option ℕ → List Duty → List Name → List ℕ → List Cycle → List ℕ
+report_of from to number duties left activation cycles = report_front from to number duties left ++ (activation ++ (flat_map cycle_line cycles ++ other_lines duties))
 
 -- the report of a switch of the units to a system, from a world, and the number of the generation where the profile is moved
 pub record IsUnitReport (number : Option ℕ) (system : Name) (w : WorldState) (text : List ℕ) : Type 0 where
   pub lists : Lists
   pub owed : Owed
-  pub planned : IsPlannedIn w system lists owed
+  pub planned : IsPlannedIn false w system lists owed
+  pub ordered : Ordered
+  pub in_order : AreOrderedAt w.leaves system owed ordered
   pub activation : List ℕ
   pub is_activation : IsActivationReport system w.leaves activation
-  pub is_text : text ≡ report_of (current_system w.leaves) system number (calls_of owed (state_of w.manager.states)) owed.left activation
+  pub is_text : text ≡ report_of (current_system w.leaves) system number (calls_of owed ordered.units (state_of w.manager.states)) owed.left activation ordered.cycles
 
 -- the report of a move of the profile alone: the system, and the number of its generation
 abbrev pub profile_report : Name → Option ℕ → List ℕ

@@ -9,12 +9,13 @@ ghost use Rattle.switch_engine.specs.Plan.{IsPlanOf};
 ghost use Rattle.switch_names.specs.Names.{Name};
 ghost use Rattle.unit_stage.specs.Owes.{is_stop};
 ghost use Rattle.dry_report.specs.Activation.{IsActivationReport};
-ghost use Rattle.dry_report.specs.Report.{IsReport, generation_line, line, number_of, other_lines, profile_report, report_front, report_of, stop_lines, system_text};
+ghost use Rattle.dry_report.specs.Report.{IsReport, cycle_line, generation_line, line, number_of, other_lines, profile_report, report_front, report_of, stop_lines, system_text};
 
 use crate::activation::write_activation;
 use activation_stage::ActivationPlan;
 use host_trait::Act;
 use owed_plan::Duty;
+use start_order::Cycle;
 use std::alloc::{AllocError, Global};
 use switch_engine::Plan;
 use switch_names::{Bytes, SystemName, UnitName};
@@ -87,6 +88,37 @@ fn write_left(out: &mut Vec<u8>, left: &[UnitName]) -> Result<(), AllocError>
     Ok(())
 }
 
+/// Writes units, each after a blank.
+fn write_units(out: &mut Vec<u8>, units: &[UnitName]) -> Result<(), AllocError>
+    ensures { OnOk result (out.new.items ≡ out.old.items ++ flat_map (λ unit. 32 ∷ unit) units.now) }
+{
+    for unit in units {
+        out.push(b' ')?;
+        out.extend_from_slice(unit.as_str().as_bytes())?;
+    }
+    Ok(())
+}
+
+/// Writes the line of a cycle.
+fn write_cycle(out: &mut Vec<u8>, cycle: &Cycle) -> Result<(), AllocError>
+    ensures { OnOk result (out.new.items ≡ out.old.items ++ cycle_line cycle.now) }
+{
+    out.extend_from_slice(b"cycle")?;
+    write_units(out, cycle.units.as_slice())?;
+    out.push(b'\n')?;
+    Ok(())
+}
+
+/// Writes the lines of the cycles.
+fn write_cycles(out: &mut Vec<u8>, cycles: &[Cycle]) -> Result<(), AllocError>
+    ensures { OnOk result (out.new.items ≡ out.old.items ++ flat_map cycle_line cycles.now) }
+{
+    for cycle in cycles {
+        write_cycle(out, cycle)?;
+    }
+    Ok(())
+}
+
 /// The system in use in words, or that there is none.
 fn system_text(system: Option<&SystemName>) -> &str
     ensures { result.now ≡ system_text (option_copied system.entry) }
@@ -136,15 +168,17 @@ fn write_activated(
 }
 
 /// The report of a switch of the units: the two systems, the generation where the profile is moved, the
-/// stops, the changed units that get nothing, the accounts and /etc, and the other calls, a line each.
+/// stops, the changed units that get nothing, the accounts and /etc, the cycles among the starts, and the
+/// other calls, a line each.
 fn unit_report(alloc: Global, plan: &Plan) -> Result<Bytes, AllocError>
     ensures { IfOk result (λ text. (leaves : Leaves) (planned : ActivationPlan) → plan.now.activation ≡ Some planned → IsActivationPlanOf plan.now.row.system leaves planned
         → (told : List ℕ) × IsActivationReport plan.now.row.system leaves told
-        × (text ≡ report_of plan.now.units.from plan.now.row.system (number_of plan.now) plan.now.units.duties plan.now.units.left told)) }
+        × (text ≡ report_of plan.now.units.from plan.now.row.system (number_of plan.now) plan.now.units.duties plan.now.units.left told plan.now.units.ordered.cycles)) }
 {
     let mut out = Vec::new(alloc);
     write_front(alloc, &mut out, plan)?;
     write_activated(alloc, &mut out, plan.activation())?;
+    write_cycles(&mut out, plan.ordered().cycles.as_slice())?;
     write_others(&mut out, plan.duties().as_slice())?;
     Ok(Bytes::from_vec(out))
 }

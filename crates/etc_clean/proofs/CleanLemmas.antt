@@ -60,12 +60,15 @@ clean_bytes name is =
     (HasNone-from_sought (list_any is_empty (names_of name)) (nat_lt 4096 (length name)) (option_map Byte (position is_no_path_byte name)) (list_any is_dots (names_of name)) Dot (path_of_clean name is)).no_byte)
 
 -- the lines of a list are its names, and then nothing
-split_list : (name : Name) (names : List Name) → is_clean_name name ≡ true → slice_split is_line_feed (clean_text (name ∷ names)) ≡ name ∷ slice_split is_line_feed (clean_text names)
-split_list name names is =
-    ap (slice_split is_line_feed) (append_assoc name (10 ∷ []) (clean_text names))
-    ∙ slice_split_at is_line_feed name 10 (clean_text names) (All-weaker (λ byte. is_no_path_byte byte ≡ false) (λ byte. is_line_feed byte ≡ false) no_line name (clean_bytes name is)) refl
+pub split_list : (name : Name) (names : List Name) → Rattle.std.proofs.Common.All (λ byte. is_line_feed byte ≡ false) name → slice_split is_line_feed (clean_text (name ∷ names)) ≡ name ∷ slice_split is_line_feed (clean_text names)
+split_list name names plain =
+    ap (slice_split is_line_feed) (append_assoc name (10 ∷ []) (clean_text names)) ∙ slice_split_at is_line_feed name 10 (clean_text names) plain refl
 
-blank_line : is_clean_name [] ≡ false
+-- a path has no line feed
+pub no_line_feed : (name : Name) → Rattle.std.proofs.Common.All (λ byte. is_no_path_byte byte ≡ false) name → Rattle.std.proofs.Common.All (λ byte. is_line_feed byte ≡ false) name
+no_line_feed name bytes = All-weaker (λ byte. is_no_path_byte byte ≡ false) (λ byte. is_line_feed byte ≡ false) no_line name bytes
+
+pub blank_line : is_clean_name [] ≡ false
 unfolding is_path_text
 blank_line = ap (λ b. b && not (is_reserved [])) (and-false (is_utf8 []))
 
@@ -75,7 +78,7 @@ named name names is = ap (λ b. cond b (name ∷ filter is_clean_name names) (fi
 pub read_back_law : ReadBackLaw
 read_back_law [] all = ap (λ b. cond b ([] ∷ []) []) blank_line
 read_back_law (name ∷ names) all =
-    ap (filter is_clean_name) (split_list name names all.0) ∙ named name (slice_split is_line_feed (clean_text names)) all.0 ∙ ap (λ ns. name ∷ ns) (read_back_law names all.1)
+    ap (filter is_clean_name) (split_list name names (no_line_feed name (clean_bytes name all.0))) ∙ named name (slice_split is_line_feed (clean_text names)) all.0 ∙ ap (λ ns. name ∷ ns) (read_back_law names all.1)
 
 pub path_is : (name : Name) → IsUtf8 name → path_fault name ≡ None → is_path_text name ≡ true
 path_is name good is = path_by name None good is

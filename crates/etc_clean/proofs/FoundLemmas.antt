@@ -1,6 +1,6 @@
 -- The leaves below etc are sorted one by one.
 use Rattle.std.proofs.Common.{◌≡◌, ℕ, ◌+◌, ◌<◌, ◌&&◌, ◌||◌, not, Bool, true, false, cond, List, [], ◌∷◌, ◌++◌, length, get_or, take, map, filter, Option, None, Some, is_some, refl, sym, ap, subst, ◌∙◌}
-use Rattle.std.proofs.lemmas.Bool.{both_ways}
+use Rattle.std.proofs.lemmas.Bool.{both_ways, or_right}
 use Rattle.std.proofs.lemmas.List.{append-nil, map-append, take_more}
 use Rattle.std.proofs.lemmas.List.Elements.{filter-append}
 use Rattle.std.proofs.lemmas.List.Kept.{IsStrictlySortedBy-filter}
@@ -9,10 +9,12 @@ use Rattle.std.specs.List.{list_any}
 use Rattle.std.specs.List.Sorted.{IsStrictlySortedBy}
 use Rattle.std.specs.Cmp.{both_ways as same_test}
 use Rattle.switch_names.specs.Names.{IsListOf, Name, has}
+use Rattle.host_trait.specs.declared.leaf.LeafKind.{LeafKind}
 use Rattle.host_trait.specs.World.{Leaves, bytes_cmp, is_in_line}
 use Rattle.host_trait.proofs.NameOrder.{has_filter}
 use Rattle.etc_manifest.specs.declared.item.Item.{Item}
-use Rattle.etc_manifest.specs.Manifest.{places}
+use Rattle.etc_manifest.specs.declared.item.ItemKind.{ItemKind}
+use Rattle.etc_manifest.specs.Manifest.{entry, places}
 use Rattle.etc_manifest.specs.Place.{is_reserved}
 use Rattle.etc_clean.specs.declared.found.Found.{Found}
 use Rattle.etc_clean.specs.CleanList.{clean_of}
@@ -20,6 +22,8 @@ use Rattle.etc_clean.specs.Farm.{at, is_blocked, is_entry, is_farm_link, is_fore
 use Rattle.etc_clean.specs.Found.{AreFound, TakesPath, is_foreign_by, is_free, is_gone_by}
 use Rattle.etc_clean.specs.Names.{etc_names, is_in_etc, name_of, names_below}
 use Rattle.etc_clean.specs.Obsolete.{IsSortedOf}
+use Rattle.etc_clean.specs.Standing.{is_leaf_of, is_standing}
+use Rattle.etc_clean.proofs.FarmLemmas.{entry_is}
 use Rattle.etc_clean.proofs.ListLemmas.{any_among, any_filter, etc_names_sorted, names_append}
 use Rattle.etc_clean.proofs.NameLemmas.{has_etc_name, in_etc}
 
@@ -29,6 +33,7 @@ module _ (items : List Item) (clean : List Name) (leaves : Leaves) where
   no_name path found out = record {
     gone = sym (ap (λ (names : List Name). found.gone ++ filter (is_gone_by items clean leaves) names) none ∙ append-nil found.gone);
     foreign = sym (ap (λ (names : List Name). found.foreign ++ filter (is_foreign_by items clean leaves) names) none ∙ append-nil found.foreign);
+    standing = sym (ap (λ (names : List Name). found.standing ++ filter (is_standing items leaves) names) none ∙ append-nil found.standing);
   }
     where
       none : names_below (path ∷ []) ≡ []
@@ -48,16 +53,50 @@ module _ (items : List Item) (clean : List Name) (leaves : Leaves) where
   free_to false true is = absurd (both_ways true is refl)
   free_to false false is = refl
 
-  -- a name that is kept isn't taken
-  pub kept_name : (path : List ℕ) (found : Found) → is_in_etc path ≡ true → (is_reserved (name_of path) || is_entry items (name_of path)) ≡ true → TakesPath items clean leaves path found found
-  kept_name path found inside kept =
+  no_standing : (q : Name) → entry items q ≡ None → is_standing items leaves q ≡ false
+  no_standing q none = ap (λ (kind : Option ItemKind). is_leaf_of q kind (at leaves q)) none
+
+  -- neither is gone nor foreign what is kept
+  none_gone : (path : List ℕ) (list : List Name) → is_in_etc path ≡ true → is_free items (name_of path) ≡ false → list ≡ list ++ filter (is_gone_by items clean leaves) (names_below (path ∷ []))
+  none_gone path list inside out =
       let q = name_of path in
-      let out : is_free items q ≡ false = free_by (is_reserved q) (is_entry items q) kept in
+      sym (ap (λ (names : List Name). list ++ filter (is_gone_by items clean leaves) names) (one_name path inside)
+      ∙ ap (λ b. list ++ cond (b && is_ours clean q (at leaves q)) (q ∷ []) []) out ∙ append-nil list)
+
+  none_foreign : (path : List ℕ) (list : List Name) → is_in_etc path ≡ true → is_free items (name_of path) ≡ false → list ≡ list ++ filter (is_foreign_by items clean leaves) (names_below (path ∷ []))
+  none_foreign path list inside out =
+      let q = name_of path in
+      sym (ap (λ (names : List Name). list ++ filter (is_foreign_by items clean leaves) names) (one_name path inside)
+      ∙ ap (λ b. list ++ cond (b && not (is_ours clean q (at leaves q))) (q ∷ []) []) out ∙ append-nil list)
+
+  none_standing : (path : List ℕ) (list : List Name) → is_in_etc path ≡ true → entry items (name_of path) ≡ None → list ≡ list ++ filter (is_standing items leaves) (names_below (path ∷ []))
+  none_standing path list inside none =
+      let q = name_of path in
+      sym (ap (λ (names : List Name). list ++ filter (is_standing items leaves) names) (one_name path inside) ∙ ap (λ b. list ++ cond b (q ∷ []) []) (no_standing q none) ∙ append-nil list)
+
+  -- a reserved name that is no entry's isn't taken
+  pub reserved_name : (path : List ℕ) (found : Found) → is_in_etc path ≡ true → is_reserved (name_of path) ≡ true → entry items (name_of path) ≡ None → TakesPath items clean leaves path found found
+  reserved_name path found inside reserved none =
+      let q = name_of path in
+      let out : is_free items q ≡ false = free_by (is_reserved q) (is_entry items q) (ap (λ b. b || is_entry items q) reserved) in
+      record { gone = none_gone path found.gone inside out; foreign = none_foreign path found.foreign inside out; standing = none_standing path found.standing inside none }
+
+  -- an entry is taken by whether its leaf stands
+  pub entry_name :
+      (path : List ℕ) (name : Name) (kind : ItemKind) (stands : Bool) (old new : Found) → is_in_etc path ≡ true → name ≡ name_of path → entry items name ≡ Some kind →
+      stands ≡ is_leaf_of name (Some kind) (get leaves path) → new.gone ≡ old.gone → new.foreign ≡ old.foreign → new.standing ≡ old.standing ++ cond stands (name ∷ []) [] → TakesPath items clean leaves path old new
+  entry_name path name kind stands old new inside is wanted told gone foreign standing =
+      let q = name_of path in
+      let there : entry items q ≡ Some kind = ap (entry items) (sym is) ∙ wanted in
+      let out : is_free items q ≡ false = free_by (is_reserved q) (is_entry items q) (or_right (is_reserved q) (is_entry items q) (sym (entry_is items q) ∙ ap (λ (o : Option ItemKind). is_some o) there)) in
+      let stands_there : stands ≡ is_standing items leaves q =
+      told ∙ ap (λ x. is_leaf_of x (Some kind) (get leaves path)) is ∙ ap (λ p. is_leaf_of q (Some kind) (get leaves p)) (in_etc path inside)
+      ∙ ap (λ (o : Option ItemKind). is_leaf_of q o (at leaves q)) (sym there) in
       record {
-        gone = sym (ap (λ (names : List Name). found.gone ++ filter (is_gone_by items clean leaves) names) (one_name path inside)
-            ∙ ap (λ b. found.gone ++ cond (b && is_ours clean q (at leaves q)) (q ∷ []) []) out ∙ append-nil found.gone);
-        foreign = sym (ap (λ (names : List Name). found.foreign ++ filter (is_foreign_by items clean leaves) names) (one_name path inside)
-            ∙ ap (λ b. found.foreign ++ cond (b && not (is_ours clean q (at leaves q))) (q ∷ []) []) out ∙ append-nil found.foreign);
+        gone = gone ∙ none_gone path old.gone inside out;
+        foreign = foreign ∙ none_foreign path old.foreign inside out;
+        standing = standing ∙ ap (λ x. old.standing ++ cond stands (x ∷ []) []) is ∙ ap (λ b. old.standing ++ cond b (q ∷ []) []) stands_there
+            ∙ sym (ap (λ (names : List Name). old.standing ++ filter (is_standing items leaves) names) (one_name path inside));
       }
 
   swapped : (b : Bool) (q : Name) → cond b [] (q ∷ []) ≡ cond (not b) (q ∷ []) []
@@ -66,11 +105,15 @@ module _ (items : List Item) (clean : List Name) (leaves : Leaves) where
 
   -- a name that isn't kept is taken by whose its leaf is
   pub new_name :
-      (path : List ℕ) (name : Name) (ours : Bool) (old new : Found) → is_in_etc path ≡ true → name ≡ name_of path → (is_reserved name || is_entry items name) ≡ false →
-      ours ≡ is_ours clean name (get leaves path) → new.gone ≡ old.gone ++ cond ours (name ∷ []) [] → new.foreign ≡ old.foreign ++ cond ours [] (name ∷ []) → TakesPath items clean leaves path old new
-  new_name path name ours old new inside is free whose gone foreign =
+      (path : List ℕ) (name : Name) (ours : Bool) (old new : Found) → is_in_etc path ≡ true → name ≡ name_of path → is_reserved name ≡ false → entry items name ≡ None →
+      ours ≡ is_ours clean name (get leaves path) → new.gone ≡ old.gone ++ cond ours (name ∷ []) [] → new.foreign ≡ old.foreign ++ cond ours [] (name ∷ []) → new.standing ≡ old.standing →
+      TakesPath items clean leaves path old new
+  new_name path name ours old new inside is free none whose gone foreign standing =
       let q = name_of path in
-      let kept_free : is_free items q ≡ true = free_to (is_reserved q) (is_entry items q) (subst (λ x. (is_reserved x || is_entry items x) ≡ false) is free) in
+      let none_there : entry items q ≡ None = ap (entry items) (sym is) ∙ none in
+      let kept_free : is_free items q ≡ true =
+      free_to (is_reserved q) (is_entry items q)
+      (ap (λ b. b || is_entry items q) (ap is_reserved (sym is) ∙ free) ∙ sym (entry_is items q) ∙ ap (λ (o : Option ItemKind). is_some o) none_there) in
       let theirs : ours ≡ is_ours clean q (at leaves q) = whose ∙ ap (λ x. is_ours clean x (get leaves path)) is ∙ ap (λ p. is_ours clean q (get leaves p)) (in_etc path inside) in
       record {
         gone = gone ∙ ap (λ x. old.gone ++ cond ours (x ∷ []) []) is ∙ ap (λ b. old.gone ++ cond b (q ∷ []) []) theirs
@@ -80,10 +123,11 @@ module _ (items : List Item) (clean : List Name) (leaves : Leaves) where
             ∙ ap (λ l. old.foreign ++ l) (swapped (is_ours clean q (at leaves q)) q)
             ∙ sym (ap (λ (names : List Name). old.foreign ++ filter (is_foreign_by items clean leaves) names) (one_name path inside)
             ∙ ap (λ b. old.foreign ++ cond (b && not (is_ours clean q (at leaves q))) (q ∷ []) []) kept_free);
+        standing = standing ∙ none_standing path old.standing inside none_there;
       }
 
-  pub none_found : (found : Found) → found.gone ≡ [] → found.foreign ≡ [] → AreFound items clean leaves [] found
-  none_found found gone foreign = record { gone = gone; foreign = foreign }
+  pub none_found : (found : Found) → found.gone ≡ [] → found.foreign ≡ [] → found.standing ≡ [] → AreFound items clean leaves [] found
+  none_found found gone foreign standing = record { gone = gone; foreign = foreign; standing = standing }
 
   -- one more path
   pub more_found : (ks : List (List ℕ)) (path : List ℕ) (old new : Found) → AreFound items clean leaves (names_below ks) old → TakesPath items clean leaves path old new → AreFound items clean leaves (names_below (ks ++ path ∷ [])) new
@@ -94,6 +138,9 @@ module _ (items : List Item) (clean : List Name) (leaves : Leaves) where
     foreign = takes.foreign ∙ ap (λ l. l ++ filter (is_foreign_by items clean leaves) (names_below (path ∷ []))) before.foreign
         ∙ sym (filter-append (is_foreign_by items clean leaves) (names_below ks) (names_below (path ∷ [])))
         ∙ ap (filter (is_foreign_by items clean leaves)) (sym (names_append ks (path ∷ [])));
+    standing = takes.standing ∙ ap (λ l. l ++ filter (is_standing items leaves) (names_below (path ∷ []))) before.standing
+        ∙ sym (filter-append (is_standing items leaves) (names_below ks) (names_below (path ∷ [])))
+        ∙ ap (filter (is_standing items leaves)) (sym (names_append ks (path ∷ [])));
   }
 
 -- ---- all leaves below etc
@@ -111,6 +158,26 @@ and_swap true true = refl
 and_swap true false = refl
 and_swap false true = refl
 and_swap false false = refl
+
+leaf_there : (q : Name) (kind : Option ItemKind) (leaf : Option LeafKind) → (is_leaf_of q kind leaf && is_some leaf) ≡ is_leaf_of q kind leaf
+leaf_there q None leaf = refl
+leaf_there q (Some kind) None = refl
+leaf_there q (Some kind) (Some leaf) = by (is_leaf_of q (Some kind) (Some leaf))
+  where
+    by : (b : Bool) → (b && true) ≡ b
+    by true = refl
+    by false = refl
+
+-- what is found to stand stands
+pub standing_list : (items : List Item) (clean : List Name) (leaves : Leaves) (found : Found) → AreFound items clean leaves (etc_names leaves) found → IsListOf found.standing (λ q. is_standing items leaves q ≡ true)
+standing_list items clean leaves found are = record {
+  sorted = subst (IsStrictlySortedBy bytes_cmp) (sym are.standing) (IsStrictlySortedBy-filter bytes_cmp (is_standing items leaves) (etc_names leaves) (etc_names_sorted leaves));
+  exact = λ q.
+      let same =
+      ap (λ (names : List Name). has names q) are.standing ∙ has_filter (is_standing items leaves) (etc_names leaves) q ∙ ap (λ b. is_standing items leaves q && b) (has_etc_name leaves q)
+      ∙ leaf_there q (entry items q) (at leaves q) in
+      (λ is. sym same ∙ is, λ is. same ∙ is);
+}
 
 module _ (items : List Item) (clean : List Name) (leaves : Leaves) (listed : (q : Name) → has clean q ≡ has (clean_of leaves) q) where
   ours_same : (q : Name) → is_ours clean q (at leaves q) ≡ is_ours (clean_of leaves) q (at leaves q)
@@ -187,14 +254,15 @@ blocked_next test items i item old new inside is before added =
 
 -- all that is found in etc
 pub sorted_all :
-    (items : List Item) (leaves : Leaves) (clean : List Name) (found : Found) (gone blocked : List Name) → IsStrictlySortedBy bytes_cmp (places items) →
-    IsListOf clean (λ q. has (clean_of leaves) q ≡ true) → AreFound items clean leaves (etc_names leaves) found → gone ≡ found.gone →
+    (items : List Item) (leaves : Leaves) (clean : List Name) (found : Found) (gone blocked standing : List Name) → IsStrictlySortedBy bytes_cmp (places items) →
+    IsListOf clean (λ q. has (clean_of leaves) q ≡ true) → AreFound items clean leaves (etc_names leaves) found → gone ≡ found.gone → standing ≡ found.standing →
     (IsStrictlySortedBy bytes_cmp found.foreign → blocked ≡ filter (λ q. list_any (λ p. is_in_line p q) found.foreign) (places items)) →
-    IsSortedOf items leaves (record { gone = gone; blocked = blocked; clean = clean })
-sorted_all items leaves clean found gone blocked sorted list are is by =
+    IsSortedOf items leaves (record { gone = gone; blocked = blocked; standing = standing; clean = clean })
+sorted_all items leaves clean found gone blocked standing sorted list are is stands by =
     let listed = λ (q : Name). same_test (has clean q) (has (clean_of leaves) q) (λ there. (list.exact q).0 there) (λ there. (list.exact q).1 there) in
     record {
       gone = subst (λ (names : List Name). IsListOf names (λ q. is_gone items leaves q ≡ true)) (sym is) (gone_list items clean leaves listed found are);
       blocked = blocked_list items clean leaves listed found blocked sorted are (by (foreign_sorted items clean leaves listed found are));
+      standing = subst (λ (names : List Name). IsListOf names (λ q. is_standing items leaves q ≡ true)) (sym stands) (standing_list items clean leaves found are);
       clean = list;
     }

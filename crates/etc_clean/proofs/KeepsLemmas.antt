@@ -1,8 +1,8 @@
 -- A farm's end stays the same while the farm is put.
-use Rattle.std.proofs.Common.{◌≡◌, ◌≢◌, ℕ, ◌||◌, not, Bool, true, false, cond, List, ◌++◌, drop, length, codes, Option, None, Some, is_some, refl, sym, ap, subst, ◌∙◌, inl, inr, rules}
-use Rattle.std.proofs.lemmas.Bool.{both_ways}
+use Rattle.std.proofs.Common.{◌≡◌, ◌≢◌, ℕ, ◌||◌, not, Bool, true, false, cond, List, ◌++◌, drop, length, codes, Option, None, Some, is_some, refl, sym, ap, subst, ◌∙◌, inl, inr}
+use Rattle.std.proofs.lemmas.Bool.{both_ways, or_left, or_right}
 use Rattle.std.proofs.Math.Bool.{or-false}
-use Rattle.std.specs.FinMap.{get, gets, insert, remove}
+use Rattle.std.specs.FinMap.{get, insert, remove}
 use Rattle.std.specs.Ordering.{eq_by_cmp}
 use Rattle.switch_names.specs.Names.{Name, has, is_name}
 use Rattle.host_trait.specs.declared.leaf.LeafKind.{LeafKind}
@@ -220,6 +220,13 @@ owned_by false false reserved is = ap not is
 -- a name that isn't reserved is the farm's to write
 pub owned_name : (q : Name) → is_reserved q ≡ false → is_owned q ≡ true
 owned_name q is = owned_by (is_name q static_name) (is_name q clean_name) (is_reserved q) is
+
+-- so are the two leaves that it keeps by itself
+pub static_owned : is_owned static_name ≡ true
+static_owned = or_left (is_name static_name static_name) (is_name static_name clean_name || not (is_reserved static_name)) (itself static_name)
+
+pub clean_owned : is_owned clean_name ≡ true
+clean_owned = or_right (is_name clean_name static_name) (is_name clean_name clean_name || not (is_reserved clean_name)) (or_left (is_name clean_name clean_name) (not (is_reserved clean_name)) (itself clean_name))
 
 module _ (items : List Item) (w m : Leaves) (alike : AreAlike w m) where
   alike_foreign : (q : Name) (reserved : Bool) → is_reserved q ≡ reserved → is_foreign items m q ≡ is_foreign items w q

@@ -1,3 +1,4 @@
+pub mod AgainLemmas
 pub mod CleanLemmas
 pub mod FarmLemmas
 pub mod FoundLemmas
@@ -5,3 +6,4 @@ pub mod KeepsLemmas
 pub mod ListLemmas
 pub mod NameLemmas
 pub mod SearchLemmas
+pub mod StandingLemmas

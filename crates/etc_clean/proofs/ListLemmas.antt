@@ -1,10 +1,10 @@
 -- Lists of names that are filtered, and names below etc in their order.
-use Rattle.std.proofs.Common.{◌≡◌, ℕ, ◌&&◌, ◌||◌, not, Bool, true, false, cond, List, [], ◌∷◌, ◌++◌, ◌+◌, ◌<◌, length, get_or, take, map, codes, refl, sym, ap, subst, ◌∙◌, inl, inr}
+use Rattle.std.proofs.Common.{◌≡◌, ℕ, ◌&&◌, ◌||◌, Bool, true, false, cond, List, [], ◌∷◌, ◌++◌, ◌+◌, ◌<◌, length, get_or, take, map, codes, refl, sym, ap, subst, ◌∙◌}
 use Rattle.std.proofs.lemmas.Bool.{both_ways, or_right}
 use Rattle.std.proofs.lemmas.List.{map-append, take_more}
 use Rattle.std.proofs.lemmas.List.Elements.{filter-append}
 use Rattle.std.proofs.lemmas.List.Folds.{list_any-append}
-use Rattle.std.proofs.Math.Bool.{and-false, or-false}
+use Rattle.std.proofs.Math.Bool.{or-false}
 use Rattle.std.specs.FinMap.{keys}
 use Rattle.std.specs.List.{filter, list_any}
 use Rattle.std.specs.List.Sorted.{IsStrictlySortedBy}
@@ -15,9 +15,8 @@ use Rattle.switch_names.proofs.Below.{below_front}
 use Rattle.host_trait.specs.World.{Leaves, bytes_cmp, is_listed, is_path, listed, stage}
 use Rattle.host_trait.proofs.KeyOrder.{keys_sorted}
 use Rattle.host_trait.proofs.Orders.{AreAbove}
-use Rattle.host_trait.proofs.Places.{itself, same_or_other}
+use Rattle.host_trait.proofs.Places.{itself}
 use Rattle.host_trait.proofs.UnitSets.{has_added}
-use Rattle.host_trait.proofs.NameOrder.{has_filter}
 use Rattle.host_trait.proofs.Listings.{listed_by}
 use Rattle.etc_clean.specs.Names.{etc_folder, etc_names, is_in_etc, name_of, names_below, place}
 use Rattle.etc_clean.proofs.NameLemmas.{in_etc, place_cmp}

@@ -1,6 +1,6 @@
 -- Names below etc, and the places that they stand for.
 use Rattle.std.proofs.Common.{◌≡◌, ◌≢◌, ℕ, ◌||◌, Bool, true, false, cond, List, [], ◌∷◌, ◌++◌, map, codes, nat_eq, None, Some, is_some, refl, sym, ap, subst, ◌∙◌, inl, inr}
-use Rattle.std.proofs.lemmas.Bool.{both_ways, cases_Bool, or_left, or_right}
+use Rattle.std.proofs.lemmas.Bool.{both_ways, cases_Bool}
 use Rattle.std.proofs.lemmas.Bool.Decides.{Decides-eqb}
 use Rattle.std.proofs.lemmas.Slice.Eq.{starts_is}
 use Rattle.std.specs.FinMap.{contains_key-keys, keys}
@@ -9,9 +9,7 @@ use Rattle.std.specs.Ordering.{eq_by_cmp}
 use Rattle.switch_names.specs.Names.{Name, has, is_name}
 use Rattle.switch_names.specs.Path.{name_below}
 use Rattle.host_trait.specs.World.{Leaves, bytes_cmp}
-use Rattle.host_trait.proofs.Places.{same_or_other}
 use Rattle.host_trait.proofs.Seen.{other_of}
-use Rattle.host_trait.proofs.NameOrder.{passes_among}
 use Rattle.etc_manifest.specs.Place.{is_reserved, reserved_names}
 use Rattle.etc_manifest.proofs.NameLemmas.{below_is_after}
 use Rattle.etc_clean.specs.Names.{etc_folder, etc_names, is_in_etc, name_of, names_below, place}

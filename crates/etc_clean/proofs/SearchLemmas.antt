@@ -1,12 +1,12 @@
 -- Searches among names in byte order.
-use Rattle.std.proofs.Common.{◌≡◌, ◌⊎◌, ℕ, zero, suc, ◌||◌, Bool, true, false, List, [], ◌∷◌, ◌++◌, length, take, drop, map, Option, None, Some, IsNone, IfSome, Result, Ok, Err, refl, sym, ap, subst, ◌∙◌, inl, inr, ⊎_elim}
+use Rattle.std.proofs.Common.{◌≡◌, ℕ, zero, suc, ◌||◌, Bool, true, false, cond, List, [], ◌∷◌, ◌++◌, length, take, drop, map, Option, None, Some, is_some, option_map, MatchOption, IsNone, IfSome, Result, Ok, Err, refl, sym, ap, subst, ◌∙◌, inl, inr, ⊎_elim}
 use Rattle.std.proofs.lemmas.Bool.{both_ways, cases_Bool, or_left, or_right}
 use Rattle.std.proofs.lemmas.Cmp.{tied_itself}
 use Rattle.std.proofs.lemmas.List.{append-nil}
 use Rattle.std.proofs.lemmas.Option.{slice_get_past, slice_get_read}
 use Rattle.std.specs.Borrow.{Bor}
 use Rattle.std.specs.Slice.{IsItemAt}
-use Rattle.std.specs.List.{AllByRecursion, list_any, slice_get}
+use Rattle.std.specs.List.{AllByRecursion, find, list_any, slice_get}
 use Rattle.std.specs.List.Sorted.{IsBinarySearchResult, IsSearchInRange, IsStrictlySortedBy}
 use Rattle.std.specs.Option.{option_copied}
 use Rattle.std.specs.Result.{is_ok}
@@ -20,6 +20,10 @@ use Rattle.host_trait.proofs.Places.{bytes_total, itself}
 use Rattle.host_trait.proofs.Seen.{other_of}
 use Rattle.host_trait.proofs.NameOrder.{passes_among, less_not_equal}
 use Rattle.host_trait.proofs.Above as above
+use Rattle.etc_manifest.specs.declared.item.Item.{Item}
+use Rattle.etc_manifest.specs.declared.item.ItemKind.{ItemKind}
+use Rattle.etc_manifest.specs.Manifest.{entry, places}
+use Rattle.etc_clean.proofs.FarmLemmas.{entry_is}
 use Rattle.etc_clean.proofs.ListLemmas.{none_among}
 
 -- ---- a name among others
@@ -62,6 +66,59 @@ pub searched_name : (names : List Name) (name : Name) (r : Result ℕ ℕ) → I
 searched_name names name r sorted within is =
     searched (λ x. x) names name r (subst (IsStrictlySortedBy bytes_cmp) (sym (map_self names)) sorted) within is ∙ ap (λ (ns : List Name). has ns name) (map_self names)
 
+-- what is lent at a place is what stands there
+pub item_at : {X : Type 0} (xs : List X) (at : ℕ) (lent : Option (Bor X)) → IsItemAt xs at lent → slice_get xs at ≡ option_copied lent
+item_at xs at None is = slice_get_past xs at is.3
+item_at xs at (Some item) is = slice_get_read xs (length xs) at item.now refl is.3.0 is.1
+
+-- ---- an item at a name
+
+less_at : (a : Name) (items : List Item) (at : ℕ) (item : Item) → AllByRecursion (λ b. bytes_cmp a b ≡ Less) (places items) → slice_get items at ≡ Some item → bytes_cmp a item.place ≡ Less
+less_at a [] zero item above is = absurd (cc)
+less_at a [] (suc at) item above is = absurd (cc)
+less_at a (first ∷ items) zero item above is = let same : first ≡ item = cc in subst (λ (x : Item). bytes_cmp a x.place ≡ Less) same above.0
+less_at a (first ∷ items) (suc at) item above is = less_at a items at item above.1 is
+
+-- in order, the entry of an item's place is the item
+pub entry_of_found : (items : List Item) (at : ℕ) (item : Item) → IsStrictlySortedBy bytes_cmp (places items) → slice_get items at ≡ Some item → entry items item.place ≡ Some item.kind
+unfolding IsStrictlySortedBy
+entry_of_found [] zero item sorted is = absurd (cc)
+entry_of_found [] (suc at) item sorted is = absurd (cc)
+entry_of_found (first ∷ items) zero item sorted is =
+    let same : first ≡ item = cc in
+    subst (λ (x : Item). option_map (λ (i : Item). i.kind) (cond (is_name item.place x.place) (Some x) (find (λ (i : Item). is_name item.place i.place) items)) ≡ Some item.kind) (sym same)
+    (ap (λ b. option_map (λ (i : Item). i.kind) (cond b (Some item) (find (λ (i : Item). is_name item.place i.place) items))) (itself item.place))
+entry_of_found (first ∷ items) (suc at) item sorted is =
+    ap (λ b. option_map (λ (i : Item). i.kind) (cond b (Some first) (find (λ (i : Item). is_name item.place i.place) items))) (lower_other first.place item.place (less_at first.place items at item sorted.0 is))
+    ∙ entry_of_found items at item sorted.1 is
+
+get_map : (items : List Item) (at : ℕ) → slice_get (places items) at ≡ option_map (λ (item : Item). item.place) (slice_get items at)
+get_map [] zero = refl
+get_map [] (suc at) = refl
+get_map (item ∷ items) zero = refl
+get_map (item ∷ items) (suc at) = get_map items at
+
+-- what is lent where a name was found is its item
+pub lent_at : (items : List Item) (at : ℕ) (name : Name) (lent : Option (Bor Item)) → IsStrictlySortedBy bytes_cmp (places items) → IsItemAt items at lent → slice_get (places items) at ≡ Some name →
+    MatchOption lent (entry items name ≡ None) (λ item. (item.now.place ≡ name) × (entry items name ≡ Some item.now.kind))
+lent_at items at name None sorted is found =
+    let none : None ≡ Some name = sym (get_map items at ∙ ap (option_map (λ (item : Item). item.place)) (item_at items at None is)) ∙ found in absurd (cc)
+lent_at items at name (Some item) sorted is found =
+    let there : slice_get items at ≡ Some item.now = item_at items at (Some item) is in
+    let named : Some item.now.place ≡ Some name = sym (get_map items at ∙ ap (option_map (λ (item : Item). item.place)) there) ∙ found in
+    let same : item.now.place ≡ name = cc in
+    (same, ap (entry items) (sym same) ∙ entry_of_found items at item.now sorted there)
+
+pub none_wanted : (o : Option ItemKind) → is_some o ≡ false → o ≡ None
+none_wanted None is = refl
+none_wanted (Some kind) is = absurd (both_ways _ is refl)
+
+-- and where none is found, nothing is wanted
+pub none_found_at : (items : List Item) (name : Name) (r : Result ℕ ℕ) → IsStrictlySortedBy bytes_cmp (places items) → IsSearchInRange r (length items) →
+    IsBinarySearchResult (λ (item : Item). bytes_cmp item.place name) items r → is_ok r ≡ false → entry items name ≡ None
+none_found_at items name r sorted within is none =
+    none_wanted (entry items name) (entry_is items name ∙ sym (searched (λ (item : Item). item.place) items name r sorted within is) ∙ none)
+
 -- ---- names that begin with a text
 
 -- whether the first of some names begins with a text
@@ -100,11 +157,6 @@ first_none front [] zero is = refl
 first_none front [] (suc at) is = refl
 first_none front (l ∷ names) zero is = absurd (cc)
 first_none front (l ∷ names) (suc at) is = first_none front names at is
-
--- what is lent at a place is what stands there
-pub item_at : (names : List Name) (at : ℕ) (lent : Option (Bor Name)) → IsItemAt names at lent → slice_get names at ≡ option_copied lent
-item_at names at None is = slice_get_past names at is.3
-item_at names at (Some name) is = slice_get_read names (length names) at name.now refl is.3.0 is.1
 
 module _ (front : List ℕ) (names : List Name) (sorted : IsStrictlySortedBy bytes_cmp names) where
   in_self : IsStrictlySortedBy bytes_cmp (map (λ x. x) names)

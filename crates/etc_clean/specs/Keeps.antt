@@ -1,7 +1,8 @@
 -- What stays the same while a farm is put: setup-etc.pl of nixpkgs.
-use Rattle.std.specs.Prelude.{◌≡◌, ◌||◌, true, false, List}
+use Rattle.std.specs.Prelude.{◌≡◌, ◌||◌, true, false, All, List}
 use Rattle.std.specs.FinMap.{insert, remove}
 use Rattle.switch_names.specs.Names.{Name, has}
+use Rattle.switch_names.specs.Texts.{is_line_feed}
 use Rattle.host_trait.specs.declared.leaf.LeafKind.{LeafKind}
 use Rattle.host_trait.specs.World.{Leaves}
 use Rattle.etc_manifest.specs.declared.item.Item.{Item}
@@ -20,6 +21,10 @@ pub record Keeps (items : List Item) (w m : Leaves) : Type 0 where
 -- no entry's first name is reserved
 abbrev pub AreFree : List Item → Type 0
 AreFree items = (q : Name) → is_entry items q ≡ true → is_reserved q ≡ false
+
+-- no entry has a line feed: each is a line of its own on a clean list
+abbrev pub AreLines : List Item → Type 0
+AreLines items = (q : Name) → is_entry items q ≡ true → All (λ byte. is_line_feed byte ≡ false) q
 
 -- a farm leaves the same at its names, from the one tree and from the other
 abbrev pub SameEtc : Farm → Leaves → Leaves → Type 0
@@ -78,3 +83,7 @@ FirstListLaw = (items : List Item) (w : Leaves) (names : List Name) → AreFree 
 -- the last clean list may be put, once nothing is gone
 abbrev pub LastListLaw : Type 0
 LastListLaw = (items : List Item) (w : Leaves) (names : List Name) → AreFree items → IsLastList items w names → Keeps items w (insert w (place clean_name) (clean_leaf names))
+
+-- a farm's end keeps what the farm looks at
+abbrev pub AgainLaw : Type 0
+AgainLaw = (farm : Farm) (w v : Leaves) → AreFree farm.items → AreLines farm.items → ((q : Name) → is_owned q ≡ true → at v q ≡ etc farm w q) → Keeps farm.items w v

@@ -5,3 +5,4 @@ pub mod Found
 pub mod Keeps
 pub mod Names
 pub mod Obsolete
+pub mod Standing

@@ -6,9 +6,11 @@ use Rattle.etc_manifest.specs.declared.item.Item.{Item}
 use Rattle.etc_clean.specs.declared.sorting.Sorted.{Sorted}
 use Rattle.etc_clean.specs.CleanList.{clean_of}
 use Rattle.etc_clean.specs.Farm.{is_blocked, is_entry, is_gone}
+use Rattle.etc_clean.specs.Standing.{is_standing}
 
--- what is gone, the entries that are blocked, and the names of the clean list that stands, each in byte order and once
+-- what is gone, the entries that are blocked, those whose leaf stands already, and the names of the clean list that stands, each in byte order and once
 pub record IsSortedOf (items : List Item) (leaves : Leaves) (sorted : Sorted) : Type 0 where
   pub gone : IsListOf sorted.gone (λ q. is_gone items leaves q ≡ true)
   pub blocked : IsListOf sorted.blocked (λ q. (is_entry items q && is_blocked items leaves q) ≡ true)
+  pub standing : IsListOf sorted.standing (λ q. is_standing items leaves q ≡ true)
   pub clean : IsListOf sorted.clean (λ q. has (clean_of leaves) q ≡ true)

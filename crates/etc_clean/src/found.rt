@@ -1,5 +1,5 @@
 //! What the leaves below `etc` are.
-ghost use Rattle.std.specs.Prelude.{◌≡◌, ◌||◌, ◌++◌, ◌∷◌, [], codes, nat_eq, IfOk, OnOk, if◌then◌else◌};
+ghost use Rattle.std.specs.Prelude.{◌≡◌, ◌||◌, ◌++◌, ◌∷◌, [], codes, nat_eq, IfOk, OnOk, Some, if◌then◌else◌};
 ghost use Rattle.std.specs.FinMap.{get};
 ghost use Rattle.std.specs.List.{starts_with};
 ghost use Rattle.std.specs.List.Sorted.{IsStrictlySortedBy};
@@ -11,20 +11,24 @@ ghost use Rattle.etc_manifest.specs.Place.{is_reserved};
 ghost use Rattle.etc_clean.specs.Farm.{is_below_nixos, is_entry, is_farm_link, is_into_static, is_ours};
 ghost use Rattle.etc_clean.specs.Found.{AreFound, TakesPath};
 ghost use Rattle.etc_clean.specs.Names.{names_below};
+ghost use Rattle.etc_clean.specs.Standing.{is_leaf_of};
 
+use crate::leaves::is_item_leaf;
 use crate::names::name_in_etc;
-use crate::search::{contains, has_item};
+use crate::search::{contains, find_item};
 use etc_manifest::{Item, is_reserved};
 use host_trait::{HostFault, Leaf, LeafKind, Tree};
 use std::alloc::{AllocError, Global};
 use switch_names::{Listed, Path};
 
-/// Names below `etc` that are neither reserved nor entries, in byte order.
+/// Names below `etc` at which a leaf stands, in byte order.
 pub struct Found {
-    /// Those whose leaf is the farm's.
+    /// Those that are neither reserved nor entries, and whose leaf is the farm's.
     pub gone: Listed<Path>,
-    /// The others.
+    /// The others that are neither reserved nor entries.
     pub foreign: Listed<Path>,
+    /// The entries whose leaf is what is put for them.
+    pub standing: Listed<Path>,
 }
 
 /// One call: a derived drop is proved anew in each function that lets one go.
@@ -33,6 +37,7 @@ impl Drop for Found {
         let Found {
             gone: _,
             foreign: _,
+            standing: _,
         } = self;
     }
 }
@@ -42,31 +47,51 @@ impl Found {
     fn new(alloc: Global) -> Found
         ensures gone { result.gone ≡ [] }
         ensures foreign { result.foreign ≡ [] }
+        ensures standing { result.standing ≡ [] }
     {
         Found {
             gone: Listed::new(alloc),
             foreign: Listed::new(alloc),
+            standing: Listed::new(alloc),
         }
     }
 
-    /// The names whose leaf is the farm's.
-    pub fn into_gone(self) -> Listed<Path>
-        ensures { result ≡ self.gone }
+    /// The names whose leaf is the farm's, and the entries whose leaf stands.
+    pub fn into_names(self) -> (Listed<Path>, Listed<Path>)
+        ensures gone { result.0 ≡ self.gone }
+        ensures standing { result.1 ≡ self.standing }
     {
-        let Found { gone, foreign: _ } = self;
-        gone
+        let Found {
+            gone,
+            foreign: _,
+            standing,
+        } = self;
+        (gone, standing)
     }
 
     /// Adds a name, by whether its leaf is the farm's.
     fn add(&mut self, name: Path, ours: bool) -> Result<(), AllocError>
         ensures gone { OnOk result (self.new.gone ≡ self.old.gone ++ (if ours then name ∷ [] else [])) }
         ensures foreign { OnOk result (self.new.foreign ≡ self.old.foreign ++ (if ours then [] else name ∷ [])) }
+        ensures standing { OnOk result (self.new.standing ≡ self.old.standing) }
     {
         if ours {
             self.gone.push(name)
         } else {
             self.foreign.push(name)
         }
+    }
+
+    /// Adds an entry, where its leaf stands.
+    fn add_entry(&mut self, name: Path, stands: bool) -> Result<(), AllocError>
+        ensures gone { OnOk result (self.new.gone ≡ self.old.gone) }
+        ensures foreign { OnOk result (self.new.foreign ≡ self.old.foreign) }
+        ensures standing { OnOk result (self.new.standing ≡ self.old.standing ++ (if stands then name ∷ [] else [])) }
+    {
+        if stands {
+            self.standing.push(name)?;
+        }
+        Ok(())
     }
 }
 
@@ -113,14 +138,6 @@ fn is_farm_link(name: &Path, leaf: &Option<Leaf>) -> bool
     }
 }
 
-/// Whether a name is reserved, or the place of one of these items.
-fn is_kept(items: &[Item], name: &Path) -> bool
-    requires { IsStrictlySortedBy bytes_cmp (places items.now) }
-    ensures { result ≡ (is_reserved name.now || is_entry items.now name.now) }
-{
-    is_reserved(name) || has_item(items, name)
-}
-
 /// Whether the leaf at a path is the farm's, given the names of the clean list.
 fn is_ours<T: Tree>(
     alloc: Global,
@@ -140,7 +157,16 @@ fn is_ours<T: Tree>(
     Ok(is_farm_link(name, &leaf))
 }
 
-/// Adds the name of a path, where it is one below `etc` that is neither reserved nor an entry.
+/// Whether what is put for an item stands at a path.
+fn is_at<T: Tree>(alloc: Global, host: &mut T, item: &Item, path: &Path) -> Result<bool, HostFault>
+    ensures stands { IfOk result (λ stands. Told (T.host host.old) (λ w. stands ≡ is_leaf_of item.now.place (Some item.now.kind) (get w.leaves path.now))) }
+    ensures reads { IsReading (T.host host.old) (T.host host.new) result }
+{
+    let leaf = host.read(alloc, path)?;
+    Ok(is_item_leaf(alloc, item, &leaf)?)
+}
+
+/// Adds the name of a path, where it is one below `etc` that isn't reserved, or is an entry.
 fn take_path<T: Tree>(
     alloc: Global,
     host: &mut T,
@@ -157,7 +183,11 @@ fn take_path<T: Tree>(
     let Some(name) = name_in_etc(alloc, path)? else {
         return Ok(());
     };
-    if is_kept(items, &name) {
+    if let Some(item) = find_item(items, &name) {
+        let stands = is_at(alloc, host, item, path)?;
+        return Ok(found.add_entry(name, stands)?);
+    }
+    if is_reserved(&name) {
         return Ok(());
     }
     let ours = is_ours(alloc, host, clean, path, &name)?;

@@ -1,6 +1,6 @@
 //! What holds of clean lists and of farms.
 ghost use Rattle.etc_clean.specs.CleanList.{ReadBackLaw};
-ghost use Rattle.etc_clean.specs.Keeps.{AlikeLaw, EndLaw, FirstListLaw, LastListLaw, PutLaw, RemovalLaw, StaticLaw, StepsLaw, WholeLaw};
+ghost use Rattle.etc_clean.specs.Keeps.{AgainLaw, AlikeLaw, EndLaw, FirstListLaw, LastListLaw, PutLaw, RemovalLaw, StaticLaw, StepsLaw, WholeLaw};
 
 /// Names that a clean list can have are read as they were written.
 ///
@@ -21,7 +21,8 @@ pub fn kept_farms_end_alike()
 
 /// Each step of putting a farm keeps what it looks at: the first clean list, the link at `static`,
 /// the removal of what is gone, an entry, and the last clean list once nothing is gone. So does what
-/// changes elsewhere.
+/// changes elsewhere, and so does the farm's end, where no entry has a line feed: what was foreign is
+/// so still, what was gone isn't there any more, and the clean list names entries alone.
 ///
 /// Source: setup-etc.pl of nixpkgs.
 pub fn farms_are_kept()
@@ -31,4 +32,5 @@ pub fn farms_are_kept()
     ensures put { PutLaw }
     ensures last_list { LastListLaw }
     ensures elsewhere { AlikeLaw }
+    ensures again { AgainLaw }
 {}

@@ -5,6 +5,7 @@
 mod clean_list;
 mod found;
 mod laws;
+mod leaves;
 mod names;
 mod order;
 mod search;
@@ -12,6 +13,7 @@ mod sorting;
 
 pub use clean_list::{clean_path, read_clean, write_clean};
 pub use laws::{clean_lists_are_read_as_written, farms_are_kept, kept_farms_end_alike};
+pub use leaves::{item_leaf, link_leaf};
 pub use names::etc_place;
 pub use order::in_order;
 pub use search::contains;

@@ -1,11 +1,11 @@
 //! Searches among names in byte order.
-ghost use Rattle.std.specs.Prelude.{◌≡◌, ◌++◌, ◌∷◌, [], nat_eq, IfOk};
+ghost use Rattle.std.specs.Prelude.{◌≡◌, ◌++◌, ◌∷◌, [], nat_eq, IfOk, MatchOption, None, Some};
 ghost use Rattle.std.specs.List.{list_any, starts_with};
 ghost use Rattle.std.specs.List.Sorted.{IsStrictlySortedBy};
 ghost use Rattle.switch_names.specs.Names.{has};
 ghost use Rattle.switch_names.specs.Path.{is_below, slash};
 ghost use Rattle.host_trait.specs.World.{bytes_cmp, is_in_line};
-ghost use Rattle.etc_manifest.specs.Manifest.{places};
+ghost use Rattle.etc_manifest.specs.Manifest.{entry, places};
 
 use etc_manifest::Item;
 use std::alloc::{AllocError, Global};
@@ -18,11 +18,15 @@ pub fn contains(names: &[Path], name: &Path) -> bool
     names.binary_search(name).is_ok()
 }
 
-/// Whether a name is the place of one of these items, where they are in byte order.
-pub fn has_item(items: &[Item], name: &Path) -> bool
-    ensures { IsStrictlySortedBy bytes_cmp (places items.now) → result ≡ has (places items.now) name.now }
+/// The item at a name, where they are in byte order, or none.
+pub fn find_item<'a>(items: &'a [Item], name: &Path) -> Option<&'a Item>
+    requires { IsStrictlySortedBy bytes_cmp (places items.now) }
+    ensures { MatchOption result (entry items.now name.now ≡ None) (λ item. (item.now.place ≡ name.now) × (entry items.now name.now ≡ Some item.now.kind)) }
 {
-    items.binary_search_by(|item| item.place.cmp(name)).is_ok()
+    match items.binary_search_by(|item| item.place.cmp(name)) {
+        Ok(at) => items.get(at),
+        Err(_) => None,
+    }
 }
 
 /// A name with a slash after it.

@@ -28,6 +28,8 @@ pub struct Sorted {
     pub gone: Listed<Path>,
     /// The entries that are left out, because a foreign leaf stands above or below them.
     pub blocked: Listed<Path>,
+    /// The entries whose leaf stands already, blocked ones among them.
+    pub standing: Listed<Path>,
     /// The names of the clean list that stands.
     pub clean: Listed<Path>,
 }
@@ -38,6 +40,7 @@ impl Drop for Sorted {
         let Sorted {
             gone: _,
             blocked: _,
+            standing: _,
             clean: _,
         } = self;
     }
@@ -96,9 +99,11 @@ fn blocked_by(alloc: Global, items: &[Item], foreign: &[Path]) -> Result<Listed<
     Ok(blocked)
 }
 
-/// What a manifest leaves to be removed and to be left out in `/etc`, with the clean list that stands.
+/// What a manifest leaves to be removed and to be left out in `/etc`, with what of it stands already and the clean list
+/// that stands.
 ///
-/// It reads the clean list once, lists `etc` once, and reads each leaf there at most once.
+/// It reads the clean list once, lists `etc` once, and reads each leaf there at most once: those at entries too, so that one
+/// that can't be read is found before anything is changed.
 /// Source: setup-etc.pl of nixpkgs.
 pub fn obsolete<T: Tree>(
     alloc: Global,
@@ -112,9 +117,11 @@ pub fn obsolete<T: Tree>(
     let clean = read_clean_set(alloc, host)?;
     let found = find_all(alloc, host, items, clean.as_slice())?;
     let blocked = blocked_by(alloc, items, found.foreign.as_slice())?;
+    let (gone, standing) = found.into_names();
     Ok(Sorted {
-        gone: found.into_gone(),
+        gone,
         blocked,
+        standing,
         clean,
     })
 }

@@ -20,13 +20,13 @@ use Rattle.etc_clean.specs.Farm.{at, is_blocked, is_entry, is_gone}
 use Rattle.etc_clean.specs.Keeps.{AreAlike, AreFree}
 use Rattle.etc_clean.specs.Names.{place}
 use Rattle.etc_clean.proofs.FarmLemmas.{blocked_kept, entry_is, placed_kept}
-use Rattle.etc_clean.proofs.KeepsLemmas.{inserted, owned_name}
+use Rattle.etc_clean.proofs.KeepsLemmas.{inserted, owned_name, static_owned}
 use Rattle.etc_clean.proofs.NameLemmas.{clean_reserved, not_reserved_other, static_reserved}
 use Rattle.etc_clean.proofs.SearchLemmas.{lower_other}
 use Rattle.etc_farm.specs.Steps.{AllListed, CanPutEntries, IsNoneGone}
 use Rattle.etc_farm.proofs.FarmMoment.{AreGone, IsFarmMoment, IsInnerMoment}
 use Rattle.etc_farm.proofs.ClearLemmas.{entry_clear, gone_put, gone_same, reserved_not_gone}
-use Rattle.etc_farm.proofs.PartLemmas.{frame_alike, static_owned}
+use Rattle.etc_farm.proofs.PartLemmas.{frame_alike}
 use Rattle.etc_farm.proofs.PlaceLemmas.{not_stage, owned_place, owned_read, way_free}
 use Rattle.etc_farm.proofs.StepLemmas.{farm_with, moment_put, moment_seen, moment_self, put_entry}
 

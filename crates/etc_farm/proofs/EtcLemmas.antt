@@ -1,6 +1,6 @@
 -- Making /etc what a system wants is a part of a switch.
 use Rattle.std.proofs.Common.{◌≡◌, ◌&&◌, Bool, true, false, cond, List, Option, None, Result, Ok, Err, is_some, refl, sym, ap, subst, ◌∙◌, inl, inr}
-use Rattle.std.proofs.lemmas.Bool.{both_ways, cases_Bool}
+use Rattle.std.proofs.lemmas.Bool.{both_ways, cases_Bool, false_from_ne_true}
 use Rattle.switch_names.specs.Names.{IsListOf, Name, has}
 use Rattle.switch_names.specs.SystemName.{IsSystemPath}
 use Rattle.std.specs.List.Sorted.{IsStrictlySortedBy}
@@ -12,7 +12,7 @@ use Rattle.etc_manifest.specs.declared.manifest_fault.ManifestFault.{ManifestFau
 use Rattle.etc_manifest.specs.declared.manifest_fault.ManifestFault.TheVariants.{Reserved}
 use Rattle.etc_manifest.specs.Entries.{entries_of, has_leaf, kind_in, manifest_of, with_place}
 use Rattle.etc_manifest.specs.Kind.{kind_of}
-use Rattle.etc_manifest.specs.Manifest.{IsManifest, places}
+use Rattle.etc_manifest.specs.Manifest.{IsManifest, entry, places}
 use Rattle.etc_manifest.specs.Owners.{OwnerIds}
 use Rattle.etc_manifest.specs.Place.{etc_folder, is_reserved}
 use Rattle.etc_manifest.proofs.LeafLemmas.{entries_sorted}
@@ -20,13 +20,15 @@ use Rattle.etc_manifest.proofs.WantedLemmas.{entry_is, places_are}
 use Rattle.etc_clean.specs.declared.sorting.Sorted.{Sorted}
 use Rattle.etc_clean.specs.CleanList.{clean_of}
 use Rattle.etc_clean.specs.Etc.{etc}
-use Rattle.etc_clean.specs.Farm.{is_blocked, is_entry, is_gone}
+use Rattle.etc_clean.specs.Farm.{at, is_blocked, is_entry, is_gone}
 use Rattle.etc_clean.specs.Keeps.{AreFree}
 use Rattle.etc_clean.specs.Names.{name_of}
 use Rattle.etc_clean.specs.Obsolete.{IsSortedOf}
+use Rattle.etc_clean.specs.Standing.{is_leaf_of, is_standing}
 use Rattle.etc_clean.proofs.FarmLemmas as farm
 use Rattle.etc_clean.proofs.FarmLemmas.{blocked_kept}
 use Rattle.etc_clean.proofs.KeepsLemmas.{alike_law, end_law, owned_name}
+use Rattle.etc_clean.proofs.SearchLemmas.{none_wanted}
 use Rattle.etc_farm.specs.declared.etc_plan.EtcPlan.{EtcPlan}
 use Rattle.etc_farm.specs.EtcPart.{CanPutEtc, EtcPartLaw, EtcPlanLaw, KeepsEtc, etc_part, items_in, items_of, refusal_in}
 use Rattle.etc_farm.specs.FarmPart.{CanApply, KeepsFarm, farm_of, farm_part}
@@ -71,7 +73,7 @@ free_in leaves system owners (Ok items) is = wanted_free leaves system owners it
 free_in leaves system owners (Err why) is = λ q known. absurd (both_ways false refl known)
 
 module _ (system : Name) (owners : OwnerIds) where
-  items_free : (leaves : Leaves) → AreFree (items_of system owners leaves)
+  pub items_free : (leaves : Leaves) → AreFree (items_of system owners leaves)
   items_free leaves = free_in leaves system owners (manifest_of leaves system owners) refl
 
   module _ (named : IsSystemPath system) where
@@ -114,6 +116,15 @@ module _ (items : List Item) (free : AreFree items) (w u : WorldState) (system :
   blocked_alike : (q : Name) → is_blocked items u.leaves q ≡ is_blocked items w.leaves q
   blocked_alike q = blocked_kept items w.leaves u.leaves (alike_law items w.leaves u.leaves free (frame_alike (farm_of system items) w u free same)).foreign q
 
+  -- no entry is reserved, and every other name below etc is looked at
+  standing_there : (q : Name) → is_standing items u.leaves q ≡ is_standing items w.leaves q
+  standing_there q = elim (cases_Bool (is_reserved q)) [
+    | inl reserved ↦
+        let none = none_wanted (entry items q) (farm.entry_is items q ∙ false_from_ne_true (is_entry items q) (λ known. both_ways _ (free q known) reserved)) in
+        ap (λ kind. is_leaf_of q kind (at u.leaves q)) none ∙ sym (ap (λ kind. is_leaf_of q kind (at w.leaves q)) none)
+    | inr other ↦ ap (λ leaf. is_leaf_of q (entry items q) leaf) ((frame_alike (farm_of system items) w u free same).leaves q (owned_name q other))
+  ]
+
   list_as : (names : List Name) (p t : Name → Bool) → ((q : Name) → p q ≡ t q) → IsListOf names (λ q. t q ≡ true) → IsListOf names (λ q. p q ≡ true)
   list_as names p t agree list = record {
     sorted = list.sorted;
@@ -124,6 +135,7 @@ module _ (items : List Item) (free : AreFree items) (w u : WorldState) (system :
   sorted_alike sorted are = record {
     gone = list_as sorted.gone (is_gone items u.leaves) (is_gone items w.leaves) gone_alike are.gone;
     blocked = list_as sorted.blocked (λ q. is_entry items q && is_blocked items u.leaves q) (λ q. is_entry items q && is_blocked items w.leaves q) (λ q. ap (λ b. is_entry items q && b) (blocked_alike q)) are.blocked;
+    standing = list_as sorted.standing (is_standing items u.leaves) (is_standing items w.leaves) standing_there are.standing;
     clean = list_as sorted.clean (λ q. has (clean_of u.leaves) q) (λ q. has (clean_of w.leaves) q)
         (λ q. ap (λ (names : List Name). has names q) (frame_alike (farm_of system items) w u free same).clean) are.clean;
   }

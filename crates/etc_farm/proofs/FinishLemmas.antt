@@ -19,13 +19,12 @@ use Rattle.etc_clean.specs.Farm.{at, is_blocked, placed}
 use Rattle.etc_clean.specs.Keeps.{AreFree, IsLastList}
 use Rattle.etc_clean.specs.Names.{name_of, place}
 use Rattle.etc_clean.proofs.FarmLemmas.{blocked_kept, placed_kept}
-use Rattle.etc_clean.proofs.KeepsLemmas.{inserted, other_name, owned_free, static_not_clean}
+use Rattle.etc_clean.proofs.KeepsLemmas.{clean_owned, inserted, other_name, owned_free, static_not_clean, static_owned}
 use Rattle.etc_farm.specs.FarmPart.{farm_part}
 use Rattle.etc_farm.specs.Steps.{CanPutEntries, IsNoneGone, placed_but}
 use Rattle.etc_farm.proofs.FarmMoment.{ArePut, IsFarmMoment}
 use Rattle.etc_farm.proofs.ClearLemmas.{gone_last}
 use Rattle.etc_farm.proofs.EntryLemmas.{at_seen, manifest_free, none_gone_seen}
-use Rattle.etc_farm.proofs.PartLemmas.{clean_owned, static_owned}
 use Rattle.etc_farm.proofs.PlaceLemmas.{place_of_owned}
 use Rattle.etc_farm.proofs.StageLemmas.{end_from, placed_as}
 use Rattle.etc_farm.proofs.StepLemmas.{moment_seen, put_last}

@@ -1,3 +1,4 @@
+pub mod AgainLemmas
 pub mod ClearLemmas
 pub mod EntryLemmas
 pub mod EtcLemmas
@@ -14,6 +15,8 @@ pub mod PrepareLemmas
 pub mod PutLemmas
 pub mod RemovalLemmas
 pub mod RunLemmas
+pub mod SkippedLemmas
 pub mod StageLemmas
+pub mod StandingLemmas
 pub mod StepLemmas
 pub mod StoreLemmas

@@ -24,11 +24,12 @@ use Rattle.etc_farm.specs.FarmPart.{CanApply, farm_part}
 use Rattle.etc_farm.specs.Making.{IsAtStep, IsClearing, IsMaking, begun, cleared, entry_puts, last_puts}
 use Rattle.etc_farm.specs.Making.IsAtStep.{Beginning, Clearing, Ending}
 use Rattle.etc_farm.specs.Making.IsMaking.{Since}
-use Rattle.etc_farm.specs.Steps.{CanPutEntries, IsPrepared, item_put, puts_but}
+use Rattle.etc_farm.specs.Steps.{AreStanding, CanPutEntries, IsPrepared, item_put, puts_but}
 use Rattle.etc_farm.proofs.EntryLemmas.{entries_seen}
 use Rattle.etc_farm.proofs.MomentLemmas.{can_entries, ended}
 use Rattle.etc_farm.proofs.PutLemmas.{puts_then}
 use Rattle.etc_farm.proofs.StageLemmas.{can_put_first, first_apart, open_as}
+use Rattle.etc_farm.proofs.StandingLemmas.{standing_cleared}
 
 -- ---- the first so many of some puts
 
@@ -170,6 +171,12 @@ module _ {farm : Farm} {found : Sorted} {prepared : Prepared} (is_prepared : IsP
               let there = entries_seen farm.items found.blocked (cleared is_prepared.names farm.target found.gone w) u before
               (can_entries farm is_prepared.manifest found w can_apply is_prepared.names found.gone (is_prepared.names_are w can_apply) can_apply.sorted.gone) in
               subst (λ (list : List Item). CanPutEntries list blocked u) (sym are_items) (subst (λ (names : List Name). CanPutEntries farm.items names u) (sym are_blocked) there))
+
+          -- what stood at the beginning stands once what is gone has been removed
+          pub cleared_standing : {items : List Item} {standing : List Name} → items ≡ farm.items → standing ≡ found.standing → Told c (AreStanding items standing)
+          cleared_standing {items = items} {standing = standing} are_items are_standing = told_after clear_steps cleared_led (AreStanding items standing) (λ w u is before.
+              subst (λ (list : List Item). AreStanding list standing u) (sym are_items) (subst (λ (names : List Name). AreStanding farm.items names u) (sym are_standing)
+              (standing_cleared farm is_prepared.manifest found w (can.has w is) is_prepared.names u before)))
 
           pub ended_led : {d : HostState} {items : List Item} {blocked : List Name} → items ≡ farm.items → blocked ≡ found.blocked →
               Leads c d (λ u v. seen v ≡ seen (with_puts (puts_but blocked items ++ prepared.last ∷ []) u)) → Leads a d (IsAtEnd (farm_part farm))

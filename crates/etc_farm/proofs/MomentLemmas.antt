@@ -68,10 +68,10 @@ module _
   items = farm.items
 
   abbrev found : Sorted
-  found = record { gone = gone; blocked = other.blocked; clean = other.clean }
+  found = record { gone = gone; blocked = other.blocked; standing = other.standing; clean = other.clean }
 
   can : CanApply farm found w
-  can = record { free = can_other.free; apart = can_other.apart; sorted = record { gone = gone_are; blocked = can_other.sorted.blocked; clean = can_other.sorted.clean } }
+  can = record { free = can_other.free; apart = can_other.apart; sorted = record { gone = gone_are; blocked = can_other.sorted.blocked; standing = can_other.sorted.standing; clean = can_other.sorted.clean } }
 
   free : AreFree items
   free = manifest_free items manifest

@@ -1,21 +1,18 @@
 -- The farm is a part of a switch.
-use Rattle.std.proofs.Common.{◌≡◌, ℕ, ◌&&◌, ◌||◌, not, true, List, Option, is_none, is_some, refl, ap, ◌∙◌, inl, inr, ⊎_elim}
-use Rattle.std.proofs.lemmas.Bool.{or_left, or_right}
+use Rattle.std.proofs.Common.{◌≡◌, ℕ, ◌&&◌, true, List, Option, is_none, is_some, refl, ap, ◌∙◌, inl, inr, ⊎_elim}
 use Rattle.std.specs.FinMap.{get}
-use Rattle.switch_names.specs.Names.{Name, has, is_name}
+use Rattle.switch_names.specs.Names.{Name, has}
 use Rattle.host_trait.specs.declared.leaf.LeafKind.{LeafKind}
 use Rattle.host_trait.specs.World.{Leaves, WorldState, content_of}
-use Rattle.host_trait.proofs.Places.{itself}
 use Rattle.switch_parts.specs.Part.{IsPart, IsSameFor}
 use Rattle.etc_manifest.specs.declared.item.Item.{Item}
-use Rattle.etc_manifest.specs.Place.{is_reserved}
 use Rattle.etc_clean.specs.CleanList.{clean_name, names_in}
-use Rattle.etc_clean.specs.Etc.{Farm, is_owned, static_name}
+use Rattle.etc_clean.specs.Etc.{Farm, is_owned}
 use Rattle.etc_clean.specs.Farm.{placed}
 use Rattle.etc_clean.specs.Keeps.{AreAlike, AreFree, Keeps}
 use Rattle.etc_clean.specs.Names.{name_of, place}
 use Rattle.etc_clean.proofs.FarmLemmas.{placed_kept, placed_known}
-use Rattle.etc_clean.proofs.KeepsLemmas.{alike_law, end_law, keeps_self, owned_name, steps_law}
+use Rattle.etc_clean.proofs.KeepsLemmas.{alike_law, clean_owned, end_law, keeps_self, owned_name, steps_law}
 use Rattle.etc_farm.specs.FarmPart.{AreListed, KeepsFarm, farm_part}
 use Rattle.switch_parts.proofs.StoreLemmas.{store_content_kept}
 use Rattle.etc_farm.proofs.PlaceLemmas.{IsWayFree, free_way, near_clean, near_read, near_stage, near_static, owned_place, owned_read, place_of_owned, stage_unread, store_read, way_free}
@@ -35,12 +32,6 @@ listed_then items w v m keeps first then =
           (λ listed. inr listed)
           (then.changed q (there q is));
     }
-
-pub static_owned : is_owned static_name ≡ true
-static_owned = or_left (is_name static_name static_name) (is_name static_name clean_name || not (is_reserved static_name)) (itself static_name)
-
-pub clean_owned : is_owned clean_name ≡ true
-clean_owned = or_right (is_name clean_name static_name) (is_name clean_name clean_name || not (is_reserved clean_name)) (or_left (is_name clean_name clean_name) (not (is_reserved clean_name)) (itself clean_name))
 
 -- a placed name is the farm's to write
 pub placed_owned : (items : List Item) (leaves : Leaves) → AreFree items → (q : Name) → has (placed items leaves) q ≡ true → is_owned q ≡ true

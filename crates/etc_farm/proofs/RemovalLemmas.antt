@@ -75,7 +75,7 @@ own_free items leaves (x ∷ names) own = (own.0.free, own_free items leaves nam
 
 -- ---- what is gone may go
 
-gone_parts_of : (some reserved known ours : Bool) → ((some && (not reserved && not known)) && ours) ≡ true → (reserved ≡ false) × (known ≡ false)
+pub gone_parts_of : (some reserved known ours : Bool) → ((some && (not reserved && not known)) && ours) ≡ true → (reserved ≡ false) × (known ≡ false)
 gone_parts_of true false false ours is = (refl, refl)
 gone_parts_of true false true ours is = absurd (both_ways false refl is)
 gone_parts_of true true known ours is = absurd (both_ways false refl is)

@@ -26,7 +26,7 @@ use Rattle.etc_clean.specs.Farm.{at, is_below_nixos, is_blocked, is_entry, is_fa
 use Rattle.etc_clean.specs.Names.{place}
 use Rattle.etc_clean.proofs.CleanLemmas.{read_back_law}
 use Rattle.etc_clean.proofs.FarmLemmas.{blocked_from, entry_is, foreign_parts}
-use Rattle.etc_clean.proofs.KeepsLemmas.{inserted, owned_name, static_not_clean}
+use Rattle.etc_clean.proofs.KeepsLemmas.{clean_owned, inserted, owned_name, static_not_clean}
 use Rattle.etc_clean.proofs.NameLemmas.{clean_reserved, static_reserved}
 use Rattle.etc_farm.specs.FarmPart.{CanApply, farm_part}
 use Rattle.etc_farm.specs.Making.{IsAtStep, IsLeafAt, IsMaking, begun, cleared, entry_puts}
@@ -42,7 +42,6 @@ use Rattle.etc_farm.proofs.EntryLemmas.{alike_seen, manifest_free}
 use Rattle.etc_farm.proofs.LeafLemmas.{place_other, placed_name, removals_at, all_removed_at, step_fine}
 use Rattle.etc_farm.proofs.LineLemmas.{line_place}
 use Rattle.etc_farm.proofs.MomentLemmas.{clean_among, ended}
-use Rattle.etc_farm.proofs.PartLemmas.{clean_owned}
 use Rattle.etc_farm.proofs.PrepareLemmas.{all_clean}
 use Rattle.etc_farm.proofs.PlaceLemmas.{name_of_place, owned_place}
 use Rattle.etc_farm.proofs.PutLemmas.{IsEntryPut, all_entry_puts, known_by, one_kind, one_name, puts_at}

@@ -24,7 +24,7 @@ use Rattle.etc_clean.specs.Farm.{at, is_blocked, is_entry, is_made, placed}
 use Rattle.etc_clean.specs.Keeps.{AreFree, IsFirstList}
 use Rattle.etc_clean.specs.Names.{name_of, place}
 use Rattle.etc_clean.proofs.FarmLemmas.{blocked_kept, placed_kept, placed_known}
-use Rattle.etc_clean.proofs.KeepsLemmas.{end_law, listed_there}
+use Rattle.etc_clean.proofs.KeepsLemmas.{end_law, listed_there, static_owned}
 use Rattle.etc_farm.specs.FarmPart.{CanApply, farm_part, fixed_places}
 use Rattle.etc_farm.specs.Making.{entry_puts}
 use Rattle.etc_farm.specs.Steps.{item_put, puts_but, AllListed, CanPutEntries, IsFirstNames, IsNoneGone, first_puts, placed_but, without_names}
@@ -32,7 +32,6 @@ use Rattle.etc_farm.proofs.FarmMoment.{AreGone, IsFarmMoment, IsOwn}
 use Rattle.etc_farm.proofs.ClearLemmas.{gone_first, gone_static}
 use Rattle.etc_farm.proofs.EntryLemmas.{all_listed_then, are_gone_seen, at_seen, manifest_free}
 use Rattle.etc_farm.proofs.LineLemmas.{clean_static, static_clean}
-use Rattle.etc_farm.proofs.PartLemmas.{static_owned}
 use Rattle.etc_farm.proofs.PlaceLemmas.{place_apart, place_of_owned, way_free}
 use Rattle.etc_farm.proofs.RemovalLemmas.{all_own, none_left, own_at, own_free}
 use Rattle.etc_farm.proofs.StepLemmas.{moment_seen, moment_self, moment_then, put_first, put_static}

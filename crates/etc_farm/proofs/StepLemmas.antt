@@ -19,13 +19,13 @@ use Rattle.etc_clean.specs.Keeps.{AreFree, IsFirstList, IsLastList, Keeps}
 use Rattle.etc_clean.specs.Names.{place}
 use Rattle.etc_clean.proofs.FarmLemmas.{placed_known}
 use Rattle.tree_put.proofs.StoreLemmas.{content_kept}
-use Rattle.etc_clean.proofs.KeepsLemmas.{IsAllBut, first_list_law, inserted, last_list_law, listed_there, owned_name, put_law, removal_law, removed, other_name, static_law, static_not_clean, store_apart}
+use Rattle.etc_clean.proofs.KeepsLemmas.{IsAllBut, clean_owned, first_list_law, inserted, last_list_law, listed_there, other_name, owned_name, put_law, removal_law, removed, static_law, static_not_clean, static_owned, store_apart}
 use Rattle.etc_clean.proofs.NameLemmas.{clean_reserved, not_reserved_other, other_place, static_reserved}
 use Rattle.etc_farm.specs.FarmPart.{AreListed, owns_farm}
 use Rattle.etc_farm.specs.Steps.{AllListed}
 use Rattle.etc_farm.proofs.FarmMoment.{IsFarmMoment, IsOwn}
 use Rattle.etc_farm.proofs.LineLemmas.{clean_static, free_line, static_clean}
-use Rattle.etc_farm.proofs.PartLemmas.{clean_owned, farm_is, static_owned, keeps_farm_self, keeps_farm_then}
+use Rattle.etc_farm.proofs.PartLemmas.{farm_is, keeps_farm_self, keeps_farm_then}
 use Rattle.etc_farm.proofs.PlaceLemmas.{IsWayFree, free_way, not_stage, owned_place, place_apart, way_free}
 
 -- ---- moments one after another

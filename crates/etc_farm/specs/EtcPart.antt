@@ -9,12 +9,12 @@ use Rattle.etc_manifest.specs.declared.manifest_fault.ManifestFault as faults
 use Rattle.etc_manifest.specs.Entries.{manifest_of}
 use Rattle.etc_manifest.specs.Manifest.{AreApart, places}
 use Rattle.etc_manifest.specs.Owners.{OwnerIds}
-use Rattle.host_trait.specs.World.{Leaves, WorldState}
+use Rattle.host_trait.specs.World.{IsSound, Leaves, WorldState}
 use Rattle.switch_names.specs.Names.{Name}
 use Rattle.switch_names.specs.SystemName.{IsSystemPath}
 use Rattle.switch_parts.specs.declared.refusal.Refusal.{Refusal}
 use Rattle.switch_parts.specs.declared.refusal.Refusal.TheVariants.{EtcEntry, Owner, Reserved}
-use Rattle.switch_parts.specs.Part.{IsFree, IsPart, IsSameFor, Part}
+use Rattle.switch_parts.specs.Part.{IsAtEnd, IsDone, IsFree, IsPart, IsSameFor, Part}
 use Rattle.etc_farm.specs.declared.etc_plan.EtcPlan.{EtcPlan}
 use Rattle.etc_farm.specs.FarmPart.{KeepsFarm, farm_of, fixed_places, owns_farm, reads_farm}
 
@@ -76,3 +76,9 @@ abbrev pub EtcPlanLaw : Type 0
 EtcPlanLaw =
     (system : Name) (w u : WorldState) (plan : EtcPlan) → IsSystemPath system → IsSameFor (etc_part system plan.owners) w u →
     IsEtcPlanOf system w.leaves plan → IsEtcPlanOf system u.leaves plan
+
+-- where /etc is what a system wants, and nothing else has changed that the part looks at, making it again leaves what stands
+abbrev pub EtcAgainLaw : Type 0
+EtcAgainLaw =
+    (system : Name) (owners : OwnerIds) (w v : WorldState) → IsSystemPath system → IsSound w.leaves → IsDone (etc_part system owners) w v →
+    IsAtEnd (etc_part system owners) v v

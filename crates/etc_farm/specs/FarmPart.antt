@@ -6,7 +6,7 @@ use Rattle.host_trait.specs.World.{Leaves, WorldState, stage}
 use Rattle.tree_put.specs.declared.written_place.WrittenPlace.{WrittenPlace}
 use Rattle.tree_put.specs.WrittenPlace.{in_the_way, written}
 use Rattle.switch_parts.specs.Leaves.{is_near}
-use Rattle.switch_parts.specs.Part.{IsFree, Part}
+use Rattle.switch_parts.specs.Part.{IsAtEnd, IsDone, IsFree, Part}
 use Rattle.switch_parts.specs.Store.{is_in_store}
 use Rattle.etc_manifest.specs.declared.item.Item.{Item}
 use Rattle.etc_manifest.specs.Manifest.{AreApart, places}
@@ -14,7 +14,7 @@ use Rattle.etc_clean.specs.declared.sorting.Sorted.{Sorted}
 use Rattle.etc_clean.specs.CleanList.{clean_name, clean_of}
 use Rattle.etc_clean.specs.Etc.{Farm, etc, is_owned, static_name}
 use Rattle.etc_clean.specs.Farm.{at, placed}
-use Rattle.etc_clean.specs.Keeps.{Keeps}
+use Rattle.etc_clean.specs.Keeps.{AreFree, AreLines, Keeps}
 use Rattle.etc_clean.specs.Names.{is_in_etc, name_of, place}
 use Rattle.etc_clean.specs.Obsolete.{IsSortedOf}
 
@@ -66,3 +66,7 @@ pub record CanApply (farm : Farm) (found : Sorted) (w : WorldState) : Type 0 whe
   pub free : IsFree (farm_part farm) w.leaves
   pub apart : AreApart (places farm.items)
   pub sorted : IsSortedOf farm.items w.leaves found
+
+-- where a farm is put, and nothing else has changed that it looks at, putting it again leaves what stands
+abbrev pub FarmAgainLaw : Type 0
+FarmAgainLaw = (farm : Farm) (w v : WorldState) → AreFree farm.items → AreLines farm.items → IsDone (farm_part farm) w v → IsAtEnd (farm_part farm) v v

@@ -14,6 +14,7 @@ use Rattle.etc_clean.specs.CleanList.{AreCleanNames, clean_leaf, clean_name, cle
 use Rattle.etc_clean.specs.Etc.{Farm, leaf_of, static_name}
 use Rattle.etc_clean.specs.Farm.{is_blocked, is_entry, is_gone, is_made, placed}
 use Rattle.etc_clean.specs.Names.{place}
+use Rattle.etc_clean.specs.Standing.{is_standing}
 use Rattle.etc_farm.specs.declared.prepared.Prepared.{Prepared}
 use Rattle.etc_farm.specs.FarmPart.{CanApply, fixed_places}
 
@@ -55,6 +56,11 @@ pub record CanPutEntries (items : List Item) (blocked : List Name) (w : WorldSta
   pub blocked_are : (q : Name) → is_entry items q ≡ true → has blocked q ≡ is_blocked items w.leaves q
   pub none_gone : IsNoneGone items w.leaves
   pub listed : AllListed items w.leaves
+
+-- these entries have their leaf already
+pub record AreStanding (items : List Item) (names : List Name) (w : WorldState) : Type 0 where
+  pub sorted : IsStrictlySortedBy bytes_cmp names
+  pub stand : (q : Name) → has names q ≡ true → is_standing items w.leaves q ≡ true
 
 -- what is put first: a clean list of these names, and the link at `static`
 abbrev pub first_puts : List Name → List ℕ → List LeafPut

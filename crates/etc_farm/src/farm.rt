@@ -7,7 +7,7 @@ ghost use Rattle.etc_clean.specs.CleanList.{clean_name};
 ghost use Rattle.etc_clean.specs.Names.{place};
 ghost use Rattle.etc_farm.specs.FarmPart.{CanApply, farm_of, farm_part};
 ghost use Rattle.etc_farm.specs.Making.{IsMaking};
-ghost use Rattle.etc_farm.specs.Steps.{CanPutEntries, puts_but};
+ghost use Rattle.etc_farm.specs.Steps.{AreStanding, CanPutEntries, puts_but};
 
 use crate::entries::put_entries;
 use crate::prepared::prepare;
@@ -18,19 +18,22 @@ use std::alloc::Global;
 use switch_names::{Path, SystemName};
 use tree_put::{LeafPut, drop_all, put_all, put_if_other};
 
-/// Puts the entries that aren't blocked, and has all that was changed kept beyond a loss of power.
+/// Puts the entries that aren't blocked, but for those whose leaf stands already, and has all that was changed kept beyond a
+/// loss of power.
 fn put_entries_kept<T: Tree>(
     alloc: Global,
     host: &mut T,
     items: &[Item],
     blocked: &[Path],
+    standing: &[Path],
 ) -> Result<(), HostFault>
-    requires { Told (T.host host.old) (CanPutEntries items.now blocked.now) }
+    requires can { Told (T.host host.old) (CanPutEntries items.now blocked.now) }
+    requires standing { Told (T.host host.old) (AreStanding items.now standing.now) }
     ensures ok { OnOk result (Comes (T.host host.old) (T.host host.new) (with_puts (puts_but blocked.now items.now))) }
     ensures moments { Passes (T.host host.old) (T.host host.new) (IsPutting (puts_but blocked.now items.now)) }
     ensures cause { HasCause (T.host host.old) (T.host host.new) result }
 {
-    put_entries(alloc, host, items, blocked)?;
+    put_entries(alloc, host, items, blocked, standing)?;
     host.sync(alloc)?;
     Ok(())
 }
@@ -44,15 +47,17 @@ fn finish<T: Tree>(
     host: &mut T,
     items: &[Item],
     blocked: &[Path],
+    standing: &[Path],
     list: &LeafPut,
 ) -> Result<(), HostFault>
     requires list { list.now.at ≡ place clean_name }
     requires can { Told (T.host host.old) (CanPutEntries items.now blocked.now) }
+    requires standing { Told (T.host host.old) (AreStanding items.now standing.now) }
     ensures ok { OnOk result (Comes (T.host host.old) (T.host host.new) (with_puts (puts_but blocked.now items.now ++ list.now ∷ []))) }
     ensures moments { Passes (T.host host.old) (T.host host.new) (IsPutting (puts_but blocked.now items.now ++ list.now ∷ [])) }
     ensures cause { HasCause (T.host host.old) (T.host host.new) result }
 {
-    put_entries_kept(alloc, host, items, blocked)?;
+    put_entries_kept(alloc, host, items, blocked, standing)?;
     put_if_other(alloc, host, &list.at, &list.leaf)?;
     Ok(())
 }
@@ -82,8 +87,9 @@ pub fn apply<T: Tree>(
 {
     let items = manifest.items().as_slice();
     let blocked = sorted.blocked.as_slice();
+    let standing = sorted.standing.as_slice();
     let prepared = prepare(alloc, system, manifest, sorted)?;
     put_all(alloc, host, prepared.first.as_slice())?;
     drop_all(alloc, host, prepared.gone.as_slice())?;
-    finish(alloc, host, items, blocked, &prepared.last)
+    finish(alloc, host, items, blocked, standing, &prepared.last)
 }

@@ -2,8 +2,8 @@
 ghost use Rattle.switch_parts.specs.Part.{IsPart};
 ghost use Rattle.etc_clean.specs.Etc.{Farm};
 ghost use Rattle.etc_clean.specs.Keeps.{AreFree};
-ghost use Rattle.etc_farm.specs.EtcPart.{EtcPartLaw, EtcPlanLaw};
-ghost use Rattle.etc_farm.specs.FarmPart.{farm_part};
+ghost use Rattle.etc_farm.specs.EtcPart.{EtcAgainLaw, EtcPartLaw, EtcPlanLaw};
+ghost use Rattle.etc_farm.specs.FarmPart.{FarmAgainLaw, farm_part};
 ghost use Rattle.etc_farm.specs.Making.{EntryLeafLaw, FixedLinkLaw, LeavesLaw, MakingLaw};
 ghost use Rattle.etc_farm.specs.Runs.{EtcRunLaw, ForeignLaw, KnownLaw, ListedLaw};
 
@@ -18,6 +18,16 @@ pub fn the_farm_is_a_part()
 pub fn etc_is_a_part()
     ensures part { EtcPartLaw }
     ensures plans_stay { EtcPlanLaw }
+{}
+
+/// Where a farm stands, and nothing else has changed that it looks at, putting it again leaves what
+/// stands; and so it is of making `/etc` what a system wants. What is foreign stays foreign, what was gone
+/// isn't there any more, and the clean list has the entries alone.
+///
+/// Source: setup-etc.pl of nixpkgs.
+pub fn what_was_made_stays()
+    ensures farm { FarmAgainLaw }
+    ensures etc { EtcAgainLaw }
 {}
 
 /// Each moment at a step of putting a farm is one of its part, wherever the farm can be put.

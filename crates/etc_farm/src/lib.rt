@@ -16,7 +16,7 @@ pub use etc_plan::EtcPlan;
 pub use farm::apply;
 pub use laws::{
     cut_runs_list_copies, etc_is_a_part, no_other_leaf_stands, steps_are_moments,
-    the_farm_is_a_part, what_was_put_stays_known,
+    the_farm_is_a_part, what_was_made_stays, what_was_put_stays_known,
 };
 pub use places::add_farm_places;
 pub use planning::plan_etc;

@@ -2,18 +2,20 @@
 ghost use Rattle.std.specs.Prelude.{◌≡◌, None, Some, Ok, IfOk, IsErrOf, OnOk};
 ghost use Rattle.host_trait.specs.declared.tree.HostFault.TheVariants.{Device};
 ghost use Rattle.host_trait.specs.Host.{Told};
-ghost use Rattle.host_trait.specs.Reading.{IsReadingOf};
+ghost use Rattle.host_trait.specs.Reading.{IsReading, IsReadingOf};
 ghost use Rattle.switch_parts.specs.declared.plan_fault.PlanFault.TheVariants.{Host, Refused};
 ghost use Rattle.switch_parts.specs.declared.refusal.Refusal.{Refusal};
 ghost use Rattle.etc_manifest.specs.declared.manifest_fault.ManifestFault.TheVariants as faults;
 ghost use Rattle.etc_manifest.specs.Entries.{manifest_of};
 ghost use Rattle.etc_manifest.specs.Manifest.{AreApart, places};
+ghost use Rattle.etc_clean.specs.Obsolete.{IsSortedOf};
 ghost use Rattle.etc_farm.specs.EtcPart.{IsEtcPlanOf, manifest_refusal, refusal_in};
 
 use crate::etc_plan::EtcPlan;
-use etc_clean::obsolete;
+use crate::places::static_path;
+use etc_clean::{Sorted, obsolete};
 use etc_manifest::{Manifest, ManifestFault, Owners};
-use host_trait::Tree;
+use host_trait::{HostFault, Tree};
 use std::alloc::Global;
 use switch_names::SystemName;
 use switch_parts::{PlanFault, Refusal};
@@ -49,7 +51,18 @@ fn read_manifest<T: Tree>(
     }
 }
 
-/// Plans what is done to `/etc` for a system, and changes nothing.
+/// What stands in `/etc`, given what a system wants there. It looks at the link at `static` too, so that one that can't be
+/// read is found before anything is changed.
+fn look<T: Tree>(alloc: Global, host: &mut T, manifest: &Manifest) -> Result<Sorted, HostFault>
+    ensures sorted { IfOk result (λ sorted. Told (T.host host.old) (λ w. IsSortedOf manifest.now w.leaves sorted)) }
+    ensures reads { IsReading (T.host host.old) (T.host host.new) result }
+{
+    let at = static_path(alloc)?;
+    let _link = host.read(alloc, &at)?;
+    obsolete(alloc, host, manifest)
+}
+
+/// Plans what is done to `/etc` for a system, and changes nothing. Each leaf that is replaced or removed has been read then.
 ///
 /// The entries are read in byte order, and the first that is refused is named. Of an entry that it is
 /// reserved is sought first, then that it can't be placed, and then that an owner is unknown.
@@ -67,7 +80,7 @@ pub fn plan_etc<T: Tree>(
     ensures reads { IsReadingOf (T.host host.old) (T.host host.new) (IsErrOf result (Host Device)) }
 {
     let manifest = read_manifest(alloc, host, system, &owners)?;
-    let sorted = obsolete(alloc, host, &manifest)?;
+    let sorted = look(alloc, host, &manifest)?;
     Ok(EtcPlan {
         owners,
         manifest,

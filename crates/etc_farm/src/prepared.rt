@@ -8,11 +8,10 @@ ghost use Rattle.etc_clean.specs.Names.{place};
 ghost use Rattle.etc_farm.specs.FarmPart.{farm_of, static_target};
 ghost use Rattle.etc_farm.specs.Steps.{IsPrepared};
 
-use crate::entries::link_leaf;
 use crate::lists::{joined, list_put, placed_names};
 use crate::places::static_path;
 use crate::removal::gone_places;
-use etc_clean::Sorted;
+use etc_clean::{Sorted, link_leaf};
 use etc_manifest::Manifest;
 use host_trait::Leaf;
 use std::alloc::{AllocError, Global};

@@ -142,7 +142,7 @@ goal_unrecorded r before is = elim (r == 0) as (λ b. cond b None (Some r) ≡ N
 
 -- ---- the goal names a system
 
-greatest_passes : (test : ℕ → Bool) (bound : ℕ) → (greatest_below test bound == 0) ≡ false → test (greatest_below test bound) ≡ true
+pub greatest_passes : (test : ℕ → Bool) (bound : ℕ) → (greatest_below test bound == 0) ≡ false → test (greatest_below test bound) ≡ true
 unfolding greatest_below
 greatest_passes test zero none = absurd (both_ways _ none refl)
 greatest_passes test (suc n) none = either (greatest_passes test n) (test n) refl none

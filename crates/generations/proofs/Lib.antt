@@ -1,6 +1,7 @@
 pub mod AfterLemmas
 pub mod Apart
 pub mod BelowLemmas
+pub mod BootLemmas
 pub mod DigitLemmas
 pub mod Entries
 pub mod GoalLemmas

@@ -1,4 +1,5 @@
 pub mod After
+pub mod Boot
 pub mod Digits
 pub mod Gens
 pub mod Goal

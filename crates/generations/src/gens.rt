@@ -3,6 +3,7 @@ ghost use Rattle.std.specs.Prelude.{◌≡◌, ◌&&◌, ◌++◌, ◌∷◌, []
 ghost use Rattle.std.specs.Option.{option_copied};
 ghost use Rattle.host_trait.specs.World.{Leaves};
 ghost use Rattle.generations.specs.After.{gens_after};
+ghost use Rattle.generations.specs.Boot.{boot_system};
 ghost use Rattle.generations.specs.Gens.{IsGensOf, is_highest_of, listed_at, number_for_in, previous_in};
 ghost use Rattle.generations.specs.Places.{is_of};
 
@@ -71,6 +72,14 @@ pub fn system_of(gens: &Gens, number: u32) -> Option<&SystemName>
         }
     }
     None
+}
+
+/// The system that a machine boots into: that of the current generation, where it names one.
+pub fn boot_system(gens: &Gens) -> Option<&SystemName>
+    ensures { (leaves : Leaves) → IsGensOf leaves gens.now → option_copied result ≡ boot_system leaves }
+{
+    let number = gens.current?;
+    system_of(gens, number)
 }
 
 /// Whether a generation lies below a number and names a system.

@@ -5,6 +5,7 @@ ghost use Rattle.switch_names.specs.Names.{Name};
 ghost use Rattle.switch_names.specs.SystemName.{IsSystemPath};
 ghost use Rattle.switch_parts.specs.Part.{IsAtEnd, IsFree, IsMomentOf, IsPart};
 ghost use Rattle.tree_put.specs.Put.{IsOldOrGone, IsOldOrNew};
+ghost use Rattle.generations.specs.Boot.{BootStaysLaw, NamedLaw, OldOrNewLaw};
 ghost use Rattle.generations.specs.declared.moving.Move.{Move};
 ghost use Rattle.generations.specs.Gens.{IsGensOf};
 ghost use Rattle.generations.specs.Goal.{GoalLaw, goal_leaf, goal_place};
@@ -52,6 +53,16 @@ pub fn generations_after_a_move_stay()
 pub fn the_profile_names_the_old_system_or_the_new()
     ensures { (move : Move) (system : Name) (w m : WorldState) → IsSystemPath system → IsMoveTo move system w.leaves → IsFree (move_part move system) w.leaves
         → IsMoveMoment move system w m → NamesOldOrNew system w m }
+{}
+
+/// The system that a machine boots into is the one that the profile names. Where the profile names what it
+/// named, or a system, a machine boots into what it would have, or into that system. A reboot leaves it.
+///
+/// Source: Nix manual, "Profiles".
+pub fn a_machine_boots_into_what_the_profile_names()
+    ensures named { NamedLaw }
+    ensures old_or_new { OldOrNewLaw }
+    ensures stays { BootStaysLaw }
 {}
 
 /// At each moment of a rollback before its goal is removed the goal is the same.

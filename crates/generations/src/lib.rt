@@ -12,12 +12,12 @@ mod rollback_goal;
 mod setting;
 
 pub use digits::number_between;
-pub use gens::{Gen, Gens, is_highest_of, number_for, previous, system_of};
+pub use gens::{Gen, Gens, boot_system, is_highest_of, number_for, previous, system_of};
 pub use laws::{
-    a_move_leaves_its_part_at_its_end, a_move_leaves_these_generations,
-    a_set_can_be_made_where_its_part_is_free, each_moment_of_a_move_is_one_of_its_part,
-    generations_after_a_move_stay, the_goal_is_a_part, the_goal_stays, the_profile_is_a_part,
-    the_profile_names_the_old_system_or_the_new,
+    a_machine_boots_into_what_the_profile_names, a_move_leaves_its_part_at_its_end,
+    a_move_leaves_these_generations, a_set_can_be_made_where_its_part_is_free,
+    each_moment_of_a_move_is_one_of_its_part, generations_after_a_move_stay, the_goal_is_a_part,
+    the_goal_stays, the_profile_is_a_part, the_profile_names_the_old_system_or_the_new,
 };
 pub use link_number::{number_of_name, number_of_path};
 pub use listing::{all, target_of};

@@ -1,9 +1,9 @@
 -- What a cut in a call leaves is a moment of the call.
 use Rattle.std.proofs.Common.{◌≡◌, [], ◌==◌, ℕ, if◌then◌else◌, Result, Ok, Err, OnOk, refl, sym, ap, ◌∙◌, inl, inr, ⊎_elim, arith, rules}
 use Rattle.std.specs.FinMap.{insert, remove, gets}
-use Rattle.host_memory.proofs.Histories.{unchanged}
+use Rattle.host_memory.proofs.Histories.{unchanged, unchanged_beside}
 use Rattle.host_memory.specs.declared.history.History.{History}
-use Rattle.host_memory.specs.History.{GoesOn, Makes, Cuts}
+use Rattle.host_memory.specs.History.{GoesOn, GoesOnBeside, Makes, Cuts}
 use Rattle.host_trait.proofs.Moments.{passes_as}
 use Rattle.host_trait.proofs.Places.{alike}
 use Rattle.host_trait.specs.Change.{Change, Stage, IsMoment}
@@ -21,6 +21,7 @@ cut_before history change after is = record {
   later = omega arith;
   clock = omega arith;
   moments = unchanged history history (IsMoment change) refl refl (inl refl);
+  beside = λ tree. unchanged_beside history history (IsMoment change) refl refl (λ w. inl refl);
 }
 
 -- and one after it left it made
@@ -29,7 +30,7 @@ pub cut_after :
     OnOk result (Makes change world old new) → world ≡ after → OnOk result (Cuts change after old new)
 cut_after old new change world after (Ok x) makes is =
     let clock = makes.clock in
-    record { world = makes.world ∙ is; later = omega arith; clock = omega arith; moments = makes.moments }
+    record { world = makes.world ∙ is; later = omega arith; clock = omega arith; moments = makes.moments; beside = makes.beside }
 cut_after old new change world after (Err e) makes is = tt
 
 unseen : (m : Leaves) (leaf : LeafKind) → remove (insert m stage leaf) stage ≡ remove m stage
@@ -52,11 +53,24 @@ goes_on_with_any old new written leaf way = record {
       passes_as (way.passes last then_last faults then_faults is_sure then_sure) (IsMoment (Stage leaf)) (λ w m is moment. any_leaf written leaf w m moment);
 }
 
+goes_beside_with_any : (old new : History) (written leaf : LeafKind) → GoesOnBeside old new (IsMoment (Stage written)) → GoesOnBeside old new (IsMoment (Stage leaf))
+goes_beside_with_any old new written leaf way = record {
+  same_manager = way.same_manager;
+  passes = λ manager last then_last faults then_faults is_sure then_sure.
+      passes_as (way.passes manager last then_last faults then_faults is_sure then_sure) (IsMoment (Stage leaf)) (λ w m is moment. any_leaf written leaf w m moment);
+}
+
 -- a cut while the stage is written left another leaf there
 pub cut_within :
     {T E : Type 0} (old new : History) (written leaf : LeafKind) (world after : WorldState) (result : Result T E) →
     OnOk result (Makes (Stage written) world old new) → world ≡ after → OnOk result (Cuts (Stage leaf) after old new)
 cut_within old new written leaf world after (Ok x) makes is =
     let clock = makes.clock in
-    record { world = makes.world ∙ is; later = omega arith; clock = omega arith; moments = goes_on_with_any old new written leaf makes.moments }
+    record {
+      world = makes.world ∙ is;
+      later = omega arith;
+      clock = omega arith;
+      moments = goes_on_with_any old new written leaf makes.moments;
+      beside = λ tree. goes_beside_with_any old new written leaf (makes.beside tt);
+    }
 cut_within old new written leaf world after (Err e) makes is = tt

@@ -55,6 +55,15 @@ module _
         OnErr result (then ≡ was) → OnErr result (new ≡ old)
     not_stepped taken out back is = on_err_weaker result (λ now. stepped_to old.manager taken out back (now ∙ taken)) is
 
+-- what was done to a unit is undone
+pub act_undone :
+    (act : Act) (unit : List ℕ) (was : State) (w : WorldState) →
+    was ≡ state_of w.manager.states unit → AreStates w.manager.states → undone (Performed unit was) (finished (Perform act unit) w) ≡ w
+act_undone act unit was w is are =
+    let states = unit_back w.manager.states unit (state_after act unit w.manager) are in
+    let journal = shorter w.manager.journal (record { unit = unit; act = act; loaded = w.manager.loaded }) in
+    ap (λ s. undone (Performed unit s) (finished (Perform act unit) w)) is ∙ (λ i. record w { manager = record w.manager { states = states i; journal = journal i } })
+
 module _ (old new : History) where
   -- something was done to a unit
   pub performed :
@@ -64,11 +73,8 @@ module _ (old new : History) where
       new.calls.items ≡ old.calls.items ++ Performed name was ∷ [] → GoesOn old new (IsMoment (Perform act unit))
   performed act unit name was manager same is are now done grown =
       let after : new.world ≡ finished (Perform act unit) old.world = now ∙ ap (λ (m : ManagerState). with_manager m old.world) done in
-      let states = unit_back old.world.manager.states unit (state_after act unit old.world.manager) are in
-      let journal = shorter old.world.manager.journal (record { unit = unit; act = act; loaded = old.world.manager.loaded }) in
       recorded old new (Performed name was) (IsMoment (Perform act unit)) grown
-      (ap (undone (Performed name was)) after ∙ (λ i. undone (Performed (same i) (is i)) (finished (Perform act unit) old.world))
-      ∙ (λ i. record old.world { manager = record old.world.manager { states = states i; journal = journal i } }))
+      (ap (undone (Performed name was)) after ∙ ap (λ n. undone (Performed n was) (finished (Perform act unit) old.world)) same ∙ act_undone act unit was old.world is are)
       (inr (inl after))
 
   -- a unit was stopped half way through a restart

@@ -3,7 +3,7 @@ use Rattle.std.proofs.Common.{arith, length, take, ◌≡◌, ◌≢◌, ℕ, tr
 use Rattle.std.specs.FinMap.{get, insert, remove, gets, get_tied}
 use Rattle.std.specs.Ordering.{eq_by_cmp}
 use Rattle.std.specs.Cmp.{eq_by_cmp_equiv}
-use Rattle.host_memory.proofs.Histories.{entered, recorded}
+use Rattle.host_memory.proofs.Histories.{entered, recorded, recorded_beside}
 use Rattle.host_memory.specs.declared.history.DoneCall.TheVariants.{Staged, Renamed, Removed, Appended, Replaced}
 use Rattle.host_memory.specs.declared.history.DoneCall.{DoneCall}
 use Rattle.host_memory.specs.declared.history.History.{History}
@@ -16,7 +16,7 @@ use Rattle.host_trait.proofs.Places.{bytes_total, alike, same_or_other, at_same,
 use Rattle.host_trait.proofs.Seen.{unfolded_move}
 use Rattle.host_trait.specs.Change.{finished, IsMoment, Stage, Rename, Remove, Append}
 use Rattle.host_trait.specs.declared.leaf.LeafKind.{LeafKind}
-use Rattle.host_trait.specs.World.{IsClear, IsFileAt, IsInTheWay, Leaves, WorldState, file_bytes, with_extended, with_more, bytes_cmp, is_in_line, moved, with_leaf, without_leaf, stage}
+use Rattle.host_trait.specs.World.{IsClear, IsFileAt, IsInTheWay, Leaves, WorldState, file_bytes, with_extended, with_more, bytes_cmp, is_in_line, moved, with_leaf, with_manager, without_leaf, stage}
 
 put_back : (m : Leaves) (at : List ℕ) (leaf : LeafKind) (was : Option LeafKind) → get m at ≡ was → with_at (insert m at leaf) at was ≡ m
 put_back m at leaf None is = alike _ _ (λ q. let tied = get_tied bytes_total m q at in grind (gets, rules))
@@ -93,7 +93,7 @@ module _ (old new : History) where
   staged at leaf copy was place same is now grown =
       let after : new.world ≡ finished (Stage leaf) old.world = now ∙ ap (λ x. with_leaf x copy old.world) place ∙ ap (λ x. with_leaf stage x old.world) same in
       let before : get old.world.leaves stage ≡ was = ap (λ x. get old.world.leaves x) (sym place) ∙ sym is in
-      entered old new (Staged was) (Stage leaf) grown
+      entered old new (Staged was) (Stage leaf) tt tt grown
       (ap (undone (Staged was)) after ∙ ap (λ (m : Leaves). record old.world { leaves = m }) (put_back old.world.leaves stage leaf was before))
       after
 
@@ -103,7 +103,7 @@ module _ (old new : History) where
       place ≡ at → was ≡ get old.world.leaves at → new.world ≡ without_leaf at old.world →
       new.calls.items ≡ old.calls.items ++ Removed place was ∷ [] → Makes (Remove at) (finished (Remove at) old.world) old new
   removed at place was same is now grown =
-      entered old new (Removed place was) (Remove at) grown
+      entered old new (Removed place was) (Remove at) tt tt grown
       (ap (λ x. undone (Removed x was) new.world) same ∙ ap (undone (Removed at was)) now
       ∙ both_back old.world _ _ at (brought_back old.world.leaves at was (sym is)))
       now
@@ -118,7 +118,7 @@ module _ (old new : History) where
       let after : new.world ≡ finished (Rename to) old.world = now ∙ ap (λ x. record old.world { leaves = moved old.world.leaves x to; written = old.world.written ++ to ∷ [] }) begins in
       let apart : eq_by_cmp bytes_cmp to stage ≡ false = elim (same_or_other to stage) [ inl equal ↦ absurd (other equal) | inr is_apart ↦ is_apart ] in
       let leaf = some_of (get old.world.leaves stage) there in
-      entered old new (Renamed place was) (Rename to) grown
+      entered old new (Renamed place was) (Rename to) tt tt grown
       (ap (λ x. undone (Renamed x was) new.world) same ∙ ap (undone (Renamed to was)) after
       ∙ both_back old.world _ _ to (moved_back old.world.leaves stage to leaf.0 was apart leaf.1 (sym is)))
       after
@@ -130,7 +130,7 @@ module _ (old new : History) where
       new.world ≡ record old.world { leaves = with_more old.world.leaves at bytes; written = old.world.written ++ at ∷ [] } →
       new.calls.items ≡ old.calls.items ++ Appended place count ∷ [] → Makes (Append at bytes) (finished (Append at bytes) old.world) old new
   appended at bytes place count same long file now grown =
-      entered old new (Appended place count) (Append at bytes) grown
+      entered old new (Appended place count) (Append at bytes) tt tt grown
       (ap (λ x. undone (Appended x count) new.world) same ∙ ap (λ n. undone (Appended at n) new.world) long ∙ ap (undone (Appended at (file_length (get old.world.leaves at)))) now
       ∙ both_back old.world _ _ at (shortened_back old.world.leaves at bytes (get old.world.leaves at) refl file))
       now
@@ -148,11 +148,14 @@ module _ (old new : History) where
       put ∙ ap (λ (m : Leaves). record old.world { leaves = m }) longer ∙ ap (λ p. record old.world { leaves = with_more old.world.leaves at p }) of in
       let before : get old.world.leaves at ≡ was = ap (λ k. get old.world.leaves k) (sym same_key) ∙ sym is in
       let one = ap (λ (calls : List DoneCall). length calls) grown ∙ length-append old.calls.items (Replaced place was ∷ []) in
+      let back : undone (Replaced place was) new.world ≡ old.world =
+      ap (λ x. undone (Replaced x was) new.world) same ∙ ap (undone (Replaced at was)) put ∙ ap (λ (m : Leaves). record old.world { leaves = m }) (put_back old.world.leaves at leaf was before) in
       record {
         world = after;
         later = omega (arith, one);
         clock = omega (arith, one);
-        moments = recorded old new (Replaced place was) (IsMoment (Append at whole)) grown
-            (ap (λ x. undone (Replaced x was) new.world) same ∙ ap (undone (Replaced at was)) put ∙ ap (λ (m : Leaves). record old.world { leaves = m }) (put_back old.world.leaves at leaf was before))
-            (inr (inr (count, after)));
+        moments = recorded old new (Replaced place was) (IsMoment (Append at whole)) grown back (inr (inr (count, after)));
+        beside = λ tree.
+            recorded_beside old new (Replaced place was) (IsMoment (Append at whole)) tt grown back (ap (λ (w : WorldState). w.manager) after)
+            (λ manager. inr (inr (count, ap (with_manager manager) after)));
       }

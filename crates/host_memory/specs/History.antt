@@ -1,18 +1,21 @@
 -- A world with the record of the calls that changed it, from which its earlier worlds follow.
-use Rattle.std.specs.Prelude.{◌≡◌, ◌≤◌, ◌+◌, ◌-◌, ℕ, Bool, List, [], ◌∷◌, length, drop, take, Option, None, Some}
+use Rattle.std.specs.Prelude.{◌≡◌, ◌≤◌, ◌+◌, ◌-◌, ℕ, Bool, List, [], ◌∷◌, ◌++◌, length, drop, take, Option, None, Some}
 use Rattle.std.specs.FinMap.{get, insert, remove}
 use Rattle.host_memory.specs.declared.history.DoneCall.{DoneCall}
 use Rattle.host_memory.specs.declared.history.DoneCall.TheVariants.{Staged, Renamed, Removed, Appended, Replaced, Performed, Halted, Loaded}
 use Rattle.host_memory.specs.declared.history.History.{History}
-use Rattle.host_trait.specs.Change.{Change, IsMoment}
+use Rattle.host_trait.specs.Change.{Change, IsMoment, Stage, Rename, Remove, Append, Perform, DaemonReload}
+use Rattle.host_trait.specs.declared.entry.Act.{Act}
 use Rattle.host_trait.specs.declared.leaf.LeafKind.{LeafKind}
 use Rattle.host_trait.specs.declared.leaf.LeafKind.TheVariants.{File, Link}
 use Rattle.host_trait.specs.Host.{HostState, Passes}
 use Rattle.host_trait.specs.declared.manager_state.ManagerState.{ManagerState}
 use Rattle.host_trait.specs.declared.unit_state.State.{State}
 use Rattle.host_trait.specs.Manager.{loading}
+use Rattle.host_trait.specs.States as states
 use Rattle.host_trait.specs.States.{with_state}
 use Rattle.host_trait.specs.World.{Leaves, WorldState, moved, stage, with_manager}
+use Rattle.manager_core.specs.Call.{entered}
 
 -- the leaves with what stood at a path put back there
 abbrev pub with_at : Leaves → List ℕ → Option LeafKind → Leaves
@@ -77,11 +80,31 @@ pub record GoesOn (old new : History) (R : WorldState → WorldState → Type 0)
       (last then_last : Option ℕ) (faults then_faults : ℕ) (is_sure then_sure : Bool) →
       Passes (state_of old last faults is_sure) (state_of new then_last then_faults then_sure) R
 
+-- a history went on beside the manager: whichever that is, each moment on the way has this relation to the old world
+pub record GoesOnBeside (old new : History) (R : WorldState → WorldState → Type 0) : Type 0 where
+  pub same_manager : new.world.manager ≡ old.world.manager
+  pub passes :
+      (manager : ManagerState) (last then_last : Option ℕ) (faults then_faults : ℕ) (is_sure then_sure : Bool) →
+      Passes
+      (memory_state old.calls.items (with_manager manager old.world) last faults is_sure)
+      (memory_state new.calls.items (with_manager manager new.world) then_last then_faults then_sure)
+      R
+
+-- a change of the leaves alone
+abbrev pub IsOfTree : Change → Type 0
+IsOfTree (Stage leaf) = Unit {0}
+IsOfTree (Rename to) = Unit {0}
+IsOfTree (Remove at) = Unit {0}
+IsOfTree (Append at bytes) = Unit {0}
+IsOfTree (Perform act unit) = ⊥
+IsOfTree DaemonReload = ⊥
+
 -- a call was made: it left this world, and one item more in the record
 pub record Makes (change : Change) (after : WorldState) (old new : History) : Type 0 where
   pub world : new.world ≡ after
   pub clock : length new.calls.items ≡ length old.calls.items + 1
   pub moments : GoesOn old new (IsMoment change)
+  pub beside : IsOfTree change → GoesOnBeside old new (IsMoment change)
 
 -- a call was cut: what the cut left is this world, with one item more in the record or none
 pub record Cuts (change : Change) (after : WorldState) (old new : History) : Type 0 where
@@ -89,3 +112,14 @@ pub record Cuts (change : Change) (after : WorldState) (old new : History) : Typ
   pub later : length old.calls.items ≤ length new.calls.items
   pub clock : length new.calls.items ≤ length old.calls.items + 1
   pub moments : GoesOn old new (IsMoment change)
+  pub beside : IsOfTree change → GoesOnBeside old new (IsMoment change)
+
+-- world and record are as they were
+pub record Stays (old new : History) : Type 0 where
+  pub world : new.world ≡ old.world
+  pub calls : new.calls.items ≡ old.calls.items
+
+-- an act was entered that has no effect yet; it is undone as one that has had it
+pub record Enters (act : Act) (unit : List ℕ) (old new : History) : Type 0 where
+  pub world : new.world ≡ with_manager (entered act unit old.world.manager) old.world
+  pub calls : new.calls.items ≡ old.calls.items ++ Performed unit (states.state_of old.world.manager.states unit) ∷ []

@@ -3,12 +3,18 @@ use Rattle.std.specs.Prelude.{◌≡◌, ◌⊎◌, ◌+◌, ℕ, Bool, length, 
 use Rattle.host_memory.specs.Cuts.{left_by}
 use Rattle.host_memory.specs.declared.cuts.ArmedCut.{ArmedCut}
 use Rattle.host_memory.specs.declared.memory_host.MemoryHost.{MemoryHost}
-use Rattle.host_memory.specs.History.{state_of}
+use Rattle.host_memory.specs.History as history
+use Rattle.host_memory.specs.History.{memory_state, state_of}
 use Rattle.host_memory.specs.Troubles.{TroublesState, admitted, changed, due, fallen, is_refused, is_sure, last_moment, refused}
-use Rattle.host_trait.specs.Change.{Change, finished}
+use Rattle.host_trait.specs.Change.{Change, IsMoment, finished}
+use Rattle.host_trait.specs.declared.entry.Act.{Act}
+use Rattle.host_trait.specs.declared.manager_state.ManagerState.{ManagerState}
 use Rattle.host_trait.specs.declared.tree.HostFault.{HostFault}
 use Rattle.host_trait.specs.declared.tree.HostFault.TheVariants.{Memory, Device}
-use Rattle.host_trait.specs.Host.{HostState}
+use Rattle.host_trait.specs.Host.{HostState, Passes}
+use Rattle.host_trait.specs.World.{with_manager}
+use Rattle.manager_core.specs.Call.{effected}
+use Rattle.switch_names.specs.Names.{Name}
 
 -- what is to go wrong on it
 abbrev pub troubles_of : MemoryHost → TroublesState
@@ -21,6 +27,15 @@ clock_of host = length host.history.calls.items
 -- as a host it tells its world, and its record tells the worlds of earlier moments
 abbrev pub host_of : MemoryHost → HostState
 host_of host = state_of host.history (last_moment host.troubles.cut) host.troubles.faults (is_sure host.troubles)
+
+-- the host as it is with this manager in place of its own
+abbrev pub host_with : ManagerState → MemoryHost → HostState
+host_with manager host =
+    memory_state host.history.calls.items (with_manager manager host.history.world) (last_moment host.troubles.cut) host.troubles.faults (is_sure host.troubles)
+
+-- the manager of its world
+abbrev pub manager_of : MemoryHost → ManagerState
+manager_of host = host.history.world.manager
 
 -- whether the next call is refused
 abbrev pub is_refusing : MemoryHost → Bool
@@ -69,3 +84,21 @@ Does change (Cut cut) old new result =
     (IsErrOf result Memory × Keeps old new (admitted old.troubles)) ⊎ (IsErrOf result Device × Falls change cut old new)
 Does change Admitted old new result =
     (IsErrOf result Memory × Keeps old new (admitted old.troubles)) ⊎ ((result ≡ Ok tt) × Finishes change old new)
+
+-- a call left the world and its record as they were
+abbrev pub IsStill : MemoryHost → MemoryHost → Type 0
+IsStill old new = history.Stays old.history new.history
+
+-- a call on the tree left the manager as it was, and went on as it would beside any other one
+pub record GoesBeside (change : Change) (old new : MemoryHost) : Type 0 where
+  pub same_manager : manager_of new ≡ manager_of old
+  pub moments : (manager : ManagerState) → Passes (host_with manager old) (host_with manager new) (IsMoment change)
+
+-- an act was entered that has no effect yet
+abbrev pub HasEntered : Act → Name → MemoryHost → MemoryHost → Type 0
+HasEntered act unit old new = history.Enters act unit old.history new.history
+
+-- an act took effect that was entered before: that is no call, and has no item in the record
+pub record TakesEffect (act : Act) (unit : Name) (old new : MemoryHost) : Type 0 where
+  pub world : new.history.world ≡ with_manager (effected act unit (manager_of old)) old.history.world
+  pub calls : new.history.calls.items ≡ old.history.calls.items

@@ -6,10 +6,10 @@ ghost use Rattle.host_trait.specs.declared.manager_state.ManagerState.{ManagerSt
 ghost use Rattle.host_trait.specs.Manager.{HasPlainTexts, acted, halted, loading};
 ghost use Rattle.host_trait.specs.States.{AreStates};
 ghost use Rattle.host_trait.specs.World.{with_manager};
-ghost use Rattle.manager_core.specs.Call.{IsPlainCall, done};
+ghost use Rattle.manager_core.specs.Call.{IsPlainCall, done, effected, entered};
 
 use host_trait::{Act, ManagerState, World, definitions_path, loaded_text};
-use manager_core::{Call, step};
+use manager_core::{Call, enter, step, take_effect};
 use std::alloc::{AllocError, Global};
 use switch_names::UnitName;
 
@@ -56,6 +56,44 @@ pub(crate) fn step_world(world: &mut World, alloc: Global, call: Call) -> Result
     let answer = step(alloc, &mut manager, &call);
     let _empty = world.swap_manager(manager);
     // The states are asked for what they say of the world: that they are in one form.
+    let _states = world.states();
+    answer
+}
+
+/// Enters an act in the journal of the manager of a world.
+pub(crate) fn enter_in(
+    world: &mut World,
+    alloc: Global,
+    act: Act,
+    unit: &UnitName,
+) -> Result<(), AllocError>
+    ensures ok { OnOk result (world.new ≡ with_manager (entered act unit.now world.old.manager) world.old) }
+    ensures err { OnErr result (world.new ≡ world.old) }
+    ensures plain { HasPlainTexts world.new.manager }
+    ensures are_states { AreStates world.new.manager.states }
+{
+    let mut manager = world.swap_manager(ManagerState::new(alloc));
+    let answer = enter(alloc, &mut manager, act, unit);
+    let _empty = world.swap_manager(manager);
+    let _states = world.states();
+    answer
+}
+
+/// Has an act on a unit of a world take effect.
+pub(crate) fn effect_in(
+    world: &mut World,
+    alloc: Global,
+    act: Act,
+    unit: &UnitName,
+) -> Result<(), AllocError>
+    ensures ok { OnOk result (world.new ≡ with_manager (effected act unit.now world.old.manager) world.old) }
+    ensures err { OnErr result (world.new ≡ world.old) }
+    ensures plain { HasPlainTexts world.new.manager }
+    ensures are_states { AreStates world.new.manager.states }
+{
+    let mut manager = world.swap_manager(ManagerState::new(alloc));
+    let answer = take_effect(alloc, &mut manager, act, unit);
+    let _empty = world.swap_manager(manager);
     let _states = world.states();
     answer
 }

@@ -1,8 +1,8 @@
 //! Cuts that fall on a changing call.
-ghost use Rattle.std.specs.Prelude.{◌≡◌, ◌≤◌, ◌+◌, ◌%◌, ◌==◌, OnOk, OnErr, if◌then◌else◌};
+ghost use Rattle.std.specs.Prelude.{◌≡◌, ◌⊎◌, ◌≤◌, ◌+◌, ◌%◌, ◌==◌, OnOk, OnErr, if◌then◌else◌};
 ghost use Rattle.host_memory.specs.ChangingCall.{CanHappen, change_of};
 ghost use Rattle.host_memory.specs.Cuts.{left_by};
-ghost use Rattle.host_memory.specs.History.{Cuts};
+ghost use Rattle.host_memory.specs.History.{Cuts, Enters, Stays};
 ghost use Rattle.host_trait.specs.Change.{finished, Stage, Append, Perform};
 ghost use Rattle.host_trait.specs.declared.entry.Act.TheVariants.{Restart};
 ghost use Rattle.host_trait.specs.World.{IsClear, IsFileAt, stage};
@@ -121,5 +121,22 @@ pub(crate) fn cut_call(
         ChangingCall::Append(at, bytes) => cut_append(history, alloc, at, bytes, pick),
         ChangingCall::Perform(Act::Restart, unit) => cut_restart(history, alloc, unit, pick),
         _ => cut_at_once(history, alloc, call, pick),
+    }
+}
+
+/// Leaves what a cut leaves of a call that enters an act on a unit: the act is entered or it isn't.
+pub(crate) fn cut_enter(
+    history: &mut History,
+    alloc: Global,
+    act: Act,
+    unit: &UnitName,
+    pick: u64,
+) -> Result<(), AllocError>
+    ensures ok { OnOk result (Stays history.old history.new ⊎ Enters act unit.now history.old history.new) }
+    ensures err { OnErr result (Stays history.old history.new) }
+{
+    match pick % 2 {
+        0 => Ok(()),
+        _ => history.enter(alloc, act, unit),
     }
 }

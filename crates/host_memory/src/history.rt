@@ -9,7 +9,7 @@ ghost use Rattle.host_trait.specs.World.{IsFileAt, with_more};
 ghost use Rattle.host_memory.specs.Files.{file_length};
 ghost use Rattle.std.specs.Prelude.{◌≡◌, Some, IfOk};
 
-use crate::calls::{call_of, halt_of, load_of, step_world};
+use crate::calls::{call_of, effect_in, enter_in, halt_of, load_of, step_world};
 use crate::changing_call::ChangingCall;
 use crate::rebooting::reboot_world;
 use host_trait::{Act, Leaf, LeafKind, State, World, WorldFault, stage_path};
@@ -73,13 +73,13 @@ impl History {
     ghost use Rattle.std.specs.Prelude.{◌≡◌, ◌≢◌, ◌++◌, ◌∷◌, ℕ, List, take, [], length, IsSome, OnOk, OnErr};
     ghost use Rattle.std.specs.FinMap.{get};
     ghost use Rattle.host_memory.specs.ChangingCall.{CanHappen, change_of};
-    ghost use Rattle.host_memory.specs.History.{Cuts, Makes};
+    ghost use Rattle.host_memory.specs.History.{Cuts, Enters, Makes, Stays};
     ghost use Rattle.host_memory.specs.Reboots.{IsRebooted};
     ghost use Rattle.host_trait.specs.Change.{finished, Stage, Rename, Remove, Append, Perform, DaemonReload};
     ghost use Rattle.host_trait.specs.declared.entry.Act.TheVariants.{Restart};
     ghost use Rattle.host_trait.specs.Manager.{halted};
     ghost use Rattle.host_trait.specs.World.{IsClear, IsFileAt, stage, with_manager, with_more};
-    ghost use Rattle.manager_core.specs.Call.{IsPlainCall, done};
+    ghost use Rattle.manager_core.specs.Call.{IsPlainCall, done, effected};
 
     /// A world that no call has changed.
     pub(crate) fn new(alloc: Global, world: World) -> History
@@ -247,6 +247,38 @@ impl History {
         let call = call_of(alloc, act, unit)?;
         let was = state_in(&self.world, unit);
         self.step(alloc, call, DoneCall::Performed(name, was))
+    }
+
+    /// Enters an act on a unit, which has no effect yet.
+    pub(crate) fn enter(
+        &mut self,
+        alloc: Global,
+        act: Act,
+        unit: &UnitName,
+    ) -> Result<(), AllocError>
+        ensures ok { OnOk result (Enters act unit.now self.old self.new) }
+        ensures err { OnErr result (Stays self.old self.new) }
+    {
+        self.calls.reserve(1)?;
+        let name = unit.copy(alloc)?;
+        let was = state_in(&self.world, unit);
+        enter_in(&mut self.world, alloc, act, unit)?;
+        self.calls.push_reserved(DoneCall::Performed(name, was));
+        Ok(())
+    }
+
+    /// Has an act take effect that was entered before, without an item in the record.
+    pub(crate) fn take_effect(
+        &mut self,
+        alloc: Global,
+        act: Act,
+        unit: &UnitName,
+    ) -> Result<(), AllocError>
+        ensures ok { OnOk result (self.new.world ≡ with_manager (effected act unit.now self.old.world.manager) self.old.world) }
+        ensures calls { self.new.calls.items ≡ self.old.calls.items }
+        ensures err { OnErr result (self.new.world ≡ self.old.world) }
+    {
+        effect_in(&mut self.world, alloc, act, unit)
     }
 
     /// Goes half way through a restart of a unit.

@@ -8,6 +8,7 @@ mod failures;
 mod history;
 mod memory_host;
 mod memory_sink;
+mod queueing;
 mod rebooting;
 mod troubles;
 

@@ -13,8 +13,8 @@ use switch_names::{Listed, Path, Text, UnitName};
 
 /// A host in memory, with a record of the calls that changed its world. It fails where it is told to.
 pub struct MemoryHost {
-    history: History,
-    troubles: Troubles,
+    pub(crate) history: History,
+    pub(crate) troubles: Troubles,
     ghost within: { ForSome troubles.cut (λ cut. IsWithin cut (length history.calls.items)) },
 }
 
@@ -30,7 +30,7 @@ impl Drop for MemoryHost {
 
 impl MemoryHost {
     ghost use Rattle.std.specs.Prelude.{◌≡◌, ◌+◌, ◌&&◌, [], None, Some, OnErr, OnOk, IsTrue, is_none, false};
-    ghost use Rattle.host_memory.specs.MemoryHost.{Keeps, host_of, troubles_of};
+    ghost use Rattle.host_memory.specs.MemoryHost.{IsStill, Keeps, host_of, troubles_of};
     ghost use Rattle.host_memory.specs.Reboots.{IsRebooted};
     ghost use Rattle.host_memory.specs.Troubles.{armed, is_empty};
     ghost use Rattle.host_trait.specs.Change.{IsSame};
@@ -118,6 +118,7 @@ impl MemoryHost {
         ensures last { (host_of self.new).last ≡ Some ((host_of self.old).clock + after + 1) }
         ensures faults { (host_of self.new).faults ≡ (host_of self.old).faults }
         ensures sure { (host_of self.new).is_sure ≡ false }
+        ensures still { IsStill self.old self.new }
         ensures troubles { troubles_of self.new ≡ record (troubles_of self.old) { cut = Some (armed (troubles_of self.old).cut (host_of self.old).clock after pick) } }
     {
         self.troubles.arm(self.history.clock(), after, pick);
@@ -133,6 +134,7 @@ impl MemoryHost {
         ensures last { (host_of self.new).last ≡ (host_of self.old).last }
         ensures faults { (host_of self.new).faults ≡ (host_of self.old).faults }
         ensures sure { (host_of self.new).is_sure ≡ (is_none (host_of self.old).last && is_empty calls) }
+        ensures still { IsStill self.old self.new }
         ensures troubles { troubles_of self.new ≡ record (troubles_of self.old) { failing = calls; next = 0 } }
     {
         self.troubles.fail(calls);
@@ -146,6 +148,7 @@ impl MemoryHost {
         ensures last { (host_of self.new).last ≡ None }
         ensures faults { (host_of self.new).faults ≡ (host_of self.old).faults }
         ensures sure { IsTrue (host_of self.new).is_sure }
+        ensures still { IsStill self.old self.new }
         ensures troubles { troubles_of self.new ≡ record (troubles_of self.old) { cut = None; failing = []; next = 0 } }
     {
         self.troubles.clear();
@@ -156,7 +159,7 @@ impl Tree for MemoryHost {
     ghost use Rattle.std.specs.Prelude.{◌≡◌, ◌≢◌, ◌<◌, [], length, ◌↔◌, Ok, IfOk, OnOk, IsErrOf, IsSome, IsTrue};
     ghost use Rattle.std.specs.FinMap.{get};
     ghost use Rattle.host_memory.specs.Laws.{memory_is_host};
-    ghost use Rattle.host_memory.specs.MemoryHost.{Does, after_read, host_of, is_refusing, troubles_of, verdict};
+    ghost use Rattle.host_memory.specs.MemoryHost.{Does, GoesBeside, IsStill, after_read, host_of, is_refusing, troubles_of, verdict};
     ghost use Rattle.host_trait.specs.Change.{finished, IsMoment, Stage, Rename, Remove, Append};
     ghost use Rattle.host_trait.specs.declared.tree.HostFault.TheVariants.{Device};
     ghost use Rattle.host_trait.specs.Host.{Told, Becomes, Passes, HasCause};
@@ -173,6 +176,7 @@ impl Tree for MemoryHost {
         ensures troubles { troubles_of self.new ≡ after_read self.old }
         ensures leaf { IfOk result (λ leaf. Told (host_of self.old) (λ w. leaf ≡ get w.leaves at.now)) }
         ensures same { Becomes (host_of self.old) (host_of self.new) (λ w. w) }
+        ensures still { IsStill self.old self.new }
         ensures reads { IsReading (host_of self.old) (host_of self.new) result }
         ensures waits { StaysWithin [] [] }
     {
@@ -188,6 +192,7 @@ impl Tree for MemoryHost {
         ensures troubles { troubles_of self.new ≡ after_read self.old }
         ensures paths { IfOk result (λ paths. Told (host_of self.old) (λ w. paths ≡ listed under.now w.leaves)) }
         ensures same { Becomes (host_of self.old) (host_of self.new) (λ w. w) }
+        ensures still { IsStill self.old self.new }
         ensures reads { IsReading (host_of self.old) (host_of self.new) result }
         ensures waits { StaysWithin [] [] }
     {
@@ -200,6 +205,7 @@ impl Tree for MemoryHost {
         ensures troubles { troubles_of self.new ≡ after_read self.old }
         ensures tops { IfOk result (λ tops. Told (host_of self.old) (λ w. AreTops w.leaves tops)) }
         ensures same { Becomes (host_of self.old) (host_of self.new) (λ w. w) }
+        ensures still { IsStill self.old self.new }
         ensures reads { IsReading (host_of self.old) (host_of self.new) result }
         ensures waits { StaysWithin [] [] }
     {
@@ -212,6 +218,7 @@ impl Tree for MemoryHost {
         ensures ok { result ≡ Ok tt }
         ensures troubles { troubles_of self.new ≡ troubles_of self.old }
         ensures same { Becomes (host_of self.old) (host_of self.new) (λ w. w) }
+        ensures still { IsStill self.old self.new }
         ensures reads { IsReading (host_of self.old) (host_of self.new) result }
         ensures waits { StaysWithin [] [] }
     {
@@ -223,6 +230,7 @@ impl Tree for MemoryHost {
         ensures does { Does (Stage leaf.now) (verdict self.old) self.old self.new result }
         ensures ok { OnOk result (Becomes (host_of self.old) (host_of self.new) (finished (Stage leaf.now))) }
         ensures moments { Passes (host_of self.old) (host_of self.new) (IsMoment (Stage leaf.now)) }
+        ensures beside { GoesBeside (Stage leaf.now) self.old self.new }
         ensures cause { HasCause (host_of self.old) (host_of self.new) result }
         ensures waits { StaysWithin [] [] }
     {
@@ -236,6 +244,7 @@ impl Tree for MemoryHost {
         ensures does { Does (Rename to.now) (verdict self.old) self.old self.new result }
         ensures ok { OnOk result (Becomes (host_of self.old) (host_of self.new) (finished (Rename to.now))) }
         ensures moments { Passes (host_of self.old) (host_of self.new) (IsMoment (Rename to.now)) }
+        ensures beside { GoesBeside (Rename to.now) self.old self.new }
         ensures cause { HasCause (host_of self.old) (host_of self.new) result }
         ensures waits { StaysWithin [] [] }
     {
@@ -246,6 +255,7 @@ impl Tree for MemoryHost {
         ensures does { Does (Remove at.now) (verdict self.old) self.old self.new result }
         ensures ok { OnOk result (Becomes (host_of self.old) (host_of self.new) (finished (Remove at.now))) }
         ensures moments { Passes (host_of self.old) (host_of self.new) (IsMoment (Remove at.now)) }
+        ensures beside { GoesBeside (Remove at.now) self.old self.new }
         ensures cause { HasCause (host_of self.old) (host_of self.new) result }
         ensures waits { StaysWithin [] [] }
     {
@@ -259,6 +269,7 @@ impl Tree for MemoryHost {
         ensures does { Does (Append at.now bytes.now) (verdict self.old) self.old self.new result }
         ensures ok { OnOk result (Becomes (host_of self.old) (host_of self.new) (finished (Append at.now bytes.now))) }
         ensures moments { Passes (host_of self.old) (host_of self.new) (IsMoment (Append at.now bytes.now)) }
+        ensures beside { GoesBeside (Append at.now bytes.now) self.old self.new }
         ensures cause { HasCause (host_of self.old) (host_of self.new) result }
         ensures waits { StaysWithin [] [] }
     {
@@ -271,13 +282,15 @@ impl Tree for MemoryHost {
 impl MemoryHost {
     ghost use Rattle.std.specs.Prelude.{OnOk};
     ghost use Rattle.host_memory.specs.ChangingCall.{CanHappen, change_of};
-    ghost use Rattle.host_memory.specs.MemoryHost.{Does, host_of, verdict};
+    ghost use Rattle.host_memory.specs.History.{IsOfTree};
+    ghost use Rattle.host_memory.specs.MemoryHost.{Does, GoesBeside, host_of, verdict};
     ghost use Rattle.host_trait.specs.Change.{finished, IsMoment};
     ghost use Rattle.host_trait.specs.Host.{Becomes, HasCause, Passes};
 
     /// Makes a changing call, or fails, or is cut.
     fn change(&mut self, alloc: Global, call: ChangingCall) -> Result<(), HostFault>
         requires { CanHappen (change_of call) self.old.history.world }
+        ensures beside { IsOfTree (change_of call.entry) → GoesBeside (change_of call.entry) self.old self.new }
         ensures does { Does (change_of call.entry) (verdict self.old) self.old self.new result }
         ensures ok { OnOk result (Becomes (host_of self.old) (host_of self.new) (finished (change_of call.entry))) }
         ensures moments { Passes (host_of self.old) (host_of self.new) (IsMoment (change_of call.entry)) }
@@ -300,7 +313,7 @@ impl MemoryHost {
 
 impl Manager for MemoryHost {
     ghost use Rattle.std.specs.Prelude.{◌≡◌, ◌↔◌, IfOk, OnOk, IsErrOf, IsTrue};
-    ghost use Rattle.host_memory.specs.MemoryHost.{Does, after_read, host_of, is_refusing, troubles_of, verdict};
+    ghost use Rattle.host_memory.specs.MemoryHost.{Does, IsStill, after_read, host_of, is_refusing, troubles_of, verdict};
     ghost use Rattle.host_trait.specs.Change.{finished, IsMoment, Perform, DaemonReload};
     ghost use Rattle.host_trait.specs.declared.entry.Act.TheVariants.{Stop, Reload, Restart, Start};
     ghost use Rattle.host_trait.specs.declared.tree.HostFault.TheVariants.{Device};
@@ -313,6 +326,7 @@ impl Manager for MemoryHost {
         ensures device { IsErrOf result Device ↔ IsTrue (is_refusing self.old) }
         ensures troubles { troubles_of self.new ≡ after_read self.old }
         ensures states { IfOk result (λ states. Told (host_of self.old) (λ w. states ≡ w.manager.states)) }
+        ensures still { IsStill self.old self.new }
         ensures reads { IsReading (host_of self.old) (host_of self.new) result }
     {
         self.troubles.admit()?;
@@ -323,6 +337,7 @@ impl Manager for MemoryHost {
         ensures device { IsErrOf result Device ↔ IsTrue (is_refusing self.old) }
         ensures troubles { troubles_of self.new ≡ after_read self.old }
         ensures loaded { IfOk result (λ text. Told (host_of self.old) (λ w. text ≡ w.manager.loaded)) }
+        ensures still { IsStill self.old self.new }
         ensures reads { IsReading (host_of self.old) (host_of self.new) result }
     {
         self.troubles.admit()?;

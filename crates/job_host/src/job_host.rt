@@ -19,9 +19,19 @@ use switch_names::{Listed, Path, Text, UnitName};
 /// units are read or definitions are loaded, before each call that changes the tree, and before it has what was
 /// changed kept beyond a loss of power.
 pub struct JobHost<J: Jobs> {
-    device: J,
-    submitted: Option<UnitSet>,
+    pub(crate) device: J,
+    pub(crate) submitted: Option<UnitSet>,
     ghost known: { ForSome submitted (IsAmong (J.waiting device)) },
+}
+
+/// One call: a derived drop is proved anew in each function that lets one go.
+impl<J: Jobs + Drop> Drop for JobHost<J> {
+    fn drop(self) {
+        let JobHost {
+            device: _,
+            submitted: _,
+        } = self;
+    }
 }
 
 impl<J: Jobs> JobHost<J> {
@@ -45,6 +55,7 @@ impl<J: Jobs> JobHost<J> {
     /// Waits for the end of each job.
     pub fn finish(&mut self, alloc: Global) -> Result<(), HostFault>
         ensures none { OnOk result (J.waiting self.new.device ≡ []) }
+        ensures clock { (J.host self.new.device).clock ≡ (J.host self.old.device).clock }
         ensures known { OnOk result (self.new.submitted ≡ Some []) }
         ensures waits { StaysWithin (J.waiting self.old.device) (J.waiting self.new.device) }
         ensures reads { IsReading (J.host self.old.device) (J.host self.new.device) result }

@@ -31,6 +31,7 @@ pub trait Jobs: Tree {
     /// Waits for the end of each job.
     fn settle(&mut self, alloc: Global) -> Result<(), HostFault>
         ensures none { OnOk result (Self.waiting self.new ≡ []) }
+        ensures clock { (Self.host self.new).clock ≡ (Self.host self.old).clock }
         ensures waits { StaysWithin (Self.waiting self.old) (Self.waiting self.new) }
         ensures reads { IsReading (Self.host self.old) (Self.host self.new) result };
 

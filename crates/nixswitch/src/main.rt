@@ -10,7 +10,7 @@ use std::process::ExitCode;
 use std::rt::Files;
 use std::{env, io};
 use switch_names::Text;
-use switch_run::{Status, asks_list, read_words, rehearsed_word, run};
+use switch_run::{Asked, Status, run};
 
 /// What `--help` prints.
 const HELP: &str = "\
@@ -18,7 +18,7 @@ nixswitch makes a built NixOS system the one of a root folder.
 
 usage: nixswitch ROOT switch|test|boot|dry-activate SYSTEM
        nixswitch ROOT rollback|generations
-       nixswitch ROOT rehearse NUMBER
+       nixswitch ROOT rehearse|rehearse-jobs NUMBER
        nixswitch --help | --version
 
 ROOT is a folder with the file tree below ROOT/tree, one node file for each file or link.
@@ -138,21 +138,18 @@ fn run_alone(rt: &HostRuntime, root: &str, words: &[Text]) -> End {
     }
 }
 
-/// Runs the words of the command line, whose first names the root folder. Words that give no command need none, and neither does
+/// Runs the words of the command line, whose first names the root folder. Words that ask for nothing need none, and neither does
 /// a rehearsal.
 fn run_line(rt: &HostRuntime, line: &[Text]) -> End {
     let [root, words @ ..] = line else {
         return End::plain(Status::Usage);
     };
-    if asks_list(words) {
-        return run_alone(rt, root.as_str(), words);
-    }
-    if rehearsed_word(words).is_some() {
-        return run_on(rt, rt.alloc(), root.as_str(), syncing_of(rt), words);
-    }
-    match read_words(rt.alloc(), words) {
-        Ok(Some(_)) => run_alone(rt, root.as_str(), words),
-        Ok(None) => End::plain(Status::Usage),
+    match Asked::read(rt.alloc(), words) {
+        Ok(Asked::Command(_) | Asked::Generations) => run_alone(rt, root.as_str(), words),
+        Ok(Asked::Rehearsal(_) | Asked::RehearsalWithJobs(_)) => {
+            run_on(rt, rt.alloc(), root.as_str(), syncing_of(rt), words)
+        }
+        Ok(Asked::Nothing) => End::plain(Status::Usage),
         Err(_) => End::plain(Status::NoMemory),
     }
 }

@@ -26,7 +26,6 @@ use Rattle.owed_plan.proofs.FinalLemmas.{final_active, final_brought, final_by, 
 use Rattle.owed_plan.proofs.PrefixLemmas.{was_active}
 use Rattle.owed_plan.proofs.SteadyLemmas.{reload_no_target, restart_no_target}
 use Rattle.unit_decide.proofs.FactsLemmas.{self_same}
-use Rattle.unit_decide.proofs.SocketLemmas.{none_found}
 
 is_state_active : (state : State) → (state ≡ Active) ⊎ (state ≢ Active)
 is_state_active Active = inl refl
@@ -40,12 +39,12 @@ brought_either owed unit brought = or_cases (has owed.starts unit) (has owed.rel
 -- what is left of a list is on it
 still_listed : (names left : List Name) (IsDone : Name → Type 0) (unit : Name) → IsLeftOf names left IsDone → has left unit ≡ true → has names unit ≡ true
 still_listed names left IsDone unit (IsLeftOf.Stands same) found = subst (λ ns. has ns unit ≡ true) same found
-still_listed names left IsDone unit (IsLeftOf.Removed none done) found = absurd (none_found unit (subst (λ ns. has ns unit ≡ true) none found))
+still_listed names left IsDone unit (IsLeftOf.Removed within done) found = within unit found
 
 -- a unit of a list is done with, or left on it
 done_or_left : (names left : List Name) (IsDone : Name → Type 0) (unit : Name) → IsLeftOf names left IsDone → has names unit ≡ true → IsDone unit ⊎ (has left unit ≡ true)
 done_or_left names left IsDone unit (IsLeftOf.Stands same) found = inr (subst (λ ns. has ns unit ≡ true) (sym same) found)
-done_or_left names left IsDone unit (IsLeftOf.Removed none done) found = inl (done unit found)
+done_or_left names left IsDone unit (IsLeftOf.Removed within done) found = inl (done unit found)
 
 module _ (old new : Texts) (wants : Name → List Name) (now : Name → State) (kept : Lists) where
   abbrev after : Systems

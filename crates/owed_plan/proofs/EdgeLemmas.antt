@@ -10,8 +10,8 @@ use Rattle.start_order.specs.Edges.{edge_of, is_between}
 use Rattle.start_order.proofs.GraphLemmas.{never_missing}
 use Rattle.start_order.proofs.OrderLemmas.{not_true}
 use Rattle.start_order.proofs.WaitLemmas.{any_with}
-use Rattle.unit_defs.specs.declared.unit.Unit.{Unit}
 use Rattle.owed_plan.specs.StartEdges.{is_put_before, is_put_by, key_words}
+use Rattle.owed_plan.specs.Systems.{Texts}
 use Rattle.std.specs.Prelude.{codes}
 
 -- ---- the units that words name
@@ -64,14 +64,14 @@ same_any : (one other : Name → Bool) (names : List Name) → ((name : Name) �
 same_any one other [] same = refl
 same_any one other (name ∷ names) same = ap (λ b. b || list_any one names) (same name) ∙ ap (λ b. other name || b) (same_any one other names same)
 
-module _ (new : List Unit) (starts : List Name) (before after : Name) where
+module _ (texts : Texts) (starts : List Name) (before after : Name) where
   by_after : Name → Bool
-  by_after unit = has starts before && has (key_words new (codes "After") unit) before
+  by_after unit = has starts before && has (key_words texts (codes "After") unit) before
 
   by_before : Name → Bool
-  by_before unit = has starts after && has (key_words new (codes "Before") unit) after
+  by_before unit = has starts after && has (key_words texts (codes "Before") unit) after
 
-  put_by_any : list_any (λ unit. is_put_by new starts unit before after) starts ≡ ((by_after after && has starts after) || (by_before before && has starts before))
+  put_by_any : list_any (λ unit. is_put_by texts starts unit before after) starts ≡ ((by_after after && has starts after) || (by_before before && has starts before))
   unfolding by_after by_before
   put_by_any =
       either_any (λ unit. by_after unit && is_name after unit) (λ unit. is_name before unit && by_before unit) starts
@@ -88,28 +88,28 @@ module _ (new : List Unit) (starts : List Name) (before after : Name) where
   settle true true true false false = refl
 
   -- what one of the texts puts before another is what is put before it
-  pub put_exact : (is_before_one : Bool) → is_before_one ≡ list_any (λ unit. is_put_by new starts unit before after) starts →
-      (is_between starts (edge_of (before, after)) && is_before_one) ≡ (is_between starts (edge_of (before, after)) && is_put_before new before after)
+  pub put_exact : (is_before_one : Bool) → is_before_one ≡ list_any (λ unit. is_put_by texts starts unit before after) starts →
+      (is_between starts (edge_of (before, after)) && is_before_one) ≡ (is_between starts (edge_of (before, after)) && is_put_before texts before after)
   unfolding by_after by_before
   put_exact is_before_one is =
       ap (λ b. is_between starts (edge_of (before, after)) && b) (is ∙ put_by_any)
-      ∙ settle (has starts before) (has starts after) (not (is_name before after)) (has (key_words new (codes "After") after) before) (has (key_words new (codes "Before") before) after)
+      ∙ settle (has starts before) (has starts after) (not (is_name before after)) (has (key_words texts (codes "After") after) before) (has (key_words texts (codes "Before") before) after)
 
 joined_twice : (a b c : Bool) → ((a || b) || c) ≡ (a || (b || c))
 joined_twice true b c = refl
 joined_twice false b c = refl
 
 -- the text of one unit more
-pub one_text_more : (new : List Unit) (starts : List Name) (unit before after : Name) (old mid further all more named_before named_after : Bool) →
+pub one_text_more : (texts : Texts) (starts : List Name) (unit before after : Name) (old mid further all more named_before named_after : Bool) →
     old ≡ all → mid ≡ (old || (named_before && is_name after unit)) → further ≡ (mid || (is_name before unit && named_after)) →
-    named_before ≡ (has starts before && has (key_words new (codes "After") unit) before) → named_after ≡ (has starts after && has (key_words new (codes "Before") unit) after) →
-    more ≡ (all || is_put_by new starts unit before after) → further ≡ more
-one_text_more new starts unit before after old mid further all more named_before named_after so_far first second befores afters next =
+    named_before ≡ (has starts before && has (key_words texts (codes "After") unit) before) → named_after ≡ (has starts after && has (key_words texts (codes "Before") unit) after) →
+    more ≡ (all || is_put_by texts starts unit before after) → further ≡ more
+one_text_more texts starts unit before after old mid further all more named_before named_after so_far first second befores afters next =
     second ∙ ap (λ m. m || (is_name before unit && named_after)) first
     ∙ ap (λ o. (o || (named_before && is_name after unit)) || (is_name before unit && named_after)) so_far
     ∙ joined_twice all (named_before && is_name after unit) (is_name before unit && named_after)
     ∙ ap (λ n. all || ((n && is_name after unit) || (is_name before unit && named_after))) befores
-    ∙ ap (λ n. all || (((has starts before && has (key_words new (codes "After") unit) before) && is_name after unit) || (is_name before unit && n))) afters
+    ∙ ap (λ n. all || (((has starts before && has (key_words texts (codes "After") unit) before) && is_name after unit) || (is_name before unit && n))) afters
     ∙ sym next
 
 pub both_ok : {X E : Type 0} (r : Result X E) (P Q S : X → Type 0) → IfOk r P → IfOk r Q → ((x : X) → P x → Q x → S x) → IfOk r S

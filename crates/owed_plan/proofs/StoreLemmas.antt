@@ -142,7 +142,7 @@ module _ (leaves other : Leaves) (same : AreSameInStore leaves other) (system : 
   first_fault_same =
       λ i. option_and_then (λ unit. option_map (λ line. (unit, line)) (fault_same unit i)) (find (λ unit. is_some (fault_same unit i)) (units_same i))
 
-  text_same : (unit : Name) → text_of leaves system unit ≡ text_of other system unit
+  pub text_same : (unit : Name) → text_of leaves system unit ≡ text_of other system unit
   text_same unit = λ i. find_text (λ name. own_same name i) unit
 
   wants_same : (unit : Name) → wants_of leaves system unit ≡ wants_of other system unit

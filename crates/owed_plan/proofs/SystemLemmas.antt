@@ -80,6 +80,10 @@ old_same : (leaves : Leaves) (old : Option Name) (olds : List Unit) → AreOldDe
 old_same leaves None olds none unit = ap (λ (units : List Unit). found_in units unit) none ∙ none_kept unit
 old_same leaves (Some old) olds are unit = same_text (own_in olds) (own_text leaves old) unit (are.found unit)
 
+-- what is found of a system is the text that its leaves give
+pub found_same : (leaves : Leaves) (new : Name) (news : List Unit) → AreDefsOf leaves new news → (unit : Name) → found_in news unit ≡ text_of leaves new unit
+found_same leaves new news are unit = same_text (own_in news) (own_text leaves new) unit (are.found unit)
+
 pub systems_same : (leaves : Leaves) (old : Option Name) (new : Name) (olds news : List Unit) → AreOldDefs leaves old olds → AreDefsOf leaves new news → systems_in olds news ≡ systems_at leaves old new
 systems_same leaves old new olds news are_old are =
     λ i. record {

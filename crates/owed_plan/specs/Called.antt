@@ -1,5 +1,5 @@
 -- What a switch owes after its link has moved, while it makes its calls: NixOS manual, "Unit handling".
-use Rattle.std.specs.Prelude.{◌≡◌, ◌≢◌, ◌⊎◌, ℕ, Bool, IsTrue, List, []}
+use Rattle.std.specs.Prelude.{◌≡◌, ◌≢◌, ◌⊎◌, ℕ, Bool, IsTrue, List}
 use Rattle.host_trait.specs.declared.entry.Bad.{Bad}
 use Rattle.host_trait.specs.declared.unit_state.State.{State}
 use Rattle.host_trait.specs.declared.unit_state.State.TheVariants.{Active, Inactive}
@@ -24,10 +24,10 @@ pub data IsCalled (owed : Owed) (unit : Name) (to before now : State) : Type 0 w
 abbrev pub IsGiven : Owed → Name → State → State → State → Type 0
 IsGiven owed unit to before now = IsTrue (has owed.restarts unit) ⊎ (before ≡ Active) ⊎ (now ≡ to)
 
--- a list stands as it was recorded, or is removed, and all its units are done with
+-- a list stands as it was recorded, or no other names are left, and all its units are done with
 pub data IsLeftOf (names left : List Name) (IsDone : Name → Type 0) : Type 0 where
   Stands : left ≡ names → IsLeftOf names left IsDone
-  Removed : left ≡ [] → ((unit : Name) → IsTrue (has names unit) → IsDone unit) → IsLeftOf names left IsDone
+  Removed : ((unit : Name) → IsTrue (has left unit) → IsTrue (has names unit)) → ((unit : Name) → IsTrue (has names unit) → IsDone unit) → IsLeftOf names left IsDone
 
 -- some of the calls have been made, and the lists outlive their calls
 pub record AreCalled (owed : Owed) (to before now : Name → State) (kept : Lists) (is_paid : Name → Bool) : Type 0 where

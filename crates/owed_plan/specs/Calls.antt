@@ -30,10 +30,10 @@ reload_calls owed states = map (λ unit. duty (reload_act states owed.stops unit
 abbrev pub restart_calls : Owed → List Duty
 restart_calls owed = map (duty Restart) owed.restarts
 
--- the starts
-abbrev pub start_calls : Owed → List Duty
-start_calls owed = map (duty Start) owed.starts
+-- the starts, in this order
+abbrev pub start_calls : List Name → List Duty
+start_calls order = map (duty Start) order
 
--- the stops, sockets first; then reloads, restarts and starts
-abbrev pub calls_of : Owed → (Name → State) → List Duty
-calls_of owed states = stop_calls owed ++ reload_calls owed states ++ restart_calls owed ++ start_calls owed
+-- the stops, sockets first; then reloads, restarts, and the starts in this order
+abbrev pub calls_of : Owed → List Name → (Name → State) → List Duty
+calls_of owed order states = stop_calls owed ++ reload_calls owed states ++ restart_calls owed ++ start_calls order

@@ -10,6 +10,7 @@ ghost use Rattle.unit_decide.specs.Kinds.{is_kind};
 
 use crate::owed::Owed;
 use host_trait::{Act, States, UnitSet};
+use start_order::Ordered;
 use std::alloc::{AllocError, Global};
 use switch_names::{Listed, UnitName};
 use unit_decide::is_socket;
@@ -133,18 +134,23 @@ fn add_reloads(
 }
 
 /// The calls by which what is owed is given, in their order: stops with sockets first, reloads,
-/// restarts, starts.
+/// restarts, and the starts as they are ordered.
 ///
 /// A unit that isn't Active, or that is stopped first, is started in place of a reload.
 /// Source: NixOS manual, "What happens during a system switch?".
-pub fn calls(alloc: Global, owed: &Owed, states: &States) -> Result<Listed<Duty>, AllocError>
-    ensures { IfOk result (λ duties. duties ≡ calls_of owed.now (state_of states.now)) }
+pub fn calls(
+    alloc: Global,
+    owed: &Owed,
+    ordered: &Ordered,
+    states: &States,
+) -> Result<Listed<Duty>, AllocError>
+    ensures { IfOk result (λ duties. duties ≡ calls_of owed.now ordered.now.units (state_of states.now)) }
 {
     let stops = UnitSet::of(alloc, owed.stops.as_slice())?;
     let mut duties = Listed::new(alloc);
     add_stops(alloc, &mut duties, owed.stops.as_slice())?;
     add_reloads(alloc, &mut duties, states, &stops, owed.reloads.as_slice())?;
     add_calls(alloc, &mut duties, Act::Restart, owed.restarts.as_slice())?;
-    add_calls(alloc, &mut duties, Act::Start, owed.starts.as_slice())?;
+    add_calls(alloc, &mut duties, Act::Start, ordered.units.as_slice())?;
     Ok(duties)
 }

@@ -6,6 +6,7 @@ ghost use Rattle.host_trait.specs.Bytes.{bytes_cmp};
 ghost use Rattle.start_order.specs.Order.{is_before};
 ghost use Rattle.switch_names.specs.Names.{Name, has, is_name};
 ghost use Rattle.unit_decide.specs.Sockets.{words};
+ghost use Rattle.unit_defs.specs.Defs.{found_in};
 ghost use Rattle.unit_text.specs.Lines.{is_blank};
 ghost use Rattle.owed_plan.specs.StartEdges.{AreStartEdges, key_words};
 
@@ -129,7 +130,7 @@ fn starts_by(
     key: &str,
 ) -> Result<Listed<UnitName>, AllocError>
     requires { IsStrictlySortedBy bytes_cmp starts.now }
-    ensures { IfOk result (λ named. (name : Name) → has named name ≡ (has starts.now name && has (key_words new.now key.now unit.now) name)) }
+    ensures { IfOk result (λ named. (name : Name) → has named name ≡ (has starts.now name && has (key_words (found_in new.now) key.now unit.now) name)) }
 {
     match new.find(unit) {
         Some(text) => named_starts(alloc, starts, text.values("Unit", key)),
@@ -147,7 +148,7 @@ pub fn order_edges(
     starts: &Listed<UnitName>,
 ) -> Result<Listed<Edge>, AllocError>
     requires { IsStrictlySortedBy bytes_cmp starts.now }
-    ensures { IfOk result (AreStartEdges new.now starts.now) }
+    ensures { IfOk result (AreStartEdges (found_in new.now) starts.now) }
 {
     let mut edges = Listed::new(alloc);
     for unit in starts.as_slice() {

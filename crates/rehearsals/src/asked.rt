@@ -22,7 +22,7 @@ pub fn command_of(alloc: Global, words: &str) -> Result<Command, Fail> {
 }
 
 /// The numbers between the blanks of a text.
-fn numbers_of(alloc: Global, text: &str) -> Result<Vec<u64>, Fail> {
+pub fn numbers_of(alloc: Global, text: &str) -> Result<Vec<u64>, Fail> {
     let mut numbers = Vec::new(alloc);
     for number in text.split(' ') {
         numbers.push(number.parse::<u64>()?)?;
@@ -74,6 +74,17 @@ pub fn made_of(alloc: Global, text: &str) -> Result<(World, Command), Fail> {
     let made = generate_of(alloc, number, units, entries, users)?;
     let (world, system, _cuts) = made.into_parts();
     Ok((world, Command::Switch(system)))
+}
+
+/// What a rehearsal on a made machine tells whose jobs end later, where it tells the same again.
+pub fn rehearsal_of_jobs(alloc: Global, text: &str) -> Result<Text, Fail> {
+    let (number, units, entries, users) = sizes_of(alloc, text)?;
+    let told = rehearse::rehearsal_of_jobs(alloc, number, units, entries, users)?;
+    let again = rehearse::rehearsal_of_jobs(alloc, number, units, entries, users)?;
+    if told != again {
+        return misread();
+    }
+    Ok(told)
 }
 
 /// What a rehearsal on a made machine tells.

@@ -5,10 +5,12 @@
 mod asked;
 mod each;
 mod ended;
+mod jobs;
 
-use self::asked::{command_of, made_of, rehearsal_of, troubles_of};
+use self::asked::{command_of, made_of, rehearsal_of, rehearsal_of_jobs, troubles_of};
 use self::each::{show_each, show_entered};
 use self::ended::show_ended;
+use self::jobs::{show_jobs, show_orders};
 use std::alloc::Global;
 use std::io;
 use std::test::Fail;
@@ -61,6 +63,15 @@ impl Commands for Rehearsals<'_> {
                 lines.add_text(text.as_str());
                 Ok(())
             }
+            ("rehearsal-jobs", [sizes]) => {
+                let text = rehearsal_of_jobs(alloc, text_of(sizes)?)?;
+                lines.add_text(text.as_str());
+                Ok(())
+            }
+            ("jobs", [schedule, acts, places @ ..]) => {
+                show_jobs(alloc, lines, schedule, acts, places)
+            }
+            ("orders", [acts, places @ ..]) => show_orders(alloc, lines, acts, places),
             _ => misread(),
         }
     }

@@ -1,5 +1,6 @@
 pub mod AttemptLemmas
 pub mod CutLemmas
+pub mod FinishLemmas
 pub mod GeneratedLemmas
 pub mod HeldLemmas
 pub mod RehearsalLemmas

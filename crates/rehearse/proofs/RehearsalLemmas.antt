@@ -75,6 +75,9 @@ length_drawn seed (suc count) =
     one_more : (n count : ℕ) → n ≡ count → n + 1 ≡ suc count
     one_more n count is = omega (arith, is)
 
+pub at_most : (n most : ℕ) → n ≡ most → n ≤ most
+at_most n most is = omega (arith, is)
+
 -- of a made machine
 pub rehearsed_from : {a b : HostState} {w u : WorldState} {system other : Name} (summary : Summary) (v : WorldState) → Leads a b (λ w v. IsRehearsed (Switch system) w v summary) → a.world ≡ Some w → b.world ≡ Some v →
     w ≡ u → system ≡ other → IsRehearsed (Switch other) u v summary

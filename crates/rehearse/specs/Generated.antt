@@ -26,6 +26,11 @@ abbrev pub drawn_cuts : ℕ → ℕ → List Cut
 drawn_cuts seed zero = []
 drawn_cuts seed (suc count) = drawn_cuts seed count ++ record { after = draw_at seed (2 * count + 1) % 4096; pick = draw_at seed (2 * count + 2) } ∷ []
 
+-- the first so many draws
+unfoldable pub drawn_numbers : ℕ → ℕ → List ℕ
+drawn_numbers seed zero = []
+drawn_numbers seed (suc count) = drawn_numbers seed count ++ draw_at seed (count + 1) ∷ []
+
 -- what a number makes
 pub record IsGenerated (number units entries users : ℕ) (made : Generated) : Type 0 where
   pub settled : WorldState

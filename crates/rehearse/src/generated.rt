@@ -1,8 +1,9 @@
 //! A made machine, and cuts for a switch of it.
-ghost use Rattle.std.specs.Prelude.{◌≡◌, IfOk};
+ghost use Rattle.std.specs.Prelude.{◌≡◌, ◌+◌, IfOk};
 ghost use Rattle.host_trait.specs.Manager.{IsPlain};
+ghost use Rattle.made_world.specs.Draws.{state_at};
 ghost use Rattle.made_world.specs.Putting.{old_system};
-ghost use Rattle.rehearse.specs.Generated.{drawn_cuts, in_use, IsGenerated, IsSettled};
+ghost use Rattle.rehearse.specs.Generated.{drawn_cuts, drawn_numbers, in_use, IsGenerated, IsSettled};
 ghost use Rattle.unit_stage.specs.System.{definitions_of};
 
 use crate::cut::Cut;
@@ -16,6 +17,8 @@ use switch_names::{Listed, SystemName, Text};
 
 /// How many cuts a made machine has.
 const CUTS: u64 = 64;
+/// How many numbers a schedule of its jobs has.
+const TURNS: u64 = 4096;
 
 /// A made machine, on which the old one of its two systems is in use, and cuts for a switch to the new one.
 pub struct Generated {
@@ -130,4 +133,40 @@ pub fn generate(alloc: Global, number: u64) -> Result<Generated, AllocError>
     ensures { IfOk result (IsGenerated number 2000 5000 200) }
 {
     generate_of(alloc, number, 2000, 5000, 200)
+}
+
+/// How many draws a made machine and its cuts take.
+pub(crate) fn draws_of(units: u32, entries: u32, users: u32) -> u64
+    ensures { result ≡ units + entries + users + 128 }
+{
+    u64::from(units) + u64::from(entries) + u64::from(users) + 2 * CUTS
+}
+
+/// Leaves out so many draws.
+fn skip(draws: &mut Draws, count: u64)
+    ensures { draws.new.state ≡ state_at draws.old.state count }
+{
+    for _number in 0..count {
+        let _draw = draws.draw();
+    }
+}
+
+/// The next so many draws.
+fn draw_numbers(alloc: Global, draws: &mut Draws, count: u64) -> Result<Listed<u64>, AllocError>
+    ensures { IfOk result (λ numbers. numbers ≡ drawn_numbers draws.old.state count) }
+{
+    let mut numbers = Listed::new(alloc);
+    for _number in 0..count {
+        numbers.push(draws.draw())?;
+    }
+    Ok(numbers)
+}
+
+/// The schedule by which jobs end on the machine of a number, once so many draws were taken for the machine and its cuts.
+pub fn schedule_of(alloc: Global, number: u64, taken: u64) -> Result<Listed<u64>, AllocError>
+    ensures { IfOk result (λ numbers. numbers ≡ drawn_numbers (state_at number taken) 4096) }
+{
+    let mut draws = Draws::new(number);
+    skip(&mut draws, taken);
+    draw_numbers(alloc, &mut draws, TURNS)
 }

@@ -5,15 +5,19 @@
 mod attempt;
 mod cut;
 mod generated;
+mod jobs;
 mod rehearsing;
 mod running;
 mod summary;
 mod trouble;
+mod troubled;
 
 pub use attempt::is_repeatable;
 pub use cut::Cut;
-pub use generated::{Generated, generate, generate_of};
+pub use generated::{Generated, generate, generate_of, schedule_of};
+pub use jobs::{rehearsal_of_jobs, rehearsal_with_jobs, through_jobs};
 pub use rehearsing::{rehearsal, rehearsal_of};
 pub use running::{through, through_all};
 pub use summary::{End, Summary};
 pub use trouble::Trouble;
+pub use troubled::Troubled;

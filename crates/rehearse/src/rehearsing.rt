@@ -1,6 +1,5 @@
 //! Rehearses a switch of a made machine.
 ghost use Rattle.std.specs.Prelude.{◌≡◌, ◌≤◌, IfOk, IsTrue, length, None, string_bytes};
-ghost use Rattle.host_memory.specs.MemoryHost.{host_of};
 ghost use Rattle.host_trait.specs.Change.{IsSame};
 ghost use Rattle.host_trait.specs.Host.{Leads, Passes, Told};
 ghost use Rattle.rehearse.specs.Rehearsal.{active_units, end_word, failed_units, IsRehearsal, IsRehearsed, left_text, made_text, units_text};
@@ -13,6 +12,7 @@ use crate::cut::Cut;
 use crate::generated::generate_of;
 use crate::running::through;
 use crate::summary::{End, Summary};
+use crate::troubled::Troubled;
 use host_memory::MemoryHost;
 use host_trait::{State, States, World};
 use std::alloc::{AllocError, Global};
@@ -20,10 +20,14 @@ use switch_engine::{Command, PlanFault, plan_all};
 use switch_names::Text;
 
 /// Whether runs of a command may be cut that begin in the world of a host: it isn't refused there, and the world is steady.
-fn may_be_cut(alloc: Global, host: &mut MemoryHost, command: &Command) -> Result<bool, AllocError>
-    ensures none { IfOk result (λ may. IsTrue may → Told (host_of host.old) (λ w. refusal command.now w.leaves ≡ None)) }
-    ensures steady { IfOk result (λ may. IsTrue may → Told (host_of host.old) (IsSteadyFor command.now)) }
-    ensures same { Passes (host_of host.old) (host_of host.new) IsSame }
+pub(crate) fn may_be_cut<H: Troubled>(
+    alloc: Global,
+    host: &mut H,
+    command: &Command,
+) -> Result<bool, AllocError>
+    ensures none { IfOk result (λ may. IsTrue may → Told (H.host host.old) (λ w. refusal command.now w.leaves ≡ None)) }
+    ensures steady { IfOk result (λ may. IsTrue may → Told (H.host host.old) (IsSteadyFor command.now)) }
+    ensures same { Passes (H.host host.old) (H.host host.new) IsSame }
 {
     match plan_all(alloc, host, command) {
         Ok(plan) => Ok(plan.steady()),
@@ -76,7 +80,12 @@ fn end_word(end: &End) -> &'static str
 }
 
 /// The lines on what was made.
-fn made_text(alloc: Global, units: u32, entries: u32, users: u32) -> Result<String, AllocError>
+pub(crate) fn made_text(
+    alloc: Global,
+    units: u32,
+    entries: u32,
+    users: u32,
+) -> Result<String, AllocError>
     ensures { IfOk result (λ text. string_bytes text ≡ made_text units entries users) }
 {
     format!(in alloc; "units {units}\nentries {entries}\nusers {users}\n")
@@ -93,7 +102,11 @@ fn units_text(alloc: Global, world: &World) -> Result<String, AllocError>
 }
 
 /// The lines on the runs and on what they have left.
-fn left_text(alloc: Global, summary: &Summary, world: &World) -> Result<String, AllocError>
+pub(crate) fn left_text(
+    alloc: Global,
+    summary: &Summary,
+    world: &World,
+) -> Result<String, AllocError>
     ensures { IfOk result (λ text. string_bytes text ≡ left_text summary.now world.now) }
 {
     let runs = summary.runs;
@@ -105,15 +118,15 @@ fn left_text(alloc: Global, summary: &Summary, world: &World) -> Result<String, 
 }
 
 /// Runs a command on a host under these cuts, or without a cut where its runs may not be cut there.
-fn rehearse_on(
+fn rehearse_on<H: Troubled>(
     alloc: Global,
-    host: &mut MemoryHost,
+    host: &mut H,
     command: &Command,
     cuts: &[Cut],
 ) -> Result<Summary, AllocError>
     requires repeatable { IsRepeatable command.now }
     requires few { length cuts.now ≤ 64 }
-    ensures { IfOk result (λ summary. Leads (host_of host.old) (host_of host.new) (λ w v. IsRehearsed command.now w v summary)) }
+    ensures { IfOk result (λ summary. Leads (H.host host.old) (H.host host.new) (λ w v. IsRehearsed command.now w v summary)) }
 {
     if may_be_cut(alloc, host, command)? {
         return through(alloc, host, command, cuts);

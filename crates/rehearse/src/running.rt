@@ -1,6 +1,5 @@
 //! Runs a command again until it comes to its end.
 ghost use Rattle.std.specs.Prelude.{◌≡◌, ◌≤◌, ◌+◌, IfOk, IfSome, IsErrOf, IsTrue, length, None};
-ghost use Rattle.host_memory.specs.MemoryHost.{host_of};
 ghost use Rattle.host_trait.specs.declared.tree.HostFault.TheVariants.{Device};
 ghost use Rattle.host_trait.specs.Change.{IsSame};
 ghost use Rattle.host_trait.specs.Host.{Leads, Passes, Rose};
@@ -12,26 +11,26 @@ use crate::attempt::attempt;
 use crate::cut::Cut;
 use crate::summary::{End, Summary};
 use crate::trouble::Trouble;
-use host_memory::MemoryHost;
+use crate::troubled::Troubled;
 use host_trait::HostFault;
 use std::alloc::{AllocError, Global};
 use switch_engine::Command;
 use switch_names::Listed;
 
 /// Runs a command once, under a cut.
-fn run_cut(
+fn run_cut<H: Troubled>(
     alloc: Global,
-    host: &mut MemoryHost,
+    host: &mut H,
     command: &Command,
     cut: &Cut,
 ) -> Result<End, HostFault>
     requires repeatable { IsRepeatable command.now }
-    ensures ended { IfOk result (λ end. Leads (host_of host.old) (host_of host.new) (HasEnded command.now end)) }
-    ensures moments { Passes (host_of host.old) (host_of host.new) (IsHeld command.now) }
-    ensures later { (host_of host.old).faults ≤ (host_of host.new).faults }
-    ensures rose { IsErrOf result Device → Rose (host_of host.old).faults (host_of host.new).faults }
-    ensures clock { (host_of host.new).clock ≤ (host_of host.old).clock + (cut.now.after + 1) }
-    ensures sure { IsTrue (host_of host.new).is_sure }
+    ensures ended { IfOk result (λ end. Leads (H.host host.old) (H.host host.new) (HasEnded command.now end)) }
+    ensures moments { Passes (H.host host.old) (H.host host.new) (IsHeld command.now) }
+    ensures later { (H.host host.old).faults ≤ (H.host host.new).faults }
+    ensures rose { IsErrOf result Device → Rose (H.host host.old).faults (H.host host.new).faults }
+    ensures clock { (H.host host.new).clock ≤ (H.host host.old).clock + (cut.now.after + 1) }
+    ensures sure { IsTrue (H.host host.new).is_sure }
 {
     host.arm(cut.after, cut.pick);
     let ending = attempt(alloc, host, command);
@@ -40,19 +39,19 @@ fn run_cut(
 }
 
 /// Runs a command once, and the call of the host with this number fails.
-fn run_fail(
+fn run_fail<H: Troubled>(
     alloc: Global,
-    host: &mut MemoryHost,
+    host: &mut H,
     command: &Command,
     call: u64,
 ) -> Result<End, HostFault>
     requires repeatable { IsRepeatable command.now }
-    requires sure { IsTrue (host_of host.old).is_sure }
-    ensures ended { IfOk result (λ end. Leads (host_of host.old) (host_of host.new) (HasEnded command.now end)) }
-    ensures moments { Passes (host_of host.old) (host_of host.new) (IsHeld command.now) }
-    ensures later { (host_of host.old).faults ≤ (host_of host.new).faults }
-    ensures rose { IsErrOf result Device → Rose (host_of host.old).faults (host_of host.new).faults }
-    ensures sure { IsTrue (host_of host.new).is_sure }
+    requires sure { IsTrue (H.host host.old).is_sure }
+    ensures ended { IfOk result (λ end. Leads (H.host host.old) (H.host host.new) (HasEnded command.now end)) }
+    ensures moments { Passes (H.host host.old) (H.host host.new) (IsHeld command.now) }
+    ensures later { (H.host host.old).faults ≤ (H.host host.new).faults }
+    ensures rose { IsErrOf result Device → Rose (H.host host.old).faults (H.host host.new).faults }
+    ensures sure { IsTrue (H.host host.new).is_sure }
 {
     let mut calls = Listed::new(alloc);
     calls.push(call)?;
@@ -63,20 +62,20 @@ fn run_fail(
 }
 
 /// Runs a command once, under a trouble.
-fn run_trouble(
+fn run_trouble<H: Troubled>(
     alloc: Global,
-    host: &mut MemoryHost,
+    host: &mut H,
     command: &Command,
     trouble: &Trouble,
 ) -> Result<End, HostFault>
     requires repeatable { IsRepeatable command.now }
-    requires sure { IsTrue (host_of host.old).is_sure }
-    ensures ended { IfOk result (λ end. Leads (host_of host.old) (host_of host.new) (HasEnded command.now end)) }
-    ensures moments { Passes (host_of host.old) (host_of host.new) (IsHeld command.now) }
-    ensures later { (host_of host.old).faults ≤ (host_of host.new).faults }
-    ensures rose { IsErrOf result Device → Rose (host_of host.old).faults (host_of host.new).faults }
-    ensures clock { IsCut trouble.now → (host_of host.new).clock ≤ (host_of host.old).clock + allowed_by trouble.now }
-    ensures sure { IsTrue (host_of host.new).is_sure }
+    requires sure { IsTrue (H.host host.old).is_sure }
+    ensures ended { IfOk result (λ end. Leads (H.host host.old) (H.host host.new) (HasEnded command.now end)) }
+    ensures moments { Passes (H.host host.old) (H.host host.new) (IsHeld command.now) }
+    ensures later { (H.host host.old).faults ≤ (H.host host.new).faults }
+    ensures rose { IsErrOf result Device → Rose (H.host host.old).faults (H.host host.new).faults }
+    ensures clock { IsCut trouble.now → (H.host host.new).clock ≤ (H.host host.old).clock + allowed_by trouble.now }
+    ensures sure { IsTrue (H.host host.new).is_sure }
 {
     match trouble {
         Trouble::Cut(cut) => run_cut(alloc, host, command, cut),
@@ -86,19 +85,19 @@ fn run_trouble(
 
 /// Runs a command once under each of these troubles, one after the other, until a run comes to its end or is
 /// refused. Where each run fails, there is no summary.
-fn run_troubles(
+fn run_troubles<H: Troubled>(
     alloc: Global,
-    host: &mut MemoryHost,
+    host: &mut H,
     command: &Command,
     troubles: &[Trouble],
 ) -> Result<Option<Summary>, AllocError>
     requires repeatable { IsRepeatable command.now }
-    requires sure { IsTrue (host_of host.old).is_sure }
-    ensures some { IfOk result (λ ended. IfSome ended (IsRunThroughAll command.now (host_of host.old) (host_of host.new) troubles.now)) }
-    ensures none { IfOk result (λ ended. ended ≡ None → IsBounded (host_of host.old) (host_of host.new) troubles.now (length troubles.now)) }
-    ensures still { IfOk result (λ ended. ended ≡ None → length troubles.now ≡ 0 → Leads (host_of host.old) (host_of host.new) IsSame) }
-    ensures moments { Passes (host_of host.old) (host_of host.new) (IsHeld command.now) }
-    ensures sure { IsTrue (host_of host.new).is_sure }
+    requires sure { IsTrue (H.host host.old).is_sure }
+    ensures some { IfOk result (λ ended. IfSome ended (IsRunThroughAll command.now (H.host host.old) (H.host host.new) troubles.now)) }
+    ensures none { IfOk result (λ ended. ended ≡ None → IsBounded (H.host host.old) (H.host host.new) troubles.now (length troubles.now)) }
+    ensures still { IfOk result (λ ended. ended ≡ None → length troubles.now ≡ 0 → Leads (H.host host.old) (H.host host.new) IsSame) }
+    ensures moments { Passes (H.host host.old) (H.host host.new) (IsHeld command.now) }
+    ensures sure { IsTrue (H.host host.new).is_sure }
 {
     let mut runs: u64 = 0;
     for trouble in troubles {
@@ -117,16 +116,16 @@ fn run_troubles(
 ///
 /// What was armed on the host before is taken back first, and nothing is armed on it in the end. Want of memory
 /// ends it at once, and leaves a world in which the command is underway.
-pub fn through_all(
+pub fn through_all<H: Troubled>(
     alloc: Global,
-    host: &mut MemoryHost,
+    host: &mut H,
     command: &Command,
     troubles: &[Trouble],
 ) -> Result<Summary, AllocError>
     requires repeatable { IsRepeatable command.now }
-    ensures through { IfOk result (IsRunThroughAll command.now (host_of host.old) (host_of host.new) troubles.now) }
-    ensures moments { Passes (host_of host.old) (host_of host.new) (IsHeld command.now) }
-    ensures sure { IsTrue (host_of host.new).is_sure }
+    ensures through { IfOk result (IsRunThroughAll command.now (H.host host.old) (H.host host.new) troubles.now) }
+    ensures moments { Passes (H.host host.old) (H.host host.new) (IsHeld command.now) }
+    ensures sure { IsTrue (H.host host.new).is_sure }
 {
     host.revive();
     if let Some(summary) = run_troubles(alloc, host, command, troubles)? {
@@ -158,16 +157,16 @@ fn as_troubles(alloc: Global, cuts: &[Cut]) -> Result<Listed<Trouble>, AllocErro
 ///
 /// What was armed on the host before is taken back first, and nothing is armed on it in the end. Want of memory
 /// ends it at once, and leaves a world in which the command is underway.
-pub fn through(
+pub fn through<H: Troubled>(
     alloc: Global,
-    host: &mut MemoryHost,
+    host: &mut H,
     command: &Command,
     cuts: &[Cut],
 ) -> Result<Summary, AllocError>
     requires repeatable { IsRepeatable command.now }
-    ensures through { IfOk result (IsRunThrough command.now (host_of host.old) (host_of host.new) cuts.now) }
-    ensures moments { Passes (host_of host.old) (host_of host.new) (IsHeld command.now) }
-    ensures sure { IsTrue (host_of host.new).is_sure }
+    ensures through { IfOk result (IsRunThrough command.now (H.host host.old) (H.host host.new) cuts.now) }
+    ensures moments { Passes (H.host host.old) (H.host host.new) (IsHeld command.now) }
+    ensures sure { IsTrue (H.host host.new).is_sure }
 {
     host.revive();
     let troubles = as_troubles(alloc, cuts)?;

@@ -1,16 +1,18 @@
-//! The parts of a switch on a host of which each call fails.
+//! The parts of a switch on a host on which a cut has fallen.
+ghost use Rattle.etc_manifest.specs.Manifest.{AreApart, places};
+
 use accounts_stage::{read_all, read_tables};
-use activation_stage::ActivationPlan;
 use boot_entries::texts;
 use etc_clean::obsolete;
+use etc_manifest::Manifest;
 use generations::{Gens, GoalFault, SetFault, all, clear_goal, goal, point, record_goal, set};
-use host_folder::FolderHost;
-use host_trait::{HostFault, Manager, Tree};
+use host_trait::{HostFault, Manager};
 use std::alloc::Global;
 use std::test::Fail;
 use switch_engine::{Command, Plan, PlanFault, plan_all};
 use switch_names::{Bytes, SystemName};
-use world_text::{Lines, host_of, text_of};
+use users_merge::Merged;
+use world_text::{Lines, empty_host, fallen_host, host_of, text_of};
 
 /// The word for what a call answered.
 fn word_of(fault: &Option<HostFault>) -> &'static str {
@@ -52,65 +54,56 @@ fn of_set(fault: SetFault) -> Option<HostFault> {
     }
 }
 
-/// Shows what the calls on accounts and on /etc answer.
-fn show_activation(
-    rt: &HostRuntime,
+/// Shows what the calls on accounts answer, for accounts that were merged.
+fn show_accounts(alloc: Global, lines: &mut Lines, merged: &Merged) {
+    let fault = accounts_stage::apply(alloc, &mut fallen_host(alloc), merged).err();
+    show(lines, "accounts_stage::apply", &fault);
+    let fault = read_all(alloc, &mut fallen_host(alloc)).err();
+    show(lines, "read_all", &fault.and_then(of_plan));
+    let fault = read_tables(alloc, &mut fallen_host(alloc)).err();
+    show(lines, "read_tables", &fault.and_then(of_plan));
+}
+
+/// Shows what the calls on /etc answer, for what a system wants there.
+fn show_etc(
+    alloc: Global,
     lines: &mut Lines,
-    host: &mut FolderHost<HostRuntime>,
     system: &SystemName,
-    plan: &ActivationPlan,
-) {
-    let alloc = rt.alloc();
-    if let Some(merged) = &plan.accounts.merged {
-        let fault = accounts_stage::apply(alloc, host, merged).err();
-        show(lines, "accounts_stage::apply", &fault);
-    }
-    let fault = read_all(alloc, host).err().and_then(of_plan);
-    show(lines, "read_all", &fault);
-    let fault = read_tables(alloc, host).err().and_then(of_plan);
-    show(lines, "read_tables", &fault);
-    let fault = obsolete(alloc, host, &plan.etc.manifest).err();
+    manifest: &Manifest,
+) -> Result<(), Fail>
+    requires { AreApart (places manifest.now) }
+{
+    let fault = obsolete(alloc, &mut fallen_host(alloc), manifest).err();
     show(lines, "obsolete", &fault);
-    let fault = etc_farm::apply(alloc, host, system, &plan.etc.manifest, &plan.etc.sorted).err();
+    let sorted = obsolete(alloc, &mut empty_host(alloc), manifest)?;
+    let fault = etc_farm::apply(alloc, &mut fallen_host(alloc), system, manifest, &sorted).err();
     show(lines, "etc_farm::apply", &fault);
+    Ok(())
 }
 
-/// Shows what the calls on the profile and the boot menu answer.
-fn show_default(
-    rt: &HostRuntime,
-    lines: &mut Lines,
-    host: &mut FolderHost<HostRuntime>,
-    system: &SystemName,
-    gens: &Gens,
-) {
-    let alloc = rt.alloc();
-    show(lines, "all", &all(alloc, host).err());
-    show(
-        lines,
-        "set",
-        &set(alloc, host, gens, system).err().and_then(of_set),
-    );
-    show(lines, "point", &point(alloc, host, 1).err());
-    show(
-        lines,
-        "goal",
-        &goal(alloc, host, gens).err().and_then(of_goal),
-    );
-    show(lines, "record_goal", &record_goal(alloc, host, 1).err());
-    show(lines, "clear_goal", &clear_goal(alloc, host).err());
-    show(lines, "texts", &texts(alloc, host, gens).err());
+/// Shows what the calls on the profile answer.
+fn show_profile(alloc: Global, lines: &mut Lines, system: &SystemName) -> Result<(), Fail> {
+    let gens = all(alloc, &mut empty_host(alloc))?;
+    show(lines, "all", &all(alloc, &mut fallen_host(alloc)).err());
+    let fault = set(alloc, &mut fallen_host(alloc), &gens, system).err();
+    show(lines, "set", &fault.and_then(of_set));
+    let fault = point(alloc, &mut fallen_host(alloc), 1).err();
+    show(lines, "point", &fault);
+    let fault = goal(alloc, &mut fallen_host(alloc), &gens).err();
+    show(lines, "goal", &fault.and_then(of_goal));
+    let fault = record_goal(alloc, &mut fallen_host(alloc), 1).err();
+    show(lines, "record_goal", &fault);
+    let fault = clear_goal(alloc, &mut fallen_host(alloc)).err();
+    show(lines, "clear_goal", &fault);
+    Ok(())
 }
 
-/// Shows what the call on the boot menu answers, for the menu of a world.
-fn show_menu<T: Tree>(
-    rt: &HostRuntime,
-    lines: &mut Lines,
-    host: &mut FolderHost<HostRuntime>,
-    from: &mut T,
-    gens: &Gens,
-) -> Result<(), Fail> {
-    let menu = texts(rt.alloc(), from, gens)?;
-    let fault = boot_entries::apply(rt.alloc(), host, &menu).err();
+/// Shows what the calls on the boot menu answer, for these generations.
+fn show_menu(alloc: Global, lines: &mut Lines, gens: &Gens) -> Result<(), Fail> {
+    let menu = texts(alloc, &mut empty_host(alloc), gens)?;
+    let fault = texts(alloc, &mut fallen_host(alloc), gens).err();
+    show(lines, "texts", &fault);
+    let fault = boot_entries::apply(alloc, &mut fallen_host(alloc), &menu).err();
     show(lines, "boot_entries::apply", &fault);
     Ok(())
 }
@@ -124,24 +117,26 @@ fn plan_of<T: Manager>(alloc: Global, from: &mut T, system: &SystemName) -> Resu
     }
 }
 
-/// Shows what each part of a switch to this system answers on a host of which each call fails, for what is planned over the
-/// world of these places.
+/// Shows what each part of a switch to this system answers on a host on which a cut has fallen. What is set and put is what
+/// the world of these places gives.
 pub fn show_fallen(
-    rt: &HostRuntime,
+    alloc: Global,
     lines: &mut Lines,
     system: &Bytes,
     places: &[Bytes],
 ) -> Result<(), Fail> {
-    let alloc = rt.alloc();
     let system = SystemName::parse(alloc, text_of(system)?)?;
     let mut from = host_of(alloc, places)?;
     let plan = plan_of(alloc, &mut from, &system)?;
-    let gens = all(alloc, &mut from)?;
-    // no call of a host without a root comes to an end
-    let mut host = FolderHost::open(rt, "")?;
     if let Some(activation) = plan.activation() {
-        show_activation(rt, lines, &mut host, &system, activation);
+        if let Some(merged) = &activation.accounts.merged {
+            show_accounts(alloc, lines, merged);
+        }
+        if let Ok(manifest) = Manifest::read(alloc, &mut from, &system, &activation.etc.owners) {
+            show_etc(alloc, lines, &system, &manifest)?;
+        }
     }
-    show_default(rt, lines, &mut host, &system, &gens);
-    show_menu(rt, lines, &mut host, &mut from, &gens)
+    show_profile(alloc, lines, &system)?;
+    let gens = all(alloc, &mut from)?;
+    show_menu(alloc, lines, &gens)
 }

@@ -40,7 +40,7 @@ impl Commands for Runs<'_> {
             ("change", [put, words, places @ ..]) => {
                 show_changing_run(alloc, lines, put, words, places)
             }
-            ("fail" | "again" | "cut", [words, places @ ..]) => {
+            ("fail" | "again" | "cut" | "twice", [words, places @ ..]) => {
                 show_troubles(alloc, lines, command, words, places)
             }
             ("then", [number, words, then, places @ ..]) => {
@@ -48,7 +48,7 @@ impl Commands for Runs<'_> {
             }
             ("folder", [root, words]) => show_folder(self.rt, lines, root, words),
             ("faults", _) => show_fault_statuses(alloc, lines),
-            ("fallen", [system, places @ ..]) => show_fallen(self.rt, lines, system, places),
+            ("fallen", [system, places @ ..]) => show_fallen(alloc, lines, system, places),
             ("report", places) => show_switch(alloc, lines, places),
             _ => misread(),
         }

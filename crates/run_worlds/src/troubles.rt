@@ -38,24 +38,23 @@ fn show_both_ends(
 
 /// Has a call of a host fail: that with this number, or the cut with this number.
 ///
-/// Each call that changes something has two cuts, before it and at its next moment. What a call has done
-/// when it is finished is what stands before the next one.
+/// Each call that changes something has three cuts, as the host picks them: before it, at its next moment, and at the one
+/// after that, where it has so many.
 fn trouble(
     alloc: Global,
     host: &mut MemoryHost,
     kind: &str,
     number: u64,
 ) -> Result<(), AllocError> {
-    if kind == "cut" {
-        host.arm(number / 2, number % 2);
-    } else {
-        host.fail(list_of(alloc, number)?);
+    match kind {
+        "cut" | "twice" => host.arm(number / 3, number % 3),
+        _ => host.fail(list_of(alloc, number)?),
     }
     Ok(())
 }
 
-/// How a run over the world of some places ends of which a call fails: with the whole world, or made again.
-/// Answers whether a call has failed.
+/// How a run over the world of some places ends of which a call fails: with the whole world, or made again, which may be
+/// cut there once more before. Answers whether a call has failed.
 fn show_trouble(
     alloc: Global,
     lines: &mut Lines,
@@ -66,9 +65,14 @@ fn show_trouble(
     trouble(alloc, &mut host, kind, number)?;
     if kind == "fail" {
         show_outcome(alloc, lines, &mut host, "-", words)?;
-    } else {
-        show_both_ends(alloc, lines, &mut host, words)?;
+        return Ok(host.faults() > 0);
     }
+    if kind == "twice" {
+        show_status_of(alloc, lines, &mut host, words)?;
+        host.revive();
+        trouble(alloc, &mut host, kind, number)?;
+    }
+    show_both_ends(alloc, lines, &mut host, words)?;
     Ok(host.faults() > 0)
 }
 

@@ -72,14 +72,17 @@ use Rattle.switch_parts.proofs.Parts.{false_by, first_free, first_moment, moment
 use Rattle.unit_defs.specs.declared.unit.Unit.{Unit}
 use Rattle.unit_stage.specs.declared.unit_plan.UnitPlan.{UnitPlan}
 use Rattle.unit_stage.specs.End.{AreEndStates, IsBrought, entries_of}
+use Rattle.unit_stage.specs.Order.{IsOrderedAt}
 use Rattle.unit_stage.specs.Owned.{reads_units}
 use Rattle.unit_stage.specs.Plan.{IsOwedBy, IsUnitPlanOf, owed_of}
 use Rattle.unit_stage.specs.System.{definitions_of}
 use Rattle.unit_stage.proofs.EndLemmas.{one_end}
+use Rattle.unit_stage.proofs.OrderLemmas.{arranges}
 use Rattle.unit_stage.proofs.OwnedLemmas.{not_reads_stage}
 use Rattle.unit_stage.proofs.StepLemmas.{manager_seen}
 use Rattle.unit_stage.proofs.SystemsLemmas.{is_system}
-use Rattle.unit_stage.proofs.UnitsPartLemmas.{owed_same}
+use Rattle.unit_stage.specs.Units.{units_part}
+use Rattle.unit_stage.proofs.UnitsPartLemmas.{order_same, owed_same}
 
 -- ---- the profile's link isn't the stage
 
@@ -184,25 +187,28 @@ module _ (system : Name) (named : IsSystemPath system) (w : WorldState) where
 
 -- ---- a switch of the units
 
-switch_if_moment : (switches : Bool) (system : Name) → IsSystemPath system → (owed : Owed) (u m : WorldState) → (switches ≡ true → IsOwedBy u system owed) → IsFree (part_if switches (switch_in system u.leaves)) u.leaves →
-    IsSwitchMomentIf switches system owed u m → IsPartMoment (part_if switches (switch_in system u.leaves)) u m
-switch_if_moment true system named owed u m is_owed free moment = switch_part_moment system named owed u (is_owed refl) free m moment
-switch_if_moment false system named owed u m is_owed free same = record {
+switch_if_moment : (switches : Bool) (system : Name) → IsSystemPath system → (owed : Owed) (order : List Name) (u m : WorldState) → (switches ≡ true → IsOwedBy false u system owed) →
+    (switches ≡ true → IsOrderedAt u.leaves system owed order) → IsFree (part_if switches (switch_in system u.leaves)) u.leaves → IsSwitchMomentIf switches system owed order u m → IsPartMoment (part_if switches (switch_in system u.leaves)) u m
+switch_if_moment true system named owed order u m is_owed is_ordered free moment =
+    switch_part_moment system named owed u (is_owed refl) order (arranges u.leaves system owed order (is_ordered refl)) free m moment
+switch_if_moment false system named owed order u m is_owed is_ordered free same = record {
   keeps = tt;
   only = record { leaves = λ q none ne. ap (λ (x : WorldState). get x.leaves q) same; manager = λ none. ap (λ (x : WorldState). x.manager) same };
 }
 
-switch_step : (switches : Bool) (system : Name) (owed : Owed) (u m : WorldState) → (switches ≡ true → IsOwedBy u system owed) → IsSwitchMomentIf switches system owed u m → IsSwitchStep (if_so switches system) u m
-switch_step true system owed u m is_owed moment = (owed, is_owed refl, moment)
-switch_step false system owed u m is_owed same = ap seen same
+switch_step : (switches : Bool) (system : Name) (owed : Owed) (order : List Name) (u m : WorldState) → (switches ≡ true → IsOwedBy false u system owed) → (switches ≡ true → IsOrderedAt u.leaves system owed order) →
+    IsSwitchMomentIf switches system owed order u m → IsSwitchStep (if_so switches system) u m
+switch_step true system owed order u m is_owed is_ordered moment = (owed, order, is_owed refl, is_ordered refl, moment)
+switch_step false system owed order u m is_owed is_ordered same = ap seen same
 
-switch_end : (switches : Bool) (system : Name) (owed : Owed) (u v : WorldState) → (switches ≡ true → IsOwedBy u system owed) → IsSwitchedIf switches system owed u v → IsSwitchEnd (if_so switches system) u v
-switch_end true system owed u v is_owed end = (owed, is_owed refl, end)
-switch_end false system owed u v is_owed same = ap seen same
+switch_end : (switches : Bool) (system : Name) (owed : Owed) (order : List Name) (u v : WorldState) → (switches ≡ true → IsOwedBy false u system owed) → (switches ≡ true → IsOrderedAt u.leaves system owed order) →
+    IsSwitchedIf switches system owed order u v → IsSwitchEnd (if_so switches system) u v
+switch_end true system owed order u v is_owed is_ordered end = (owed, order, is_owed refl, is_ordered refl, end)
+switch_end false system owed order u v is_owed is_ordered same = ap seen same
 
-switch_final : (switches : Bool) (system : Name) (owed : Owed) (u v : WorldState) → IsSwitchedIf switches system owed u v → (q : Name) → q ≢ stage → get v.leaves q ≡ final_leaf (part_if switches (switch_in system u.leaves)) u.leaves q
-switch_final true system owed u v is q ne = is.leaves q ne
-switch_final false system owed u v is q ne = ap (λ (x : WorldState). get x.leaves q) is
+switch_final : (switches : Bool) (system : Name) (owed : Owed) (order : List Name) (u v : WorldState) → IsSwitchedIf switches system owed order u v → (q : Name) → q ≢ stage → get v.leaves q ≡ final_leaf (part_if switches (switch_in system u.leaves)) u.leaves q
+switch_final true system owed order u v is q ne = is.leaves q ne
+switch_final false system owed order u v is q ne = ap (λ (x : WorldState). get x.leaves q) is
 
 -- ---- the profile names the same while it isn't written
 
@@ -317,12 +323,12 @@ names_since (Some system) w r m same after = ⊎_elim
 -- ---- the units at the end
 
 -- what is brought is the same where the manager began the same
-brought_from : (system : Name) (owed : Owed) (w u v : WorldState) → u.manager ≡ w.manager → IsBrought system owed u v → IsBrought system owed w v
-brought_from system owed w u v same is = record {
+brought_from : (system : Name) (owed : Owed) (order : List Name) (w u v : WorldState) → u.manager ≡ w.manager → IsBrought system owed order u v → IsBrought system owed order w v
+brought_from system owed order w u v same is = record {
   states = λ unit. is.states unit ∙ ap (λ (k : ManagerState). final_state owed (definitions_of system) k.bad (state_of k.states) unit) same;
   loaded = is.loaded;
   bad = is.bad ∙ ap (λ (k : ManagerState). k.bad) same;
-  journal = is.journal ∙ (λ i. (same i).journal ++ entries_of system owed (record w { manager = same i }));
+  journal = is.journal ∙ (λ i. (same i).journal ++ entries_of system owed order (record w { manager = same i }));
 }
 
 -- the units where they were switched, or not
@@ -333,18 +339,18 @@ record IsUnitsEnd (to : Option Name) (w v : WorldState) : Type 0 where
   are_entered : AreEntries to w entries
   journal : v.manager.journal ≡ w.manager.journal ++ entries
 
-units_end : (switches : Bool) (system : Name) (owed : Owed) (w u v : WorldState) → (switches ≡ true → IsOwedBy w system owed) → u.manager ≡ w.manager → IsSwitchedIf switches system owed u v →
-    IsUnitsEnd (if_so switches system) w v
-units_end true system owed w u v is_owed same is =
-    let brought = brought_from system owed w u v same is.units in
+units_end : (switches : Bool) (system : Name) (owed : Owed) (order : List Name) (w u v : WorldState) → (switches ≡ true → IsOwedBy false w system owed) → (switches ≡ true → IsOrderedAt w.leaves system owed order) →
+    u.manager ≡ w.manager → IsSwitchedIf switches system owed order u v → IsUnitsEnd (if_so switches system) w v
+units_end true system owed order w u v is_owed is_ordered same is =
+    let brought = brought_from system owed order w u v same is.units in
     record {
       units = ((owed, is_owed refl, brought.states), brought.loaded);
       bad = brought.bad;
-      entries = entries_of system owed w;
-      are_entered = (owed, is_owed refl, refl);
+      entries = entries_of system owed order w;
+      are_entered = (owed, order, is_owed refl, is_ordered refl, refl);
       journal = brought.journal;
     }
-units_end false system owed w u v is_owed same is =
+units_end false system owed order w u v is_owed is_ordered same is =
     let manager : v.manager ≡ w.manager = ap (λ (x : WorldState). x.manager) is ∙ same in
     record {
       units = (ap (λ (k : ManagerState). k.states) manager, ap (λ (k : ManagerState). k.loaded) manager);
@@ -357,31 +363,37 @@ units_end false system owed w u v is_owed same is =
 -- ---- a command
 
 -- what is known of a command that is carried out, at its beginning
-pub record IsCarriedFrom (command : Command) (owed : Owed) (w : WorldState) : Type 0 where
+pub record IsCarriedFrom (command : Command) (owed : Owed) (order : List Name) (w : WorldState) : Type 0 where
   pub on : (row command w.leaves).changes ≡ true
   pub has : lacks_goal command w.leaves ≡ false
   pub named : IsSystemPath (new_system command w.leaves)
   pub free : IsFreeCommand command w.leaves
-  pub is_owed : (row command w.leaves).switches ≡ true → IsOwedBy w (new_system command w.leaves) owed
+  pub is_owed : (row command w.leaves).switches ≡ true → IsOwedBy false w (new_system command w.leaves) owed
+  pub is_ordered : (row command w.leaves).switches ≡ true → IsOrderedAt w.leaves (new_system command w.leaves) owed order
 
 -- ---- what a plan says
 
-owed_planned : (switches : Bool) (system : Name) (w : WorldState) (plan : UnitPlan) → AreUnitsPlanned switches system w plan → switches ≡ true → IsOwedBy w system (owed_of plan)
+owed_planned : (switches : Bool) (system : Name) (w : WorldState) (plan : UnitPlan) → AreUnitsPlanned switches system w plan → switches ≡ true → IsOwedBy false w system (owed_of plan)
 owed_planned true system w plan planned same = (planned.lists, record { listed = planned.planned.listed; is_owed = planned.planned.planned.is_owed })
 owed_planned false system w plan planned same = absurd (both_ways _ refl same)
+
+order_planned : (switches : Bool) (system : Name) (w : WorldState) (plan : UnitPlan) → AreUnitsPlanned switches system w plan → switches ≡ true → IsOrderedAt w.leaves system (owed_of plan) plan.ordered.units
+order_planned true system w plan planned same = (plan.ordered, planned.in_order, refl)
+order_planned false system w plan planned same = absurd (both_ways _ refl same)
 
 module _ (plan : Plan) (w : WorldState) (is : IsPlanOf w plan) (changes : IsQuery plan.command → ⊥) where
   -- the parts are those of the command's row
   pub planned_parts : ArePlanned (row plan.command w.leaves) w plan
   planned_parts = subst (λ (r : Row). ArePlanned r w plan) is.resolved is.planned
 
-  pub carried_from : IsCarriedFrom plan.command (owed_of plan.units) w
+  pub carried_from : IsCarriedFrom plan.command (owed_of plan.units) plan.units.ordered.units w
   carried_from = record {
     on = changes_on plan.command w.leaves changes;
     has = has_goal plan.command w.leaves is.not_refused;
     named = subst (λ (r : Row). IsSystemPath r.system) is.resolved is.named;
     free = free_command plan.command w.leaves is.not_refused;
     is_owed = owed_planned (row plan.command w.leaves).switches (new_system plan.command w.leaves) w plan.units planned_parts.units;
+    is_ordered = order_planned (row plan.command w.leaves).switches (new_system plan.command w.leaves) w plan.units planned_parts.units;
   }
 
 -- the profile is moved as is planned
@@ -417,14 +429,15 @@ switches_same switches system w (Some activation) planned = sym planned.0
 
 -- a planned switch of the units can be made where the profile has been set
 pub can_switch : (switches : Bool) (system : Name) → IsSystemPath system → (w u : WorldState) (plan : UnitPlan) (o : Option ActivationPlan) → AreUnitsPlanned switches system w plan → IsActivationPlanned switches system w o →
-    u.manager ≡ w.manager → (switches ≡ true → IsOwedBy u system (owed_of plan)) → IsSameFor (activation_in system w.leaves) w u → IsFree (part_if switches (switch_in system u.leaves)) u.leaves → CanSwitchBy system plan o u
-can_switch switches system named w u plan None units planned manager is_owed same free = tt
-can_switch switches system named w u plan (Some activation) units planned manager is_owed same free =
-    let of_units : IsUnitPlanOf system w plan = subst (λ b. AreUnitsPlanned b system w plan) planned.0 units in
+    u.manager ≡ w.manager → (switches ≡ true → IsOwedBy false u system (owed_of plan)) → (switches ≡ true → IsOrderedAt u.leaves system (owed_of plan) plan.ordered.units) → IsSameFor (activation_in system w.leaves) w u → IsFree (part_if switches (switch_in system u.leaves)) u.leaves → CanSwitchBy system plan o u
+can_switch switches system named w u plan None units planned manager is_owed is_ordered same free = tt
+can_switch switches system named w u plan (Some activation) units planned manager is_owed is_ordered same free =
+    let of_units : IsUnitPlanOf false system w plan = subst (λ b. AreUnitsPlanned b system w plan) planned.0 units in
     record {
       named = named;
       is_owed = is_owed planned.0;
-      duties = of_units.duties ∙ ap (λ (k : ManagerState). calls_of (owed_of plan) (state_of k.states)) (sym manager);
+      in_order = is_ordered planned.0;
+      duties = of_units.duties ∙ ap (λ (k : ManagerState). calls_of (owed_of plan) plan.ordered.units (state_of k.states)) (sym manager);
       planned = activation_plan_law system w u activation named same planned.1;
       free = subst (λ b. IsFree (part_if b (switch_in system u.leaves)) u.leaves) planned.0 free;
     }
@@ -448,17 +461,17 @@ none_failed defs outcome is = (
     not_failed is = cc
 
 -- what the outcome says is what the world leaves
-pub verdict : (switches : Bool) (system : Name) (plan : UnitPlan) (w u v : WorldState) (outcome : Outcome) → AreUnitsPlanned switches system w plan → u.manager ≡ w.manager → IsSwitchedIf switches system (owed_of plan) u v →
+pub verdict : (switches : Bool) (system : Name) (plan : UnitPlan) (w u v : WorldState) (outcome : Outcome) → AreUnitsPlanned switches system w plan → u.manager ≡ w.manager → IsSwitchedIf switches system (owed_of plan) plan.ordered.units u v →
     (switches ≡ true → outcome.states ≡ v.manager.states) → IsTrue outcome.failed ↔ HasFailed plan.defs outcome.states → (switches ≡ false → outcome ≡ record { states = empty; failed = false }) →
     IsTrue outcome.failed ↔ LeavesFailedAt (if_so switches system) w
 verdict true system plan w u v outcome planned same end states failed none =
     let is_owed = owed_planned true system w plan planned refl in
-    let says = left_failed system (owed_of plan) w v plan.defs outcome.states planned.defs (states refl) (brought_from system (owed_of plan) w u v same end.units) in (
+    let says = left_failed system (owed_of plan) plan.ordered.units w v plan.defs outcome.states planned.defs (states refl) (brought_from system (owed_of plan) plan.ordered.units w u v same end.units) in (
       λ is. (owed_of plan, is_owed, says.0 (failed.0 is)),
       λ left. failed.1 (says.1 (
         left.2.0,
         record {
-          failed = sym (one_end system is_owed.0 (owed_of plan) w is_owed.1 left.0 left.1 left.2.0) ∙ left.2.1.failed;
+          failed = sym (one_end false system is_owed.0 (owed_of plan) w is_owed.1 left.0 left.1 left.2.0) ∙ left.2.1.failed;
           defined = left.2.1.defined;
         },
       )),
@@ -530,7 +543,7 @@ on_its_way None command w m underway = underway
 on_its_way (Some Set) command w m underway = underway
 on_its_way (Some (Point n)) command w m underway = inl underway
 
-module _ (command : Command) (owed : Owed) (w : WorldState) (carried : IsCarriedFrom command owed w) where
+module _ (command : Command) (owed : Owed) (order : List Name) (w : WorldState) (carried : IsCarriedFrom command owed order w) where
   abbrev switches : Bool
   switches = (row command w.leaves).switches
 
@@ -686,8 +699,8 @@ module _ (command : Command) (owed : Owed) (w : WorldState) (carried : IsCarried
           (first_free first second u.leaves (both_are.stays_free w u at_set.keeps carried.free.parts))
 
       -- the units' part sees the same as before
-      pub owed_still : switches ≡ true → IsOwedBy u system owed
-      owed_still switched = by switches switched (are_parted switches moves system owners gens).second (carried.is_owed switched)
+      units_same : switches ≡ true → IsSameFor (units_part false system) w u
+      units_same switched = by switches switched (are_parted switches moves system owners gens).second
         where
           unchanged : (at : Name) → (second.owns at ≡ true → ⊥) → at ≢ stage → get u.leaves at ≡ get w.leaves at
           unchanged at none ne = elim (cases_Bool (second.owns at)) [
@@ -695,59 +708,66 @@ module _ (command : Command) (owed : Owed) (w : WorldState) (carried : IsCarried
             | inr other ↦ alone_set.only.leaves at other ne
           ]
 
-          by : (b : Bool) → b ≡ true → ((at : Name) → second.owns at ≡ true → (part_if b (switch_part system owners)).reads at ≡ false) → IsOwedBy w system owed → IsOwedBy u system owed
-          by true same_b apart is_owed = owed_same system w u (is_system system carried.named) (record {
+          by : (b : Bool) → b ≡ true → ((at : Name) → second.owns at ≡ true → (part_if b (switch_part system owners)).reads at ≡ false) → IsSameFor (units_part false system) w u
+          by true same_b apart = record {
             leaves = λ at read. unchanged at (λ own. both_ways _ (apart at own) (or_left _ _ read)) (λ same. both_ways _ not_reads_stage (subst (λ x. reads_units x ≡ true) same read));
             manager = λ call. same_manager;
-          }) owed is_owed
-          by false same_b apart is_owed = absurd (both_ways _ refl same_b)
+          }
+          by false same_b apart = absurd (both_ways _ refl same_b)
 
-      switch_moment_of : (m : WorldState) → IsSwitchMomentIf switches system owed u m → IsPartMoment first u m
+      -- and so the same is owed, and the starts are in the same order
+      pub owed_still : switches ≡ true → IsOwedBy false u system owed
+      owed_still switched = owed_same false system w u (is_system system carried.named) (units_same switched) owed (carried.is_owed switched)
+
+      pub ordered_still : switches ≡ true → IsOrderedAt u.leaves system owed order
+      ordered_still switched = order_same false system w u (is_system system carried.named) (units_same switched) owed order (carried.is_ordered switched)
+
+      switch_moment_of : (m : WorldState) → IsSwitchMomentIf switches system owed order u m → IsPartMoment first u m
       switch_moment_of m moment =
           subst (λ (o : OwnerIds). IsPartMoment (part_if switches (switch_part system o)) u m) same_owners
-          (switch_if_moment switches system carried.named owed u m owed_still switch_free moment)
+          (switch_if_moment switches system carried.named owed order u m owed_still ordered_still switch_free moment)
 
-      switch_of_parts : (m : WorldState) → IsSwitchMomentIf switches system owed u m → IsPartMoment (both first second) w m
+      switch_of_parts : (m : WorldState) → IsSwitchMomentIf switches system owed order u m → IsPartMoment (both first second) w m
       switch_of_parts m moment =
           moment_then (both first second) both_are w u m at_set
           (first_moment first second first_is second_is (are_parted switches moves system owners gens) u m (switch_moment_of m moment))
 
-      switch_recorded : (m : WorldState) → IsSwitchMomentIf switches system owed u m → IsRecorded moves m.leaves
+      switch_recorded : (m : WorldState) → IsSwitchMomentIf switches system owed order u m → IsRecorded moves m.leaves
       switch_recorded m moment =
           recorded_same moves u.leaves m.leaves ((switch_moment_of m moment).only.leaves goal_place (goal_not_own switches system carried.named owners gens) goal_not_stage) (set_recorded u last_set)
 
-      switch_named : (m : WorldState) → IsSwitchMomentIf switches system owed u m → NamesOneOf (if_moved moves system) w m
+      switch_named : (m : WorldState) → IsSwitchMomentIf switches system owed order u m → NamesOneOf (if_moved moves system) w m
       switch_named m moment =
           names_then (if_moved moves system) w u m (set_named u last_set) (switch_names switches system carried.named owners gens u m (switch_moment_of m moment))
 
-      switch_between : (m : WorldState) → IsSwitchMomentIf switches system owed u m → IsMenuBetween w.leaves m.leaves
+      switch_between : (m : WorldState) → IsSwitchMomentIf switches system owed order u m → IsMenuBetween w.leaves m.leaves
       switch_between m moment = switch_menu switches system carried.named owners gens w.leaves u m (switch_moment_of m moment) (set_between u last_set)
 
       -- each moment of a switch of the units is one of the command
-      pub switch_moment : (m : WorldState) → IsSwitchMomentIf switches system owed u m → IsMomentOf command w m
+      pub switch_moment : (m : WorldState) → IsSwitchMomentIf switches system owed order u m → IsMomentOf command w m
       switch_moment m moment = record {
-        step = step_as m (IsStepTo.Switching r u is_r is (switch_step switches system owed u m owed_still moment));
-        entered = inr (switch_enters command switches system owed w u m (sym (ap (λ b. if_so (b && switches) system) carried.on)) carried.is_owed same_manager moment);
+        step = step_as m (IsStepTo.Switching r u is_r is (switch_step switches system owed order u m owed_still ordered_still moment));
+        entered = inr (switch_enters command switches system owed order w u m (sym (ap (λ b. if_so (b && switches) system) carried.on)) carried.is_owed carried.is_ordered same_manager moment);
         underway = λ steady. on_its_way moves command w m (underway_at m (switch_of_parts m moment) (kept_recorded moves w.leaves m.leaves (switch_recorded m moment)) steady);
         named = to_as w m (switch_named m moment);
         menu = switch_between m moment;
       }
 
-      module _ (v : WorldState) (end : IsSwitchedIf switches system owed u v) (moment : IsSwitchMomentIf switches system owed u v) where
+      module _ (v : WorldState) (end : IsSwitchedIf switches system owed order u v) (moment : IsSwitchMomentIf switches system owed order u v) where
         -- ---- the goal is removed
 
         clear_of_parts : (m : WorldState) → IsClearStep moves v m → IsPartMoment (both first second) w m
         clear_of_parts m step = moment_then (both first second) both_are w v m (switch_of_parts v moment) (of_second v m (clear_part_moment moves system gens are_gens v m step))
 
         units : IsUnitsEnd (if_so switches system) w v
-        units = units_end switches system owed w u v carried.is_owed same_manager end
+        units = units_end switches system owed order w u v carried.is_owed carried.is_ordered same_manager end
 
         -- the leaf that is left at each place
         left_at : (e : WorldState) → e ≡ cleared_by moves v → (q : Name) → q ≢ stage → get e.leaves q ≡ final_leaf (both first second) w.leaves q
         left_at e is_e q ne = elim (cases_Bool (first.owns q)) [
           | inl own ↦
               at_clear q (λ of_second. both_ways _ (second_unread q of_second) (first_is.reads_own q own)) ne
-              ∙ switch_final switches system owed u v end q ne
+              ∙ switch_final switches system owed order u v end q ne
               ∙ ap (λ (o : OwnerIds). final_leaf (part_if switches (switch_part system o)) u.leaves q) same_owners
               ∙ ap (λ b. cond b (first.end u.leaves q) (get u.leaves q)) own ∙ first_is.same_end w u at_set.keeps.0 q own
               ∙ sym (ap (λ b. cond (b || second.owns q) (cond b (first.end w.leaves q) (second.end w.leaves q)) (get w.leaves q)) own)
@@ -793,7 +813,7 @@ module _ (command : Command) (owed : Owed) (w : WorldState) (carried : IsCarried
           where
             units_as : (to : Option Name) (v e : WorldState) → e.manager ≡ v.manager → AreFinalUnits to w v → AreFinalUnits to w e
             units_as None v e same is = (ap (λ (k : ManagerState). k.states) same ∙ is.0, ap (λ (k : ManagerState). k.loaded) same ∙ is.1)
-            units_as (Some to) v e same is = (subst (λ (k : ManagerState). AreEndStates to w (state_of k.states)) (sym same) is.0, ap (λ (k : ManagerState). k.loaded) same ∙ is.1)
+            units_as (Some to) v e same is = (subst (λ (k : ManagerState). AreEndStates false to w (state_of k.states)) (sym same) is.0, ap (λ (k : ManagerState). k.loaded) same ∙ is.1)
 
         -- a rollback has come to its end once the goal is gone
         gone_on_its_way : (o : Option Move) → moves ≡ o → (m : WorldState) → m ≡ cleared_by o v → IsSteadyFor command w → IsOnItsWay o command w m
@@ -824,7 +844,7 @@ module _ (command : Command) (owed : Owed) (w : WorldState) (carried : IsCarried
         clear_moment m step =
             let only = clear_only moves v m step in
             record {
-              step = step_as m (IsStepTo.Clearing r u v is_r is (switch_end switches system owed u v owed_still end) step);
+              step = step_as m (IsStepTo.Clearing r u v is_r is (switch_end switches system owed order u v owed_still ordered_still end) step);
               underway = λ steady. clear_on_its_way moves refl m step steady;
               entered = inr (all_entered command w m units.entries (subst (λ to. AreEntries to w units.entries) (sym (ap (λ b. if_so (b && switches) system) carried.on)) units.are_entered)
                   (ap (λ (k : ManagerState). k.journal) (only.manager refl) ∙ units.journal));

@@ -18,9 +18,9 @@ pub defined_same : (leaves : Leaves) (system : Name) (units : List Unit) → Are
 defined_same leaves system units are unit = ap (λ (systems : Systems). (systems.facts unit).in_new) (systems_same leaves None system [] units refl are)
 
 -- a unit of the system has failed after a switch where the switch leaves one failed
-pub left_failed : (system : Name) (owed : Owed) (w v : WorldState) (units : List Unit) (states : UnitStates) → AreDefsOf w.leaves system units →
-    states ≡ v.manager.states → IsBrought system owed w v → HasFailed units states ↔ ((unit : Name) × IsLeftFailed system owed w unit)
-left_failed system owed w v units states are now final = (
+pub left_failed : (system : Name) (owed : Owed) (order : List Name) (w v : WorldState) (units : List Unit) (states : UnitStates) → AreDefsOf w.leaves system units →
+    states ≡ v.manager.states → IsBrought system owed order w v → HasFailed units states ↔ ((unit : Name) × IsLeftFailed system owed w unit)
+left_failed system owed order w v units states are now final = (
   λ failed. (
     failed.0,
     record {

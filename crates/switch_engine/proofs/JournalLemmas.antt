@@ -27,6 +27,7 @@ use Rattle.tree_put.proofs.SequenceLemmas.{puts_manager}
 use Rattle.unit_stage.specs.Acts.{IsPerforming, entry_of, performed}
 use Rattle.unit_stage.specs.Acts.IsPerforming.{After, Within}
 use Rattle.unit_stage.specs.End.{entries_of}
+use Rattle.unit_stage.specs.Order.{IsOrderedAt}
 use Rattle.unit_stage.specs.Plan.{IsOwedBy}
 use Rattle.unit_stage.specs.Steps.{IsBringStep, IsGiveMoment, IsStopStep, with_given, with_loaded, with_stops}
 use Rattle.unit_stage.specs.Steps.IsBringStep.{Giving, Linked, Waiting}
@@ -119,12 +120,12 @@ record HasGrown (entries : List Entry) (before after : ManagerState) : Type 0 wh
   in_order : entries ≡ made ++ rest
   journal : after.journal ≡ before.journal ++ made
 
-module _ (system : Name) (owed : Owed) (w : WorldState) where
+module _ (system : Name) (owed : Owed) (order : List Name) (w : WorldState) where
   abbrev stops : List Duty
   stops = stop_calls owed
 
   abbrev gives : List Duty
-  gives = reload_calls owed (state_of w.manager.states) ++ restart_calls owed ++ start_calls owed
+  gives = reload_calls owed (state_of w.manager.states) ++ restart_calls owed ++ start_calls order
 
   abbrev stop_entries : List Entry
   stop_entries = map (entry_of w.manager.loaded) stops
@@ -132,7 +133,7 @@ module _ (system : Name) (owed : Owed) (w : WorldState) where
   abbrev give_entries : List Entry
   give_entries = map (entry_of (definitions_of system)) gives
 
-  grown_stops : (after : ManagerState) → HasMade stops w.manager after → HasGrown (entries_of system owed w) w.manager after
+  grown_stops : (after : ManagerState) → HasMade stops w.manager after → HasGrown (entries_of system owed order w) w.manager after
   grown_stops after some = record {
     made = map (entry_of w.manager.loaded) some.made;
     rest = map (entry_of w.manager.loaded) some.rest ++ give_entries;
@@ -144,7 +145,7 @@ module _ (system : Name) (owed : Owed) (w : WorldState) where
   abbrev stopped : ManagerState
   stopped = performed stops w.manager
 
-  grown_gives : (after : ManagerState) → HasMade gives (loading (definitions_of system) stopped) after → HasGrown (entries_of system owed w) w.manager after
+  grown_gives : (after : ManagerState) → HasMade gives (loading (definitions_of system) stopped) after → HasGrown (entries_of system owed order w) w.manager after
   grown_gives after some = record {
     made = stop_entries ++ map (entry_of (definitions_of system)) some.made;
     rest = map (entry_of (definitions_of system)) some.rest;
@@ -158,7 +159,7 @@ module _ (system : Name) (owed : Owed) (w : WorldState) where
   stopped_manager : (u : WorldState) → AreStopped owed w u → u.manager ≡ stopped
   stopped_manager u is = manager_seen u (with_stops (lists_of owed) stops w) is ∙ ap (performed stops) (all_manager (lists_of owed) w)
 
-  grown_stopped : (m : WorldState) → m.manager ≡ stopped → HasGrown (entries_of system owed w) w.manager m.manager
+  grown_stopped : (m : WorldState) → m.manager ≡ stopped → HasGrown (entries_of system owed order w) w.manager m.manager
   grown_stopped m is = grown_stops m.manager (made_all stops w.manager m.manager is)
 
   stopping : (u : WorldState) → IsStopStep (lists_of owed) stops w u → HasMade stops w.manager u.manager
@@ -166,40 +167,40 @@ module _ (system : Name) (owed : Owed) (w : WorldState) where
   stopping u (IsStopStep.Stopping step) =
       subst (λ (k : ManagerState). HasMade stops k u.manager) (all_manager (lists_of owed) w) (made_some stops (with_lists (lists_of owed) w) u step)
 
-  bringing : (v u : WorldState) → v.manager ≡ stopped → IsBringStep system (reload_calls owed (state_of w.manager.states)) (restart_calls owed) (start_calls owed) v u →
-      HasGrown (entries_of system owed w) w.manager u.manager
+  bringing : (v u : WorldState) → v.manager ≡ stopped → IsBringStep system (reload_calls owed (state_of w.manager.states)) (restart_calls owed) (start_calls order) v u →
+      HasGrown (entries_of system owed order w) w.manager u.manager
   bringing v u before (Waiting is) = grown_stopped u (ap (λ (x : WorldState). x.manager) is ∙ before)
   bringing v u before (Linked is) = grown_stopped u (ap (λ (x : WorldState). x.manager) is ∙ before)
   bringing v u before (Giving step) =
       grown_gives u.manager
       (subst (λ (k : ManagerState). HasMade gives (loading (definitions_of system) k) u.manager) before
-      (made_giving (reload_calls owed (state_of w.manager.states)) (restart_calls owed) (start_calls owed) (with_loaded system v) u step))
+      (made_giving (reload_calls owed (state_of w.manager.states)) (restart_calls owed) (start_calls order) (with_loaded system v) u step))
 
-  grown : (m : WorldState) → IsSwitchMoment system owed w m → HasGrown (entries_of system owed w) w.manager m.manager
+  grown : (m : WorldState) → IsSwitchMoment system owed order w m → HasGrown (entries_of system owed order w) w.manager m.manager
   grown m (IsSwitchMoment.Stopping moment) =
-      subst (λ (k : ManagerState). HasGrown (entries_of system owed w) w.manager k) (sym (manager_seen m moment.0 moment.2)) (grown_stops moment.0.manager (stopping moment.0 moment.1))
+      subst (λ (k : ManagerState). HasGrown (entries_of system owed order w) w.manager k) (sym (manager_seen m moment.0 moment.2)) (grown_stops moment.0.manager (stopping moment.0 moment.1))
   grown m (IsSwitchMoment.Activating u is step) = grown_stopped m (activating_manager system u m step ∙ stopped_manager u is)
   grown m (IsSwitchMoment.Bringing u v is activated moment) =
-      subst (λ (k : ManagerState). HasGrown (entries_of system owed w) w.manager k) (sym (manager_seen m moment.0 moment.2))
+      subst (λ (k : ManagerState). HasGrown (entries_of system owed order w) w.manager k) (sym (manager_seen m moment.0 moment.2))
       (bringing v moment.0 (activating_manager system u v activated.moment ∙ stopped_manager u is) moment.1)
 
 -- ---- a command
 
 -- a switch of the units, where they are switched, that began where the manager is that of a first world
 pub switch_enters :
-    (command : Command) (switches : Bool) (system : Name) (owed : Owed) (w u m : WorldState) → if_so switches system ≡ brought_to command w.leaves → (switches ≡ true → IsOwedBy w system owed) →
-    u.manager ≡ w.manager → IsSwitchMomentIf switches system owed u m → HasBegunToEnter command w m
-switch_enters command true system owed w u m brought is_owed same moment =
-    let some = subst (λ (k : ManagerState). HasGrown (entries_of system owed (record u { manager = k })) k m.manager) same (grown system owed u m moment) in
+    (command : Command) (switches : Bool) (system : Name) (owed : Owed) (order : List Name) (w u m : WorldState) → if_so switches system ≡ brought_to command w.leaves → (switches ≡ true → IsOwedBy false w system owed) →
+    (switches ≡ true → IsOrderedAt w.leaves system owed order) → u.manager ≡ w.manager → IsSwitchMomentIf switches system owed order u m → HasBegunToEnter command w m
+switch_enters command true system owed order w u m brought is_owed is_ordered same moment =
+    let some = subst (λ (k : ManagerState). HasGrown (entries_of system owed order (record u { manager = k })) k m.manager) same (grown system owed order u m moment) in
     record {
-      entries = entries_of system owed w;
-      are_entered = subst (λ to. AreEntries to w (entries_of system owed w)) brought (owed, is_owed refl, refl);
+      entries = entries_of system owed order w;
+      are_entered = subst (λ to. AreEntries to w (entries_of system owed order w)) brought (owed, order, is_owed refl, is_ordered refl, refl);
       made = some.made;
       rest = some.rest;
       in_order = some.in_order;
       journal = some.journal;
     }
-switch_enters command false system owed w u m brought is_owed same moment = record {
+switch_enters command false system owed order w u m brought is_owed is_ordered same moment = record {
   entries = [];
   are_entered = subst (λ to. AreEntries to w []) brought refl;
   made = [];

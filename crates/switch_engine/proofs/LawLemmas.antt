@@ -20,6 +20,7 @@ use Rattle.switch_engine.specs.Rows.{refusal}
 use Rattle.switch_names.specs.Names.{Name}
 use Rattle.unit_stage.specs.Owes as units
 use Rattle.unit_stage.specs.Owes.{pays}
+use Rattle.unit_stage.proofs.OrderLemmas.{arranges}
 use Rattle.boot_entries.proofs.MenuLemmas.{menu_begins_law}
 use Rattle.switch_engine.proofs.FlagLemmas.{changes_on}
 use Rattle.switch_engine.proofs.PaidLemmas.{all_joined, entered_owed, entered_paid, left_alone}
@@ -142,10 +143,11 @@ record HasPaid (to : Option Name) (w v : WorldState) (entries : List Entry) : Ty
 has_paid : (switches : Bool) (system : Name) (w v : WorldState) (entries : List Entry) → AreFinalUnits (if_so switches system) w v → AreEntries (if_so switches system) w entries → HasPaid (if_so switches system) w v entries
 has_paid true system w v entries final are =
     let states = final.0 in
+    let same = arranges w.leaves system are.0 are.1 are.3 in
     record {
-      owed_alone = subst (λ (entries : List Entry). AllByRecursion (λ entry. units.OwesUnit w system entry.unit) entries) (sym are.2) (entered_owed w system are.0 are.1);
+      owed_alone = subst (λ (entries : List Entry). AllByRecursion (λ entry. units.OwesUnit false w system entry.unit) entries) (sym are.4) (entered_owed w system are.0 are.2 are.1 same);
       others = λ unit other. states.2 unit ∙ left_alone w system states.0 states.1 unit other;
-      paid = λ act unit owes. subst (λ (entries : List Entry). units.IsPaid system act unit entries) (sym are.2) (entered_paid w system are.0 are.1 act unit owes);
+      paid = λ act unit owes. subst (λ (entries : List Entry). units.IsPaid system act unit entries) (sym are.4) (entered_paid w system are.0 are.2 are.1 same act unit owes);
     }
 has_paid false system w v entries final are = record {
   owed_alone = subst (λ (entries : List Entry). AllByRecursion (λ entry. (act : Act) × OwesActTo None w act entry.unit) entries) (sym are) tt;

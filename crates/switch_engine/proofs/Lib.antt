@@ -1,4 +1,5 @@
 pub mod ActivationApart
+pub mod BootLemmas
 pub mod CarryLemmas
 pub mod DefinedLemmas
 pub mod FailedLemmas
@@ -13,6 +14,7 @@ pub mod PaidLemmas
 pub mod PartsLemmas
 pub mod PlaceLemmas
 pub mod PlanLemmas
+pub mod RebootLemmas
 pub mod ResolveLemmas
 pub mod StoreApart
 pub mod SwitchLemmas

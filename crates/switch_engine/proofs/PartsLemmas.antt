@@ -56,7 +56,7 @@ none_is = record {
 
 pub switch_is : (system : Name) → IsSystemPath system → (owners : OwnerIds) → IsPart (switch_part system owners)
 switch_is system named owners =
-    both_part (units_part system) (activation_part system owners) (units_part_law system (is_system system named)) (activation_part_law system owners named)
+    both_part (units_part false system) (activation_part system owners) (units_part_law false system (is_system system named)) (activation_part_law system owners named)
 
 -- ---- neither looks at what the other owns
 

@@ -33,7 +33,7 @@ module _ (switches : Bool) (moves : Option Move) (system : Name) (leaves : Leave
   way = first_in_the_way ((parts_in switches moves system leaves).places leaves) leaves
 
   abbrev units_reason : Option Refusal
-  units_reason = (part_if switches (units_part system)).refusal leaves
+  units_reason = (part_if switches (units_part false system)).refusal leaves
 
   abbrev activation_reason : Option Refusal
   activation_reason = (part_if switches (activation_in system leaves)).refusal leaves
@@ -47,7 +47,7 @@ module _ (switches : Bool) (moves : Option Move) (system : Name) (leaves : Leave
     where
       by : (b : Bool) →
           option_or (option_map InTheWay way) (option_or ((part_if b (switch_in system leaves)).refusal leaves) profile_reason)
-          ≡ option_or (option_map InTheWay way) (option_or (option_or ((part_if b (units_part system)).refusal leaves) ((part_if b (activation_in system leaves)).refusal leaves)) profile_reason)
+          ≡ option_or (option_map InTheWay way) (option_or (option_or ((part_if b (units_part false system)).refusal leaves) ((part_if b (activation_in system leaves)).refusal leaves)) profile_reason)
       by true = refl
       by false = refl
 
@@ -125,8 +125,8 @@ has_system command leaves named has is stands =
     ∙ ap (λ b. cond b (Some NoSystem) (parts_refusal command leaves)) (some_is (content_of leaves (version_path named)) true stands)
 
 -- a switch of the units is refused for what their part is refused for
-pub refused_switch : (switches : Bool) (named system : Name) (leaves : Leaves) (why : Option Refusal) → switches ≡ true → named ≡ system → unit_refusal leaves named ≡ why → (part_if switches (units_part system)).refusal leaves ≡ why
-refused_switch switches named system leaves why on is refused = ap (λ b. (part_if b (units_part system)).refusal leaves) on ∙ ap (unit_refusal leaves) (sym is) ∙ refused
+pub refused_switch : (switches : Bool) (named system : Name) (leaves : Leaves) (why : Option Refusal) → switches ≡ true → named ≡ system → unit_refusal leaves named ≡ why → (part_if switches (units_part false system)).refusal leaves ≡ why
+refused_switch switches named system leaves why on is refused = ap (λ b. (part_if b (units_part false system)).refusal leaves) on ∙ ap (unit_refusal leaves) (sym is) ∙ refused
 
 -- and for what the activation is refused for
 pub refused_activation : (switches : Bool) (named system : Name) (leaves : Leaves) (why : Option Refusal) → switches ≡ true → named ≡ system → (activation_in named leaves).refusal leaves ≡ why → (part_if switches (activation_in system leaves)).refusal leaves ≡ why
@@ -138,13 +138,13 @@ pub steady_off : (switches : Bool) (system : Name) (w : WorldState) (units : Uni
 steady_off switches system w units off none =
     (λ is. subst (λ b. IsSteadyTo (if_so b system) w) (sym off) tt, λ steady. ap (λ (units : UnitPlan). units.steady) none)
 
-pub steady_on : (switches : Bool) (named system : Name) (w : WorldState) (units : UnitPlan) → switches ≡ true → named ≡ system → IsTrue units.steady ↔ IsSteadyWorld w named → IsTrue units.steady ↔ IsSteadyTo (if_so switches system) w
+pub steady_on : (switches : Bool) (named system : Name) (w : WorldState) (units : UnitPlan) → switches ≡ true → named ≡ system → IsTrue units.steady ↔ IsSteadyWorld false w named → IsTrue units.steady ↔ IsSteadyTo (if_so switches system) w
 steady_on switches named system w units on is told =
-    subst (λ b. IsTrue units.steady ↔ IsSteadyTo (if_so b system) w) (sym on) (subst (λ s. IsTrue units.steady ↔ IsSteadyWorld w s) is told)
+    subst (λ b. IsTrue units.steady ↔ IsSteadyTo (if_so b system) w) (sym on) (subst (λ s. IsTrue units.steady ↔ IsSteadyWorld false w s) is told)
 
 -- what is planned for a system is planned for its command
-pub planned_on : (switches : Bool) (named system : Name) (w : WorldState) (units : UnitPlan) → switches ≡ true → named ≡ system → IsUnitPlanOf named w units → AreUnitsPlanned switches system w units
-planned_on switches named system w units on is planned = subst (λ b. AreUnitsPlanned b system w units) (sym on) (subst (λ s. IsUnitPlanOf s w units) is planned)
+pub planned_on : (switches : Bool) (named system : Name) (w : WorldState) (units : UnitPlan) → switches ≡ true → named ≡ system → IsUnitPlanOf false named w units → AreUnitsPlanned switches system w units
+planned_on switches named system w units on is planned = subst (λ b. AreUnitsPlanned b system w units) (sym on) (subst (λ s. IsUnitPlanOf false s w units) is planned)
 
 pub activation_on : (switches : Bool) (named system : Name) (w : WorldState) (plan : ActivationPlan) → switches ≡ true → named ≡ system → IsActivationPlanOf named w.leaves plan → IsActivationPlanned switches system w (Some plan)
 activation_on switches named system w plan on is planned = (on, subst (λ s. IsActivationPlanOf s w.leaves plan) is planned)

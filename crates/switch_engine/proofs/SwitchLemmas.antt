@@ -34,6 +34,7 @@ use Rattle.switch_parts.specs.Part.{IsAtEnd, IsFree, IsMomentOf, IsOnly, IsPart,
 use Rattle.switch_parts.proofs.Parts.{first_free, first_moment, is_final, moment_then, only_beside, only_first, only_then, second_free, second_moment}
 use Rattle.unit_stage.specs.Acts.{CanPerform, IsPerforming, performed, with_calls}
 use Rattle.unit_stage.specs.Laws.{AreSameBeside}
+use Rattle.unit_stage.specs.Order.{ArrangesStarts}
 use Rattle.unit_stage.specs.Owned.{owns_units}
 use Rattle.unit_stage.specs.Plan.{IsOwedBy}
 use Rattle.unit_stage.specs.Steps.{AreSameUnits, CanBring, IsBringMoment, IsBringStep, IsGiveMoment, IsStopMoment, IsStopStep, IsUnitMoment, with_brought, with_given, with_loaded, with_stops}
@@ -50,12 +51,13 @@ use Rattle.unit_stage.proofs.SystemsLemmas.{is_system}
 use Rattle.unit_stage.proofs.TableLemmas.{all_entered, can_rest, final_states, in_one, ready, started_all}
 use Rattle.unit_stage.proofs.UnitsPartLemmas.{unit_moment_law, units_part_law}
 
-module _ (system : Name) (named : IsSystemPath system) (owed : Owed) (w : WorldState) (is_owed : IsOwedBy w system owed) (free : IsFree (switch_in system w.leaves) w.leaves) where
+module _ (system : Name) (named : IsSystemPath system) (owed : Owed) (w : WorldState) (is_owed : IsOwedBy false w system owed) (order : List Name) (arranges : ArrangesStarts owed order)
+    (free : IsFree (switch_in system w.leaves) w.leaves) where
   abbrev owners : OwnerIds
   owners = owners_after system w.leaves
 
   abbrev units : Part
-  units = units_part system
+  units = units_part false system
 
   abbrev activation : Part
   activation = activation_part system owners
@@ -74,7 +76,7 @@ module _ (system : Name) (named : IsSystemPath system) (owed : Owed) (w : WorldS
   system_is = is_system system named
 
   units_is : IsPart units
-  units_is = units_part_law system system_is
+  units_is = units_part_law false system system_is
 
   activation_is : IsPart activation
   activation_is = activation_part_law system owners named
@@ -98,7 +100,7 @@ module _ (system : Name) (named : IsSystemPath system) (owed : Owed) (w : WorldS
   stop_units : (m : WorldState) → IsStopMoment (lists_of owed) (stop_calls owed) w m → IsMomentOf units w m
   stop_units m moment =
       let u = moment.0 in
-      unit_moment_law system owed w m system_is is_owed (IsUnitMoment.Stopping u moment.1 (units_seen u m moment.2)) (record {
+      unit_moment_law false system owed order w m system_is is_owed arranges (IsUnitMoment.Stopping u moment.1 (units_seen u m moment.2)) (record {
         leaves = λ q none ne. seen_at m u moment.2 q ne ∙ stop_elsewhere (lists_of owed) (stop_calls owed) w u q none ne moment.1;
         manager = λ never. absurd (both_ways true never refl);
       })
@@ -157,28 +159,28 @@ module _ (system : Name) (named : IsSystemPath system) (owed : Owed) (w : WorldS
       -- ---- the system comes into use
 
       abbrev IsBringing : WorldState → Type 0
-      IsBringing m = IsBringMoment system (reload_calls owed states) (restart_calls owed) (start_calls owed) v m
+      IsBringing m = IsBringMoment system (reload_calls owed states) (restart_calls owed) (start_calls order) v m
 
       bring_only : (m : WorldState) → IsBringing m → IsOnly units v m
       bring_only m moment = record {
         leaves = λ q none ne.
             seen_at m moment.0 moment.2 q ne
-            ∙ bring_elsewhere q none (reload_calls owed states) (restart_calls owed) (start_calls owed) system v moment.0 moment.1;
+            ∙ bring_elsewhere q none (reload_calls owed states) (restart_calls owed) (start_calls order) system v moment.0 moment.1;
         manager = λ never. absurd (both_ways true never refl);
       }
 
       all_only : (m : WorldState) → IsBringing m → IsOnly whole w m
       all_only m moment = only_then whole w v m at_ready.only (only_first units activation v m (bring_only m moment))
 
-      bring_units : (m : WorldState) → IsBringing m → AreUnitsKept system w m
+      bring_units : (m : WorldState) → IsBringing m → AreUnitsKept false system w m
       bring_units m moment =
-          let there = same_bringing (reload_calls owed states) (restart_calls owed) (start_calls owed) system stopped_world v moment.0 units_ready moment.1 in
-          let step : IsUnitMoment system owed w m = IsUnitMoment.Bringing there.0 there.1 (units_then there.0 moment.0 m there.2 (units_seen moment.0 m moment.2)) in
+          let there = same_bringing (reload_calls owed states) (restart_calls owed) (start_calls order) system stopped_world v moment.0 units_ready moment.1 in
+          let step : IsUnitMoment system owed order w m = IsUnitMoment.Bringing there.0 there.1 (units_then there.0 moment.0 m there.2 (units_seen moment.0 m moment.2)) in
           let beside : AreSameBeside w m =
           λ q read none. (all_only m moment).leaves q (or_from _ _ none (not_activated q read)) (λ same. both_ways _ not_reads_stage (subst (λ x. units.reads x ≡ true) same read)) in
           record {
-            free = λ before. free_law system owed w m system_is is_owed step beside before;
-            underway = λ before steady. underway_law system owed w m system_is is_owed before steady step beside;
+            free = λ before. free_law false system owed order w m system_is is_owed step beside before;
+            underway = λ before steady. underway_law false system owed order w m system_is is_owed arranges before steady step beside;
           }
 
       bring_moment : (m : WorldState) → IsBringing m → IsMomentOf whole w m
@@ -190,7 +192,7 @@ module _ (system : Name) (named : IsSystemPath system) (owed : Owed) (w : WorldS
       defined : get v.leaves definitions_place ≡ Some (Link (definitions_of system))
       defined = activated.end.end definitions_place definitions_owned ∙ definitions_end system (owners_after system u.leaves) u.leaves
 
-      module _ (reloads restarts starts : List Duty) (reload : reloads ≡ reload_calls owed states) (restart : restarts ≡ restart_calls owed) (start : starts ≡ start_calls owed) where
+      module _ (reloads restarts starts : List Duty) (reload : reloads ≡ reload_calls owed states) (restart : restarts ≡ restart_calls owed) (start : starts ≡ start_calls order) where
         pub can_bring : CanBring system reloads restarts starts v
         can_bring =
             let clear = all_clear v.leaves (first_free units activation v.leaves (whole_is.stays_free w v at_ready.keeps free)).way in
@@ -199,10 +201,10 @@ module _ (system : Name) (named : IsSystemPath system) (owed : Owed) (w : WorldS
               calls =
                   subst (λ (manager : ManagerState). CanPerform (reloads ++ restarts ++ starts) (loading (definitions_of system) manager)) (sym ready_manager)
                   (subst (λ calls. CanPerform calls (ready owed (definitions_of system) w.manager)) (λ i. sym reload i ++ sym restart i ++ sym start i)
-                  (can_rest owed (definitions_of system) w.manager));
+                  (can_rest owed (definitions_of system) w.manager order));
             }
 
-        pub bringing : (m : WorldState) → IsBringMoment system reloads restarts starts v m → IsSwitchMoment system owed w m
+        pub bringing : (m : WorldState) → IsBringMoment system reloads restarts starts v m → IsSwitchMoment system owed order w m
         bringing m moment =
             let step : IsBringing m =
             subst (λ calls. IsBringMoment system (reload_calls owed states) (restart_calls owed) calls v m) start
@@ -215,7 +217,7 @@ module _ (system : Name) (named : IsSystemPath system) (owed : Owed) (w : WorldS
         module _ (d : WorldState) (brought : seen d ≡ seen (with_brought system reloads restarts starts v)) where
           last_step : IsBringing d
           last_step = (
-            with_brought system (reload_calls owed states) (restart_calls owed) (start_calls owed) v,
+            with_brought system (reload_calls owed states) (restart_calls owed) (start_calls order) v,
             IsBringStep.Giving (IsGiveMoment.Given refl),
             brought ∙ (λ i. seen (with_brought system (reload i) (restart i) (start i) v)),
           )
@@ -269,27 +271,27 @@ module _ (system : Name) (named : IsSystemPath system) (owed : Owed) (w : WorldS
                 ∙ sym (ap (λ b. cond b (units.end w.leaves q) (activation.end w.leaves q)) none)
           ]
 
-          pub switched : IsSwitched system owed w d
+          pub switched : IsSwitched system owed order w d
           switched =
               let text = definitions_of system in
-              let rest = reload_calls owed states ++ restart_calls owed ++ start_calls owed in
-              let manager : d.manager ≡ started_all owed text w.manager =
+              let rest = reload_calls owed states ++ restart_calls owed ++ start_calls order in
+              let manager : d.manager ≡ started_all owed text w.manager order =
               manager_seen d (with_brought system reloads restarts starts v) brought
               ∙ (λ i. performed (start i) (performed (restart i) (performed (reload i) (loading text (ready_manager i))))) in
-              let all = manager ∙ in_one owed text w.manager in
+              let all = manager ∙ in_one owed text w.manager order in
               record {
                 leaves = is_final whole w d (all_only d last_step) all_at_end;
                 units = record {
-                  states = λ unit. ap (λ (m : ManagerState). state_of m.states unit) manager ∙ final_states owed text w.manager unit;
+                  states = λ unit. ap (λ (m : ManagerState). state_of m.states unit) manager ∙ final_states owed text w.manager order arranges unit;
                   loaded = ap (λ (m : ManagerState). m.loaded) all ∙ same_loaded rest (ready owed text w.manager);
                   bad = ap (λ (m : ManagerState). m.bad) all ∙ same_bad rest (ready owed text w.manager) ∙ same_bad (stop_calls owed) w.manager;
-                  journal = ap (λ (m : ManagerState). m.journal) manager ∙ all_entered owed text w.manager;
+                  journal = ap (λ (m : ManagerState). m.journal) manager ∙ all_entered owed text w.manager order;
                 };
               }
 
   -- ---- each moment of a switch of the units is one of its parts
 
-  pub switch_part_moment : (m : WorldState) → IsSwitchMoment system owed w m → IsMomentOf whole w m
+  pub switch_part_moment : (m : WorldState) → IsSwitchMoment system owed order w m → IsMomentOf whole w m
   switch_part_moment m (IsSwitchMoment.Stopping moment) = stop_moment m moment
   switch_part_moment m (IsSwitchMoment.Activating u stopped moment) = activate_moment u stopped m moment
   switch_part_moment m (IsSwitchMoment.Bringing u v stopped activated moment) = bring_moment u stopped v activated m moment

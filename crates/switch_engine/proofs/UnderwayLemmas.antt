@@ -125,7 +125,7 @@ pub record IsSince (to : Option Name) (w m : WorldState) : Type 0 where
   pub no_more_owed : (unit : Name) → ((act : Act) × OwesActTo to m act unit) → (act : Act) × OwesActTo to w act unit
   pub steady : IsSteadyTo to m
 
-since_units : (system : Name) (w m : WorldState) → AreUnitsUnderway system w m → IsSince (Some system) w m
+since_units : (system : Name) (w m : WorldState) → AreUnitsUnderway false system w m → IsSince (Some system) w m
 since_units system w m units = record {
   units = λ v. (
     λ is. ((units.same_states (state_of v.manager.states)).0 is.0, is.1),
@@ -161,7 +161,7 @@ since_by : (switches : Bool) (moves : Option Move) (system : Name) (owners : Own
     IsSince (if_so switches system) w m
 since_by true moves system owners gens w m free moment steady =
     let both = first_free (switch_part system owners) (default_if moves system gens) w.leaves free in
-    let units = first_free (units_part system) (activation_part system owners) w.leaves both in
+    let units = first_free (units_part false system) (activation_part system owners) w.leaves both in
     since_units system w m (moment.keeps.0.0.underway (record { way = units.way; refusal = units.refusal }) steady)
 since_by false (Some move) system owners gens w m free moment steady = since_none w m (moment.only.manager refl)
 since_by false None system owners gens w m free moment steady = since_none w m (moment.only.manager refl)

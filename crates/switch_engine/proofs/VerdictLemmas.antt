@@ -43,9 +43,9 @@ same_defined one other system unit inside same = ap (λ (systems : Systems). (sy
 abbrev IsFailedAtEnd : Name → WorldState → WorldState → Type 0
 IsFailedAtEnd system w v = (unit : Name) × (state_of v.manager.states unit ≡ Failed) × IsSome (text_of w.leaves system unit)
 
-failed_at_end : (system : Name) (w v : WorldState) → AreEndStates system w (state_of v.manager.states) → LeavesFailedAt (Some system) w ↔ IsFailedAtEnd system w v
+failed_at_end : (system : Name) (w v : WorldState) → AreEndStates false system w (state_of v.manager.states) → LeavesFailedAt (Some system) w ↔ IsFailedAtEnd system w v
 failed_at_end system w v (owed, (lists, owes), states) = (
-  λ left. (left.2.0, states left.2.0 ∙ sym (one_end system lists owed w owes left.0 left.1 left.2.0) ∙ left.2.1.failed, left.2.1.defined),
+  λ left. (left.2.0, states left.2.0 ∙ sym (one_end false system lists owed w owes left.0 left.1 left.2.0) ∙ left.2.1.failed, left.2.1.defined),
   λ failed. (owed, (lists, owes), (failed.0, record { failed = sym (states failed.0) ∙ failed.1; defined = failed.2 })),
 )
 

@@ -17,7 +17,7 @@ use Rattle.switch_engine.specs.Moments.{IsClearStep, IsMomentOf, record_world}
 use Rattle.switch_engine.specs.Plan.{ArePlanned, IsPlanOf}
 use Rattle.switch_engine.specs.Rows.{gens_to}
 use Rattle.generations.specs.declared.moving.Move.{Move}
-use Rattle.switch_engine.proofs.CarryLemmas.{IsCarriedFrom, activation_same, can_record, can_set, can_switch, carried_from, clear_moment, ends, moves_same, none_failed, only_goal, owed_still, planned_parts, record_free, record_moment, same_manager, set_free, set_moment, switch_free, switch_moment, switches_same, verdict}
+use Rattle.switch_engine.proofs.CarryLemmas.{IsCarriedFrom, activation_same, can_record, can_set, can_switch, carried_from, clear_moment, ends, moves_same, none_failed, only_goal, ordered_still, owed_still, planned_parts, record_free, record_moment, same_manager, set_free, set_moment, switch_free, switch_moment, switches_same, verdict}
 use Rattle.switch_engine.proofs.FlagLemmas.{changes_on, switches_on}
 use Rattle.switch_engine.proofs.LawLemmas.{begins_moment}
 use Rattle.switch_engine.proofs.WayOfSwitch.{leads_both}
@@ -33,11 +33,11 @@ failed_of false defs (Ok outcome) failed none = none_failed defs outcome (none r
 failed_of switches defs (Err f) failed none = tt
 
 -- the units have been switched where the profile was moved before, or needn't be
-record HasSwitched (moves : Option Move) (switches : Bool) (system : Name) (owed : Owed) (w v : WorldState) : Type 0 where
+record HasSwitched (moves : Option Move) (switches : Bool) (system : Name) (owed : Owed) (order : List Name) (w v : WorldState) : Type 0 where
   u : WorldState
   prepared : IsPrepared moves system w u
-  end : IsSwitchedIf switches system owed u v
-  moment : IsSwitchMomentIf switches system owed u v
+  end : IsSwitchedIf switches system owed order u v
+  moment : IsSwitchMomentIf switches system owed order u v
 
 module _ (plan : Plan) (changes : IsQuery plan.command → ⊥) {a : HostState} (planned : Told a (λ w. IsPlanOf w plan)) where
   abbrev switches : WorldState → Bool
@@ -59,7 +59,10 @@ module _ (plan : Plan) (changes : IsQuery plan.command → ⊥) {a : HostState} 
   abbrev owed : Owed
   owed = owed_of plan.units
 
-  from : (w : WorldState) → a.world ≡ Some w → IsCarriedFrom plan.command owed w
+  abbrev order : List Name
+  order = plan.units.ordered.units
+
+  from : (w : WorldState) → a.world ≡ Some w → IsCarriedFrom plan.command owed order w
   from w is = carried_from plan w (planned.has w is) changes
 
   parts : (w : WorldState) → a.world ≡ Some w → ArePlanned (row plan.command w.leaves) w plan
@@ -74,7 +77,7 @@ module _ (plan : Plan) (changes : IsQuery plan.command → ⊥) {a : HostState} 
   pub record_can : Told a (CanRecordBy planned_moves)
   record_can =
       told_as planned (CanRecordBy planned_moves)
-      (λ w is planned. subst (λ mv. CanRecordBy mv w) (sym (same_moves w is)) (can_record (moves w) (named w) (gens_to (moves w) (named w) w.leaves) w (set_free plan.command owed w (from w is))))
+      (λ w is planned. subst (λ mv. CanRecordBy mv w) (sym (same_moves w is)) (can_record (moves w) (named w) (gens_to (moves w) (named w) w.leaves) w (set_free plan.command owed order w (from w is))))
 
   recorded_as : (w r : WorldState) → a.world ≡ Some w → seen r ≡ record_world planned_moves w → seen r ≡ record_world (moves w) w
   recorded_as w r is is_r = subst (λ mv. seen r ≡ record_world mv w) (same_moves w is) is_r
@@ -93,12 +96,12 @@ module _ (plan : Plan) (changes : IsQuery plan.command → ⊥) {a : HostState} 
         (λ w is planned r is_r.
         let recorded = recorded_as w r is is_r in
         subst (λ s. CanSetBy s plan.profile r) (sym (to w is))
-        (can_set (moves w) (named w) (from w is).named w r plan.profile (parts w is).profile (only_goal plan.command owed w (from w is) r recorded) (record_free plan.command owed w (from w is) r recorded)))
+        (can_set (moves w) (named w) (from w is).named w r plan.profile (parts w is).profile (only_goal plan.command owed order w (from w is) r recorded) (record_free plan.command owed order w (from w is) r recorded)))
 
     module _ {b : HostState} (way : Passes a b (IsPreparing planned_moves system)) where
       preparing : (w m : WorldState) → a.world ≡ Some w → IsPreparing (moves w) (named w) w m → IsMomentOf plan.command w m
-      preparing w m is (IsPreparing.Recording step) = record_moment plan.command owed w (from w is) m step
-      preparing w m is (IsPreparing.Setting r is_r step) = set_moment plan.command owed w (from w is) r is_r m step
+      preparing w m is (IsPreparing.Recording step) = record_moment plan.command owed order w (from w is) m step
+      preparing w m is (IsPreparing.Setting r is_r step) = set_moment plan.command owed order w (from w is) r is_r m step
 
       prepare_as : (w m : WorldState) → a.world ≡ Some w → IsPreparing planned_moves system w m → IsMomentOf plan.command w m
       prepare_as w m is step = preparing w m is (subst (λ mv. IsPreparing mv (named w) w m) (same_moves w is) (subst (λ s. IsPreparing planned_moves s w m) (to w is) step))
@@ -120,32 +123,33 @@ module _ (plan : Plan) (changes : IsQuery plan.command → ⊥) {a : HostState} 
               (λ w u is prepared. let from_w = from w is in let at = came w u is prepared in
               subst (λ s. CanSwitchBy s plan.units plan.activation u) (sym (to_last w is))
               (can_switch (switches w) (named w) from_w.named w u plan.units plan.activation (parts w is).units (parts w is).activation
-              (same_manager plan.command owed w from_w at.recorded at.is_recorded u at.is_set) (owed_still plan.command owed w from_w at.recorded at.is_recorded u at.is_set)
-              (activation_same plan.command owed w from_w at.recorded at.is_recorded u at.is_set) (switch_free plan.command owed w from_w at.recorded at.is_recorded u at.is_set)))
+              (same_manager plan.command owed order w from_w at.recorded at.is_recorded u at.is_set) (owed_still plan.command owed order w from_w at.recorded at.is_recorded u at.is_set)
+              (ordered_still plan.command owed order w from_w at.recorded at.is_recorded u at.is_set)
+              (activation_same plan.command owed order w from_w at.recorded at.is_recorded u at.is_set) (switch_free plan.command owed order w from_w at.recorded at.is_recorded u at.is_set)))
 
-          moment_as : (w u m : WorldState) → a.world ≡ Some w → IsSwitchMomentIf by last owed u m → IsSwitchMomentIf (switches w) (named w) owed u m
-          moment_as w u m is moment = subst (λ b. IsSwitchMomentIf b (named w) owed u m) (is_by w is) (subst (λ s. IsSwitchMomentIf by s owed u m) (to_last w is) moment)
+          moment_as : (w u m : WorldState) → a.world ≡ Some w → IsSwitchMomentIf by last owed order u m → IsSwitchMomentIf (switches w) (named w) owed order u m
+          moment_as w u m is moment = subst (λ b. IsSwitchMomentIf b (named w) owed order u m) (is_by w is) (subst (λ s. IsSwitchMomentIf by s owed order u m) (to_last w is) moment)
 
-          end_as : (w u v : WorldState) → a.world ≡ Some w → IsSwitchedIf by last owed u v → IsSwitchedIf (switches w) (named w) owed u v
-          end_as w u v is end = subst (λ b. IsSwitchedIf b (named w) owed u v) (is_by w is) (subst (λ s. IsSwitchedIf by s owed u v) (to_last w is) end)
+          end_as : (w u v : WorldState) → a.world ≡ Some w → IsSwitchedIf by last owed order u v → IsSwitchedIf (switches w) (named w) owed order u v
+          end_as w u v is end = subst (λ b. IsSwitchedIf b (named w) owed order u v) (is_by w is) (subst (λ s. IsSwitchedIf by s owed order u v) (to_last w is) end)
 
-          module _ {d : HostState} (second : Passes b d (IsSwitchMomentIf by last owed)) where
+          module _ {d : HostState} (second : Passes b d (IsSwitchMomentIf by last owed order)) where
             pub switch_moments : Passes a d (IsMomentOf plan.command)
             switch_moments =
                 goes_on way led second (IsMomentOf plan.command) prepare_as
-                (λ w u m is is_u prepared moment. let at = came w u is prepared in switch_moment plan.command owed w (from w is) at.recorded at.is_recorded u at.is_set m (moment_as w u m is moment))
+                (λ w u m is is_u prepared moment. let at = came w u is prepared in switch_moment plan.command owed order w (from w is) at.recorded at.is_recorded u at.is_set m (moment_as w u m is moment))
 
-            module _ (done : Leads b d (IsSwitchedIf by last owed)) where
-              switched_to : Leads a d (λ w v. HasSwitched (moves w) (switches w) (named w) owed w v)
+            module _ (done : Leads b d (IsSwitchedIf by last owed order)) where
+              switched_to : Leads a d (λ w v. HasSwitched (moves w) (switches w) (named w) owed order w v)
               switched_to =
-                  leads_then led (leads_both done second.tells (λ u v. IsSwitchedIf by last owed u v × IsSwitchMomentIf by last owed u v) (λ u v end moment. (end, moment)))
-                  (λ w v. HasSwitched (moves w) (switches w) (named w) owed w v)
+                  leads_then led (leads_both done second.tells (λ u v. IsSwitchedIf by last owed order u v × IsSwitchMomentIf by last owed order u v) (λ u v end moment. (end, moment)))
+                  (λ w v. HasSwitched (moves w) (switches w) (named w) owed order w v)
                   (λ w u v is is_u prepared both. record { u = u; prepared = came w u is prepared; end = end_as w u v is both.0; moment = moment_as w u v is both.1 })
 
               module _ {e : HostState} (third : Passes d e (IsClearStep planned_moves)) where
-                clear_as : (w v m : WorldState) → a.world ≡ Some w → HasSwitched (moves w) (switches w) (named w) owed w v → IsClearStep planned_moves v m → IsMomentOf plan.command w m
+                clear_as : (w v m : WorldState) → a.world ≡ Some w → HasSwitched (moves w) (switches w) (named w) owed order w v → IsClearStep planned_moves v m → IsMomentOf plan.command w m
                 clear_as w v m is switched step =
-                    clear_moment plan.command owed w (from w is) switched.prepared.recorded switched.prepared.is_recorded switched.u switched.prepared.is_set v switched.end switched.moment m
+                    clear_moment plan.command owed order w (from w is) switched.prepared.recorded switched.prepared.is_recorded switched.u switched.prepared.is_set v switched.end switched.moment m
                     (subst (λ mv. IsClearStep mv v m) (same_moves w is) step)
 
                 pub all_moments : Passes a e (IsMomentOf plan.command)
@@ -156,7 +160,7 @@ module _ (plan : Plan) (changes : IsQuery plan.command → ⊥) {a : HostState} 
                   comes_to_end =
                       leads_then switched_to cleared (IsEndOf plan.command)
                       (λ w v x is is_v switched is_x.
-                      ends plan.command owed w (from w is) switched.prepared.recorded switched.prepared.is_recorded switched.u switched.prepared.is_set v switched.end switched.moment x
+                      ends plan.command owed order w (from w is) switched.prepared.recorded switched.prepared.is_recorded switched.u switched.prepared.is_set v switched.end switched.moment x
                       (is_x ∙ ap (λ mv. cleared_by mv v) (same_moves w is)))
 
                   same_states : (o : Option Move) (v x : WorldState) → x ≡ cleared_by o v → v.manager.states ≡ x.manager.states
@@ -184,7 +188,7 @@ module _ (plan : Plan) (changes : IsQuery plan.command → ⊥) {a : HostState} 
                       let v = done.to u.0 u.1 in
                       let at = came w u.0 is u.2 in
                       subst (λ b. IsTrue outcome.failed ↔ LeavesFailedAt (if_so (b && switches w) (named w)) w) (sym (changes_on plan.command w.leaves changes))
-                      (verdict (switches w) (named w) plan.units w u.0 v.0 outcome (parts w is).units (same_manager plan.command owed w (from w is) at.recorded at.is_recorded u.0 at.is_set) (end_as w u.0 v.0 is v.2)
+                      (verdict (switches w) (named w) plan.units w u.0 v.0 outcome (parts w is).units (same_manager plan.command owed order w (from w is) at.recorded at.is_recorded u.0 at.is_set) (end_as w u.0 v.0 is v.2)
                       (λ on. (told (is_by w is ∙ on)).has v.0 v.1)
                       (failed_of by plan.units.defs (Ok outcome) failed none)
                       (λ off. none (is_by w is ∙ off)));

@@ -1,5 +1,5 @@
 -- The steps of a switch of the units over a host, one call after another.
-use Rattle.std.proofs.Common.{◌≡◌, List, Some, sym, subst, ◌∙◌}
+use Rattle.std.proofs.Common.{◌≡◌, List, Some, sym, subst, ◌∙◌, false}
 use Rattle.activation_stage.specs.ActivationPart.{CanActivate, IsActivated, IsActivating, activation_in}
 use Rattle.activation_stage.specs.declared.activation_plan.ActivationPlan.{ActivationPlan}
 use Rattle.host_trait.specs.declared.unit_state.State.{State}
@@ -21,9 +21,11 @@ use Rattle.switch_names.specs.Names.{Name}
 use Rattle.switch_parts.proofs.Parts.{first_free}
 use Rattle.unit_stage.specs.Acts.{CanPerform}
 use Rattle.unit_stage.specs.declared.unit_plan.UnitPlan.{UnitPlan}
+use Rattle.unit_stage.specs.Order.{ArrangesStarts}
 use Rattle.unit_stage.specs.Plan.{owed_of}
 use Rattle.unit_stage.specs.Steps.{AreCallsOf, CanBring, IsBringMoment, IsStopMoment, with_brought, with_stops}
 use Rattle.unit_stage.specs.Units.{units_part}
+use Rattle.unit_stage.proofs.OrderLemmas.{arranges}
 use Rattle.unit_stage.proofs.TableLemmas.{can_stops}
 
 -- what a host comes to has what two calls say of it
@@ -41,28 +43,34 @@ record IsReady (system : Name) (owed : Owed) (w v : WorldState) : Type 0 where
   activated : HasActivated system stopped v
 
 module _ (system : Name) (plan : UnitPlan) (activation : ActivationPlan) (lists : Lists) (stops reloads restarts starts : List Duty) (recorded : lists ≡ lists_of (owed_of plan))
-    (calls : (states : Name → State) → plan.duties ≡ calls_of (owed_of plan) states → AreCallsOf (owed_of plan) states stops reloads restarts starts)
+    (calls : (states : Name → State) → plan.duties ≡ calls_of (owed_of plan) plan.ordered.units states → AreCallsOf (owed_of plan) plan.ordered.units states stops reloads restarts starts)
     {a : HostState} (can : Told a (CanSwitch system plan activation)) where
   abbrev owed : Owed
   owed = owed_of plan
 
-  calls_at : (w : WorldState) → a.world ≡ Some w → AreCallsOf owed (state_of w.manager.states) stops reloads restarts starts
+  abbrev order : List Name
+  order = plan.ordered.units
+
+  arranged_at : (w : WorldState) → a.world ≡ Some w → ArrangesStarts owed order
+  arranged_at w is = arranges w.leaves system owed order (can.has w is).in_order
+
+  calls_at : (w : WorldState) → a.world ≡ Some w → AreCallsOf owed order (state_of w.manager.states) stops reloads restarts starts
   calls_at w is = calls (state_of w.manager.states) (can.has w is).duties
 
   pub lists_can : Told a CanRecord
   lists_can = told_as can CanRecord (λ w is known.
-      let clear = all_clear w.leaves (first_free (units_part system) (activation_in system w.leaves) w.leaves known.free).way in
+      let clear = all_clear w.leaves (first_free (units_part false system) (activation_in system w.leaves) w.leaves known.free).way in
       record { stage = clear.stage; starts = clear.starts; restarts = clear.restarts; reloads = clear.reloads })
 
   pub stops_can : Told a (λ w. CanPerform stops w.manager)
   stops_can = told_as can (λ w. CanPerform stops w.manager) (λ w is known. subst (λ calls. CanPerform calls w.manager) (sym (calls_at w is).are_stops) (can_stops owed w.manager))
 
   module _ {b : HostState} (stop_way : Passes a b (IsStopMoment lists stops)) where
-    stop_as : (w m : WorldState) → a.world ≡ Some w → IsStopMoment lists stops w m → IsSwitchMoment system owed w m
+    stop_as : (w m : WorldState) → a.world ≡ Some w → IsStopMoment lists stops w m → IsSwitchMoment system owed order w m
     stop_as w m is moment = IsSwitchMoment.Stopping (subst (λ calls. IsStopMoment (lists_of owed) calls w m) (calls_at w is).are_stops (subst (λ l. IsStopMoment l stops w m) recorded moment))
 
-    pub first_way : Passes a b (IsSwitchMoment system owed)
-    first_way = passes_as stop_way (IsSwitchMoment system owed) stop_as
+    pub first_way : Passes a b (IsSwitchMoment system owed order)
+    first_way = passes_as stop_way (IsSwitchMoment system owed order) stop_as
 
     module _ (stopped : Comes a b (with_stops lists stops)) where
       came : Leads a b (AreStopped owed)
@@ -71,11 +79,11 @@ module _ (system : Name) (plan : UnitPlan) (activation : ActivationPlan) (lists 
       pub activation_can : Told b (CanActivate system activation)
       activation_can =
           told_after stop_way came (CanActivate system activation)
-          (λ w u is came. let known = can.has w is in can_activate system known.named owed w known.is_owed known.free u came activation known.planned)
+          (λ w u is came. let known = can.has w is in can_activate system known.named owed w known.is_owed order (arranged_at w is) known.free u came activation known.planned)
 
       module _ {c : HostState} (activate_way : Passes b c (IsActivating system)) where
-        pub second_way : Passes a c (IsSwitchMoment system owed)
-        second_way = goes_on stop_way came activate_way (IsSwitchMoment system owed) stop_as (λ w u m is is_u came moment. IsSwitchMoment.Activating u came moment)
+        pub second_way : Passes a c (IsSwitchMoment system owed order)
+        second_way = goes_on stop_way came activate_way (IsSwitchMoment system owed order) stop_as (λ w u m is is_u came moment. IsSwitchMoment.Activating u came moment)
 
         module _ (activated : Leads b c (IsActivated system)) where
           gets_ready : Leads a c (IsReady system owed)
@@ -87,16 +95,16 @@ module _ (system : Name) (plan : UnitPlan) (activation : ActivationPlan) (lists 
           units_can =
               told_after second_way gets_ready (CanBring system reloads restarts starts)
               (λ w v is at. let known = can.has w is in let calls = calls_at w is in
-              can_bring system known.named owed w known.is_owed known.free at.stopped at.came v at.activated reloads restarts starts calls.are_reloads calls.are_restarts calls.are_starts)
+              can_bring system known.named owed w known.is_owed order (arranged_at w is) known.free at.stopped at.came v at.activated reloads restarts starts calls.are_reloads calls.are_restarts calls.are_starts)
 
-          pub third_way : {d : HostState} → Passes c d (IsBringMoment system reloads restarts starts) → Passes a d (IsSwitchMoment system owed)
+          pub third_way : {d : HostState} → Passes c d (IsBringMoment system reloads restarts starts) → Passes a d (IsSwitchMoment system owed order)
           third_way bring_way =
-              goes_on second_way gets_ready bring_way (IsSwitchMoment system owed) (λ w m is moment. moment)
+              goes_on second_way gets_ready bring_way (IsSwitchMoment system owed order) (λ w m is moment. moment)
               (λ w v m is is_v at moment. let known = can.has w is in let calls = calls_at w is in
-              bringing system known.named owed w known.is_owed known.free at.stopped at.came v at.activated reloads restarts starts calls.are_reloads calls.are_restarts calls.are_starts m moment)
+              bringing system known.named owed w known.is_owed order (arranged_at w is) known.free at.stopped at.came v at.activated reloads restarts starts calls.are_reloads calls.are_restarts calls.are_starts m moment)
 
-          pub ends : {d : HostState} → Comes c d (with_brought system reloads restarts starts) → Leads a d (IsSwitched system owed)
+          pub ends : {d : HostState} → Comes c d (with_brought system reloads restarts starts) → Leads a d (IsSwitched system owed order)
           ends brought =
-              leads_then gets_ready brought (IsSwitched system owed)
+              leads_then gets_ready brought (IsSwitched system owed order)
               (λ w v d is is_v at came. let known = can.has w is in let calls = calls_at w is in
-              switched system known.named owed w known.is_owed known.free at.stopped at.came v at.activated reloads restarts starts calls.are_reloads calls.are_restarts calls.are_starts d came)
+              switched system known.named owed w known.is_owed order (arranged_at w is) known.free at.stopped at.came v at.activated reloads restarts starts calls.are_reloads calls.are_restarts calls.are_starts d came)

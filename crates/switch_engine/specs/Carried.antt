@@ -1,5 +1,5 @@
 -- What each step of carrying a plan out needs, and what it leaves: NixOS manual, "What happens during a system switch?".
-use Rattle.std.specs.Prelude.{◌≡◌, Bool, true, false, Option, None, Some, option_map}
+use Rattle.std.specs.Prelude.{◌≡◌, Bool, true, false, List, Option, None, Some, option_map}
 use Rattle.activation_stage.specs.ActivationPart.{IsActivationPlanOf}
 use Rattle.activation_stage.specs.declared.activation_plan.ActivationPlan.{ActivationPlan}
 use Rattle.boot_entries.specs.BootDefault.{CanMakeDefault}
@@ -18,6 +18,7 @@ use Rattle.switch_names.specs.SystemName.{IsSystemPath}
 use Rattle.switch_parts.specs.Part.{IsFree}
 use Rattle.tree_put.specs.Put.{CanPut}
 use Rattle.unit_stage.specs.declared.unit_plan.UnitPlan.{UnitPlan}
+use Rattle.unit_stage.specs.Order.{IsOrderedAt}
 use Rattle.unit_stage.specs.Plan.{IsOwedBy, owed_of}
 
 -- the move of the profile, where one is planned
@@ -35,11 +36,12 @@ abbrev pub CanSetBy : Name → Option BootDefaultPlan → WorldState → Type 0
 CanSetBy system None w = Unit {0}
 CanSetBy system (Some plan) w = CanMakeDefault system plan w
 
--- what is owed and the calls of a plan are those of this world, and so is the activation, and nothing is in the way
+-- what is owed, the starts in order and the calls of a plan are those of this world, and so is the activation, and nothing is in the way
 pub record CanSwitch (system : Name) (plan : UnitPlan) (activation : ActivationPlan) (w : WorldState) : Type 0 where
   pub named : IsSystemPath system
-  pub is_owed : IsOwedBy w system (owed_of plan)
-  pub duties : plan.duties ≡ calls_of (owed_of plan) (state_of w.manager.states)
+  pub is_owed : IsOwedBy false w system (owed_of plan)
+  pub in_order : IsOrderedAt w.leaves system (owed_of plan) plan.ordered.units
+  pub duties : plan.duties ≡ calls_of (owed_of plan) plan.ordered.units (state_of w.manager.states)
   pub planned : IsActivationPlanOf system w.leaves activation
   pub free : IsFree (switch_in system w.leaves) w.leaves
 
@@ -49,14 +51,14 @@ CanSwitchBy system plan None w = Unit {0}
 CanSwitchBy system plan (Some activation) w = CanSwitch system plan activation w
 
 -- a moment of a switch of the units, where they are switched
-abbrev pub IsSwitchMomentIf : Bool → Name → Owed → WorldState → WorldState → Type 0
-IsSwitchMomentIf true system owed u m = IsSwitchMoment system owed u m
-IsSwitchMomentIf false system owed u m = m ≡ u
+abbrev pub IsSwitchMomentIf : Bool → Name → Owed → List Name → WorldState → WorldState → Type 0
+IsSwitchMomentIf true system owed order u m = IsSwitchMoment system owed order u m
+IsSwitchMomentIf false system owed order u m = m ≡ u
 
 -- the world that a switch of the units leaves, where they are switched
-abbrev pub IsSwitchedIf : Bool → Name → Owed → WorldState → WorldState → Type 0
-IsSwitchedIf true system owed u v = IsSwitched system owed u v
-IsSwitchedIf false system owed u v = v ≡ u
+abbrev pub IsSwitchedIf : Bool → Name → Owed → List Name → WorldState → WorldState → Type 0
+IsSwitchedIf true system owed order u v = IsSwitched system owed order u v
+IsSwitchedIf false system owed order u v = v ≡ u
 
 -- the world without the goal, where the profile is moved
 abbrev pub cleared_by : Option Move → WorldState → WorldState

@@ -16,13 +16,14 @@ use Rattle.unit_defs.specs.declared.unit.Unit.{Unit}
 use Rattle.unit_defs.specs.Defs.{found_in}
 use Rattle.unit_defs.specs.Units.{text_of}
 use Rattle.unit_stage.specs.End.{AreEndStates, entries_of, state_after}
+use Rattle.unit_stage.specs.Order.{IsOrderedAt}
 use Rattle.unit_stage.specs.Plan.{IsOwedBy}
 use Rattle.unit_stage.specs.System.{definitions_of}
 
 -- the states of the units and what is loaded, after a switch of them to a system or without one
 abbrev pub AreFinalUnits : Option Name → WorldState → WorldState → Type 0
 AreFinalUnits None w v = (v.manager.states ≡ w.manager.states) × (v.manager.loaded ≡ w.manager.loaded)
-AreFinalUnits (Some system) w v = AreEndStates system w (state_of v.manager.states) × (v.manager.loaded ≡ definitions_of system)
+AreFinalUnits (Some system) w v = AreEndStates false system w (state_of v.manager.states) × (v.manager.loaded ≡ definitions_of system)
 
 -- the world that a command leaves: each leaf but the stage's, the states of the units, and what is loaded
 pub record IsFinalOf (command : Command) (w v : WorldState) : Type 0 where
@@ -33,7 +34,7 @@ pub record IsFinalOf (command : Command) (w v : WorldState) : Type 0 where
 -- what a switch of the units to a system enters in the journal, and nothing without one
 abbrev pub AreEntries : Option Name → WorldState → List Entry → Type 0
 AreEntries None w entries = entries ≡ []
-AreEntries (Some system) w entries = (owed : Owed) × IsOwedBy w system owed × (entries ≡ entries_of system owed w)
+AreEntries (Some system) w entries = (owed : Owed) × (order : List Name) × IsOwedBy false w system owed × IsOrderedAt w.leaves system owed order × (entries ≡ entries_of system owed order w)
 
 -- the world at the end of a command, whose journal has grown by exactly what the command enters
 pub record IsEndOf (command : Command) (w v : WorldState) : Type 0 where
@@ -63,7 +64,7 @@ pub record IsLeftFailed (system : Name) (owed : Owed) (w : WorldState) (unit : N
 -- a switch of the units to a system leaves one of them failed
 abbrev pub LeavesFailedAt : Option Name → WorldState → Type 0
 LeavesFailedAt None w = ⊥
-LeavesFailedAt (Some system) w = (owed : Owed) × IsOwedBy w system owed × ((unit : Name) × IsLeftFailed system owed w unit)
+LeavesFailedAt (Some system) w = (owed : Owed) × IsOwedBy false w system owed × ((unit : Name) × IsLeftFailed system owed w unit)
 
 -- a command leaves a unit failed that its system defines
 abbrev pub LeavesFailed : Command → WorldState → Type 0

@@ -23,6 +23,7 @@ use Rattle.switch_names.specs.Names.{Name}
 use Rattle.switch_parts.specs.Part.{final_leaf}
 use Rattle.tree_put.specs.Put.{IsOldOrGone, IsOldOrNew}
 use Rattle.unit_stage.specs.End.{IsBrought}
+use Rattle.unit_stage.specs.Order.{IsOrderedAt}
 use Rattle.unit_stage.specs.Plan.{IsOwedBy}
 use Rattle.unit_stage.specs.Steps.{IsBringMoment, IsStopMoment, with_stops}
 
@@ -36,17 +37,17 @@ pub record HasActivated (system : Name) (u v : WorldState) : Type 0 where
   pub end : IsActivated system u v
 
 -- A moment of a switch of the units is one of three: the lists are being recorded and units stopped, the accounts are being
--- set and /etc is being made, or the system comes into use and units are reloaded, restarted and started.
-pub data IsSwitchMoment (system : Name) (owed : Owed) (w m : WorldState) : Type 0 where
-  Stopping : IsStopMoment (lists_of owed) (stop_calls owed) w m → IsSwitchMoment system owed w m
-  Activating : (u : WorldState) → AreStopped owed w u → IsActivating system u m → IsSwitchMoment system owed w m
+-- set and /etc is being made, or the system comes into use and units are reloaded, restarted and, in this order, started.
+pub data IsSwitchMoment (system : Name) (owed : Owed) (order : List Name) (w m : WorldState) : Type 0 where
+  Stopping : IsStopMoment (lists_of owed) (stop_calls owed) w m → IsSwitchMoment system owed order w m
+  Activating : (u : WorldState) → AreStopped owed w u → IsActivating system u m → IsSwitchMoment system owed order w m
   Bringing : (u v : WorldState) → AreStopped owed w u → HasActivated system u v →
-      IsBringMoment system (reload_calls owed (state_of w.manager.states)) (restart_calls owed) (start_calls owed) v m → IsSwitchMoment system owed w m
+      IsBringMoment system (reload_calls owed (state_of w.manager.states)) (restart_calls owed) (start_calls order) v m → IsSwitchMoment system owed order w m
 
 -- the world that a switch of the units leaves: each place is at its end, and so is each unit
-pub record IsSwitched (system : Name) (owed : Owed) (w v : WorldState) : Type 0 where
+pub record IsSwitched (system : Name) (owed : Owed) (order : List Name) (w v : WorldState) : Type 0 where
   pub leaves : (q : Name) → q ≢ stage → get v.leaves q ≡ final_leaf (switch_in system w.leaves) w.leaves q
-  pub units : IsBrought system owed w v
+  pub units : IsBrought system owed order w v
 
 -- a step of recording the goal, where the profile goes back to a generation
 abbrev pub IsRecordStep : Option Move → WorldState → WorldState → Type 0
@@ -74,12 +75,12 @@ set_world (Some move) system w = default_end move system w
 -- a step of a switch of the units, where they are switched to a system
 abbrev pub IsSwitchStep : Option Name → WorldState → WorldState → Type 0
 IsSwitchStep None w m = seen m ≡ seen w
-IsSwitchStep (Some system) w m = (owed : Owed) × IsOwedBy w system owed × IsSwitchMoment system owed w m
+IsSwitchStep (Some system) w m = (owed : Owed) × (order : List Name) × IsOwedBy false w system owed × IsOrderedAt w.leaves system owed order × IsSwitchMoment system owed order w m
 
 -- the world that a switch of the units leaves, where they are switched to a system
 abbrev pub IsSwitchEnd : Option Name → WorldState → WorldState → Type 0
 IsSwitchEnd None w v = seen v ≡ seen w
-IsSwitchEnd (Some system) w v = (owed : Owed) × IsOwedBy w system owed × IsSwitched system owed w v
+IsSwitchEnd (Some system) w v = (owed : Owed) × (order : List Name) × IsOwedBy false w system owed × IsOrderedAt w.leaves system owed order × IsSwitched system owed order w v
 
 -- a step of removing the goal, where the profile is moved
 abbrev pub IsClearStep : Option Move → WorldState → WorldState → Type 0

@@ -1,5 +1,5 @@
 -- What a command owes each unit, and a run of it that is underway: NixOS manual, "Unit handling".
-use Rattle.std.specs.Prelude.{◌≡◌, ◌⊎◌, ◌↔◌, ◌++◌, List, Option, None, Some}
+use Rattle.std.specs.Prelude.{◌≡◌, ◌⊎◌, ◌↔◌, ◌++◌, false, List, Option, None, Some}
 use Rattle.std.specs.List.{AllByRecursion}
 use Rattle.host_trait.specs.declared.entry.Act.{Act}
 use Rattle.host_trait.specs.declared.entry.Entry.{Entry}
@@ -15,7 +15,7 @@ use Rattle.unit_stage.specs.Owes.{IsPaid, IsSteadyWorld, Owes}
 -- a switch of the units to a system, where there is one, owes a unit of a world an act of this kind
 abbrev pub OwesActTo : Option Name → WorldState → Act → Name → Type 0
 OwesActTo None w act unit = ⊥
-OwesActTo (Some system) w act unit = Owes w system act unit
+OwesActTo (Some system) w act unit = Owes false w system act unit
 
 -- a command owes a unit of a world an act of this kind
 abbrev pub OwesAct : Command → WorldState → Act → Name → Type 0
@@ -33,7 +33,7 @@ IsPaidBy (Some system) act unit entries = IsPaid system act unit entries
 -- a world whose marks and lists don't contradict each other, as far as a switch of the units looks at them
 abbrev pub IsSteadyTo : Option Name → WorldState → Type 0
 IsSteadyTo None w = Unit {0}
-IsSteadyTo (Some system) w = IsSteadyWorld w system
+IsSteadyTo (Some system) w = IsSteadyWorld false w system
 
 -- such a world for a command
 abbrev pub IsSteadyFor : Command → WorldState → Type 0

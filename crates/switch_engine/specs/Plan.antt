@@ -19,7 +19,7 @@ use Rattle.unit_stage.specs.Plan.{IsUnitPlanOf, no_units}
 
 -- what is planned for the units, where they are switched to a system
 abbrev pub AreUnitsPlanned : Bool → Name → WorldState → UnitPlan → Type 0
-AreUnitsPlanned true system w plan = IsUnitPlanOf system w plan
+AreUnitsPlanned true system w plan = IsUnitPlanOf false system w plan
 AreUnitsPlanned false system w plan = plan ≡ no_units
 
 -- what is planned for the accounts and /etc, where the units are switched to a system

@@ -26,7 +26,7 @@ use Rattle.unit_stage.specs.Units.{units_part}
 -- what is brought into use by a switch to a system, where these are the owners of what is put below /etc; that is made
 -- between the stops and the starts
 abbrev pub switch_part : Name → OwnerIds → Part
-switch_part system owners = both (units_part system) (activation_part system owners)
+switch_part system owners = both (units_part false system) (activation_part system owners)
 
 -- the same with the owners of the tables that are left
 abbrev pub switch_in : Name → Leaves → Part

@@ -88,8 +88,8 @@ fn switch_units<H: Manager>(
 ) -> Result<(), HostFault>
     requires can { Told (H.host host.old) (CanSwitch system.now plan.now activation.now) }
     requires current { current.now ≡ system_leaf system.now }
-    ensures ok { OnOk result (Leads (H.host host.old) (H.host host.new) (IsSwitched system.now (owed_of plan.now))) }
-    ensures moments { Passes (H.host host.old) (H.host host.new) (IsSwitchMoment system.now (owed_of plan.now)) }
+    ensures ok { OnOk result (Leads (H.host host.old) (H.host host.new) (IsSwitched system.now (owed_of plan.now) plan.now.ordered.units)) }
+    ensures moments { Passes (H.host host.old) (H.host host.new) (IsSwitchMoment system.now (owed_of plan.now) plan.now.ordered.units) }
     ensures cause { HasCause (H.host host.old) (H.host host.new) result }
 {
     let calls = calls_of(plan);
@@ -110,10 +110,10 @@ fn carry_switch<H: Manager>(
 ) -> Result<Outcome, HostFault>
     requires can { Told (H.host host.old) (CanSwitch system.now plan.now activation.now) }
     requires current { current.now ≡ system_leaf system.now }
-    ensures ok { OnOk result (Leads (H.host host.old) (H.host host.new) (IsSwitched system.now (owed_of plan.now))) }
+    ensures ok { OnOk result (Leads (H.host host.old) (H.host host.new) (IsSwitched system.now (owed_of plan.now) plan.now.ordered.units)) }
     ensures states { IfOk result (λ outcome. Told (H.host host.new) (λ v. outcome.states ≡ v.manager.states)) }
     ensures failed { IfOk result (λ outcome. IsTrue outcome.failed ↔ HasFailed plan.now.defs outcome.states) }
-    ensures moments { Passes (H.host host.old) (H.host host.new) (IsSwitchMoment system.now (owed_of plan.now)) }
+    ensures moments { Passes (H.host host.old) (H.host host.new) (IsSwitchMoment system.now (owed_of plan.now) plan.now.ordered.units) }
     ensures cause { HasCause (H.host host.old) (H.host host.new) result }
 {
     switch_units(alloc, host, system, plan, activation, current)?;
@@ -134,11 +134,11 @@ fn carry_units<H: Manager>(
 ) -> Result<Outcome, HostFault>
     requires can { Told (H.host host.old) (CanSwitchBy system.now plan.now (option_copied activation)) }
     requires current { current.now ≡ system_leaf system.now }
-    ensures ok { OnOk result (Leads (H.host host.old) (H.host host.new) (IsSwitchedIf (is_some (option_copied activation.entry)) system.now (owed_of plan.now))) }
+    ensures ok { OnOk result (Leads (H.host host.old) (H.host host.new) (IsSwitchedIf (is_some (option_copied activation.entry)) system.now (owed_of plan.now) plan.now.ordered.units)) }
     ensures states { IfOk result (λ outcome. IsTrue (is_some (option_copied activation.entry)) → Told (H.host host.new) (λ v. outcome.states ≡ v.manager.states)) }
     ensures failed { IfOk result (λ outcome. IsTrue (is_some (option_copied activation.entry)) → IsTrue outcome.failed ↔ HasFailed plan.now.defs outcome.states) }
     ensures none { is_some (option_copied activation.entry) ≡ false → IfOk result (λ outcome. outcome ≡ record { states = empty; failed = false }) }
-    ensures moments { Passes (H.host host.old) (H.host host.new) (IsSwitchMomentIf (is_some (option_copied activation.entry)) system.now (owed_of plan.now)) }
+    ensures moments { Passes (H.host host.old) (H.host host.new) (IsSwitchMomentIf (is_some (option_copied activation.entry)) system.now (owed_of plan.now) plan.now.ordered.units) }
     ensures cause { HasCause (H.host host.old) (H.host host.new) result }
 {
     match activation {

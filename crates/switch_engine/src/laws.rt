@@ -1,12 +1,14 @@
 //! The laws by which the promise for one cut becomes that for any number of cuts.
 ghost use Rattle.std.specs.Prelude.{◌≡◌, ◌⊎◌, ◌↔◌, IsSome, List, None, false};
 ghost use Rattle.boot_entries.specs.Menu.{IsMenuWhole};
+ghost use Rattle.generations.specs.Boot.{boot_system};
 ghost use Rattle.host_trait.specs.World.{WorldState};
 ghost use Rattle.switch_engine.specs.declared.command.Command.{Command};
 ghost use Rattle.switch_engine.specs.Commands.{IsQuery, goes_back, new_system, set_to};
 ghost use Rattle.switch_engine.specs.Final.{IsEndOf, IsFinalOf, LeavesFailed};
-ghost use Rattle.switch_engine.specs.Moments.{HasComeBackIn, LeadsBy};
+ghost use Rattle.switch_engine.specs.Moments.{HasComeBackIn, IsMomentOf, LeadsBy};
 ghost use Rattle.switch_engine.specs.Owing.{IsOver, IsSteadyFor, IsUnderway};
+ghost use Rattle.switch_engine.specs.Reboot.{SwitchRebootLaw};
 ghost use Rattle.switch_engine.specs.Rows.{refusal};
 ghost use Rattle.switch_names.specs.SystemName.{IsSystemPath};
 
@@ -57,4 +59,21 @@ pub fn a_cut_leaves_the_same_failed()
 pub fn an_ended_run_leaves_a_whole_boot_menu()
     ensures { (command : Command) (first last : WorldState) → IsSystemPath (new_system command first.leaves) → refusal command first.leaves ≡ None
         → IsSome (set_to command first.leaves) → IsFinalOf command first last → IsMenuWhole first.leaves last.leaves }
+{}
+
+/// At each moment of a command a machine boots into the system that it would have booted into before, or
+/// into the one to which the command moves the profile.
+///
+/// Source: Nix manual, "Profiles".
+pub fn a_cut_run_boots_into_the_old_system_or_the_new()
+    ensures { (command : Command) (w m : WorldState) → IsMomentOf command w m
+        → (boot_system m.leaves ≡ boot_system w.leaves) ⊎ (IsSome (set_to command w.leaves) × (boot_system m.leaves ≡ set_to command w.leaves)) }
+{}
+
+/// Where a machine is rebooted at any moment of a switch, or when that is over, a `test` of its system leaves
+/// of the accounts and of `/etc` what the switch leaves that isn't cut.
+///
+/// Source: file-hierarchy(7), "/run/".
+pub fn a_switch_outlasts_a_reboot()
+    ensures { SwitchRebootLaw }
 {}

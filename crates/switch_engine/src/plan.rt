@@ -7,6 +7,7 @@ use crate::row::Row;
 use activation_stage::ActivationPlan;
 use boot_entries::BootDefaultPlan;
 use owed_plan::Duty;
+use start_order::Ordered;
 use switch_names::{Listed, SystemName, UnitName};
 use unit_defs::Defs;
 use unit_stage::UnitPlan;
@@ -107,6 +108,13 @@ impl Plan {
         ensures { result.now ≡ self.now.units.defs }
     {
         self.units.defs()
+    }
+
+    /// The units to start in the order of their starts, with what could not be kept of that order.
+    pub fn ordered(&self) -> &Ordered
+        ensures { result.now ≡ self.now.units.ordered }
+    {
+        self.units.ordered()
     }
 
     /// The calls on units, in their order.

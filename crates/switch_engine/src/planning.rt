@@ -1,5 +1,5 @@
 //! Plans what a command does, before anything is put or changed.
-ghost use Rattle.std.specs.Prelude.{◌≡◌, ◌↔◌, None, Some, IfOk, IfSome, IsErrOf, IsTrue, OnOk, option_map};
+ghost use Rattle.std.specs.Prelude.{◌≡◌, ◌↔◌, false, None, Some, IfOk, IfSome, IsErrOf, IsTrue, OnOk, option_map};
 ghost use Rattle.std.specs.Option.{option_copied};
 ghost use Rattle.activation_stage.specs.ActivationPart.{activation_in};
 ghost use Rattle.boot_entries.specs.BootDefault.{IsDefaultFor};
@@ -76,15 +76,15 @@ fn check_places<T: Tree>(
 fn plan_switch<H: Manager>(alloc: Global, host: &mut H, row: &Row) -> Result<UnitPlan, PlanFault>
     ensures plan { IfOk result (λ plan. Told (H.host host.old) (λ w. AreUnitsPlanned row.now.switches row.now.system w plan)) }
     ensures steady { IfOk result (λ plan. Told (H.host host.old) (λ w. IsTrue plan.steady ↔ IsSteadyTo (switched_by row.now) w)) }
-    ensures not_refused { OnOk result (Told (H.host host.old) (λ w. (part_if row.now.switches (units_part row.now.system)).refusal w.leaves ≡ None)) }
+    ensures not_refused { OnOk result (Told (H.host host.old) (λ w. (part_if row.now.switches (units_part false row.now.system)).refusal w.leaves ≡ None)) }
     ensures refused { (why : Refusal) → IsErrOf result (Refused why)
-        → Told (H.host host.old) (λ w. (part_if row.now.switches (units_part row.now.system)).refusal w.leaves ≡ Some why) }
+        → Told (H.host host.old) (λ w. (part_if row.now.switches (units_part false row.now.system)).refusal w.leaves ≡ Some why) }
     ensures reads { IsReadingOf (H.host host.old) (H.host host.new) (IsErrOf result (Host Device)) }
 {
     if !row.switches {
         return Ok(UnitPlan::none(alloc));
     }
-    let plan = plan_units(alloc, host, &row.system)?;
+    let plan = plan_units(alloc, host, &row.system, false)?;
     Ok(plan)
 }
 

@@ -1,15 +1,14 @@
 -- Two parts together are a part.
-use Rattle.std.proofs.Common.{◌≡◌, ◌≢◌, Bool, true, false, ◌&&◌, ◌||◌, cond, Option, None, Some, option_map, List, [], ◌∷◌, ◌++◌, refl, sym, ap, subst, ◌∙◌, inl, inr}
+use Rattle.std.proofs.Common.{◌≡◌, ◌≢◌, Bool, true, false, ◌&&◌, ◌||◌, cond, None, Some, option_map, List, [], ◌∷◌, ◌++◌, refl, sym, ap, subst, ◌∙◌, inl, inr}
 use Rattle.std.proofs.lemmas.Option.{none-some}
 use Rattle.std.proofs.lemmas.Bool.{cases_Bool, both_ways, or_left, or_right, or_from}
 use Rattle.std.specs.FinMap.{get}
-use Rattle.std.specs.Option.{option_or}
 use Rattle.host_trait.specs.World.{Leaves, WorldState, stage}
 use Rattle.switch_names.specs.Names.{Name}
 use Rattle.switch_names.proofs.Outcomes.{option_or_parts, option_or_nothing, none_mapped}
 use Rattle.std.specs.List.{find}
 use Rattle.tree_put.specs.WrittenPlace.{is_in_the_way}
-use Rattle.switch_parts.specs.Part.{AreParted, IsAtEnd, IsFree, IsMomentOf, IsOnly, IsPart, IsSameFor, Part, both, final_leaf}
+use Rattle.switch_parts.specs.Part.{AreParted, IsAtEnd, IsDone, IsFree, IsMomentOf, IsOnly, IsPart, IsSameFor, Part, both, final_leaf}
 
 pub left_false : (a b : Bool) → a || b ≡ false → a ≡ false
 left_false true b is = absurd (both_ways _ is refl)
@@ -177,4 +176,51 @@ module _ (p q : Part) (first : IsPart p) (second : IsPart q) (beside : (at : Nam
     | inr not ↦
         let is = sym (ap (λ b. b || q.owns at) not) ∙ own in
         then at is ∙ second.same_end w u (second.frame w u same) at is ∙ sym (ap (λ b. cond b (p.end w.leaves at) (q.end w.leaves at)) not)
+  ]
+
+-- ---- parts that are done
+
+module _ (p : Part) (part : IsPart p) where
+  -- where a part is done, it keeps what the last moment of its work keeps
+  pub done_keeps : p.calls ≡ false → (w u v : WorldState) → IsMomentOf p w u → IsAtEnd p w u → IsDone p w v → p.Keeps w v
+  done_keeps silent w u v moment end done = part.keeps_then w u v moment.keeps (part.frame u v (record {
+    leaves = λ q read. elim (cases_Bool (p.owns q)) [
+      | inl own ↦ done.end q own ∙ sym (end q own)
+      | inr other ↦ done.beside q read other ∙ sym (moment.only.leaves q other (λ same. both_ways _ part.no_stage (subst (λ x. p.reads x ≡ true) same read)))
+    ];
+    manager = λ calls. absurd (both_ways _ silent calls);
+  }))
+
+  -- what is kept where a part is at its end, has that end again
+  pub end_again : (w v : WorldState) → IsAtEnd p w v → p.Keeps w v → IsAtEnd p v v
+  end_again w v end keeps q own = end q own ∙ sym (part.same_end w v keeps q own)
+
+module _ (p q : Part) (first : IsPart p) (second : IsPart q) (parted : AreParted p q) where
+  not_first : (at : Name) → q.owns at ≡ true → p.owns at ≡ false
+  not_first at own = false_by (p.owns at) (p.reads at) (first.reads_own at) (parted.second at own)
+
+  -- where two parts are done, each of them is
+  pub first_done : (w v : WorldState) → IsDone (both p q) w v → IsDone p w v
+  first_done w v done = record {
+    end = λ at own. done.end at (or_left _ _ own) ∙ ap (λ b. cond b (p.end w.leaves at) (q.end w.leaves at)) own;
+    beside = λ at read none. done.beside at (or_left _ _ read) (or_from _ _ none (not_owned at read));
+  }
+    where
+      not_owned : (at : Name) → p.reads at ≡ true → q.owns at ≡ false
+      not_owned at read = elim (cases_Bool (q.owns at)) [ inl own ↦ absurd (both_ways _ (parted.second at own) read) | inr other ↦ other ]
+
+  pub second_done : (w v : WorldState) → IsDone (both p q) w v → IsDone q w v
+  second_done w v done = record {
+    end = λ at own. done.end at (or_right _ _ own) ∙ ap (λ b. cond b (p.end w.leaves at) (q.end w.leaves at)) (not_first at own);
+    beside = λ at read none. done.beside at (or_right _ _ read) (or_from _ _ (not_owned at read) none);
+  }
+    where
+      not_owned : (at : Name) → q.reads at ≡ true → p.owns at ≡ false
+      not_owned at read = elim (cases_Bool (p.owns at)) [ inl own ↦ absurd (both_ways _ (parted.first at own) read) | inr other ↦ other ]
+
+  -- where each of two parts has the same end again, both have
+  pub ends_again : (v : WorldState) → IsAtEnd p v v → IsAtEnd q v v → IsAtEnd (both p q) v v
+  ends_again v one other at own = elim (cases_Bool (p.owns at)) [
+    | inl is ↦ one at is ∙ sym (ap (λ b. cond b (p.end v.leaves at) (q.end v.leaves at)) is)
+    | inr not ↦ other at (sym (ap (λ b. b || q.owns at) not) ∙ own) ∙ sym (ap (λ b. cond b (p.end v.leaves at) (q.end v.leaves at)) not)
   ]

@@ -60,6 +60,11 @@ pub record IsMomentOf (part : Part) (w m : WorldState) : Type 0 where
 abbrev pub IsAtEnd : Part → WorldState → WorldState → Type 0
 IsAtEnd part w v = (q : Name) → part.owns q ≡ true → get v.leaves q ≡ part.end w.leaves q
 
+-- each place that a part owns is at its end, and nothing else that it looks at has changed
+pub record IsDone (part : Part) (w v : WorldState) : Type 0 where
+  pub end : IsAtEnd part w v
+  pub beside : (q : Name) → part.reads q ≡ true → part.owns q ≡ false → get v.leaves q ≡ get w.leaves q
+
 -- neither of two parts looks at what the other owns
 pub record AreParted (p q : Part) : Type 0 where
   pub first : (at : Name) → p.owns at ≡ true → q.reads at ≡ false

@@ -113,14 +113,6 @@ module _ {host : HostState} {sink : SinkState} where
     sink_cause = no_sink sink (IsErrOf (Err y) Sink) no_output;
   }
 
-  -- there was no memory for the words
-  pub unread : (given : Option Command) → IsEnding given host host sink sink (Err (Host Memory))
-  unread given = nothing_done given (Host Memory) (come given) memory_no_device (host_no_sink Memory)
-    where
-      come : (given : Option Command) → HasCome given host host sink sink (Err (Host Memory))
-      come None = idle
-      come (Some command) = BeforeReport idle
-
   -- the words give no command
   pub no_command : IsEnding None host host sink sink (Err Usage)
   no_command = nothing_done None Usage idle (λ is. cc) (λ is. cc)

@@ -1,8 +1,8 @@
+pub mod AskedLemmas
 pub mod EndingLemmas
-pub mod ListingLemmas
 pub mod MomentLemmas
-pub mod RehearsingLemmas
 pub mod RunLemmas
 pub mod RunsLemmas
+pub mod TellingLemmas
 pub mod TextLemmas
 pub mod WordLemmas

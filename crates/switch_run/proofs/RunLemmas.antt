@@ -3,10 +3,10 @@ use Rattle.std.proofs.Common.{◌≡◌, ◌⊎◌, ◌↔◌, ◌++◌, ℕ, Bo
 use Rattle.std.proofs.lemmas.List.{append-nil}
 use Rattle.host_trait.specs.declared.tree.HostFault.TheVariants as host
 use Rattle.host_trait.specs.Change.{IsSame}
-use Rattle.host_trait.specs.Host.{EachMoment, HostState, IsHost, Leads, Passes, Rose, Told}
+use Rattle.host_trait.specs.Host.{HostState, Leads, Passes, Rose, Told}
 use Rattle.host_trait.specs.Sink.{Puts, SinkState}
 use Rattle.host_trait.specs.World.{Leaves, WorldState}
-use Rattle.host_trait.proofs.Moments.{each_moment, passes_as, told_as, none_not_some}
+use Rattle.host_trait.proofs.Moments.{passes_as, told_as, none_not_some}
 use Rattle.switch_engine.specs.declared.command.Command.{Command}
 use Rattle.switch_engine.specs.declared.command.Command.TheVariants.{Test, DryActivate}
 use Rattle.switch_engine.specs.Commands.{IsQuery, lacks_goal, new_system}
@@ -26,7 +26,7 @@ use Rattle.switch_run.specs.Moments.{IsMomentOf}
 use Rattle.switch_run.specs.Output.{IsBrokenOff, IsFailedOutput, IsIdle, IsPutFirst, IsWhole}
 use Rattle.switch_run.specs.Output.IsBrokenOff.{AfterReport, BeforeReport}
 use Rattle.switch_run.specs.Run.{Answers, IsAnswerTo, IsBroken, IsEnded, IsVerdict, status_of}
-use Rattle.switch_run.proofs.MomentLemmas.{begins, of_query, of_report}
+use Rattle.switch_run.proofs.MomentLemmas.{of_query, of_report}
 
 -- ---- which ending has a status
 
@@ -48,7 +48,7 @@ refused_of (Err (fault.Host host.Memory)) why is = absurd cc
 refused_of (Err (fault.Host host.Device)) why is = absurd cc
 refused_of (Err fault.Sink) why is = absurd cc
 
-host_of : (ending : Result Bool RunFault) → status_of ending ≡ HostFault → ending ≡ Err (fault.Host host.Device)
+pub host_of : (ending : Result Bool RunFault) → status_of ending ≡ HostFault → ending ≡ Err (fault.Host host.Device)
 host_of (Ok true) is = absurd cc
 host_of (Ok false) is = absurd cc
 host_of (Err fault.Usage) is = absurd cc
@@ -57,7 +57,7 @@ host_of (Err (fault.Host host.Memory)) is = absurd cc
 host_of (Err (fault.Host host.Device)) is = refl
 host_of (Err fault.Sink) is = absurd cc
 
-sink_of : (ending : Result Bool RunFault) → status_of ending ≡ SinkFault → ending ≡ Err fault.Sink
+pub sink_of : (ending : Result Bool RunFault) → status_of ending ≡ SinkFault → ending ≡ Err fault.Sink
 sink_of (Ok true) is = absurd cc
 sink_of (Ok false) is = absurd cc
 sink_of (Err fault.Usage) is = absurd cc
@@ -191,15 +191,6 @@ module _ {host_state after : HostState} {sink put : SinkState} (given : Option C
   pub sink_not_refused : status ≡ SinkFault → (command : Command) → given ≡ Some command → Told host_state (λ w. refusal command w.leaves ≡ None)
   sink_not_refused s command some = (come_as (Some command) (Err fault.Sink) some (sink_of ending (sym tells ∙ s))).not_refused
 
-  pub host_fault : status ≡ HostFault → Rose host_state.faults after.faults
-  host_fault s = is.cause.rose (host_of ending (sym tells ∙ s))
-
-  pub never_sure : IsTrue host_state.is_sure → status ≡ HostFault → ⊥
-  never_sure sure s = is.cause.never_sure sure (host_of ending (sym tells ∙ s))
-
-  pub sink_fault : status ≡ SinkFault → Rose sink.faults put.faults
-  sink_fault s = is.sink_cause.rose (sink_of ending (sym tells ∙ s))
-
   no_memory : (o : Option Refusal) (command : Command) (w : WorldState) → IsAnswerTo o command w NoMemory
   no_memory None command w = inr refl
   no_memory (Some why) command w = inr refl
@@ -218,6 +209,3 @@ module _ {host_state after : HostState} {sink put : SinkState} (given : Option C
   completes no_host no_sink command some = record {
     has = λ w told. subst (λ (s : Status). Answers command w s) (sym tells) (answer command w told ending (λ e. no_host (is.cause.rose e)) (λ e. no_sink (is.sink_cause.rose e)) (come_as (Some command) ending some refl));
   }
-
-  pub each : IsHost host_state → EachMoment host_state after (IsMomentOf given)
-  each is_host = each_moment is_host is.moments (λ w told. begins given w)

@@ -3,7 +3,7 @@ use Rattle.std.proofs.Common.{◌≡◌, ◌⊎◌, ℕ, false, List, [], ◌∷
 use Rattle.host_trait.specs.States.{UnitStates, state_of}
 use Rattle.host_trait.specs.World.{WorldState}
 use Rattle.owed_lists.specs.declared.lists.Lists.{Lists}
-use Rattle.owed_lists.proofs.ListLemmas.{one_list, same_lists}
+use Rattle.owed_lists.proofs.ListLemmas.{one_list}
 use Rattle.owed_plan.specs.declared.owed.Owed.{Owed}
 use Rattle.owed_plan.specs.FinalStates.{final_state}
 use Rattle.owed_plan.specs.Owed.{IsOwed}
@@ -27,6 +27,7 @@ use Rattle.switch_run.specs.Runs.{LooksAlike, MayBeCut, RunsLead}
 use Rattle.unit_stage.specs.End.{state_after}
 use Rattle.unit_stage.specs.Plan.{IsOwedBy}
 use Rattle.unit_stage.specs.System.{current_system, definitions_of}
+use Rattle.unit_stage.proofs.WaitingLemmas.{same_waiting}
 
 -- ---- runs of words are runs of their command
 
@@ -77,10 +78,10 @@ on_its_way_then (Some (Point n)) command first w m before is = ⊎_elim
 abbrev kept_owed : Owed → Owed
 kept_owed owed = record { stops = owed.stops; reloads = owed.reloads; restarts = owed.restarts; starts = owed.starts; left = [] }
 
-one_owed : (w : WorldState) (system : Name) (one other : Owed) → IsOwedBy w system one → IsOwedBy w system other → kept_owed one ≡ kept_owed other
+one_owed : (w : WorldState) (system : Name) (one other : Owed) → IsOwedBy false w system one → IsOwedBy false w system other → kept_owed one ≡ kept_owed other
 one_owed w system one other is also =
     let mine = is.1.is_owed in
-    let lists = same_lists w.leaves is.0 also.0 is.1.listed also.1.listed in
+    let lists = same_waiting false w.leaves system is.0 also.0 is.1.listed also.1.listed in
     let others = subst (λ (l : Lists). IsOwed (systems_at w.leaves (current_system w.leaves) system) (state_of w.manager.states) l other) (sym lists) also.1.is_owed in
     λ i. record {
       stops = one_list one.stops other.stops _ mine.stops others.stops i;
@@ -90,7 +91,7 @@ one_owed w system one other is also =
       left = [];
     }
 
-one_state : (w : WorldState) (system : Name) (one other : Owed) → IsOwedBy w system one → IsOwedBy w system other → (unit : Name) → state_after system one w unit ≡ state_after system other w unit
+one_state : (w : WorldState) (system : Name) (one other : Owed) → IsOwedBy false w system one → IsOwedBy false w system other → (unit : Name) → state_after system one w unit ≡ state_after system other w unit
 one_state w system one other is also unit =
     ap (λ (owed : Owed). final_state owed (definitions_of system) w.manager.bad (state_of w.manager.states) unit) (one_owed w system one other is also)
 

@@ -24,7 +24,7 @@ system_is text word system same is none =
     ap Some is ∙ sym (ap (λ f. cond (is_none f) (Some (system_path text)) None) none) ∙ ap system_of same
 
 -- a command for a system is about it, whichever it is
-same_command : (one other : Command) → Some one ≡ Some other → one ≡ other
+pub same_command : (one other : Command) → Some one ≡ Some other → one ≡ other
 same_command one other is = cc
 
 module _ (system : List ℕ) (named : IsSystemPath system) (leaves : Leaves) (command : Command) where

@@ -1,3 +1,4 @@
+pub mod Asked
 pub mod Commands
 pub mod Ending
 pub mod Listing
@@ -8,3 +9,4 @@ pub mod Rehearsing
 pub mod Run
 pub mod Runs
 pub mod StatusTexts
+pub mod Telling

@@ -1,5 +1,5 @@
 -- The list of the generations that stand: nix-env(1), "--list-generations".
-use Rattle.std.specs.Prelude.{◌≡◌, ℕ, Bool, false, List, [], ◌∷◌, codes, nat_eq, IsErrOf, Result, Ok, Err}
+use Rattle.std.specs.Prelude.{◌≡◌, ℕ, Bool, false, List, [], ◌∷◌, codes, nat_eq, IsErrOf, Result}
 use Rattle.std.specs.Cmp.Lexicographic.{pointwise}
 use Rattle.dry_report.specs.GenerationList.{generation_lines}
 use Rattle.generations.specs.declared.gens.Gens.{Gens}
@@ -10,8 +10,9 @@ use Rattle.host_trait.specs.Host.{HasCauseOf, HostState, Passes, Told}
 use Rattle.host_trait.specs.Sink.{IsPrefixOf, Puts, SinkState}
 use Rattle.host_trait.specs.World.{WorldState}
 use Rattle.switch_run.specs.declared.run_fault.RunFault.{RunFault}
-use Rattle.switch_run.specs.declared.run_fault.RunFault.TheVariants.{Usage, Refused, Host, Sink}
+use Rattle.switch_run.specs.declared.run_fault.RunFault.TheVariants.{Host, Sink}
 use Rattle.switch_run.specs.Ending.{IsSinkCaused}
+use Rattle.switch_run.specs.Telling.{HasTold}
 
 -- words ask for the list
 abbrev pub asks_list : List (List ℕ) → Bool
@@ -31,17 +32,9 @@ pub record IsInList (w : WorldState) (more : List ℕ) : Type 0 where
   pub is_list : IsListOf w text
   pub begun : IsPrefixOf text more
 
--- what has come of a list, by how it ended: no unit has failed, and nothing refuses it
-abbrev pub HasListed : HostState → SinkState → SinkState → Result Bool RunFault → Type 0
-HasListed host sink put (Ok failed) = (failed ≡ false) × Told host (λ w. Puts sink put (IsListOf w))
-HasListed host sink put (Err Sink) = Told host (λ w. Puts sink put (IsInList w))
-HasListed host sink put (Err (Host fault)) = Puts sink put (λ more. more ≡ [])
-HasListed host sink put (Err (Refused why)) = ⊥
-HasListed host sink put (Err Usage) = ⊥
-
 -- how the list of the generations ends
 pub record IsListing (host after : HostState) (sink put : SinkState) (ending : Result Bool RunFault) : Type 0 where
-  pub come : HasListed host sink put ending
+  pub come : HasTold (Told host (λ w. Puts sink put (IsListOf w))) (Told host (λ w. Puts sink put (IsInList w))) sink put ending
   pub unchanged : Passes host after IsSame
   pub cause : HasCauseOf host after (IsErrOf ending (Host Device))
   pub sink_cause : IsSinkCaused sink put (IsErrOf ending Sink)

@@ -1,17 +1,19 @@
-//! Runs a command, from its plan to its closing text.
+//! Does what words ask for: a command, from its plan to its closing text, a list or a rehearsal.
 ghost use Rattle.std.specs.Prelude.{◌≡◌, Some, IsErrOf};
 ghost use Rattle.host_trait.specs.Host.{Told};
 ghost use Rattle.switch_engine.specs.Plan.{IsPlanOf, IsSound};
 ghost use Rattle.switch_run.specs.declared.run_fault.RunFault.TheVariants.{Sink};
-ghost use Rattle.switch_run.specs.Commands.{command_of};
+ghost use Rattle.switch_run.specs.Asked.{IsRun};
 ghost use Rattle.switch_run.specs.Ending.{HasReported, IsEnding, IsSinkCaused};
 ghost use Rattle.switch_run.specs.Listing.{IsListing};
+ghost use Rattle.switch_run.specs.Rehearsing.{IsRehearsing};
 
+use crate::asked::Asked;
 use crate::run_fault::RunFault;
-use crate::words::read_words;
 use dry_report::{close, generation_list, report};
 use generations::all;
 use host_trait::{Manager, Sink};
+use rehearse::{rehearsal, rehearsal_with_jobs};
 use std::alloc::Global;
 use switch_engine::{Command, Plan, carry_out, plan_all};
 use switch_names::Text;
@@ -60,33 +62,55 @@ fn run_command<H: Manager, S: Sink>(
     run_planned(alloc, host, out, &plan)
 }
 
-/// Runs the command that words give.
-pub fn run_words<H: Manager, S: Sink>(
-    alloc: Global,
-    words: &[Text],
-    host: &mut H,
-    out: &mut S,
-) -> Result<bool, RunFault>
-    ensures { IsEnding (command_of words.now) (H.host host.old) (H.host host.new) (S.sink out.old) (S.sink out.new) result }
-{
-    match read_words(alloc, words)? {
-        Some(command) => run_command(alloc, host, out, &command),
-        None => Err(RunFault::Usage),
-    }
-}
-
 /// Puts the list of the generations that stand, and changes nothing.
 ///
 /// Source: nix-env(1), "--list-generations".
-pub fn run_list<H: Manager, S: Sink>(
-    alloc: Global,
-    host: &mut H,
-    out: &mut S,
-) -> Result<bool, RunFault>
+fn run_list<H: Manager, S: Sink>(alloc: Global, host: &mut H, out: &mut S) -> Result<bool, RunFault>
     ensures { IsListing (H.host host.old) (H.host host.new) (S.sink out.old) (S.sink out.new) result }
 {
     let gens = all(alloc, host)?;
     let text = generation_list(alloc, &gens)?;
     out.put(text.as_slice())?;
     Ok(false)
+}
+
+/// Rehearses a switch of the machine that is made from a number, and puts what came of it. It makes a host of its own, with a
+/// manager that does at once what it is asked.
+fn run_rehearsal<S: Sink>(alloc: Global, number: u64, out: &mut S) -> Result<bool, RunFault>
+    ensures { IsRehearsing number (S.sink out.old) (S.sink out.new) result }
+{
+    let text = rehearsal(alloc, number)?;
+    out.put(text.as_str().as_bytes())?;
+    Ok(false)
+}
+
+/// Rehearses the same on a manager whose jobs end later.
+fn run_rehearsal_with_jobs<S: Sink>(
+    alloc: Global,
+    number: u64,
+    out: &mut S,
+) -> Result<bool, RunFault>
+    ensures { IsRehearsing number (S.sink out.old) (S.sink out.new) result }
+{
+    let text = rehearsal_with_jobs(alloc, number)?;
+    out.put(text.as_str().as_bytes())?;
+    Ok(false)
+}
+
+/// Does what words ask for. Answers whether a unit failed that the system defines.
+pub fn run_words<H: Manager, S: Sink>(
+    alloc: Global,
+    words: &[Text],
+    host: &mut H,
+    out: &mut S,
+) -> Result<bool, RunFault>
+    ensures { IsRun words.now (H.host host.old) (H.host host.new) (S.sink out.old) (S.sink out.new) result }
+{
+    match Asked::read(alloc, words)? {
+        Asked::Command(command) => run_command(alloc, host, out, &command),
+        Asked::Generations => run_list(alloc, host, out),
+        Asked::Rehearsal(number) => run_rehearsal(alloc, number, out),
+        Asked::RehearsalWithJobs(number) => run_rehearsal_with_jobs(alloc, number, out),
+        Asked::Nothing => Err(RunFault::Usage),
+    }
 }

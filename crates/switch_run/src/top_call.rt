@@ -1,5 +1,5 @@
 //! The whole of a run.
-ghost use Rattle.std.specs.Prelude.{◌≡◌, ◌⊎◌, [], ℕ, List, None, Some, IsTrue, true, false};
+ghost use Rattle.std.specs.Prelude.{◌≡◌, ◌⊎◌, [], ℕ, List, None, Some, IsTrue, true};
 ghost use Rattle.host_trait.specs.Change.{IsSame};
 ghost use Rattle.host_trait.specs.Host.{EachMoment, Told, Leads, Passes, Rose};
 ghost use Rattle.host_trait.specs.Sink.{Puts};
@@ -13,6 +13,7 @@ ghost use Rattle.switch_engine.specs.Owing.{IsOver, IsUnderway};
 ghost use Rattle.switch_engine.specs.Rows.{refusal};
 ghost use Rattle.switch_parts.specs.declared.refusal.Refusal.{Refusal};
 ghost use Rattle.dry_report.specs.Report.{KeepsReport};
+ghost use Rattle.switch_run.specs.Asked.{AsksNothing};
 ghost use Rattle.switch_run.specs.Commands.{command_of};
 ghost use Rattle.switch_run.specs.Listing.{IsInList, IsListOf, asks_list};
 ghost use Rattle.switch_run.specs.Moments.{IsMomentOf};
@@ -20,10 +21,8 @@ ghost use Rattle.switch_run.specs.Rehearsing.{AsksRehearsal, IsInRehearsal, Tell
 ghost use Rattle.switch_run.specs.Output.{IsBrokenOff, IsFailedOutput, IsIdle, IsPutFirst, IsWhole};
 ghost use Rattle.switch_run.specs.Run.{Answers, IsBroken, IsEnded, IsVerdict};
 
-use crate::rehearsing::run_rehearsal;
-use crate::running::{run_list, run_words};
+use crate::running::run_words;
 use crate::status::{Status, status_of};
-use crate::words::{asks_list, rehearsed_word};
 use host_trait::{Manager, Sink};
 use std::alloc::Global;
 use switch_names::Text;
@@ -39,10 +38,10 @@ use switch_names::Text;
 /// of the generations that stand, as nix-env(1) does with `--list-generations`, and changes nothing. `rehearse` with a number
 /// switches a made machine in memory under cuts, tells what came of it, and touches nothing of the host.
 pub fn run<H: Manager, S: Sink>(alloc: Global, words: &[Text], host: &mut H, out: &mut S) -> Status
-    // Words that give no command.
-    ensures usage { result ≡ Status.Usage → (command_of words.now ≡ None) × (asks_list words.now ≡ false) × ((number : ℕ) → AsksRehearsal words.now number → ⊥) }
-    ensures no_command { command_of words.now ≡ None → asks_list words.now ≡ false → ((number : ℕ) → AsksRehearsal words.now number → ⊥) → (result ≡ Status.Usage) ⊎ (result ≡ Status.NoMemory) }
-    ensures usage_output { command_of words.now ≡ None → asks_list words.now ≡ false → ((number : ℕ) → AsksRehearsal words.now number → ⊥) → Puts (S.sink out.old) (S.sink out.new) (λ more. more ≡ []) }
+    // Words that ask for nothing that the program does.
+    ensures usage { result ≡ Status.Usage → AsksNothing words.now }
+    ensures no_command { AsksNothing words.now → (result ≡ Status.Usage) ⊎ (result ≡ Status.NoMemory) }
+    ensures usage_output { AsksNothing words.now → Puts (S.sink out.old) (S.sink out.new) (λ more. more ≡ []) }
 
     // Words that ask for the list of the generations. Nothing changes, and the list is put whole; a beginning of it,
     // where the output fails; or nothing, where the host fails or memory is wanting.
@@ -111,14 +110,6 @@ pub fn run<H: Manager, S: Sink>(alloc: Global, words: &[Text], host: &mut H, out
     ensures after_cuts_ended { (command : Command) (first : WorldState) → command_of words.now ≡ Some command → (IsQuery command → ⊥) → IsEnded result
         → Told (H.host host.old) (λ w. IsUnderway first command w) → Leads (H.host host.old) (H.host host.new) (λ w v. IsOver first command v) }
 {
-    if asks_list(words) {
-        let listed = run_list(alloc, host, out);
-        return status_of(listed);
-    }
-    if let Some(word) = rehearsed_word(words) {
-        let told = run_rehearsal(alloc, word, out);
-        return status_of(told);
-    }
     let ending = run_words(alloc, words, host, out);
     status_of(ending)
 }

@@ -1,5 +1,5 @@
 -- Where nothing has changed that the units' part looks at, a switch of the units is underway.
-use Rattle.std.proofs.Common.{◌≡◌, ℕ, List, [], Option, sym, ap, subst, ◌∙◌, inr}
+use Rattle.std.proofs.Common.{◌≡◌, ◌||◌, ℕ, List, [], Option, sym, ap, subst, ◌∙◌, Bool, inr}
 use Rattle.std.proofs.lemmas.List.{append-nil}
 use Rattle.std.specs.FinMap.{get}
 use Rattle.host_trait.specs.declared.entry.Act.{Act}
@@ -8,25 +8,27 @@ use Rattle.host_trait.specs.declared.unit_state.State.{State}
 use Rattle.host_trait.specs.States.{state_of}
 use Rattle.host_trait.specs.World.{WorldState, content_of}
 use Rattle.owed_lists.specs.declared.lists.Lists.{Lists}
-use Rattle.owed_lists.specs.Lists.{AreListsOf, reloads_place, restarts_place, starts_place}
+use Rattle.owed_lists.specs.Lists.{names_in, reloads_place, restarts_place, starts_place}
 use Rattle.owed_lists.specs.Lists as stand_as
 use Rattle.owed_plan.specs.declared.owed.Owed.{Owed}
 use Rattle.owed_plan.specs.FinalStates.{final_state}
 use Rattle.owed_plan.specs.Owed.{IsOwed}
 use Rattle.owed_plan.specs.Steady.{IsSteady}
 use Rattle.owed_plan.specs.Systems.{Systems, systems_at}
-use Rattle.switch_names.specs.Names.{Name}
+use Rattle.switch_names.specs.Names.{Name, has}
 use Rattle.unit_stage.specs.End.{state_after}
 use Rattle.unit_stage.specs.Laws.{AreSameBeside}
 use Rattle.unit_stage.specs.Owes.{IsOwedAct, IsSteadyWorld, Owes, OwesUnit}
 use Rattle.unit_stage.specs.Plan.{IsOwedBy, IsOwedIn}
 use Rattle.unit_stage.specs.System.{IsSystem, current_place, current_system, definitions_of}
 use Rattle.unit_stage.specs.Units.{AreUnitsFree, AreUnitsUnderway}
+use Rattle.unit_stage.specs.Waiting.{AreListsFor, waits_besides}
 use Rattle.unit_stage.proofs.EndLemmas.{ends_same, one_end, owed_in}
 use Rattle.unit_stage.proofs.StandLemmas.{Stand}
 use Rattle.unit_stage.proofs.SystemsLemmas.{same_content, systems_before}
+use Rattle.unit_stage.proofs.WaitingLemmas.{besides_same}
 
-module _ (system : Name) (is_system : IsSystem system) (w m : WorldState) (same : AreSameBeside w m)
+module _ (start_up : Bool) (system : Name) (is_system : IsSystem system) (w m : WorldState) (same : AreSameBeside w m)
     (stand : Stand m.leaves (get w.leaves current_place) (get w.leaves starts_place) (get w.leaves restarts_place) (get w.leaves reloads_place)) (manager : m.manager ≡ w.manager) where
   abbrev before : Systems
   before = systems_at w.leaves (current_system w.leaves) system
@@ -51,16 +53,20 @@ module _ (system : Name) (is_system : IsSystem system) (w m : WorldState) (same 
   reloads : content_of m.leaves reloads_place ≡ content_of w.leaves reloads_place
   reloads = same_content w m same reloads_place stand.reloads
 
-  listed_before : (lists : Lists) → AreListsOf m.leaves lists → AreListsOf w.leaves lists
+  waits_same : (unit : Name) →
+      (waits_besides start_up m.leaves system unit || has (names_in (content_of m.leaves starts_place)) unit) ≡ (waits_besides start_up w.leaves system unit || has (names_in (content_of w.leaves starts_place)) unit)
+  waits_same unit = λ i. besides_same start_up m.leaves w.leaves (current_system m.leaves) (current_system w.leaves) system systems unit i || has (names_in (starts i)) unit
+
+  listed_before : (lists : Lists) → AreListsFor start_up m.leaves system lists → AreListsFor start_up w.leaves system lists
   listed_before lists listed = record {
-    starts = subst (λ content. Lists_at content lists.starts) starts listed.starts;
+    starts = record { sorted = listed.starts.sorted; exact = λ unit. listed.starts.exact unit ∙ waits_same unit };
     restarts = subst (λ content. Lists_at content lists.restarts) restarts listed.restarts;
     reloads = subst (λ content. Lists_at content lists.reloads) reloads listed.reloads;
   }
 
-  listed_after : (lists : Lists) → AreListsOf w.leaves lists → AreListsOf m.leaves lists
+  listed_after : (lists : Lists) → AreListsFor start_up w.leaves system lists → AreListsFor start_up m.leaves system lists
   listed_after lists listed = record {
-    starts = subst (λ content. Lists_at content lists.starts) (sym starts) listed.starts;
+    starts = record { sorted = listed.starts.sorted; exact = λ unit. listed.starts.exact unit ∙ sym (waits_same unit) };
     restarts = subst (λ content. Lists_at content lists.restarts) (sym restarts) listed.restarts;
     reloads = subst (λ content. Lists_at content lists.reloads) (sym reloads) listed.reloads;
   }
@@ -78,38 +84,38 @@ module _ (system : Name) (is_system : IsSystem system) (w m : WorldState) (same 
         subst (λ (x : ManagerState). P after (state_of x.states)) (sym manager)
         (subst (λ (s : Systems). P s (state_of w.manager.states)) (sym systems) holds)
 
-  owes_before : (act : Act) (unit : Name) → Owes m system act unit → Owes w system act unit
+  owes_before : (act : Act) (unit : Name) → Owes start_up m system act unit → Owes start_up w system act unit
   owes_before act unit (lists, listed, owing) = (lists, listed_before lists listed, holds_before (λ (s : Systems) (states : Name → State). IsOwedAct s states lists act unit) owing)
 
-  owes_after : (act : Act) (unit : Name) → Owes w system act unit → Owes m system act unit
+  owes_after : (act : Act) (unit : Name) → Owes start_up w system act unit → Owes start_up m system act unit
   owes_after act unit (lists, listed, owing) = (lists, listed_after lists listed, holds_after (λ (s : Systems) (states : Name → State). IsOwedAct s states lists act unit) owing)
 
-  unit_before : (unit : Name) → OwesUnit m system unit → OwesUnit w system unit
+  unit_before : (unit : Name) → OwesUnit start_up m system unit → OwesUnit start_up w system unit
   unit_before unit (act, owes) = (act, owes_before act unit owes)
 
-  owed_before : (owed : Owed) → IsOwedBy m system owed → IsOwedBy w system owed
+  owed_before : (owed : Owed) → IsOwedBy start_up m system owed → IsOwedBy start_up w system owed
   owed_before owed (lists, is) =
       (lists, record { listed = listed_before lists is.listed; is_owed = holds_before (λ (s : Systems) (states : Name → State). IsOwed s states lists owed) is.is_owed })
 
-  pub owed_after : (owed : Owed) → IsOwedBy w system owed → IsOwedBy m system owed
+  pub owed_after : (owed : Owed) → IsOwedBy start_up w system owed → IsOwedBy start_up m system owed
   owed_after owed (lists, is) =
       (lists, record { listed = listed_after lists is.listed; is_owed = holds_after (λ (s : Systems) (states : Name → State). IsOwed s states lists owed) is.is_owed })
 
-  is_steady : IsSteadyWorld w system → IsSteadyWorld m system
+  is_steady : IsSteadyWorld start_up w system → IsSteadyWorld start_up m system
   is_steady steady lists listed = holds_after (λ (s : Systems) (states : Name → State). IsSteady s states lists) (steady lists (listed_before lists listed))
 
-  module _ (lists : Lists) (owed : Owed) (owes : IsOwedIn w system lists owed) where
-    end_before : (next : Owed) → IsOwedBy m system next → (unit : Name) → state_after system next m unit ≡ state_after system owed w unit
+  module _ (lists : Lists) (owed : Owed) (owes : IsOwedIn start_up w system lists owed) where
+    end_before : (next : Owed) → IsOwedBy start_up m system next → (unit : Name) → state_after system next m unit ≡ state_after system owed w unit
     end_before next is unit =
         ap (λ (x : ManagerState). final_state next (definitions_of system) x.bad (state_of x.states) unit) manager
-        ∙ one_end system lists owed w owes next (owed_before next is) unit
+        ∙ one_end start_up system lists owed w owes next (owed_before next is) unit
 
   -- a switch of the units is underway where it hasn't begun
-  pub begun_underway : AreUnitsFree system m.leaves → IsSteadyWorld w system → AreUnitsUnderway system w m
+  pub begun_underway : AreUnitsFree system m.leaves → IsSteadyWorld start_up w system → AreUnitsUnderway start_up system w m
   begun_underway free steady =
-      let owed = owed_in system w in
+      let owed = owed_in start_up system w in
       record {
-        same_states = ends_same system owed.1.0 owed.0 w owed.1.1 m (end_before owed.1.0 owed.0 owed.1.1);
+        same_states = ends_same start_up system owed.1.0 owed.0 w owed.1.1 m (end_before owed.1.0 owed.0 owed.1.1);
         same_bad = ap (λ (x : ManagerState). x.bad) manager;
         entered = [];
         journal = ap (λ (x : ManagerState). x.journal) manager ∙ sym (append-nil w.manager.journal);

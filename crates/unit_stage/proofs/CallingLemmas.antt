@@ -1,6 +1,6 @@
 -- The moments of the calls after the link: what they make of the units.
 use Rattle.std.proofs.Common.{◌≡◌, ◌&&◌, ◌||◌, ◌++◌, ◌∷◌, Bool, true, false, not, IsTrue, List, [], map, if◌then◌else◌, refl, sym, ap, subst, ◌∙◌, inl, inr}
-use Rattle.std.proofs.lemmas.Bool.{or_left, or_right}
+use Rattle.std.proofs.lemmas.Bool.{both_ways, or_left, or_right}
 use Rattle.std.proofs.lemmas.List.Folds.{list_any-append}
 use Rattle.std.proofs.lemmas.List.{append-nil, append_assoc}
 use Rattle.std.specs.List.{AllByRecursion, list_any}
@@ -17,6 +17,7 @@ use Rattle.owed_plan.specs.declared.owed.Owed.{Owed}
 use Rattle.owed_plan.specs.Calls.{duty, reload_act, reload_calls, restart_calls, start_calls}
 use Rattle.owed_plan.specs.Law.{stopped}
 use Rattle.unit_stage.specs.Acts.{performed}
+use Rattle.unit_stage.specs.Order.{ArrangesStarts}
 use Rattle.owed_plan.specs.FinalStates.{brought_by, is_brought}
 use Rattle.unit_stage.proofs.ActLemmas.{brought_from, brought_to, state_with}
 use Rattle.unit_stage.proofs.CallLemmas.{performed-append, same_bad, same_loaded}
@@ -34,17 +35,17 @@ abbrev pub is_called : List Duty → Name → Bool
 is_called calls unit = list_any (λ call. is_name unit call.unit) calls
 
 -- these calls have been made since the definitions were loaded, the manager has come to this, and these lists stand
-pub data IsCalling (owed : Owed) (states : Name → State) (ready : ManagerState) (made : List Duty) (m : ManagerState) (kept : Lists) : Type 0 where
+pub data IsCalling (owed : Owed) (order : List Name) (states : Name → State) (ready : ManagerState) (made : List Duty) (m : ManagerState) (kept : Lists) : Type 0 where
   Reloading : (rest : List Duty) → reload_calls owed states ≡ made ++ rest → m ≡ performed made ready →
-      kept ≡ lists_left owed.starts owed.restarts owed.reloads → IsCalling owed states ready made m kept
+      kept ≡ lists_left owed.starts owed.restarts owed.reloads → IsCalling owed order states ready made m kept
   Restarting : (part rest : List Duty) → restart_calls owed ≡ part ++ rest → made ≡ reload_calls owed states ++ part → m ≡ performed made ready →
-      kept ≡ lists_left owed.starts owed.restarts [] → IsCalling owed states ready made m kept
+      kept ≡ lists_left owed.starts owed.restarts [] → IsCalling owed order states ready made m kept
   Halfway : (part rest : List Duty) (unit : Name) → restart_calls owed ≡ part ++ duty Restart unit ∷ rest → made ≡ reload_calls owed states ++ part → m ≡ halted unit (performed made ready) →
-      kept ≡ lists_left owed.starts owed.restarts [] → IsCalling owed states ready made m kept
-  Starting : (part rest : List Duty) → start_calls owed ≡ part ++ rest → made ≡ (reload_calls owed states ++ restart_calls owed) ++ part → m ≡ performed made ready →
-      kept ≡ lists_left owed.starts [] [] → IsCalling owed states ready made m kept
-  Done : made ≡ (reload_calls owed states ++ restart_calls owed) ++ start_calls owed → m ≡ performed made ready →
-      kept ≡ lists_left [] [] [] → IsCalling owed states ready made m kept
+      kept ≡ lists_left owed.starts owed.restarts [] → IsCalling owed order states ready made m kept
+  Starting : (part rest : List Duty) → start_calls order ≡ part ++ rest → made ≡ (reload_calls owed states ++ restart_calls owed) ++ part → m ≡ performed made ready →
+      kept ≡ lists_left owed.starts [] [] → IsCalling owed order states ready made m kept
+  Done : made ≡ (reload_calls owed states ++ restart_calls owed) ++ start_calls order → m ≡ performed made ready →
+      kept ≡ lists_left [] [] [] → IsCalling owed order states ready made m kept
 
 -- ---- one unit
 
@@ -166,7 +167,11 @@ called_among calls names more unit found =
     list_any-append test (calls ++ names) more ∙ or_left (is_called (calls ++ names) unit) (is_called more unit)
     (list_any-append test calls names ∙ or_right (is_called calls unit) (is_called names unit) found)
 
-module _ (owed : Owed) (states : Name → State) (ready : ManagerState) (is_ready : (unit : Name) → state_of ready.states unit ≡ stopped owed.stops states unit) where
+-- of a removed list nothing is left
+nothing_left : (names : List Name) (unit : Name) → has [] unit ≡ true → has names unit ≡ true
+nothing_left names unit found = absurd (both_ways false refl found)
+
+module _ (owed : Owed) (order : List Name) (arranges : ArrangesStarts owed order) (states : Name → State) (ready : ManagerState) (is_ready : (unit : Name) → state_of ready.states unit ≡ stopped owed.stops states unit) where
   abbrev before : Name → State
   before = stopped owed.stops states
 
@@ -189,8 +194,8 @@ module _ (owed : Owed) (states : Name → State) (ready : ManagerState) (is_read
   restarts_owed : Owe (restart_calls owed)
   restarts_owed = all_of owed before (λ unit. Restart) owed.restarts (λ unit found. found)
 
-  starts_owed : Owe (start_calls owed)
-  starts_owed = all_of owed before (λ unit. Start) owed.starts (λ unit found. or_left (has owed.starts unit) (has owed.reloads unit) found)
+  starts_owed : Owe (start_calls order)
+  starts_owed = all_of owed before (λ unit. Start) order (λ unit found. or_left (has owed.starts unit) (has owed.reloads unit) (sym (arranges unit) ∙ found))
 
   owe_append : (calls more : List Duty) → Owe calls → Owe more → Owe (calls ++ more)
   owe_append [] more all rest = rest
@@ -280,12 +285,12 @@ module _ (owed : Owed) (states : Name → State) (ready : ManagerState) (is_read
   two_owed : Owe first_two
   two_owed = owe_append (reload_calls owed states) (restart_calls owed) reloads_owed restarts_owed
 
-  starts_done : (unit : Name) → has owed.starts unit ≡ true → Given (first_two ++ start_calls owed) unit
+  starts_done : (unit : Name) → has owed.starts unit ≡ true → Given (first_two ++ start_calls order) unit
   starts_done unit found =
-      subst (λ made. Given made unit) (append-nil (first_two ++ start_calls owed)) (
-        list_given (λ u. Start) owed.starts first_two [] two_owed tt unit found
+      subst (λ made. Given made unit) (append-nil (first_two ++ start_calls order)) (
+        list_given (λ u. Start) order first_two [] two_owed tt unit (arranges unit ∙ found)
             (act_given Start unit (or_left (has owed.starts unit) (has owed.reloads unit) found)),
-        paid (λ u. Start) owed.starts first_two [] two_owed tt unit found,
+        paid (λ u. Start) order first_two [] two_owed tt unit (arranges unit ∙ found),
       )
 
   reloads_done_then : (more : List Duty) → Owe more → (unit : Name) → has owed.reloads unit ≡ true → Given (first_two ++ more) unit
@@ -315,7 +320,7 @@ module _ (owed : Owed) (states : Name → State) (ready : ManagerState) (is_read
   abbrev Called : List Duty → (Name → State) → Lists → Type 0
   Called made now kept = AreCalled owed brings before now kept (is_called made)
 
-  moment : (made : List Duty) (m : ManagerState) (kept : Lists) → IsCalling owed states ready made m kept → Called made (state_of m.states) kept
+  moment : (made : List Duty) (m : ManagerState) (kept : Lists) → IsCalling owed order states ready made m kept → Called made (state_of m.states) kept
   moment made m kept (IsCalling.Reloading rest prefix is stand) =
       let owe = (owe_part (reload_calls owed states) made rest reloads_owed prefix).0 in
       subst (λ (n : ManagerState). Called made (state_of n.states) kept) (sym is)
@@ -332,7 +337,7 @@ module _ (owed : Owed) (states : Name → State) (ready : ManagerState) (is_read
       (subst (λ calls. Called calls (at calls) kept) (sym all)
       (subst (Called done (at done)) (sym stand) (record {
         units = units_of done (owe_append (reload_calls owed states) part reloads_owed owe);
-        reloads = IsLeftOf.Removed refl (reloads_done part owe);
+        reloads = IsLeftOf.Removed (nothing_left owed.reloads) (reloads_done part owe);
         restarts = IsLeftOf.Stands refl;
         starts = IsLeftOf.Stands refl;
       })))
@@ -343,34 +348,34 @@ module _ (owed : Owed) (states : Name → State) (ready : ManagerState) (is_read
       (subst (λ calls. Called calls (state_of (halted name (performed calls ready)).states) kept) (sym all)
       (subst (Called done (state_of (halted name (performed done ready)).states)) (sym stand) (record {
         units = λ unit. half_units done name owes.1.0 unit (owe_append (reload_calls owed states) part reloads_owed owes.0);
-        reloads = IsLeftOf.Removed refl (λ unit found. let given = reloads_done part owes.0 unit found in (half_given done name owes.1.0 unit given.0, given.1));
+        reloads = IsLeftOf.Removed (nothing_left owed.reloads) (λ unit found. let given = reloads_done part owes.0 unit found in (half_given done name owes.1.0 unit given.0, given.1));
         restarts = IsLeftOf.Stands refl;
         starts = IsLeftOf.Stands refl;
       })))
   moment made m kept (IsCalling.Starting part rest prefix all is stand) =
-      let owe = (owe_part (start_calls owed) part rest starts_owed prefix).0 in
+      let owe = (owe_part (start_calls order) part rest starts_owed prefix).0 in
       let done = first_two ++ part in
       subst (λ (n : ManagerState). Called made (state_of n.states) kept) (sym is)
       (subst (λ calls. Called calls (at calls) kept) (sym all)
       (subst (Called done (at done)) (sym stand) (record {
         units = units_of done (owe_append first_two part two_owed owe);
-        reloads = IsLeftOf.Removed refl (reloads_done_then part owe);
-        restarts = IsLeftOf.Removed refl (restarts_done part owe);
+        reloads = IsLeftOf.Removed (nothing_left owed.reloads) (reloads_done_then part owe);
+        restarts = IsLeftOf.Removed (nothing_left owed.restarts) (restarts_done part owe);
         starts = IsLeftOf.Stands refl;
       })))
   moment made m kept (IsCalling.Done all is stand) =
-      let done = first_two ++ start_calls owed in
+      let done = first_two ++ start_calls order in
       subst (λ (n : ManagerState). Called made (state_of n.states) kept) (sym is)
       (subst (λ calls. Called calls (at calls) kept) (sym all)
       (subst (Called done (at done)) (sym stand) (record {
-        units = units_of done (owe_append first_two (start_calls owed) two_owed starts_owed);
-        reloads = IsLeftOf.Removed refl (reloads_done_then (start_calls owed) starts_owed);
-        restarts = IsLeftOf.Removed refl (restarts_done (start_calls owed) starts_owed);
-        starts = IsLeftOf.Removed refl starts_done;
+        units = units_of done (owe_append first_two (start_calls order) two_owed starts_owed);
+        reloads = IsLeftOf.Removed (nothing_left owed.reloads) (reloads_done_then (start_calls order) starts_owed);
+        restarts = IsLeftOf.Removed (nothing_left owed.restarts) (restarts_done (start_calls order) starts_owed);
+        starts = IsLeftOf.Removed (nothing_left owed.starts) starts_done;
       })))
 
 -- at each of these moments the units are in the states to which the calls bring them, and each list outlives its calls
-pub calling_law : (owed : Owed) (states : Name → State) (ready m : ManagerState) (made : List Duty) (kept : Lists) →
-    ((unit : Name) → state_of ready.states unit ≡ stopped owed.stops states unit) → IsCalling owed states ready made m kept →
+pub calling_law : (owed : Owed) (order : List Name) → ArrangesStarts owed order → (states : Name → State) (ready m : ManagerState) (made : List Duty) (kept : Lists) →
+    ((unit : Name) → state_of ready.states unit ≡ stopped owed.stops states unit) → IsCalling owed order states ready made m kept →
     AreCalled owed (brought_by ready.loaded ready.bad) (stopped owed.stops states) (state_of m.states) kept (is_called made)
-calling_law owed states ready m made kept is_ready calling = moment owed states ready is_ready made m kept calling
+calling_law owed order arranges states ready m made kept is_ready calling = moment owed order arranges states ready is_ready made m kept calling

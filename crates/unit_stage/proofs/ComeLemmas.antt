@@ -75,18 +75,18 @@ ready system owed w = loading (definitions_of system) (performed (stop_calls owe
 
 -- nothing has changed; or the start list is recorded, and maybe others, and some of the stops are made; or the system
 -- is in use, and some of the other calls are made
-pub data HasCome (system : Name) (owed : Owed) (w m : WorldState) : Type 0 where
-  Begun : Stand m.leaves (get w.leaves current_place) (get w.leaves starts_place) (get w.leaves restarts_place) (get w.leaves reloads_place) → m.manager ≡ w.manager → HasCome system owed w m
+pub data HasCome (system : Name) (owed : Owed) (order : List Name) (w m : WorldState) : Type 0 where
+  Begun : Stand m.leaves (get w.leaves current_place) (get w.leaves starts_place) (get w.leaves restarts_place) (get w.leaves reloads_place) → m.manager ≡ w.manager → HasCome system owed order w m
   Stopping : (count : ℕ) (to_restart to_reload : Option LeafKind) → IsOldOrOwed w.leaves restarts_place owed.restarts to_restart → IsOldOrOwed w.leaves reloads_place owed.reloads to_reload →
-      Stand m.leaves (get w.leaves current_place) (leaf_of_list owed.starts) to_restart to_reload → m.manager ≡ performed (take count (stop_calls owed)) w.manager → HasCome system owed w m
+      Stand m.leaves (get w.leaves current_place) (leaf_of_list owed.starts) to_restart to_reload → m.manager ≡ performed (take count (stop_calls owed)) w.manager → HasCome system owed order w m
   Bringing : (made rest : List Duty) (to_start to_restart to_reload : List Name) (like : ManagerState) →
-      (reload_calls owed (state_of w.manager.states) ++ restart_calls owed) ++ start_calls owed ≡ made ++ rest →
-      IsCalling owed (state_of w.manager.states) (ready system owed w) made like (lists_left to_start to_restart to_reload) →
+      (reload_calls owed (state_of w.manager.states) ++ restart_calls owed) ++ start_calls order ≡ made ++ rest →
+      IsCalling owed order (state_of w.manager.states) (ready system owed w) made like (lists_left to_start to_restart to_reload) →
       like.bad ≡ (performed made (ready system owed w)).bad → like.journal ≡ (performed made (ready system owed w)).journal → IsLike like m.manager →
       IsWholeOrNone owed.starts to_start → IsWholeOrNone owed.restarts to_restart → IsWholeOrNone owed.reloads to_reload →
-      Stand m.leaves (Some (system_leaf system)) (leaf_of_list to_start) (leaf_of_list to_restart) (leaf_of_list to_reload) → HasCome system owed w m
+      Stand m.leaves (Some (system_leaf system)) (leaf_of_list to_start) (leaf_of_list to_restart) (leaf_of_list to_reload) → HasCome system owed order w m
 
-module _ (system : Name) (owed : Owed) (w : WorldState) where
+module _ (system : Name) (owed : Owed) (order : List Name) (w : WorldState) where
   abbrev lists : Lists
   lists = lists_of owed
 
@@ -100,7 +100,7 @@ module _ (system : Name) (owed : Owed) (w : WorldState) where
   restarts = restart_calls owed
 
   abbrev starts : List Duty
-  starts = start_calls owed
+  starts = start_calls order
 
   abbrev then_ready : ManagerState
   then_ready = ready system owed w
@@ -127,7 +127,7 @@ module _ (system : Name) (owed : Owed) (w : WorldState) where
   to_reload = leaf_of_list owed.reloads
 
   -- what stands where the owned places have the same
-  pub come_same : (u m : WorldState) → HasCome system owed w u → AreSameUnits u m → HasCome system owed w m
+  pub come_same : (u m : WorldState) → HasCome system owed order w u → AreSameUnits u m → HasCome system owed order w m
   come_same u m (HasCome.Begun stand manager) same = HasCome.Begun (same_stands u old_link old_start old_restart old_reload stand m same) (same.manager ∙ manager)
   come_same u m (HasCome.Stopping count restart reload old_restarts old_reloads stand manager) same =
       HasCome.Stopping count restart reload old_restarts old_reloads (same_stands u old_link to_start restart reload stand m same) (same.manager ∙ manager)
@@ -143,7 +143,7 @@ module _ (system : Name) (owed : Owed) (w : WorldState) where
 
   -- ---- up to the last stop
 
-  recording : (u : WorldState) → IsRecordMoment lists w u → HasCome system owed w u
+  recording : (u : WorldState) → IsRecordMoment lists w u → HasCome system owed order w u
   recording u (inl none) = HasCome.Begun (seen_stands w old_link old_start old_restart old_reload (stands w.leaves) u none) (ap (λ (x : WorldState). x.manager) none)
   recording u (inr (inl one)) =
       HasCome.Stopping 0 old_restart old_reload (inl refl) (inl refl)
@@ -167,14 +167,14 @@ module _ (system : Name) (owed : Owed) (w : WorldState) where
   no_restart_in_stops : AllByRecursion (λ call. is_restart call.act ≡ false) stops
   no_restart_in_stops = all_of (λ call. is_restart call.act ≡ false) (λ u. Stop) (sockets_first unit_kind owed.stops) (λ unit. refl)
 
-  stopping : (u : WorldState) → IsPerforming stops (with_lists lists w) u → HasCome system owed w u
+  stopping : (u : WorldState) → IsPerforming stops (with_lists lists w) u → HasCome system owed order w u
   stopping u (IsPerforming.After count is) =
       HasCome.Stopping count to_restart to_reload (inr refl) (inr refl)
       (subst StandsRecorded (sym (ap (λ (x : WorldState). x.leaves) is)) recorded_stands)
       (ap (λ (x : WorldState). x.manager) is ∙ ap (performed (take count stops)) (all_manager lists w))
   stopping u (IsPerforming.Within count unit there is) = absurd (none_within stops count unit no_restart_in_stops there)
 
-  stop_step : (u : WorldState) → IsStopStep lists stops w u → HasCome system owed w u
+  stop_step : (u : WorldState) → IsStopStep lists stops w u → HasCome system owed order w u
   stop_step u (IsStopStep.Recording moment) = recording u moment
   stop_step u (IsStopStep.Stopping performing) = stopping u performing
 
@@ -238,20 +238,20 @@ module _ (system : Name) (owed : Owed) (w : WorldState) where
       either false = refl
 
   no_restart_in_starts : AllByRecursion (λ call. is_restart call.act ≡ false) starts
-  no_restart_in_starts = all_of (λ call. is_restart call.act ≡ false) (λ u. Start) owed.starts (λ unit. refl)
+  no_restart_in_starts = all_of (λ call. is_restart call.act ≡ false) (λ u. Start) order (λ unit. refl)
 
   itself : (manager : ManagerState) → IsLike manager manager
   itself manager = record { states = refl; bad = refl; journal = refl }
 
   -- a moment by its calls and what stands
   by_calls : (u y : WorldState) (made rest : List Duty) (start restart reload : List Name) → (reloads ++ restarts) ++ starts ≡ made ++ rest →
-      IsCalling owed (state_of w.manager.states) then_ready made u.manager (lists_left start restart reload) → u.manager.bad ≡ (performed made then_ready).bad → u.manager.journal ≡ (performed made then_ready).journal →
-      IsWholeOrNone owed.starts start → IsWholeOrNone owed.restarts restart → IsWholeOrNone owed.reloads reload → u.leaves ≡ y.leaves → StandsLinked y.leaves start restart reload → HasCome system owed w u
+      IsCalling owed order (state_of w.manager.states) then_ready made u.manager (lists_left start restart reload) → u.manager.bad ≡ (performed made then_ready).bad → u.manager.journal ≡ (performed made then_ready).journal →
+      IsWholeOrNone owed.starts start → IsWholeOrNone owed.restarts restart → IsWholeOrNone owed.reloads reload → u.leaves ≡ y.leaves → StandsLinked y.leaves start restart reload → HasCome system owed order w u
   by_calls u y made rest start restart reload prefix calling bad journal whole_start whole_restart whole_reload same stand =
       HasCome.Bringing made rest start restart reload u.manager prefix calling bad journal (itself u.manager) whole_start whole_restart whole_reload
       (subst (λ (leaves : Leaves). StandsLinked leaves start restart reload) (sym same) stand)
 
-  in_reloads : (u : WorldState) → IsPerforming reloads x u → HasCome system owed w u
+  in_reloads : (u : WorldState) → IsPerforming reloads x u → HasCome system owed order w u
   in_reloads u (IsPerforming.After count is) =
       let part = take count reloads in
       let split : reloads ≡ part ++ drop count reloads = sym (take-append-drop count reloads) in
@@ -262,7 +262,7 @@ module _ (system : Name) (owed : Owed) (w : WorldState) where
       (inl refl) (inl refl) (inl refl) (ap (λ (y : WorldState). y.leaves) is) leaves_x
   in_reloads u (IsPerforming.Within count unit there is) = absurd (none_within reloads count unit no_restart_in_reloads there)
 
-  in_restarts : (u : WorldState) → IsPerforming restarts given_one u → HasCome system owed w u
+  in_restarts : (u : WorldState) → IsPerforming restarts given_one u → HasCome system owed order w u
   in_restarts u (IsPerforming.After count is) =
       let part = take count restarts in
       let split : restarts ≡ part ++ drop count restarts = sym (take-append-drop count restarts) in
@@ -282,7 +282,7 @@ module _ (system : Name) (owed : Owed) (w : WorldState) where
       (ap (λ (y : ManagerState). y.bad) made) (ap (λ (y : ManagerState). y.journal) made)
       (inl refl) (inl refl) (inr refl) (ap (λ (y : WorldState). y.leaves) is) leaves_one
 
-  in_starts : (u : WorldState) → IsPerforming starts given_two u → HasCome system owed w u
+  in_starts : (u : WorldState) → IsPerforming starts given_two u → HasCome system owed order w u
   in_starts u (IsPerforming.After count is) =
       let part = take count starts in
       let split : starts ≡ part ++ drop count starts = sym (take-append-drop count starts) in
@@ -294,7 +294,7 @@ module _ (system : Name) (owed : Owed) (w : WorldState) where
       (inl refl) (inr refl) (inr refl) (ap (λ (y : WorldState). y.leaves) is) leaves_two
   in_starts u (IsPerforming.Within count unit there is) = absurd (none_within starts count unit no_restart_in_starts there)
 
-  at_end : (u : WorldState) → u ≡ with_given Starts starts given_two → HasCome system owed w u
+  at_end : (u : WorldState) → u ≡ with_given Starts starts given_two → HasCome system owed order w u
   at_end u is =
       let all = (reloads ++ restarts) ++ starts in
       let made : u.manager ≡ performed all then_ready =
@@ -303,13 +303,13 @@ module _ (system : Name) (owed : Owed) (w : WorldState) where
       (ap (λ (y : ManagerState). y.bad) made) (ap (λ (y : ManagerState). y.journal) made)
       (inr refl) (inr refl) (inr refl) (ap (λ (y : WorldState). y.leaves) is) leaves_end
 
-  giving : (u : WorldState) → IsGiveMoment reloads restarts starts x u → HasCome system owed w u
+  giving : (u : WorldState) → IsGiveMoment reloads restarts starts x u → HasCome system owed order w u
   giving u (IsGiveMoment.Reloading performing) = in_reloads u performing
   giving u (IsGiveMoment.Restarting performing) = in_restarts u performing
   giving u (IsGiveMoment.Starting performing) = in_starts u performing
   giving u (IsGiveMoment.Given is) = at_end u is
 
-  bring_step : (u : WorldState) → IsBringStep system reloads restarts starts v u → HasCome system owed w u
+  bring_step : (u : WorldState) → IsBringStep system reloads restarts starts v u → HasCome system owed order w u
   bring_step u (IsBringStep.Waiting is) =
       HasCome.Stopping (length stops) to_restart to_reload (inr refl) (inr refl)
       (subst StandsRecorded (sym (ap (λ (y : WorldState). y.leaves) is)) recorded_stands)
@@ -328,6 +328,6 @@ module _ (system : Name) (owed : Owed) (w : WorldState) where
   bring_step u (IsBringStep.Giving moment) = giving u moment
 
   -- each moment of a switch of the units
-  pub has_come : (m : WorldState) → IsUnitMoment system owed w m → HasCome system owed w m
+  pub has_come : (m : WorldState) → IsUnitMoment system owed order w m → HasCome system owed order w m
   has_come m (IsUnitMoment.Stopping u step same) = come_same u m (stop_step u step) same
   has_come m (IsUnitMoment.Bringing u step same) = come_same u m (bring_step u step) same

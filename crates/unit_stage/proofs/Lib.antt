@@ -10,6 +10,7 @@ pub mod EndLemmas
 pub mod FreeLemmas
 pub mod KnownLemmas
 pub mod MomentLemmas
+pub mod OrderLemmas
 pub mod OwnedLemmas
 pub mod PartLemmas
 pub mod PayLemmas
@@ -22,3 +23,4 @@ pub mod SystemsLemmas
 pub mod TableLemmas
 pub mod UnderwayLemmas
 pub mod UnitsPartLemmas
+pub mod WaitingLemmas

@@ -28,20 +28,20 @@ stops_length owed =
     ∙ length-append (filter (λ unit. is_kind (unit_kind unit) Socket) owed.stops) (filter (λ unit. not (is_kind (unit_kind unit) Socket)) owed.stops)
     ∙ length-filter_both (λ unit. is_kind (unit_kind unit) Socket) (λ unit. not (is_kind (unit_kind unit) Socket)) (λ unit. refl) owed.stops
 
-module _ (owed : Owed) (states : Name → State) where
-  all_calls : calls_of owed states ≡ stop_calls owed ++ (reload_calls owed states ++ (restart_calls owed ++ start_calls owed))
+module _ (owed : Owed) (order : List Name) (states : Name → State) where
+  all_calls : calls_of owed order states ≡ stop_calls owed ++ (reload_calls owed states ++ (restart_calls owed ++ start_calls order))
   all_calls =
-      append_assoc (stop_calls owed ++ reload_calls owed states) (restart_calls owed) (start_calls owed)
-      ∙ append_assoc (stop_calls owed) (reload_calls owed states) (restart_calls owed ++ start_calls owed)
+      append_assoc (stop_calls owed ++ reload_calls owed states) (restart_calls owed) (start_calls order)
+      ∙ append_assoc (stop_calls owed) (reload_calls owed states) (restart_calls owed ++ start_calls order)
 
   -- cut after as many calls as there are units to stop, to reload and to restart
-  pub are_parts : (calls others later stops reloads restarts starts : List Duty) → calls ≡ calls_of owed states →
+  pub are_parts : (calls others later stops reloads restarts starts : List Duty) → calls ≡ calls_of owed order states →
       stops ≡ take (length owed.stops) calls → others ≡ drop (length owed.stops) calls →
       reloads ≡ take (length owed.reloads) others → later ≡ drop (length owed.reloads) others →
       restarts ≡ take (length owed.restarts) later → starts ≡ drop (length owed.restarts) later →
-      AreCallsOf owed states stops reloads restarts starts
+      AreCallsOf owed order states stops reloads restarts starts
   are_parts calls others later stops reloads restarts starts are stopped first reloaded second restarted started =
-      let reload = reload_calls owed states in let restart = restart_calls owed in let start = start_calls owed in
+      let reload = reload_calls owed states in let restart = restart_calls owed in let start = start_calls order in
       let all : calls ≡ stop_calls owed ++ (reload ++ (restart ++ start)) = are ∙ all_calls in
       let rest : others ≡ reload ++ (restart ++ start) = after (length owed.stops) (stop_calls owed) (reload ++ (restart ++ start)) calls others (stops_length owed) all first in
       let reloads_length = length-map owed.reloads (λ unit. duty (reload_act states owed.stops unit) unit) in

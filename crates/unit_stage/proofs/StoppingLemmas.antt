@@ -1,5 +1,5 @@
 -- While units are stopped, a switch of the units is underway.
-use Rattle.std.proofs.Common.{◌≡◌, ◌⊎◌, ◌++◌, ℕ, true, false, List, map, take, if◌then◌else◌, sym, ap, subst, ◌∙◌, inl, inr}
+use Rattle.std.proofs.Common.{◌≡◌, ◌⊎◌, ◌++◌, ℕ, true, false, List, map, take, if◌then◌else◌, sym, ap, subst, ◌∙◌, Bool, inl, inr}
 use Rattle.std.proofs.lemmas.Bool.{cases_Bool, false_from_ne_true}
 use Rattle.std.specs.List.{AllByRecursion}
 use Rattle.host_trait.specs.declared.entry.Act.{Act}
@@ -10,8 +10,6 @@ use Rattle.host_trait.specs.declared.unit_state.State.TheVariants.{Inactive}
 use Rattle.host_trait.specs.States.{state_of}
 use Rattle.host_trait.specs.World.{WorldState}
 use Rattle.owed_lists.specs.declared.lists.Lists.{Lists}
-use Rattle.owed_lists.specs.Lists.{AreListsOf}
-use Rattle.owed_lists.proofs.ListLemmas.{same_lists}
 use Rattle.owed_plan.specs.Called as kinds
 use Rattle.owed_plan.specs.declared.owed.Owed.{Owed}
 use Rattle.owed_plan.specs.Calls.{duty}
@@ -33,25 +31,27 @@ use Rattle.unit_stage.specs.Owes.{IsOwedAct, IsPaid, IsSteadyWorld, Owes, OwesUn
 use Rattle.unit_stage.specs.Plan.{IsOwedBy, IsOwedIn}
 use Rattle.unit_stage.specs.System.{current_system, definitions_of}
 use Rattle.unit_stage.specs.Units.{AreUnitsFree, AreUnitsUnderway}
+use Rattle.unit_stage.specs.Waiting.{AreListsFor}
 use Rattle.unit_stage.proofs.EndLemmas.{ends_same}
 use Rattle.unit_stage.proofs.PayLemmas.{act_from, all_entries, all_of, stop_paid}
+use Rattle.unit_stage.proofs.WaitingLemmas.{same_waiting}
 
 -- both systems of a world
 abbrev pub systems_of_world : Name → WorldState → Systems
 systems_of_world system w = systems_at w.leaves (current_system w.leaves) system
 
 -- the start list is recorded, some of the stops are made, and the link hasn't moved
-pub record IsMomentOfStops (system : Name) (lists : Lists) (owed : Owed) (w m : WorldState) : Type 0 where
+pub record IsMomentOfStops (start_up : Bool) (system : Name) (lists : Lists) (owed : Owed) (w m : WorldState) : Type 0 where
   pub count : ℕ
   pub kept : Lists
-  pub listed : AreListsOf m.leaves kept
+  pub listed : AreListsFor start_up m.leaves system kept
   pub recorded : IsRecorded owed lists kept
   pub stopped : AreStopped (systems_of_world system w) owed count (state_of w.manager.states) (state_of m.manager.states)
   pub journal : m.manager.journal ≡ w.manager.journal ++ map (entry_of w.manager.loaded) (map (duty Stop) (take count (stop_order (systems_of_world system w) owed.stops)))
   pub bad : m.manager.bad ≡ w.manager.bad
   pub systems : systems_of_world system m ≡ systems_of_world system w
 
-module _ (system : Name) (lists : Lists) (owed : Owed) (w m : WorldState) (owes : IsOwedIn w system lists owed) (steady : IsSteadyWorld w system) (moment : IsMomentOfStops system lists owed w m) where
+module _ (start_up : Bool) (system : Name) (lists : Lists) (owed : Owed) (w m : WorldState) (owes : IsOwedIn start_up w system lists owed) (steady : IsSteadyWorld start_up w system) (moment : IsMomentOfStops start_up system lists owed w m) where
   abbrev both : Systems
   both = systems_of_world system w
 
@@ -74,16 +74,16 @@ module _ (system : Name) (lists : Lists) (owed : Owed) (w m : WorldState) (owes 
   untaken : (unit : Name) → has taken unit ≡ false → now unit ≡ states unit
   untaken unit other = moment.stopped unit ∙ ap (λ b. if b then Inactive else states unit) other
 
-  by_first : (P : Lists → Type 0) (others : Lists) → AreListsOf w.leaves others → P others → P lists
-  by_first P others listed holds = subst P (same_lists w.leaves others lists listed owes.listed) holds
+  by_first : (P : Lists → Type 0) (others : Lists) → AreListsFor start_up w.leaves system others → P others → P lists
+  by_first P others listed holds = subst P (same_waiting start_up w.leaves system others lists listed owes.listed) holds
 
-  by_kept : (P : Lists → Type 0) (others : Lists) → AreListsOf m.leaves others → P others → P moment.kept
-  by_kept P others listed holds = subst P (same_lists m.leaves others moment.kept listed moment.listed) holds
+  by_kept : (P : Lists → Type 0) (others : Lists) → AreListsFor start_up m.leaves system others → P others → P moment.kept
+  by_kept P others listed holds = subst P (same_waiting start_up m.leaves system others moment.kept listed moment.listed) holds
 
-  owes_then : (unit : Name) → kinds.OwesUnit both states lists unit → OwesUnit w system unit
+  owes_then : (unit : Name) → kinds.OwesUnit both states lists unit → OwesUnit start_up w system unit
   owes_then unit owing = let one = act_from both states lists unit owing in (one.0, (lists, owes.listed, one.1))
 
-  end_now : (next : Owed) → IsOwedBy m system next → (unit : Name) → state_after system next m unit ≡ state_after system owed w unit
+  end_now : (next : Owed) → IsOwedBy start_up m system next → (unit : Name) → state_after system next m unit ≡ state_after system owed w unit
   end_now next (others, is) unit =
       let planned = by_kept (λ (l : Lists). IsOwed (systems_of_world system m) now l next) others is.listed is.is_owed in
       let next_owed = subst (λ (systems : Systems). IsOwed systems now moment.kept next) moment.systems planned in
@@ -93,15 +93,15 @@ module _ (system : Name) (lists : Lists) (owed : Owed) (w m : WorldState) (owes 
   abbrev entered : List Entry
   entered = map (entry_of w.manager.loaded) (map (duty Stop) taken)
 
-  entered_owed : AllByRecursion (λ (entry : Entry). OwesUnit w system entry.unit) entered
+  entered_owed : AllByRecursion (λ (entry : Entry). OwesUnit start_up w system entry.unit) entered
   entered_owed =
-      all_entries (OwesUnit w system) w.manager.loaded (map (duty Stop) taken)
-      (all_of (λ call. OwesUnit w system call.unit) (λ u. Stop) taken (λ unit found. owes_then unit (kinds.OwesUnit.OfStops (taken_owed unit found))))
+      all_entries (OwesUnit start_up w system) w.manager.loaded (map (duty Stop) taken)
+      (all_of (λ call. OwesUnit start_up w system call.unit) (λ u. Stop) taken (λ unit found. owes_then unit (kinds.OwesUnit.OfStops (taken_owed unit found))))
 
-  owes_still : (act : Act) (unit : Name) → IsOwedAct both now moment.kept act unit → Owes m system act unit
+  owes_still : (act : Act) (unit : Name) → IsOwedAct both now moment.kept act unit → Owes start_up m system act unit
   owes_still act unit owing = (moment.kept, moment.listed, subst (λ (systems : Systems). IsOwedAct systems now moment.kept act unit) (sym moment.systems) owing)
 
-  paid_or_owed_act : (act : Act) (unit : Name) → IsOwedAct both states lists act unit → IsPaid system act unit entered ⊎ Owes m system act unit
+  paid_or_owed_act : (act : Act) (unit : Name) → IsOwedAct both states lists act unit → IsPaid system act unit entered ⊎ Owes start_up m system act unit
   paid_or_owed_act Stop unit owing =
       elim (cases_Bool (has taken unit)) [
         | inl found ↦ inl (stop_paid system w.manager.loaded unit taken found)
@@ -111,7 +111,7 @@ module _ (system : Name) (lists : Lists) (owed : Owed) (w m : WorldState) (owes 
   paid_or_owed_act Restart unit owing = inr (owes_still Restart unit ((same.restarts unit).1 owing))
   paid_or_owed_act Start unit owing = inr (owes_still Start unit ((same.starts unit).1 owing))
 
-  paid_or_owed : (act : Act) (unit : Name) → Owes w system act unit → IsPaid system act unit entered ⊎ Owes m system act unit
+  paid_or_owed : (act : Act) (unit : Name) → Owes start_up w system act unit → IsPaid system act unit entered ⊎ Owes start_up m system act unit
   paid_or_owed act unit (others, listed, owing) = paid_or_owed_act act unit (by_first (λ (l : Lists). IsOwedAct both states l act unit) others listed owing)
 
   owed_before : (act : Act) (unit : Name) → IsOwedAct both now moment.kept act unit → IsOwedAct both states lists act unit
@@ -120,23 +120,23 @@ module _ (system : Name) (lists : Lists) (owed : Owed) (w m : WorldState) (owes 
   owed_before Restart unit owing = (same.restarts unit).0 owing
   owed_before Start unit owing = (same.starts unit).0 owing
 
-  no_more_owed : (unit : Name) → OwesUnit m system unit → OwesUnit w system unit
+  no_more_owed : (unit : Name) → OwesUnit start_up m system unit → OwesUnit start_up w system unit
   no_more_owed unit (act, (others, listed, owing)) =
       let kept = by_kept (λ (l : Lists). IsOwedAct (systems_of_world system m) now l act unit) others listed owing in
       (act, (lists, owes.listed, owed_before act unit (subst (λ (systems : Systems). IsOwedAct systems now moment.kept act unit) moment.systems kept)))
 
-  others_kept : (unit : Name) → ¬ OwesUnit w system unit → now unit ≡ states unit
+  others_kept : (unit : Name) → ¬ OwesUnit start_up w system unit → now unit ≡ states unit
   others_kept unit none = untaken unit (false_from_ne_true (has taken unit) (λ found. none (owes_then unit (kinds.OwesUnit.OfStops (taken_owed unit found)))))
 
-  is_steady : IsSteadyWorld m system
+  is_steady : IsSteadyWorld start_up m system
   is_steady others listed =
-      subst (λ (l : Lists). IsSteady (systems_of_world system m) now l) (sym (same_lists m.leaves others moment.kept listed moment.listed))
+      subst (λ (l : Lists). IsSteady (systems_of_world system m) now l) (sym (same_waiting start_up m.leaves system others moment.kept listed moment.listed))
       (subst (λ (systems : Systems). IsSteady systems now moment.kept) (sym moment.systems)
       (steady_law both states now lists moment.kept owed moment.count (sound_at w.leaves (current_system w.leaves) system) owes.is_owed moment.stopped moment.recorded (steady lists owes.listed)))
 
-  pub stops_underway : AreUnitsFree system m.leaves → AreUnitsUnderway system w m
+  pub stops_underway : AreUnitsFree system m.leaves → AreUnitsUnderway start_up system w m
   stops_underway free = record {
-    same_states = ends_same system lists owed w owes m end_now;
+    same_states = ends_same start_up system lists owed w owes m end_now;
     same_bad = moment.bad;
     entered = entered;
     journal = moment.journal;

@@ -16,6 +16,7 @@ use Rattle.owed_plan.specs.Owed.{sockets_first}
 use Rattle.owed_plan.proofs.NameLemmas.{has-sockets_first}
 use Rattle.switch_names.specs.Names.{Name, has}
 use Rattle.unit_stage.specs.Acts.{CanPerform, entry_of, performed}
+use Rattle.unit_stage.specs.Order.{ArrangesStarts}
 use Rattle.unit_stage.proofs.ActLemmas.{after_stops, brought_from, brought_to, can_act, can_restart, can_start, can_stop}
 use Rattle.unit_stage.proofs.CallLemmas.{can-append, entered, performed-append, same_bad, same_loaded}
 use Rattle.unit_decide.specs.Facts.{unit_kind}
@@ -87,9 +88,6 @@ module _ (owed : Owed) (manager : ManagerState) where
   pub can_restarts : CanPerform (restart_calls owed) manager
   can_restarts = can_restart owed.restarts manager
 
-  pub can_starts : CanPerform (start_calls owed) manager
-  can_starts = can_start owed.starts manager
-
   -- the stops leave their units inactive
   pub after_all_stops : (unit : Name) → state_of (performed (stop_calls owed) manager).states unit ≡ (if has owed.stops unit then Inactive else state_of manager.states unit)
   after_all_stops unit =
@@ -130,45 +128,48 @@ module _ (owed : Owed) (text : List ℕ) (before : ManagerState) where
   abbrev pub restarted_all : ManagerState
   restarted_all = performed (restart_calls owed) reloaded_all
 
-  abbrev pub started_all : ManagerState
-  started_all = performed (start_calls owed) restarted_all
+  module _ (order : List Name) where
+    abbrev pub started_all : ManagerState
+    started_all = performed (start_calls order) restarted_all
 
-  -- each unit is in the state of the table
-  pub final_states : (unit : Name) → state_of started_all.states unit ≡ final_state owed text before.bad states unit
-  final_states unit =
-      let stops = has owed.stops unit in
-      let to = brought_by text before.bad unit in
-      let bad_ready = same_bad (stop_calls owed) before in
-      let bad_reloaded = same_bad (reload_calls owed states) ready ∙ bad_ready in
-      let loaded_reloaded = same_loaded (reload_calls owed states) ready in
-      let bad_restarted = same_bad (restart_calls owed) reloaded_all ∙ bad_reloaded in
-      let loaded_restarted = same_loaded (restart_calls owed) reloaded_all ∙ loaded_reloaded in
-      let reloads : state_of reloaded_all.states unit ≡ after_reload (has owed.reloads unit) stops to (states unit) =
-      after_reloads owed ready states unit (after_all_stops owed before unit)
-      ∙ ap (λ bad. after_reload (has owed.reloads unit) stops (brought_by text bad unit) (states unit)) bad_ready in
-      let restarts = brought_to (λ u. Restart) owed.restarts reloaded_all text before.bad unit (after_reload (has owed.reloads unit) stops to (states unit)) loaded_reloaded bad_reloaded reloads in
-      brought_to (λ u. Start) owed.starts restarted_all text before.bad unit (if has owed.restarts unit then to else after_reload (has owed.reloads unit) stops to (states unit)) loaded_restarted bad_restarted restarts
-      ∙ table (has owed.restarts unit) (has owed.reloads unit) (has owed.starts unit) stops (is_bad before.bad text unit) (states unit)
+    -- each unit is in the state of the table
+    pub final_states : ArrangesStarts owed order → (unit : Name) → state_of started_all.states unit ≡ final_state owed text before.bad states unit
+    final_states arranges unit =
+        let stops = has owed.stops unit in
+        let to = brought_by text before.bad unit in
+        let bad_ready = same_bad (stop_calls owed) before in
+        let bad_reloaded = same_bad (reload_calls owed states) ready ∙ bad_ready in
+        let loaded_reloaded = same_loaded (reload_calls owed states) ready in
+        let bad_restarted = same_bad (restart_calls owed) reloaded_all ∙ bad_reloaded in
+        let loaded_restarted = same_loaded (restart_calls owed) reloaded_all ∙ loaded_reloaded in
+        let reloads : state_of reloaded_all.states unit ≡ after_reload (has owed.reloads unit) stops to (states unit) =
+        after_reloads owed ready states unit (after_all_stops owed before unit)
+        ∙ ap (λ bad. after_reload (has owed.reloads unit) stops (brought_by text bad unit) (states unit)) bad_ready in
+        let restarts = brought_to (λ u. Restart) owed.restarts reloaded_all text before.bad unit (after_reload (has owed.reloads unit) stops to (states unit)) loaded_reloaded bad_reloaded reloads in
+        let before_starts = if has owed.restarts unit then to else after_reload (has owed.reloads unit) stops to (states unit) in
+        brought_to (λ u. Start) order restarted_all text before.bad unit before_starts loaded_restarted bad_restarted restarts
+        ∙ ap (λ b. after_start b to before_starts) (arranges unit)
+        ∙ table (has owed.restarts unit) (has owed.reloads unit) (has owed.starts unit) stops (is_bad before.bad text unit) (states unit)
 
-  -- the calls after the stops, one after the other
-  pub in_one : started_all ≡ performed (reload_calls owed states ++ restart_calls owed ++ start_calls owed) ready
-  in_one =
-      sym (performed-append (reload_calls owed states ++ restart_calls owed) (start_calls owed) ready
-      ∙ ap (performed (start_calls owed)) (performed-append (reload_calls owed states) (restart_calls owed) ready))
+    -- the calls after the stops, one after the other
+    pub in_one : started_all ≡ performed (reload_calls owed states ++ restart_calls owed ++ start_calls order) ready
+    in_one =
+        sym (performed-append (reload_calls owed states ++ restart_calls owed) (start_calls order) ready
+        ∙ ap (performed (start_calls order)) (performed-append (reload_calls owed states) (restart_calls owed) ready))
 
-  -- each stop is entered with what was loaded before, and each other call with what is loaded now
-  pub all_entered : started_all.journal
-      ≡ before.journal ++ (map (entry_of before.loaded) (stop_calls owed) ++ map (entry_of text) (reload_calls owed states ++ restart_calls owed ++ start_calls owed))
-  all_entered =
-      ap (λ (m : ManagerState). m.journal) in_one
-      ∙ entered (reload_calls owed states ++ restart_calls owed ++ start_calls owed) ready
-      ∙ ap (λ entries. entries ++ map (entry_of text) (reload_calls owed states ++ restart_calls owed ++ start_calls owed)) (entered (stop_calls owed) before)
-      ∙ append_assoc before.journal (map (entry_of before.loaded) (stop_calls owed)) (map (entry_of text) (reload_calls owed states ++ restart_calls owed ++ start_calls owed))
+    -- each stop is entered with what was loaded before, and each other call with what is loaded now
+    pub all_entered : started_all.journal
+        ≡ before.journal ++ (map (entry_of before.loaded) (stop_calls owed) ++ map (entry_of text) (reload_calls owed states ++ restart_calls owed ++ start_calls order))
+    all_entered =
+        ap (λ (m : ManagerState). m.journal) in_one
+        ∙ entered (reload_calls owed states ++ restart_calls owed ++ start_calls order) ready
+        ∙ ap (λ entries. entries ++ map (entry_of text) (reload_calls owed states ++ restart_calls owed ++ start_calls order)) (entered (stop_calls owed) before)
+        ∙ append_assoc before.journal (map (entry_of before.loaded) (stop_calls owed)) (map (entry_of text) (reload_calls owed states ++ restart_calls owed ++ start_calls order))
 
-  -- the calls after the stops can be made
-  pub can_rest : CanPerform (reload_calls owed states ++ restart_calls owed ++ start_calls owed) ready
-  can_rest =
-      can-append (reload_calls owed states ++ restart_calls owed) (start_calls owed) ready
-      (can-append (reload_calls owed states) (restart_calls owed) ready
-      (can_reloads owed ready states (λ unit. after_all_stops owed before unit)) (can_restarts owed (performed (reload_calls owed states) ready)))
-      (can_starts owed (performed (reload_calls owed states ++ restart_calls owed) ready))
+    -- the calls after the stops can be made
+    pub can_rest : CanPerform (reload_calls owed states ++ restart_calls owed ++ start_calls order) ready
+    can_rest =
+        can-append (reload_calls owed states ++ restart_calls owed) (start_calls order) ready
+        (can-append (reload_calls owed states) (restart_calls owed) ready
+        (can_reloads owed ready states (λ unit. after_all_stops owed before unit)) (can_restarts owed (performed (reload_calls owed states) ready)))
+        (can_start order (performed (reload_calls owed states ++ restart_calls owed) ready))

@@ -11,8 +11,6 @@ use Rattle.host_trait.specs.Manager.{is_active}
 use Rattle.host_trait.specs.States.{state_of}
 use Rattle.host_trait.specs.World.{WorldState}
 use Rattle.owed_lists.specs.declared.lists.Lists.{Lists}
-use Rattle.owed_lists.specs.Lists.{AreListsOf}
-use Rattle.owed_lists.proofs.ListLemmas.{same_lists}
 use Rattle.owed_plan.specs.Called.{AreCalled, IsOnTheWay}
 use Rattle.owed_plan.specs.Called as kinds
 use Rattle.owed_plan.specs.declared.duty.Duty.{Duty}
@@ -31,27 +29,31 @@ use Rattle.unit_decide.specs.Facts.{unit_kind}
 use Rattle.unit_defs.specs.Units.{text_of, wanted_of}
 use Rattle.unit_stage.specs.Acts.{entry_of}
 use Rattle.unit_stage.specs.End.{entries_by, state_after}
+use Rattle.unit_stage.specs.Order.{ArrangesStarts}
 use Rattle.unit_stage.specs.Owes.{IsOwedAct, IsPaid, IsSteadyWorld, Owes, OwesUnit, is_stop, pays}
 use Rattle.unit_stage.specs.Plan.{IsOwedBy, IsOwedIn}
 use Rattle.unit_stage.specs.System.{current_system, definitions_of}
 use Rattle.unit_stage.specs.Units.{AreUnitsFree, AreUnitsUnderway}
+use Rattle.unit_stage.specs.Waiting.{AreListsFor}
 use Rattle.unit_stage.proofs.CallingLemmas.{is_called}
 use Rattle.unit_stage.proofs.EndLemmas.{ends_same}
 use Rattle.unit_stage.proofs.PayLemmas.{act_from, all_append, all_entries, all_first, all_joined, all_of, other_paid, stop_paid, unit_from}
+use Rattle.unit_stage.proofs.WaitingLemmas.{same_waiting}
 
 -- a moment of a switch when the system is in use, given the world at its beginning
-pub record IsMomentAfterLink (system : Name) (owed : Owed) (w m : WorldState) : Type 0 where
+pub record IsMomentAfterLink (start_up : Bool) (system : Name) (owed : Owed) (order : List Name) (w m : WorldState) : Type 0 where
   pub made : List Duty
   pub rest : List Duty
-  pub prefix : (reload_calls owed (state_of w.manager.states) ++ restart_calls owed) ++ start_calls owed ≡ made ++ rest
+  pub prefix : (reload_calls owed (state_of w.manager.states) ++ restart_calls owed) ++ start_calls order ≡ made ++ rest
   pub journal : m.manager.journal ≡ w.manager.journal ++ entries_by system owed w made
   pub kept : Lists
-  pub listed : AreListsOf m.leaves kept
+  pub listed : AreListsFor start_up m.leaves system kept
   pub called : AreCalled owed (brought_by (definitions_of system) w.manager.bad) (stopped owed.stops (state_of w.manager.states)) (state_of m.manager.states) kept (is_called made)
   pub bad : m.manager.bad ≡ w.manager.bad
   pub systems : systems_at m.leaves (current_system m.leaves) system ≡ systems_at w.leaves (Some system) system
 
-module _ (system : Name) (first_lists : Lists) (owed : Owed) (w m : WorldState) (owes : IsOwedIn w system first_lists owed) (steady : IsSteadyWorld w system) (moment : IsMomentAfterLink system owed w m) where
+module _ (start_up : Bool) (system : Name) (first_lists : Lists) (owed : Owed) (order : List Name) (arranges : ArrangesStarts owed order) (w m : WorldState) (owes : IsOwedIn start_up w system first_lists owed)
+    (steady : IsSteadyWorld start_up w system) (moment : IsMomentAfterLink start_up system owed order w m) where
   abbrev old : Texts
   old = text_at w.leaves (current_system w.leaves)
 
@@ -79,23 +81,23 @@ module _ (system : Name) (first_lists : Lists) (owed : Owed) (w m : WorldState) 
       (sound_at w.leaves (current_system w.leaves) system) (steady first_lists owes.listed) owes.is_owed moment.called
 
   -- what holds by the lists of a world holds by these
-  by_first : (P : Lists → Type 0) (lists : Lists) → AreListsOf w.leaves lists → P lists → P first_lists
-  by_first P lists listed holds = subst P (same_lists w.leaves lists first_lists listed owes.listed) holds
+  by_first : (P : Lists → Type 0) (lists : Lists) → AreListsFor start_up w.leaves system lists → P lists → P first_lists
+  by_first P lists listed holds = subst P (same_waiting start_up w.leaves system lists first_lists listed owes.listed) holds
 
-  by_kept : (P : Lists → Type 0) (lists : Lists) → AreListsOf m.leaves lists → P lists → P moment.kept
-  by_kept P lists listed holds = subst P (same_lists m.leaves lists moment.kept listed moment.listed) holds
+  by_kept : (P : Lists → Type 0) (lists : Lists) → AreListsFor start_up m.leaves system lists → P lists → P moment.kept
+  by_kept P lists listed holds = subst P (same_waiting start_up m.leaves system lists moment.kept listed moment.listed) holds
 
-  owes_now : (unit : Name) → OwesUnit m system unit → kinds.OwesUnit after now moment.kept unit
+  owes_now : (unit : Name) → OwesUnit start_up m system unit → kinds.OwesUnit after now moment.kept unit
   owes_now unit (act, (lists, listed, owing)) =
       unit_from after now moment.kept unit act
       (subst (λ (systems : Systems). IsOwedAct systems now moment.kept act unit) moment.systems
       (by_kept (λ (l : Lists). IsOwedAct at_moment now l act unit) lists listed owing))
 
-  owes_then : (unit : Name) → kinds.OwesUnit before states first_lists unit → OwesUnit w system unit
+  owes_then : (unit : Name) → kinds.OwesUnit before states first_lists unit → OwesUnit start_up w system unit
   owes_then unit owing = let one = act_from before states first_lists unit owing in (one.0, (first_lists, owes.listed, one.1))
 
   -- the end is the same
-  end_now : (next : Owed) → IsOwedBy m system next → (unit : Name) → state_after system next m unit ≡ state_after system owed w unit
+  end_now : (next : Owed) → IsOwedBy start_up m system next → (unit : Name) → state_after system next m unit ≡ state_after system owed w unit
   end_now next (lists, is) unit =
       let planned = by_kept (λ (l : Lists). IsOwed at_moment now l next) lists is.listed is.is_owed in
       let next_owed = subst (λ (systems : Systems). IsOwed systems now moment.kept next) moment.systems planned in
@@ -105,41 +107,41 @@ module _ (system : Name) (first_lists : Lists) (owed : Owed) (w m : WorldState) 
   abbrev entered : List Entry
   entered = entries_by system owed w moment.made
 
-  all_made : (P : Duty → Type 0) → AllByRecursion P (reload_calls owed states) → AllByRecursion P (restart_calls owed) → AllByRecursion P (start_calls owed) → AllByRecursion P moment.made
+  all_made : (P : Duty → Type 0) → AllByRecursion P (reload_calls owed states) → AllByRecursion P (restart_calls owed) → AllByRecursion P (start_calls order) → AllByRecursion P moment.made
   all_made P reloads restarts starts =
       all_first P moment.made moment.rest
       (subst (AllByRecursion P) moment.prefix
-      (all_append P (reload_calls owed states ++ restart_calls owed) (start_calls owed) (all_append P (reload_calls owed states) (restart_calls owed) reloads restarts) starts))
+      (all_append P (reload_calls owed states ++ restart_calls owed) (start_calls order) (all_append P (reload_calls owed states) (restart_calls owed) reloads restarts) starts))
 
   no_stop : AllByRecursion (λ call. is_stop call.act ≡ false) moment.made
   no_stop =
       all_made (λ call. is_stop call.act ≡ false)
       (all_of (λ call. is_stop call.act ≡ false) (reload_act states owed.stops) owed.reloads (λ unit found. either (is_active (states unit) && not (has owed.stops unit))))
       (all_of (λ call. is_stop call.act ≡ false) (λ u. Restart) owed.restarts (λ unit found. refl))
-      (all_of (λ call. is_stop call.act ≡ false) (λ u. Start) owed.starts (λ unit found. refl))
+      (all_of (λ call. is_stop call.act ≡ false) (λ u. Start) order (λ unit found. refl))
     where
       either : (b : Bool) → is_stop (if b then Reload else Start) ≡ false
       either true = refl
       either false = refl
 
-  all_owed : AllByRecursion (λ (call : Duty). OwesUnit w system call.unit) moment.made
+  all_owed : AllByRecursion (λ (call : Duty). OwesUnit start_up w system call.unit) moment.made
   all_owed =
-      let P : Duty → Type 0 = λ call. OwesUnit w system call.unit in
+      let P : Duty → Type 0 = λ call. OwesUnit start_up w system call.unit in
       all_made P
       (all_of P (reload_act states owed.stops) owed.reloads (λ unit found. owes_then unit (kinds.OwesUnit.OfReloads ((owes.is_owed.reloads.exact unit).0 found))))
       (all_of P (λ u. Restart) owed.restarts (λ unit found. owes_then unit (kinds.OwesUnit.OfRestarts ((owes.is_owed.restarts.exact unit).0 found))))
-      (all_of P (λ u. Start) owed.starts (λ unit found. owes_then unit (kinds.OwesUnit.OfStarts ((owes.is_owed.starts.exact unit).0 found))))
+      (all_of P (λ u. Start) order (λ unit found. owes_then unit (kinds.OwesUnit.OfStarts ((owes.is_owed.starts.exact unit).0 (sym (arranges unit) ∙ found)))))
 
-  stops_owed : AllByRecursion (λ (call : Duty). OwesUnit w system call.unit) (stop_calls owed)
+  stops_owed : AllByRecursion (λ (call : Duty). OwesUnit start_up w system call.unit) (stop_calls owed)
   stops_owed =
-      all_of (λ call. OwesUnit w system call.unit) (λ u. Stop) (sockets_first unit_kind owed.stops)
+      all_of (λ call. OwesUnit start_up w system call.unit) (λ u. Stop) (sockets_first unit_kind owed.stops)
       (λ unit found. owes_then unit (kinds.OwesUnit.OfStops ((owes.is_owed.stops.exact unit).0 (sym (has-sockets_first unit_kind owed.stops unit) ∙ found))))
 
-  entered_owed : AllByRecursion (λ (entry : Entry). OwesUnit w system entry.unit) entered
+  entered_owed : AllByRecursion (λ (entry : Entry). OwesUnit start_up w system entry.unit) entered
   entered_owed =
-      all_joined (λ entry. OwesUnit w system entry.unit) (map (entry_of w.manager.loaded) (stop_calls owed)) (map (entry_of (definitions_of system)) moment.made)
-      (all_entries (OwesUnit w system) w.manager.loaded (stop_calls owed) stops_owed)
-      (all_entries (OwesUnit w system) (definitions_of system) moment.made all_owed)
+      all_joined (λ entry. OwesUnit start_up w system entry.unit) (map (entry_of w.manager.loaded) (stop_calls owed)) (map (entry_of (definitions_of system)) moment.made)
+      (all_entries (OwesUnit start_up w system) w.manager.loaded (stop_calls owed) stops_owed)
+      (all_entries (OwesUnit start_up w system) (definitions_of system) moment.made all_owed)
 
   -- what is paid
   paid_by_stop : (unit : Name) → has owed.stops unit ≡ true → IsPaid system Stop unit entered
@@ -157,10 +159,10 @@ module _ (system : Name) (first_lists : Lists) (owed : Owed) (w m : WorldState) 
       list_any-append (pays system act unit) stops more
       ∙ or_right (list_any (pays system act unit) stops) (list_any (pays system act unit) more) (other_paid system act unit moment.made other no_stop found)
 
-  owes_still : (act : Act) (unit : Name) → IsOwedAct after now moment.kept act unit → Owes m system act unit
+  owes_still : (act : Act) (unit : Name) → IsOwedAct after now moment.kept act unit → Owes start_up m system act unit
   owes_still act unit owing = (moment.kept, moment.listed, subst (λ (systems : Systems). IsOwedAct systems now moment.kept act unit) (sym moment.systems) owing)
 
-  paid_or_owed_act : (act : Act) (unit : Name) → IsOwedAct before states first_lists act unit → IsPaid system act unit entered ⊎ Owes m system act unit
+  paid_or_owed_act : (act : Act) (unit : Name) → IsOwedAct before states first_lists act unit → IsPaid system act unit entered ⊎ Owes start_up m system act unit
   paid_or_owed_act Stop unit owing = inl (paid_by_stop unit ((owes.is_owed.stops.exact unit).1 owing))
   paid_or_owed_act Reload unit owing =
       elim (way.reloads unit owing) [
@@ -178,17 +180,17 @@ module _ (system : Name) (first_lists : Lists) (owed : Owed) (w m : WorldState) 
         | inr still ↦ inr (owes_still Start unit still)
       ]
 
-  paid_or_owed : (act : Act) (unit : Name) → Owes w system act unit → IsPaid system act unit entered ⊎ Owes m system act unit
+  paid_or_owed : (act : Act) (unit : Name) → Owes start_up w system act unit → IsPaid system act unit entered ⊎ Owes start_up m system act unit
   paid_or_owed act unit (lists, listed, owing) = paid_or_owed_act act unit (by_first (λ (l : Lists). IsOwedAct before states l act unit) lists listed owing)
 
-  is_steady : IsSteadyWorld m system
+  is_steady : IsSteadyWorld start_up m system
   is_steady lists listed =
-      subst (λ (l : Lists). IsSteady at_moment now l) (sym (same_lists m.leaves lists moment.kept listed moment.listed))
+      subst (λ (l : Lists). IsSteady at_moment now l) (sym (same_waiting start_up m.leaves system lists moment.kept listed moment.listed))
       (subst (λ (systems : Systems). IsSteady systems now moment.kept) (sym moment.systems) way.steady)
 
-  pub after_link_underway : AreUnitsFree system m.leaves → AreUnitsUnderway system w m
+  pub after_link_underway : AreUnitsFree system m.leaves → AreUnitsUnderway start_up system w m
   after_link_underway free = record {
-    same_states = ends_same system first_lists owed w owes m end_now;
+    same_states = ends_same start_up system first_lists owed w owes m end_now;
     same_bad = moment.bad;
     entered = entered;
     journal = moment.journal;

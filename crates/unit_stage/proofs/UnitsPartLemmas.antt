@@ -1,5 +1,5 @@
 -- What is about the units is a part of a switch.
-use Rattle.std.proofs.Common.{◌≡◌, ◌⊎◌, ◌||◌, ◌++◌, true, codes, refl, ap, subst, ◌∙◌, inl, inr}
+use Rattle.std.proofs.Common.{◌≡◌, ◌⊎◌, ◌||◌, ◌++◌, true, codes, List, refl, sym, ap, subst, ◌∙◌, Bool, inl, inr}
 use Rattle.std.proofs.lemmas.Bool.{both_ways, or_left, or_right}
 use Rattle.std.proofs.lemmas.List.{append_assoc}
 use Rattle.std.proofs.lemmas.List.Folds.{list_any-append}
@@ -16,6 +16,7 @@ use Rattle.switch_parts.specs.Leaves.{is_near}
 use Rattle.switch_parts.specs.Part.{IsOnly, IsSameFor}
 use Rattle.unit_stage.specs.Laws.{AreSameBeside, UnitMomentLaw, UnitsPartLaw}
 use Rattle.owed_plan.specs.declared.owed.Owed.{Owed}
+use Rattle.unit_stage.specs.Order.{IsOrderedAt}
 use Rattle.unit_stage.specs.Plan.{IsOwedBy}
 use Rattle.unit_stage.specs.Owned.{owns_units, reads_units, unit_places}
 use Rattle.unit_stage.specs.Owes.{IsPaid, Owes, OwesUnit, pays}
@@ -24,14 +25,15 @@ use Rattle.unit_stage.specs.Units.{AreUnitsKept, AreUnitsUnderway, units_part}
 use Rattle.unit_stage.proofs.BegunLemmas.{begun_underway, owed_after}
 use Rattle.unit_stage.proofs.FreeLemmas.{IsListLeaf, stays_free}
 use Rattle.unit_stage.proofs.MomentLemmas.{free_law, underway_law}
-use Rattle.unit_stage.proofs.OwnedLemmas.{not_reads_stage}
+use Rattle.unit_stage.proofs.OrderLemmas.{ordered_there}
+use Rattle.unit_stage.proofs.OwnedLemmas.{not_reads_stage, same_store}
 use Rattle.unit_stage.proofs.ElsewhereLemmas.{own_current, own_list}
 use Rattle.unit_stage.proofs.PayLemmas.{all_implied, all_joined}
 use Rattle.unit_stage.proofs.StandLemmas.{Stand}
 
 -- ---- from moment to moment
 
-module _ (system : Name) (w v m : WorldState) (one : AreUnitsUnderway system w v) (then : AreUnitsUnderway system v m) where
+module _ (start_up : Bool) (system : Name) (w v m : WorldState) (one : AreUnitsUnderway start_up system w v) (then : AreUnitsUnderway start_up system v m) where
   paid_first : (act : Act) (unit : Name) → IsPaid system act unit one.entered → IsPaid system act unit (one.entered ++ then.entered)
   paid_first act unit paid =
       list_any-append (pays system act unit) one.entered then.entered
@@ -42,7 +44,7 @@ module _ (system : Name) (w v m : WorldState) (one : AreUnitsUnderway system w v
       list_any-append (pays system act unit) one.entered then.entered
       ∙ or_right (list_any (pays system act unit) one.entered) (list_any (pays system act unit) then.entered) paid
 
-  paid_or_owed : (act : Act) (unit : Name) → Owes w system act unit → IsPaid system act unit (one.entered ++ then.entered) ⊎ Owes m system act unit
+  paid_or_owed : (act : Act) (unit : Name) → Owes start_up w system act unit → IsPaid system act unit (one.entered ++ then.entered) ⊎ Owes start_up m system act unit
   paid_or_owed act unit owes = elim (one.paid_or_owed act unit owes) [
     | inl paid ↦ inl (paid_first act unit paid)
     | inr still ↦ elim (then.paid_or_owed act unit still) [
@@ -52,7 +54,7 @@ module _ (system : Name) (w v m : WorldState) (one : AreUnitsUnderway system w v
   ]
 
   -- what is underway stays underway
-  pub underway_then : AreUnitsUnderway system w m
+  pub underway_then : AreUnitsUnderway start_up system w m
   underway_then = record {
     same_states = λ states. (
       λ end. (one.same_states states).0 ((then.same_states states).0 end),
@@ -62,8 +64,8 @@ module _ (system : Name) (w v m : WorldState) (one : AreUnitsUnderway system w v
     entered = one.entered ++ then.entered;
     journal = then.journal ∙ ap (λ entries. entries ++ then.entered) one.journal ∙ append_assoc w.manager.journal one.entered then.entered;
     owed_alone =
-        all_joined (λ entry. OwesUnit w system entry.unit) one.entered then.entered one.owed_alone
-        (all_implied (λ (entry : Entry). OwesUnit v system entry.unit) (λ entry. OwesUnit w system entry.unit) (λ entry owes. one.no_more_owed entry.unit owes) then.entered then.owed_alone);
+        all_joined (λ entry. OwesUnit start_up w system entry.unit) one.entered then.entered one.owed_alone
+        (all_implied (λ (entry : Entry). OwesUnit start_up v system entry.unit) (λ entry. OwesUnit start_up w system entry.unit) (λ entry owes. one.no_more_owed entry.unit owes) then.entered then.owed_alone);
     paid_or_owed = paid_or_owed;
     no_more_owed = λ unit owes. one.no_more_owed unit (then.no_more_owed unit owes);
     others = λ unit none. then.others unit (λ owes. none (one.no_more_owed unit owes)) ∙ one.others unit none;
@@ -71,10 +73,10 @@ module _ (system : Name) (w v m : WorldState) (one : AreUnitsUnderway system w v
     steady = then.steady;
   }
 
-pub kept_then : (system : Name) (w v m : WorldState) → AreUnitsKept system w v → AreUnitsKept system v m → AreUnitsKept system w m
-kept_then system w v m one then = record {
+pub kept_then : (start_up : Bool) (system : Name) (w v m : WorldState) → AreUnitsKept start_up system w v → AreUnitsKept start_up system v m → AreUnitsKept start_up system w m
+kept_then start_up system w v m one then = record {
   free = λ free. then.free (one.free free);
-  underway = λ free steady. let first = one.underway free steady in underway_then system w v m first (then.underway first.free first.steady);
+  underway = λ free steady. let first = one.underway free steady in underway_then start_up system w v m first (then.underway first.free first.steady);
 }
 
 -- ---- where nothing has changed
@@ -82,7 +84,7 @@ kept_then system w v m one then = record {
 pub reads_own : (q : Name) → owns_units q ≡ true → reads_units q ≡ true
 reads_own q own = or_left (owns_units q || is_near unit_places q) (is_below q (codes "nix/store")) (or_left (owns_units q) (is_near unit_places q) own)
 
-module _ (system : Name) (w m : WorldState) (is_system : IsSystem system) (same : IsSameFor (units_part system) w m) where
+module _ (start_up : Bool) (system : Name) (w m : WorldState) (is_system : IsSystem system) (same : IsSameFor (units_part start_up system) w m) where
   same_beside : AreSameBeside w m
   same_beside q read none = same.leaves q read
 
@@ -94,25 +96,29 @@ module _ (system : Name) (w m : WorldState) (is_system : IsSystem system) (same 
     reloads = same.leaves reloads_place (reads_own reloads_place (own_list Reloads));
   }
 
-  pub kept_same : AreUnitsKept system w m
+  pub kept_same : AreUnitsKept start_up system w m
   kept_same = record {
     free = stays_free system w m same_beside _ _ _ _ same_stand (IsListLeaf.Old refl) (IsListLeaf.Old refl) (IsListLeaf.Old refl) is_system;
     underway = λ free steady.
-        begun_underway system is_system w m same_beside same_stand (same.manager refl)
+        begun_underway start_up system is_system w m same_beside same_stand (same.manager refl)
         (stays_free system w m same_beside _ _ _ _ same_stand (IsListLeaf.Old refl) (IsListLeaf.Old refl) (IsListLeaf.Old refl) is_system free) steady;
   }
 
   -- the same is owed
-  pub owed_same : (owed : Owed) → IsOwedBy w system owed → IsOwedBy m system owed
-  owed_same = owed_after system is_system w m same_beside same_stand (same.manager refl)
+  pub owed_same : (owed : Owed) → IsOwedBy start_up w system owed → IsOwedBy start_up m system owed
+  owed_same = owed_after start_up system is_system w m same_beside same_stand (same.manager refl)
+
+  -- and the starts are in the same order
+  pub order_same : (owed : Owed) (order : List Name) → IsOrderedAt w.leaves system owed order → IsOrderedAt m.leaves system owed order
+  order_same owed order (ordered, are, is) = (ordered, ordered_there w.leaves m.leaves system owed ordered (λ q inside. sym (same_store w m same_beside q inside)) is_system.inside are, is)
 
 pub units_part_law : UnitsPartLaw
-units_part_law system is_system = record {
-  keeps_self = λ w. kept_same system w w is_system (record { leaves = λ q read. refl; manager = λ call. refl });
-  keeps_then = kept_then system;
+units_part_law start_up system is_system = record {
+  keeps_self = λ w. kept_same start_up system w w is_system (record { leaves = λ q read. refl; manager = λ call. refl });
+  keeps_then = kept_then start_up system;
   same_end = λ w m keeps q own. refl;
   stays_free = λ w m keeps free. let kept = keeps.free (record { way = free.way; refusal = free.refusal }) in record { way = kept.way; refusal = kept.refusal };
-  frame = λ w m same. kept_same system w m is_system same;
+  frame = λ w m same. kept_same start_up system w m is_system same;
   reads_own = reads_own;
   no_stage = not_reads_stage;
 }
@@ -120,16 +126,16 @@ units_part_law system is_system = record {
 -- ---- moments
 
 -- what isn't owned and isn't the stage has not changed, and so what is looked at
-pub beside_of : (system : Name) (w m : WorldState) → IsOnly (units_part system) w m → AreSameBeside w m
-beside_of system w m only q read none = only.leaves q none (λ same. both_ways _ not_reads_stage (subst (λ x. reads_units x ≡ true) same read))
+pub beside_of : (start_up : Bool) (system : Name) (w m : WorldState) → IsOnly (units_part start_up system) w m → AreSameBeside w m
+beside_of start_up system w m only q read none = only.leaves q none (λ same. both_ways _ not_reads_stage (subst (λ x. reads_units x ≡ true) same read))
 
 pub unit_moment_law : UnitMomentLaw
-unit_moment_law system owed w m is_system owes moment only =
-    let beside = beside_of system w m only in
+unit_moment_law start_up system owed order w m is_system owes arranges moment only =
+    let beside = beside_of start_up system w m only in
     record {
       keeps = record {
-        free = λ free. free_law system owed w m is_system owes moment beside free;
-        underway = λ free steady. underway_law system owed w m is_system owes free steady moment beside;
+        free = λ free. free_law start_up system owed order w m is_system owes moment beside free;
+        underway = λ free steady. underway_law start_up system owed order w m is_system owes arranges free steady moment beside;
       };
       only = only;
     }

@@ -1,20 +1,26 @@
 -- What is read of a world before a switch is planned: NixOS manual, "What happens during a system switch?".
-use Rattle.std.specs.Prelude.{◌≡◌, ◌↔◌, ℕ, IsTrue, List}
+use Rattle.std.specs.Prelude.{◌≡◌, ◌&&◌, ◌||◌, ◌↔◌, ℕ, Bool, IsTrue, List, is_some}
+use Rattle.std.specs.List.Sorted.{IsStrictlySortedBy}
 use Rattle.host_trait.specs.States.{state_of}
-use Rattle.host_trait.specs.World.{Leaves, WorldState}
-use Rattle.owed_lists.specs.Lists.{AreListsOf}
+use Rattle.host_trait.specs.World.{Leaves, WorldState, bytes_cmp}
+use Rattle.owed_lists.specs.declared.lists.Lists.{Lists}
 use Rattle.owed_plan.specs.Calls.{calls_of}
+use Rattle.owed_plan.specs.Collected.{IsListBy}
 use Rattle.owed_plan.specs.Owed.{IsPlan}
 use Rattle.owed_plan.specs.Steady.{IsSteady}
 use Rattle.owed_plan.specs.Systems.{AreOldDefs, systems_in}
-use Rattle.unit_defs.specs.Defs.{AreDefsOf}
+use Rattle.switch_names.specs.Names.{has, is_name}
+use Rattle.unit_defs.specs.declared.unit.Unit.{Unit}
+use Rattle.unit_defs.specs.Defs.{AreDefsOf, found_in}
 use Rattle.unit_stage.specs.declared.known.Known.{Known}
 use Rattle.unit_stage.specs.declared.known.OldSystem.{OldSystem}
 use Rattle.unit_stage.specs.declared.known.UnitStates.{UnitStates}
 use Rattle.unit_stage.specs.declared.unit_plan.UnitPlan.{UnitPlan}
 use Rattle.unit_stage.specs.declared.planning.OwedCalls.{OwedCalls}
+use Rattle.unit_stage.specs.Order.{AreInOrder}
 use Rattle.unit_stage.specs.Plan.{owed_of}
 use Rattle.unit_stage.specs.System.{current_system}
+use Rattle.unit_stage.specs.Waiting.{AreListsFor, start_up_target}
 
 -- this is the system in use, with its units
 pub record IsOldOf (leaves : Leaves) (old : OldSystem) : Type 0 where
@@ -22,15 +28,22 @@ pub record IsOldOf (leaves : Leaves) (old : OldSystem) : Type 0 where
   pub defs : AreOldDefs leaves (current_system leaves) old.defs
 
 -- these are the states of the units and the lists of a world
-pub record AreStatesOf (w : WorldState) (units : UnitStates) : Type 0 where
+pub record AreStatesOf (start_up : Bool) (system : List ℕ) (w : WorldState) (units : UnitStates) : Type 0 where
   pub states : units.states ≡ w.manager.states
-  pub lists : AreListsOf w.leaves units.lists
+  pub lists : AreListsFor start_up w.leaves system units.lists
+
+-- the lists that stand, as a switch to a system with these units takes them: the target of a start-up joined where it is defined
+pub record AreTaken (start_up : Bool) (new : List Unit) (stored lists : Lists) : Type 0 where
+  pub starts : IsStrictlySortedBy bytes_cmp stored.starts →
+      IsListBy lists.starts (λ unit. (start_up && (is_name unit start_up_target && is_some (found_in new unit))) || has stored.starts unit)
+  pub restarts : lists.restarts ≡ stored.restarts
+  pub reloads : lists.reloads ≡ stored.reloads
 
 -- all this is so in a world
-pub record IsKnownOf (system : List ℕ) (w : WorldState) (known : Known) : Type 0 where
+pub record IsKnownOf (start_up : Bool) (system : List ℕ) (w : WorldState) (known : Known) : Type 0 where
   pub old : IsOldOf w.leaves known.old
   pub new : AreDefsOf w.leaves system known.new
-  pub units : AreStatesOf w known.units
+  pub units : AreStatesOf start_up system w known.units
 
 -- by what is known the marks of the targets and the lists don't contradict each other
 abbrev pub IsKnownSteady : Known → Type 0
@@ -40,7 +53,8 @@ IsKnownSteady known = IsSteady (systems_in known.old.defs known.new) (state_of k
 pub record AreOwedCalls (known : Known) (calls : OwedCalls) : Type 0 where
   pub owed : IsPlan (systems_in known.old.defs known.new) (state_of known.units.states) known.units.lists calls.owed
   pub steady : IsTrue calls.steady ↔ IsKnownSteady known
-  pub duties : calls.duties ≡ calls_of calls.owed (state_of known.units.states)
+  pub in_order : AreInOrder (found_in known.new) calls.owed.starts calls.ordered
+  pub duties : calls.duties ≡ calls_of calls.owed calls.ordered.units (state_of known.units.states)
 
 -- the plan of a switch by what is known
 pub record IsPlanBy (known : Known) (plan : UnitPlan) : Type 0 where
@@ -48,4 +62,5 @@ pub record IsPlanBy (known : Known) (plan : UnitPlan) : Type 0 where
   pub defs : plan.defs ≡ known.new
   pub owed : IsPlan (systems_in known.old.defs known.new) (state_of known.units.states) known.units.lists (owed_of plan)
   pub steady : IsTrue plan.steady ↔ IsKnownSteady known
-  pub duties : plan.duties ≡ calls_of (owed_of plan) (state_of known.units.states)
+  pub in_order : AreInOrder (found_in known.new) (owed_of plan).starts plan.ordered
+  pub duties : plan.duties ≡ calls_of (owed_of plan) plan.ordered.units (state_of known.units.states)

@@ -1,11 +1,12 @@
 -- What holds at each moment of a switch of the units: NixOS manual, "Unit handling".
-use Rattle.std.specs.Prelude.{◌≡◌, true, false}
+use Rattle.std.specs.Prelude.{◌≡◌, Bool, true, false, List}
 use Rattle.std.specs.FinMap.{get}
 use Rattle.host_trait.specs.World.{WorldState}
 use Rattle.owed_plan.specs.declared.owed.Owed.{Owed}
 use Rattle.switch_names.specs.Names.{Name}
 use Rattle.switch_parts.specs.Part.{IsMomentOf, IsOnly, IsPart}
 use Rattle.unit_stage.specs.Owned.{owns_units, reads_units}
+use Rattle.unit_stage.specs.Order.{ArrangesStarts}
 use Rattle.unit_stage.specs.Owes.{IsSteadyWorld}
 use Rattle.unit_stage.specs.Plan.{IsOwedBy}
 use Rattle.unit_stage.specs.Steps.{IsUnitMoment}
@@ -18,19 +19,22 @@ AreSameBeside w m = (q : Name) → reads_units q ≡ true → owns_units q ≡ f
 
 -- at each moment of a switch nothing is in the way that wasn't
 abbrev pub FreeLaw : Type 0
-FreeLaw = (system : Name) (owed : Owed) (w m : WorldState) → IsSystem system → IsOwedBy w system owed → IsUnitMoment system owed w m → AreSameBeside w m → AreUnitsFree system w.leaves → AreUnitsFree system m.leaves
+FreeLaw =
+    (start_up : Bool) (system : Name) (owed : Owed) (order : List Name) (w m : WorldState) → IsSystem system → IsOwedBy start_up w system owed → IsUnitMoment system owed order w m → AreSameBeside w m →
+    AreUnitsFree system w.leaves → AreUnitsFree system m.leaves
 
--- at each moment of a switch from a steady world the switch is underway
+-- at each moment of a switch from a steady world the switch is underway, in whatever order it starts the units
 abbrev pub UnderwayLaw : Type 0
 UnderwayLaw =
-    (system : Name) (owed : Owed) (w m : WorldState) → IsSystem system → IsOwedBy w system owed → AreUnitsFree system w.leaves → IsSteadyWorld w system →
-    IsUnitMoment system owed w m → AreSameBeside w m → AreUnitsUnderway system w m
+    (start_up : Bool) (system : Name) (owed : Owed) (order : List Name) (w m : WorldState) → IsSystem system → IsOwedBy start_up w system owed → ArrangesStarts owed order → AreUnitsFree system w.leaves → IsSteadyWorld start_up w system →
+    IsUnitMoment system owed order w m → AreSameBeside w m → AreUnitsUnderway start_up system w m
 
 -- what is about the units is a part of a switch
 abbrev pub UnitsPartLaw : Type 0
-UnitsPartLaw = (system : Name) → IsSystem system → IsPart (units_part system)
+UnitsPartLaw = (start_up : Bool) (system : Name) → IsSystem system → IsPart (units_part start_up system)
 
 -- a moment at which nothing else has changed is a moment of the part
 abbrev pub UnitMomentLaw : Type 0
 UnitMomentLaw =
-    (system : Name) (owed : Owed) (w m : WorldState) → IsSystem system → IsOwedBy w system owed → IsUnitMoment system owed w m → IsOnly (units_part system) w m → IsMomentOf (units_part system) w m
+    (start_up : Bool) (system : Name) (owed : Owed) (order : List Name) (w m : WorldState) → IsSystem system → IsOwedBy start_up w system owed → ArrangesStarts owed order → IsUnitMoment system owed order w m →
+    IsOnly (units_part start_up system) w m → IsMomentOf (units_part start_up system) w m

@@ -2,9 +2,11 @@ pub mod Acts
 pub mod End
 pub mod Known
 pub mod Laws
+pub mod Order
 pub mod Owes
 pub mod Owned
 pub mod Plan
 pub mod Steps
 pub mod System
 pub mod Units
+pub mod Waiting

@@ -8,12 +8,12 @@ use Rattle.host_trait.specs.declared.unit_state.State.{State}
 use Rattle.host_trait.specs.States.{state_of}
 use Rattle.host_trait.specs.World.{WorldState}
 use Rattle.owed_lists.specs.declared.lists.Lists.{Lists}
-use Rattle.owed_lists.specs.Lists.{AreListsOf}
 use Rattle.owed_plan.specs.Owed.{Reloads, Restarts, Starts, Stops}
 use Rattle.owed_plan.specs.Steady.{IsSteady}
 use Rattle.owed_plan.specs.Systems.{Systems, systems_at}
 use Rattle.unit_stage.specs.System.{current_system, definitions_of}
 use Rattle.switch_names.specs.Names.{Name, is_name}
+use Rattle.unit_stage.specs.Waiting.{AreListsFor}
 
 -- the unit is owed an act of this kind
 abbrev pub IsOwedAct : Systems → (Name → State) → Lists → Act → Name → Type 0
@@ -23,9 +23,9 @@ IsOwedAct systems states lists Restart unit = Restarts systems states lists unit
 IsOwedAct systems states lists Start unit = Starts systems states lists unit
 
 -- a switch to a system owes a unit of a world an act of this kind
-abbrev pub Owes : WorldState → Name → Act → Name → Type 0
-Owes w system act unit =
-    (lists : Lists) × AreListsOf w.leaves lists × IsOwedAct (systems_at w.leaves (current_system w.leaves) system) (state_of w.manager.states) lists act unit
+abbrev pub Owes : Bool → WorldState → Name → Act → Name → Type 0
+Owes start_up w system act unit =
+    (lists : Lists) × AreListsFor start_up w.leaves system lists × IsOwedAct (systems_at w.leaves (current_system w.leaves) system) (state_of w.manager.states) lists act unit
 
 -- an act that stops a unit
 abbrev pub is_stop : Act → Bool
@@ -42,9 +42,9 @@ abbrev pub IsPaid : Name → Act → Name → List Entry → Type 0
 IsPaid system act unit entries = IsTrue (list_any (pays system act unit) entries)
 
 -- no target is to be stopped for good and started, and none waits for a restart or a reload
-abbrev pub IsSteadyWorld : WorldState → Name → Type 0
-IsSteadyWorld w system = (lists : Lists) → AreListsOf w.leaves lists → IsSteady (systems_at w.leaves (current_system w.leaves) system) (state_of w.manager.states) lists
+abbrev pub IsSteadyWorld : Bool → WorldState → Name → Type 0
+IsSteadyWorld start_up w system = (lists : Lists) → AreListsFor start_up w.leaves system lists → IsSteady (systems_at w.leaves (current_system w.leaves) system) (state_of w.manager.states) lists
 
 -- a switch to a system owes a unit of a world something
-abbrev pub OwesUnit : WorldState → Name → Name → Type 0
-OwesUnit w system unit = (act : Act) × Owes w system act unit
+abbrev pub OwesUnit : Bool → WorldState → Name → Name → Type 0
+OwesUnit start_up w system unit = (act : Act) × Owes start_up w system act unit

@@ -1,42 +1,44 @@
 -- What a switch to a system does to the units: NixOS manual, "What happens during a system switch?".
-use Rattle.std.specs.Prelude.{◌≡◌, ℕ, List, [], None, true}
+use Rattle.std.specs.Prelude.{◌≡◌, ℕ, Bool, List, [], None, true}
 use Rattle.host_trait.specs.States.{state_of}
 use Rattle.host_trait.specs.World.{WorldState}
 use Rattle.owed_lists.specs.declared.lists.Lists.{Lists}
-use Rattle.owed_lists.specs.Lists.{AreListsOf}
 use Rattle.owed_plan.specs.declared.owed.Owed.{Owed}
 use Rattle.owed_plan.specs.Calls.{calls_of}
 use Rattle.owed_plan.specs.Owed.{IsOwed, IsPlan}
 use Rattle.owed_plan.specs.Systems.{systems_at}
 use Rattle.unit_defs.specs.Defs.{AreDefsOf}
 use Rattle.unit_stage.specs.declared.unit_plan.UnitPlan.{UnitPlan}
+use Rattle.unit_stage.specs.Order.{AreOrderedAt}
 use Rattle.unit_stage.specs.System.{current_system}
+use Rattle.unit_stage.specs.Waiting.{AreListsFor}
 
 -- what a switch to a system owes the units of a world, given the lists that stand there
-pub record IsOwedIn (w : WorldState) (system : List ℕ) (lists : Lists) (owed : Owed) : Type 0 where
-  pub listed : AreListsOf w.leaves lists
+pub record IsOwedIn (start_up : Bool) (w : WorldState) (system : List ℕ) (lists : Lists) (owed : Owed) : Type 0 where
+  pub listed : AreListsFor start_up w.leaves system lists
   pub is_owed : IsOwed (systems_at w.leaves (current_system w.leaves) system) (state_of w.manager.states) lists owed
 
 -- what a switch to a system owes the units of a world
-abbrev pub IsOwedBy : WorldState → List ℕ → Owed → Type 0
-IsOwedBy w system owed = (lists : Lists) × IsOwedIn w system lists owed
+abbrev pub IsOwedBy : Bool → WorldState → List ℕ → Owed → Type 0
+IsOwedBy start_up w system owed = (lists : Lists) × IsOwedIn start_up w system lists owed
 
 -- what a switch to a system owes the units of a world, and the changed units that it leaves
-pub record IsPlannedIn (w : WorldState) (system : List ℕ) (lists : Lists) (owed : Owed) : Type 0 where
-  pub listed : AreListsOf w.leaves lists
+pub record IsPlannedIn (start_up : Bool) (w : WorldState) (system : List ℕ) (lists : Lists) (owed : Owed) : Type 0 where
+  pub listed : AreListsFor start_up w.leaves system lists
   pub planned : IsPlan (systems_at w.leaves (current_system w.leaves) system) (state_of w.manager.states) lists owed
 
 -- what is owed by a plan: the units to stop, those of its lists, and those that it leaves
 abbrev pub owed_of : UnitPlan → Owed
 owed_of plan = record { stops = plan.stops; reloads = plan.recorded.reloads; restarts = plan.recorded.restarts; starts = plan.recorded.starts; left = plan.left }
 
--- the plan of a switch to a system: the units that it defines, what is owed, and the calls by which it is given
-pub record IsUnitPlanOf (system : List ℕ) (w : WorldState) (plan : UnitPlan) : Type 0 where
+-- the plan of a switch to a system: the units that it defines, what is owed, the starts in order, and the calls by which it is given
+pub record IsUnitPlanOf (start_up : Bool) (system : List ℕ) (w : WorldState) (plan : UnitPlan) : Type 0 where
   pub from : plan.from ≡ current_system w.leaves
   pub defs : AreDefsOf w.leaves system plan.defs
   pub lists : Lists
-  pub planned : IsPlannedIn w system lists (owed_of plan)
-  pub duties : plan.duties ≡ calls_of (owed_of plan) (state_of w.manager.states)
+  pub planned : IsPlannedIn start_up w system lists (owed_of plan)
+  pub in_order : AreOrderedAt w.leaves system (owed_of plan) plan.ordered
+  pub duties : plan.duties ≡ calls_of (owed_of plan) plan.ordered.units (state_of w.manager.states)
 
 -- the plan that does nothing to the units
 abbrev pub no_units : UnitPlan
@@ -47,5 +49,6 @@ no_units = record {
   recorded = record { starts = []; restarts = []; reloads = [] };
   left = [];
   steady = true;
+  ordered = record { units = []; edges = []; broken = []; cycles = [] };
   duties = [];
 }

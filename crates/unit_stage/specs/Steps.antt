@@ -22,11 +22,11 @@ use Rattle.unit_stage.specs.Owned.{owns_units}
 use Rattle.unit_stage.specs.System.{current_place, definitions_of, system_leaf}
 
 -- these are the calls of a plan, each kind by itself
-pub record AreCallsOf (owed : Owed) (states : Name → State) (stops reloads restarts starts : List Duty) : Type 0 where
+pub record AreCallsOf (owed : Owed) (order : List Name) (states : Name → State) (stops reloads restarts starts : List Duty) : Type 0 where
   pub are_stops : stops ≡ stop_calls owed
   pub are_reloads : reloads ≡ reload_calls owed states
   pub are_restarts : restarts ≡ restart_calls owed
-  pub are_starts : starts ≡ start_calls owed
+  pub are_starts : starts ≡ start_calls order
 
 -- the world with the lists recorded, after the stops
 abbrev pub with_stops : Lists → List Duty → WorldState → WorldState
@@ -88,10 +88,10 @@ pub record AreSameUnits (w m : WorldState) : Type 0 where
   pub manager : m.manager ≡ w.manager
 
 -- at a moment of a switch the lists, the system in use and the manager are exactly at one of its steps
-pub data IsUnitMoment (system : Name) (owed : Owed) (w m : WorldState) : Type 0 where
-  Stopping : (u : WorldState) → IsStopStep (lists_of owed) (stop_calls owed) w u → AreSameUnits u m → IsUnitMoment system owed w m
-  Bringing : (u : WorldState) → IsBringStep system (reload_calls owed (state_of w.manager.states)) (restart_calls owed) (start_calls owed) (with_stops (lists_of owed) (stop_calls owed) w) u →
-      AreSameUnits u m → IsUnitMoment system owed w m
+pub data IsUnitMoment (system : Name) (owed : Owed) (order : List Name) (w m : WorldState) : Type 0 where
+  Stopping : (u : WorldState) → IsStopStep (lists_of owed) (stop_calls owed) w u → AreSameUnits u m → IsUnitMoment system owed order w m
+  Bringing : (u : WorldState) → IsBringStep system (reload_calls owed (state_of w.manager.states)) (restart_calls owed) (start_calls order) (with_stops (lists_of owed) (stop_calls owed) w) u →
+      AreSameUnits u m → IsUnitMoment system owed order w m
 
 -- a system can be brought into use, and its definitions are what will be loaded
 pub record CanLoad (system : Name) (w : WorldState) : Type 0 where

@@ -1,5 +1,5 @@
 -- The part of a switch that is about the units: NixOS manual, "Unit handling".
-use Rattle.std.specs.Prelude.{◌≡◌, ◌⊎◌, ◌↔◌, ◌++◌, true, List, Option, None, Some, if◌then◌else◌}
+use Rattle.std.specs.Prelude.{◌≡◌, ◌⊎◌, ◌↔◌, ◌++◌, true, List, Option, None, Some, if◌then◌else◌, Bool}
 use Rattle.std.specs.List.{AllByRecursion}
 use Rattle.host_trait.specs.declared.entry.Act.{Act}
 use Rattle.host_trait.specs.declared.entry.Entry.{Entry}
@@ -23,35 +23,35 @@ pub record AreUnitsFree (system : Name) (leaves : Leaves) : Type 0 where
 -- A switch of the units that began in a world is underway in another: it leaves the same states from there. What
 -- it owed the units is paid or still owed, only these units have been called, and every other is in the state that
 -- it was in. It isn't refused, and the world is steady.
-pub record AreUnitsUnderway (system : Name) (first w : WorldState) : Type 0 where
-  pub same_states : (states : Name → State) → AreEndStates system w states ↔ AreEndStates system first states
+pub record AreUnitsUnderway (start_up : Bool) (system : Name) (first w : WorldState) : Type 0 where
+  pub same_states : (states : Name → State) → AreEndStates start_up system w states ↔ AreEndStates start_up system first states
   pub same_bad : w.manager.bad ≡ first.manager.bad
   pub entered : List Entry
   pub journal : w.manager.journal ≡ first.manager.journal ++ entered
-  pub owed_alone : AllByRecursion (λ entry. OwesUnit first system entry.unit) entered
-  pub paid_or_owed : (act : Act) (unit : Name) → Owes first system act unit → IsPaid system act unit entered ⊎ Owes w system act unit
-  pub no_more_owed : (unit : Name) → OwesUnit w system unit → OwesUnit first system unit
-  pub others : (unit : Name) → ¬ OwesUnit first system unit → state_of w.manager.states unit ≡ state_of first.manager.states unit
+  pub owed_alone : AllByRecursion (λ entry. OwesUnit start_up first system entry.unit) entered
+  pub paid_or_owed : (act : Act) (unit : Name) → Owes start_up first system act unit → IsPaid system act unit entered ⊎ Owes start_up w system act unit
+  pub no_more_owed : (unit : Name) → OwesUnit start_up w system unit → OwesUnit start_up first system unit
+  pub others : (unit : Name) → ¬ OwesUnit start_up first system unit → state_of w.manager.states unit ≡ state_of first.manager.states unit
   pub free : AreUnitsFree system w.leaves
-  pub steady : IsSteadyWorld w system
+  pub steady : IsSteadyWorld start_up w system
 
 -- each moment of a switch of the units keeps this: nothing gets in the way, and from a steady world the switch is underway
-pub record AreUnitsKept (system : Name) (w m : WorldState) : Type 0 where
+pub record AreUnitsKept (start_up : Bool) (system : Name) (w m : WorldState) : Type 0 where
   pub free : AreUnitsFree system w.leaves → AreUnitsFree system m.leaves
-  pub underway : AreUnitsFree system w.leaves → IsSteadyWorld w system → AreUnitsUnderway system w m
+  pub underway : AreUnitsFree system w.leaves → IsSteadyWorld start_up w system → AreUnitsUnderway start_up system w m
 
 -- the link names the system, and no list is left
 abbrev pub units_end : Name → Leaves → Name → Option LeafKind
 units_end system leaves q = if is_path q current_place then Some (system_leaf system) else None
 
 -- the part that records the lists, stops units, brings the system into use, and reloads, restarts and starts units
-abbrev pub units_part : Name → Part
-units_part system = record {
+abbrev pub units_part : Bool → Name → Part
+units_part start_up system = record {
   owns = owns_units;
   reads = reads_units;
   calls = true;
   places = λ leaves. unit_places;
   refusal = λ leaves. unit_refusal leaves system;
   end = units_end system;
-  Keeps = AreUnitsKept system;
+  Keeps = AreUnitsKept start_up system;
 }

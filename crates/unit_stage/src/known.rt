@@ -5,16 +5,17 @@ ghost use Rattle.host_trait.specs.declared.tree.HostFault.TheVariants.{Device};
 ghost use Rattle.host_trait.specs.Reading.{IsReading, IsReadingOf};
 ghost use Rattle.host_trait.specs.Host.{Told};
 ghost use Rattle.owed_plan.specs.Systems.{AreOldDefs};
+ghost use Rattle.switch_names.specs.Names.{Name};
 ghost use Rattle.unit_defs.specs.Defs.{AreDefsOf};
 ghost use Rattle.switch_parts.specs.declared.plan_fault.PlanFault.TheVariants.{Host, Refused};
 ghost use Rattle.switch_parts.specs.declared.refusal.Refusal.{Refusal};
-ghost use Rattle.unit_stage.specs.Known.{AreStatesOf, IsKnownOf, IsOldOf};
+ghost use Rattle.unit_stage.specs.Known.{AreStatesOf, AreTaken, IsKnownOf, IsOldOf};
 ghost use Rattle.unit_stage.specs.System.{unit_refusal};
 
-use crate::system::current_system;
-use host_trait::{HostFault, Manager, States, Tree};
+use crate::system::{current_system, start_up_target};
+use host_trait::{HostFault, Manager, States, Tree, UnitSet};
 use owed_lists::{Lists, load};
-use std::alloc::Global;
+use std::alloc::{AllocError, Global};
 use switch_names::SystemName;
 use switch_parts::{PlanFault, Refusal};
 use unit_defs::{Defs, DefsFault};
@@ -96,13 +97,37 @@ pub fn read_new<T: Tree>(
     }
 }
 
+/// The lists as a switch to a system with these units takes them.
+fn lists_for(alloc: Global, stored: Lists, new: &Defs, start_up: bool) -> Result<Lists, AllocError>
+    ensures { IfOk result (AreTaken start_up new.now stored) }
+{
+    if !start_up {
+        return Ok(stored);
+    }
+    let target = start_up_target(alloc)?;
+    if new.find(&target).is_none() {
+        return Ok(stored);
+    }
+    let mut units = UnitSet::of(alloc, stored.starts.as_slice())?;
+    units.insert(target)?;
+    let mut lists = stored;
+    lists.starts = units.into_names(alloc)?;
+    Ok(lists)
+}
+
 /// Reads the states of the units and the three lists.
-fn read_states<H: Manager>(alloc: Global, host: &mut H) -> Result<UnitStates, HostFault>
-    ensures states { IfOk result (λ units. Told (H.host host.old) (λ w. AreStatesOf w units)) }
+fn read_states<H: Manager>(
+    alloc: Global,
+    host: &mut H,
+    new: &Defs,
+    start_up: bool,
+) -> Result<UnitStates, HostFault>
+    ensures states { IfOk result (λ units. Told (H.host host.old) (λ w. (system : Name) → AreDefsOf w.leaves system new.now → AreStatesOf start_up system w units)) }
     ensures reads { IsReading (H.host host.old) (H.host host.new) result }
 {
     let states = host.units(alloc)?;
-    let lists = load(alloc, host)?;
+    let stored = load(alloc, host)?;
+    let lists = lists_for(alloc, stored, new, start_up)?;
     Ok(UnitStates { states, lists })
 }
 
@@ -111,14 +136,15 @@ pub fn read_known<H: Manager>(
     alloc: Global,
     host: &mut H,
     system: &SystemName,
+    start_up: bool,
 ) -> Result<Known, PlanFault>
-    ensures known { IfOk result (λ known. Told (H.host host.old) (λ w. IsKnownOf system.now w known)) }
+    ensures known { IfOk result (λ known. Told (H.host host.old) (λ w. IsKnownOf start_up system.now w known)) }
     ensures not_refused { OnOk result (Told (H.host host.old) (λ w. unit_refusal w.leaves system.now ≡ None)) }
     ensures refused { (why : Refusal) → IsErrOf result (Refused why) → Told (H.host host.old) (λ w. unit_refusal w.leaves system.now ≡ Some why) }
     ensures reads { IsReadingOf (H.host host.old) (H.host host.new) (IsErrOf result (Host Device)) }
 {
     let old = read_old(alloc, host)?;
     let new = read_new(alloc, host, system, &old.defs)?;
-    let units = read_states(alloc, host)?;
+    let units = read_states(alloc, host, &new, start_up)?;
     Ok(Known { old, new, units })
 }

@@ -34,8 +34,8 @@ fn calls_after(calls: &[Duty], count: usize) -> &[Duty]
 
 /// The calls of a plan, each kind by itself.
 pub fn calls_of(plan: &UnitPlan) -> PlanCalls<'_>
-    ensures { (states : Name → State) → plan.now.duties ≡ calls_of (owed_of plan.now) states
-        → AreCallsOf (owed_of plan.now) states result.stops.now result.reloads.now result.restarts.now result.starts.now }
+    ensures { (states : Name → State) → plan.now.duties ≡ calls_of (owed_of plan.now) plan.now.ordered.units states
+        → AreCallsOf (owed_of plan.now) plan.now.ordered.units states result.stops.now result.reloads.now result.restarts.now result.starts.now }
 {
     let lists = plan.recorded();
     let calls = plan.duties().as_slice();

@@ -1,6 +1,8 @@
 //! Plans what a switch does to the units.
 ghost use Rattle.std.specs.Prelude.{◌≡◌, ◌↔◌, None, Some, IfOk, IsErrOf, IsTrue, OnOk};
+ghost use Rattle.std.specs.List.Sorted.{IsStrictlySortedBy};
 ghost use Rattle.host_trait.specs.declared.tree.HostFault.TheVariants.{Device};
+ghost use Rattle.host_trait.specs.Bytes.{bytes_cmp};
 ghost use Rattle.host_trait.specs.Reading.{IsReadingOf};
 ghost use Rattle.host_trait.specs.Host.{Told};
 ghost use Rattle.host_trait.specs.States.{state_of};
@@ -9,7 +11,9 @@ ghost use Rattle.owed_plan.specs.Pull.{Pulled};
 ghost use Rattle.owed_plan.specs.Systems.{systems_in};
 ghost use Rattle.switch_parts.specs.declared.plan_fault.PlanFault.TheVariants.{Host, Refused};
 ghost use Rattle.switch_parts.specs.declared.refusal.Refusal.{Refusal};
+ghost use Rattle.unit_defs.specs.Defs.{found_in};
 ghost use Rattle.unit_stage.specs.Known.{AreOwedCalls, IsPlanBy};
+ghost use Rattle.unit_stage.specs.Order.{AreInOrder};
 ghost use Rattle.switch_names.specs.Names.{IsListOf};
 ghost use Rattle.unit_stage.specs.Owes.{IsSteadyWorld};
 ghost use Rattle.unit_stage.specs.Plan.{IsUnitPlanOf};
@@ -18,17 +22,20 @@ ghost use Rattle.unit_stage.specs.System.{unit_refusal};
 use crate::known::{Known, read_known};
 use crate::unit_plan::UnitPlan;
 use host_trait::Manager;
-use owed_plan::{Duty, Owed, calls, is_steady, plan};
+use owed_plan::{Duty, Owed, calls, is_steady, order_edges, plan};
+use start_order::{Ordered, order};
 use std::alloc::{AllocError, Global};
 use switch_names::{Listed, SystemName, UnitName};
 use switch_parts::PlanFault;
+use unit_defs::Defs;
 use unit_pull::{pull, roots};
 
-/// What is owed, with its calls, and whether the world is steady.
+/// What is owed, with its starts in order and its calls, and whether the world is steady.
 #[derive(Drop)]
 struct OwedCalls {
     owed: Owed,
     steady: bool,
+    ordered: Ordered,
     duties: Listed<Duty>,
 }
 
@@ -58,6 +65,16 @@ fn owed_by(alloc: Global, known: &Known, pulled: &Listed<UnitName>) -> Result<Ow
     )
 }
 
+/// The units that are started in order, by the edges that their texts put between them.
+fn ordered_by(alloc: Global, new: &Defs, starts: &Listed<UnitName>) -> Result<Ordered, AllocError>
+    requires { IsStrictlySortedBy bytes_cmp starts.now }
+    ensures { IfOk result (AreInOrder (found_in new.now) starts.now) }
+{
+    let edges = order_edges(alloc, new, starts)?;
+    let ordered = order(alloc, starts, &edges)?;
+    Ok(ordered)
+}
+
 /// What a switch owes by what is known, with its calls.
 fn owed_calls(alloc: Global, known: &Known) -> Result<OwedCalls, AllocError>
     ensures { IfOk result (AreOwedCalls known.now) }
@@ -65,10 +82,12 @@ fn owed_calls(alloc: Global, known: &Known) -> Result<OwedCalls, AllocError>
     let pulled = pulled_by(alloc, known)?;
     let owed = owed_by(alloc, known, &pulled)?;
     let steady = is_steady(&known.new, &known.units.lists, &pulled);
-    let duties = calls(alloc, &owed, &known.units.states)?;
+    let ordered = ordered_by(alloc, &known.new, &owed.starts)?;
+    let duties = calls(alloc, &owed, &ordered, &known.units.states)?;
     Ok(OwedCalls {
         owed,
         steady,
+        ordered,
         duties,
     })
 }
@@ -79,7 +98,14 @@ fn plan_of(known: Known, calls: OwedCalls) -> UnitPlan
     ensures { IsPlanBy known result }
 {
     let Known { old, new, units: _ } = known;
-    UnitPlan::new(old.name, new, calls.owed, calls.steady, calls.duties)
+    UnitPlan::new(
+        old.name,
+        new,
+        calls.owed,
+        calls.steady,
+        calls.ordered,
+        calls.duties,
+    )
 }
 
 /// The plan of a switch by what is known.
@@ -90,21 +116,23 @@ fn plan_by(alloc: Global, known: Known) -> Result<UnitPlan, AllocError>
     Ok(plan_of(known, calls))
 }
 
-/// Plans what a switch to a system does to the units, and changes nothing.
+/// Plans what a switch to a system does to the units, and changes nothing. As the machine starts up,
+/// `multi-user.target` waits for a start, where the system defines it.
 ///
 /// Source: NixOS manual, "What happens during a system switch?".
 pub fn plan_units<H: Manager>(
     alloc: Global,
     host: &mut H,
     system: &SystemName,
+    start_up: bool,
 ) -> Result<UnitPlan, PlanFault>
-    ensures plan { IfOk result (λ plan. Told (H.host host.old) (λ w. IsUnitPlanOf system.now w plan)) }
-    ensures steady { IfOk result (λ plan. Told (H.host host.old) (λ w. IsTrue plan.steady ↔ IsSteadyWorld w system.now)) }
+    ensures plan { IfOk result (λ plan. Told (H.host host.old) (λ w. IsUnitPlanOf start_up system.now w plan)) }
+    ensures steady { IfOk result (λ plan. Told (H.host host.old) (λ w. IsTrue plan.steady ↔ IsSteadyWorld start_up w system.now)) }
     ensures not_refused { OnOk result (Told (H.host host.old) (λ w. unit_refusal w.leaves system.now ≡ None)) }
     ensures refused { (why : Refusal) → IsErrOf result (Refused why) → Told (H.host host.old) (λ w. unit_refusal w.leaves system.now ≡ Some why) }
     ensures reads { IsReadingOf (H.host host.old) (H.host host.new) (IsErrOf result (Host Device)) }
 {
-    let known = read_known(alloc, host, system)?;
+    let known = read_known(alloc, host, system, start_up)?;
     let plan = plan_by(alloc, known)?;
     Ok(plan)
 }

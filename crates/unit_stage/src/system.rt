@@ -5,11 +5,12 @@ ghost use Rattle.generations.specs.Places.{target_of};
 ghost use Rattle.host_trait.specs.Reading.{IsReading};
 ghost use Rattle.host_trait.specs.Host.{Told};
 ghost use Rattle.unit_stage.specs.System.{current_place, current_system};
+ghost use Rattle.unit_stage.specs.Waiting.{start_up_target};
 
 use generations::target_of;
 use host_trait::{HostFault, Leaf, Tree, fixed_path};
 use std::alloc::{AllocError, Global};
-use switch_names::{Path, SystemName};
+use switch_names::{NameFault, Path, SystemName, UnitName};
 
 /// Where the link to the system in use stands.
 #[tactic(auto, unfolding(crate::specs::System::current_place))]
@@ -17,6 +18,14 @@ pub fn current_path(alloc: Global) -> Result<Path, AllocError>
     ensures { IfOk result (λ path. path ≡ current_place) }
 {
     fixed_path(alloc, "run/current-system")
+}
+
+/// The target to which a machine starts up.
+#[tactic(auto, unfolding(crate::specs::Waiting::start_up_target))]
+pub fn start_up_target(alloc: Global) -> Result<UnitName, AllocError>
+    ensures { IfOk result (λ unit. unit ≡ start_up_target) }
+{
+    UnitName::parse(alloc, "multi-user.target").map_err(|_fault: NameFault| AllocError)
 }
 
 /// The system that a leaf names, where it stands.

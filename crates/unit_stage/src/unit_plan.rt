@@ -6,6 +6,7 @@ ghost use Rattle.unit_stage.specs.Plan.{no_units};
 
 use owed_lists::Lists;
 use owed_plan::{Duty, Owed};
+use start_order::Ordered;
 use std::alloc::Global;
 use switch_names::{Listed, SystemName, UnitName};
 use unit_defs::Defs;
@@ -18,6 +19,7 @@ pub struct UnitPlan {
     recorded: Lists,
     left: Listed<UnitName>,
     steady: bool,
+    ordered: Ordered,
     duties: Listed<Duty>,
 }
 
@@ -31,6 +33,7 @@ impl Drop for UnitPlan {
             recorded: _,
             left: _,
             steady: _,
+            ordered: _,
             duties: _,
         } = self;
     }
@@ -43,9 +46,10 @@ impl UnitPlan {
         defs: Defs,
         owed: Owed,
         steady: bool,
+        ordered: Ordered,
         duties: Listed<Duty>,
     ) -> UnitPlan
-        ensures { result ≡ record { from = from; defs = defs; stops = owed.stops; recorded = lists_of owed; left = owed.left; steady = steady; duties = duties } }
+        ensures { result ≡ record { from = from; defs = defs; stops = owed.stops; recorded = lists_of owed; left = owed.left; steady = steady; ordered = ordered; duties = duties } }
     {
         let (stops, recorded, left) = owed.into_lists();
         UnitPlan {
@@ -55,6 +59,7 @@ impl UnitPlan {
             recorded,
             left,
             steady,
+            ordered,
             duties,
         }
     }
@@ -74,6 +79,12 @@ impl UnitPlan {
             },
             left: Listed::new(alloc),
             steady: true,
+            ordered: Ordered {
+                units: Listed::new(alloc),
+                edges: Listed::new(alloc),
+                broken: Listed::new(alloc),
+                cycles: Listed::new(alloc),
+            },
             duties: Listed::new(alloc),
         }
     }
@@ -112,6 +123,13 @@ impl UnitPlan {
         ensures { result.now ≡ self.now.recorded }
     {
         &self.recorded
+    }
+
+    /// The units to start in the order of their starts, with what could not be kept of that order.
+    pub fn ordered(&self) -> &Ordered
+        ensures { result.now ≡ self.now.ordered }
+    {
+        &self.ordered
     }
 
     /// The calls on units, in their order.

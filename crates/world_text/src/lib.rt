@@ -5,6 +5,7 @@
 #![tactic(auto)]
 
 mod cases;
+mod fallen;
 mod fields;
 mod files;
 mod hosts;
@@ -14,6 +15,7 @@ mod tally;
 mod trying;
 mod writing;
 
+pub use fallen::{empty_host, fallen_host};
 pub use fields::{misread, text_of};
 pub use files::show_file;
 pub use hosts::{host_of, host_of_systems, list_of};

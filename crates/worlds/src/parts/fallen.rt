@@ -1,32 +1,22 @@
 //! What the calls over a host answer once a cut has fallen on it.
-ghost use Rattle.std.specs.Prelude.{◌≡◌, ℕ, List, codes, None};
-ghost use Rattle.std.specs.FinMap.{get};
+ghost use Rattle.std.specs.Prelude.{◌≡◌, codes};
 ghost use Rattle.host_memory.specs.MemoryHost.{host_of};
 ghost use Rattle.host_trait.specs.Host.{Told};
+ghost use Rattle.world_text.specs.Leafless.{HasNoLeaf};
 
 use super::troubles::place;
 use crate::outcome::{show_faults, word_of};
 use host_memory::MemoryHost;
-use host_trait::{Leaf, Manager, World, content};
+use host_trait::{Leaf, content};
 use std::alloc::Global;
 use std::test::Fail;
 use switch_names::{Bytes, Path};
 use tree_put::{drop_leaf, put};
-use world_text::{Lines, misread, text_of};
+use world_text::{Lines, fallen_host, misread, text_of};
 
-/// A host without leaves, on which a cut has fallen.
-fn fallen_host(alloc: Global) -> MemoryHost
-    ensures { Told (host_of result) (λ w. (q : List ℕ) → get w.leaves q ≡ None) }
-{
-    let mut host = MemoryHost::new(alloc, World::new(alloc));
-    host.arm(0, 0);
-    let _cut = host.daemon_reload(alloc);
-    host
-}
-
-/// Shows how a put on such a host ends.
+/// Shows how a put on a host without leaves ends.
 fn show_put(alloc: Global, lines: &mut Lines, host: &mut MemoryHost, at: &Path) -> Result<(), Fail>
-    requires host { Told (host_of host.old) (λ w. (q : List ℕ) → get w.leaves q ≡ None) }
+    requires host { Told (host_of host.old) HasNoLeaf }
     requires at { at.now ≡ codes "etc/put" }
 {
     let leaf = Leaf::link(alloc, "b")?;

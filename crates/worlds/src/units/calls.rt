@@ -5,11 +5,26 @@ use host_memory::MemoryHost;
 use host_trait::States;
 use owed_lists::{Lists, load};
 use owed_plan::{Owed, calls, plan};
+use start_order::Ordered;
 use std::alloc::{AllocError, Global};
 use std::test::Fail;
-use switch_names::{Bytes, Listed};
+use switch_names::{Bytes, Listed, UnitName};
 use unit_defs::Defs;
 use world_text::{Lines, misread};
+
+/// Units in their order, without an edge.
+fn without_edges(alloc: Global, units: &[UnitName]) -> Result<Ordered, AllocError> {
+    let mut ordered = Ordered {
+        units: Listed::new(alloc),
+        edges: Listed::new(alloc),
+        broken: Listed::new(alloc),
+        cycles: Listed::new(alloc),
+    };
+    for unit in units {
+        ordered.units.push(unit.copy(alloc)?)?;
+    }
+    Ok(ordered)
+}
 
 /// Shows the units that are left, and the calls in some states, a line each.
 fn show_calls(
@@ -19,7 +34,8 @@ fn show_calls(
     states: &States,
 ) -> Result<(), AllocError> {
     show_names(lines, "left", owed.left.as_slice());
-    let duties = calls(alloc, owed, states)?;
+    let ordered = without_edges(alloc, owed.starts.as_slice())?;
+    let duties = calls(alloc, owed, &ordered, states)?;
     for duty in duties.as_slice() {
         lines.add_value(&duty.act);
         lines.add_word(duty.unit.as_str());

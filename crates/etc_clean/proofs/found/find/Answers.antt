@@ -10,7 +10,7 @@ use Rattle.etc_clean.proofs.found.find.Goals as goal
 pub loop-path-init : goal.loop-path-init
 loop-path-init g c = record {
   reads = nothing_read_ok tt;
-  found = record { has = λ w is. none_found c.args.items.now c.args.clean.now w.leaves c.new-found.result c.new-found.ensures.gone c.new-found.ensures.foreign };
+  found = record { has = λ w is. none_found c.args.items.now c.args.clean.now w.leaves c.new-found.result c.new-found.ensures.gone c.new-found.ensures.foreign c.new-found.ensures.standing };
 }
 
 pub loop-path-preserved : goal.loop-path-preserved

@@ -1,3 +1,4 @@
+use Rattle.etc_clean.proofs.AgainLemmas.{again_law}
 use Rattle.etc_clean.proofs.KeepsLemmas.{alike_law, first_list_law, last_list_law, put_law, removal_law, static_law}
 use Rattle.etc_clean.proofs.laws.farms_are_kept.Goals as goal
 
@@ -18,3 +19,6 @@ returns-clause-last_list c = last_list_law
 
 pub returns-clause-elsewhere : goal.returns-clause-elsewhere
 returns-clause-elsewhere c = alike_law
+
+pub returns-clause-again : goal.returns-clause-again
+returns-clause-again c = again_law

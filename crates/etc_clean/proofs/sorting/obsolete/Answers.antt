@@ -26,11 +26,11 @@ returns-clause-sorted g c =
     let items = c.as_slice-items.ensures ∙ c.items.ensures.items in
     record {
       has = λ w is.
-          sorted_all c.args.manifest.now w.leaves c.in_ok-clean.clean c.in_ok-found.found c.into_gone.result c.in_ok-blocked.blocked c.items.ensures.is_manifest.sorted
+          sorted_all c.args.manifest.now w.leaves c.in_ok-clean.clean c.in_ok-found.found _ c.in_ok-blocked.blocked _ c.items.ensures.is_manifest.sorted
           (c.in_ok-clean.ensures.clean.has w is)
           (subst (λ (list : List Item). AreFound list c.in_ok-clean.clean w.leaves (etc_names w.leaves) c.in_ok-found.found) items
           (subst (λ (names : List Name). AreFound c.as_slice-items.result.now names w.leaves (etc_names w.leaves) c.in_ok-found.found) c.as_slice.ensures (told.has w is)))
-          c.into_gone.ensures
+          c.into_names-gone.ensures.gone c.into_names-gone.ensures.standing
           (subst (λ (list : List Item). IsStrictlySortedBy bytes_cmp c.in_ok-found.found.foreign → c.in_ok-blocked.blocked ≡ filter (λ q. list_any (λ p. is_in_line p q) c.in_ok-found.found.foreign) (places list)) items
           (subst (λ (names : List Name). IsStrictlySortedBy bytes_cmp names → c.in_ok-blocked.blocked ≡ filter (λ q. list_any (λ p. is_in_line p q) names) (places c.as_slice-items.result.now)) c.as_slice-2.ensures c.in_ok-blocked.ensures));
     }

@@ -11,6 +11,7 @@ use Rattle.etc_clean.specs.Names.{place}
 use Rattle.etc_farm.specs.Steps.{puts_but}
 use Rattle.etc_farm.proofs.MakingLemmas.{entries_next, entries_so_far, entry_next, entry_skipped}
 use Rattle.etc_farm.proofs.PutLemmas.{next_can_put}
+use Rattle.etc_farm.proofs.SkippedLemmas.{standing_skipped}
 use Rattle.etc_farm.proofs.entries.put_entries.Goals as goal
 
 pub loop-item-init : goal.loop-item-init
@@ -23,7 +24,7 @@ loop-item-init g c = record {
 pub put_item-requires : goal.put_item-requires
 put_item-requires g c =
     told_after c.loop-item.invariant.moments c.loop-item.invariant.ok (CanPut (place c.item-item.result.place)) (λ w v is before.
-    let can = c.requires.has w is in
+    let can = c.requires.can.has w is in
     next_can_put c.args.items.now c.args.blocked.now c.loop-item.item-index c.item-item.result c.loop-item-test.true c.item-item.is (sym (c.contains.ensures can.sorted) ∙ c.if-contains.false) w v can before)
 
 pub loop-item-preserved : goal.loop-item-preserved
@@ -31,9 +32,9 @@ loop-item-preserved g c =
     let items = c.args.items.now in let blocked = c.args.blocked.now in let item = c.item-item.result in let i = c.loop-item.item-index in
     record {
       ok = leads_then c.loop-item.invariant.ok c.in_ok-put_item.ensures.ok (λ w v. seen v ≡ seen (with_puts (puts_but blocked (take (i + 1) items)) w))
-          (λ w v u is_w is_v before now. entry_next blocked items i item c.loop-item-test.true c.item-item.is (sym (c.contains.ensures (c.requires.has w is_w).sorted) ∙ c.if-contains.false) w v before u now);
+          (λ w v u is_w is_v before now. entry_next blocked items i item c.loop-item-test.true c.item-item.is (sym (c.contains.ensures (c.requires.can.has w is_w).sorted) ∙ c.if-contains.false) w v before u now);
       moments = goes_on c.loop-item.invariant.moments c.loop-item.invariant.ok c.put_item.ensures.moments (IsPutting (puts_but blocked items)) (λ w m is step. step)
-          (λ w v m is_w is_v before moment. entries_next blocked items i item c.loop-item-test.true c.item-item.is (sym (c.contains.ensures (c.requires.has w is_w).sorted) ∙ c.if-contains.false) w v before m moment);
+          (λ w v m is_w is_v before moment. entries_next blocked items i item c.loop-item-test.true c.item-item.is (sym (c.contains.ensures (c.requires.can.has w is_w).sorted) ∙ c.if-contains.false) w v before m moment);
       cause = cause_ok (cause_then c.loop-item.invariant.cause c.put_item.ensures.cause) tt;
     }
 
@@ -41,16 +42,30 @@ pub loop-item-preserved-then-contains : goal.loop-item-preserved-then-contains
 loop-item-preserved-then-contains g c = record {
   ok = leads_as c.loop-item.invariant.ok (λ w v. seen v ≡ seen (with_puts (puts_but c.args.blocked.now (take (c.loop-item.item-index + 1) c.args.items.now)) w))
       (λ w v is before. before ∙ ap (λ ps. seen (with_puts ps w))
-      (sym (entry_skipped c.args.blocked.now c.args.items.now c.loop-item.item-index c.item-item.result c.loop-item-test.true c.item-item.is (sym (c.contains.ensures (c.requires.has w is).sorted) ∙ c.if-contains.true))));
+      (sym (entry_skipped c.args.blocked.now c.args.items.now c.loop-item.item-index c.item-item.result c.loop-item-test.true c.item-item.is (sym (c.contains.ensures (c.requires.can.has w is).sorted) ∙ c.if-contains.true))));
   moments = c.loop-item.invariant.moments;
   cause = c.loop-item.invariant.cause;
 }
+
+pub loop-item-preserved-then-contains-2 : goal.loop-item-preserved-then-contains-2
+loop-item-preserved-then-contains-2 g c =
+    let items = c.args.items.now in let blocked = c.args.blocked.now in let item = c.item-item.result in let i = c.loop-item.item-index in
+    record {
+      ok = leads_as c.loop-item.invariant.ok (λ w v. seen v ≡ seen (with_puts (puts_but blocked (take (i + 1) items)) w))
+          (λ w v is before.
+          let can = c.requires.can.has w is in
+          let are = c.requires.standing.has w is in
+          standing_skipped items blocked can.manifest c.args.standing.now i item c.loop-item-test.true c.item-item.is (sym (c.contains.ensures can.sorted) ∙ c.if-contains.false) w v are
+          (sym (c.contains-in-loop-item.ensures are.sorted) ∙ c.if-contains-2.true) before);
+      moments = c.loop-item.invariant.moments;
+      cause = c.loop-item.invariant.cause;
+    }
 
 pub returns-in_err-put_item-clause-moments : goal.returns-in_err-put_item-clause-moments
 returns-in_err-put_item-clause-moments g c =
     let items = c.args.items.now in let blocked = c.args.blocked.now in let item = c.item-item.result in let i = c.loop-item.item-index in
     goes_on c.loop-item.invariant.moments c.loop-item.invariant.ok c.put_item.ensures.moments (IsPutting (puts_but blocked items)) (λ w m is step. step)
-    (λ w v m is_w is_v before moment. entries_next blocked items i item c.loop-item-test.true c.item-item.is (sym (c.contains.ensures (c.requires.has w is_w).sorted) ∙ c.if-contains.false) w v before m moment)
+    (λ w v m is_w is_v before moment. entries_next blocked items i item c.loop-item-test.true c.item-item.is (sym (c.contains.ensures (c.requires.can.has w is_w).sorted) ∙ c.if-contains.false) w v before m moment)
 
 pub returns-in_err-put_item-clause-cause : goal.returns-in_err-put_item-clause-cause
 returns-in_err-put_item-clause-cause g c = cause_handed c.loop-item.invariant.cause c.in_err-put_item.ensures.cause _ c.from_residual.ensures.1

@@ -1,6 +1,6 @@
 use Rattle.std.proofs.Common.{◌≡◌, refl, sym, subst, ◌∙◌, inl}
+use Rattle.std.proofs.lemmas.Result.{on_ok_weaker}
 use Rattle.host_trait.specs.World.{seen, stage, with_leaf}
-use Rattle.host_trait.proofs.Causes.{cause_ok}
 use Rattle.host_trait.proofs.Moments.{leads_as, passes_as, started, told_as}
 use Rattle.tree_put.specs.Put.{AreApart, CanPut, IsOldOrNew}
 use Rattle.etc_clean.specs.Etc.{leaf_of}
@@ -14,28 +14,21 @@ returns-in_err-leaf-clause-moments g c = started (IsOldOrNew (place c.args.item.
 pub returns-in_err-at-clause-moments : goal.returns-in_err-at-clause-moments
 returns-in_err-at-clause-moments g c = started (IsOldOrNew (place c.args.item.now.place) (leaf_of c.args.item.now.place c.args.item.now.kind)) (λ w is. inl refl)
 
-pub put_if_other-requires-clause-apart : goal.put_if_other-requires-clause-apart
-put_if_other-requires-clause-apart g c = subst (λ p. AreApart p stage) (sym c.in_ok-at.ensures) (place_apart c.args.item.now.place)
+pub put-requires-clause-apart : goal.put-requires-clause-apart
+put-requires-clause-apart g c = subst (λ p. AreApart p stage) (sym c.in_ok-at.ensures) (place_apart c.args.item.now.place)
 
-pub put_if_other-requires-clause-can : goal.put_if_other-requires-clause-can
-put_if_other-requires-clause-can g c = told_as c.requires (CanPut c.in_ok-at.at) (λ w is can. subst (λ p. CanPut p w) (sym c.in_ok-at.ensures) can)
-
-pub returns-in_err-put_if_other-clause-moments : goal.returns-in_err-put_if_other-clause-moments
-returns-in_err-put_if_other-clause-moments g c =
-    passes_as c.put_if_other.ensures.moments (IsOldOrNew (place c.args.item.now.place) (leaf_of c.args.item.now.place c.args.item.now.kind))
-    (λ w m is moment. let there = subst (λ p. IsOldOrNew p c.in_ok-leaf.leaf w m) c.in_ok-at.ensures moment in
-    subst (λ l. IsOldOrNew (place c.args.item.now.place) l w m) c.in_ok-leaf.ensures there)
+pub put-requires-clause-can : goal.put-requires-clause-can
+put-requires-clause-can g c = told_as c.requires (CanPut c.in_ok-at.at) (λ w is can. subst (λ p. CanPut p w) (sym c.in_ok-at.ensures) can)
 
 pub returns-clause-ok : goal.returns-clause-ok
 returns-clause-ok g c =
-    leads_as c.in_ok-put_if_other.ensures.ok (λ w v. seen v ≡ seen (with_leaf (place c.args.item.now.place) (leaf_of c.args.item.now.place c.args.item.now.kind) w))
-    (λ w v is new. new ∙ (λ i. seen (with_leaf (c.in_ok-at.ensures i) (c.in_ok-leaf.ensures i) w)))
+    on_ok_weaker c.put.result
+    (λ led. leads_as led (λ w v. seen v ≡ seen (with_leaf (place c.args.item.now.place) (leaf_of c.args.item.now.place c.args.item.now.kind) w))
+    (λ w v is new. new ∙ (λ i. seen (with_leaf (c.in_ok-at.ensures i) (c.in_ok-leaf.ensures i) w))))
+    c.put.ensures.ok
 
 pub returns-clause-moments : goal.returns-clause-moments
 returns-clause-moments g c =
-    passes_as c.put_if_other.ensures.moments (IsOldOrNew (place c.args.item.now.place) (leaf_of c.args.item.now.place c.args.item.now.kind))
+    passes_as c.put.ensures.moments (IsOldOrNew (place c.args.item.now.place) (leaf_of c.args.item.now.place c.args.item.now.kind))
     (λ w m is moment. let there = subst (λ p. IsOldOrNew p c.in_ok-leaf.leaf w m) c.in_ok-at.ensures moment in
     subst (λ l. IsOldOrNew (place c.args.item.now.place) l w m) c.in_ok-leaf.ensures there)
-
-pub returns-clause-cause : goal.returns-clause-cause
-returns-clause-cause g c = cause_ok c.put_if_other.ensures.cause tt

@@ -4,7 +4,7 @@ use Rattle.host_trait.proofs.Moments.{started}
 use Rattle.etc_farm.specs.FarmPart.{farm_of}
 use Rattle.etc_farm.specs.Making.{IsMaking}
 use Rattle.etc_farm.specs.Making.IsMaking.{Before}
-use Rattle.etc_farm.proofs.MakingLemmas.{begin_steps, can_begin, clear_steps, cleared_can, end_steps, ended_led, puts_apart}
+use Rattle.etc_farm.proofs.MakingLemmas.{begin_steps, can_begin, clear_steps, cleared_can, cleared_standing, end_steps, ended_led, puts_apart}
 use Rattle.etc_farm.proofs.farm.apply.Goals as goal
 
 pub put_all-requires-clause-apart : goal.put_all-requires-clause-apart
@@ -20,6 +20,11 @@ pub finish-requires-clause-can : goal.finish-requires-clause-can
 finish-requires-clause-can g c =
     cleared_can c.in_ok-prepared.ensures c.requires c.as_slice.ensures c.put_all.ensures.moments c.in_ok-put_all.ensures.ok c.as_slice-2.ensures c.drop_all.ensures.moments c.in_ok-drop_all.ensures.ok
     (c.as_slice-items.ensures ∙ c.items.ensures.items) c.as_slice-blocked.ensures
+
+pub finish-requires-clause-standing : goal.finish-requires-clause-standing
+finish-requires-clause-standing g c =
+    cleared_standing c.in_ok-prepared.ensures c.requires c.as_slice.ensures c.put_all.ensures.moments c.in_ok-put_all.ensures.ok c.as_slice-2.ensures c.drop_all.ensures.moments c.in_ok-drop_all.ensures.ok
+    (c.as_slice-items.ensures ∙ c.items.ensures.items) c.as_slice-standing.ensures
 
 pub returns-clause-ok : goal.returns-clause-ok
 returns-clause-ok g c =

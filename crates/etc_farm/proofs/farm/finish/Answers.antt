@@ -11,8 +11,11 @@ use Rattle.etc_farm.proofs.PlaceLemmas.{place_apart}
 use Rattle.etc_farm.proofs.PutLemmas.{can_put_last}
 use Rattle.etc_farm.proofs.farm.finish.Goals as goal
 
-pub put_entries_kept-requires : goal.put_entries_kept-requires
-put_entries_kept-requires g c = c.requires.can
+pub put_entries_kept-requires-clause-can : goal.put_entries_kept-requires-clause-can
+put_entries_kept-requires-clause-can g c = c.requires.can
+
+pub put_entries_kept-requires-clause-standing : goal.put_entries_kept-requires-clause-standing
+put_entries_kept-requires-clause-standing g c = c.requires.standing
 
 pub put_if_other-requires-clause-apart : goal.put_if_other-requires-clause-apart
 put_if_other-requires-clause-apart g c = subst (λ p. AreApart p stage) (sym c.requires.list) (place_apart clean_name)

@@ -5,8 +5,11 @@ use Rattle.tree_put.specs.Sequence.{IsPutting, with_puts}
 use Rattle.etc_farm.specs.Steps.{puts_but}
 use Rattle.etc_farm.proofs.farm.put_entries_kept.Goals as goal
 
-pub put_entries-requires : goal.put_entries-requires
-put_entries-requires g c = c.requires
+pub put_entries-requires-clause-can : goal.put_entries-requires-clause-can
+put_entries-requires-clause-can g c = c.requires.can
+
+pub put_entries-requires-clause-standing : goal.put_entries-requires-clause-standing
+put_entries-requires-clause-standing g c = c.requires.standing
 
 pub returns-in_err-sync-clause-moments : goal.returns-in_err-sync-clause-moments
 returns-in_err-sync-clause-moments g c =

@@ -1,12 +1,9 @@
-use Rattle.std.proofs.Common.{◌≡◌, ◌≤◌, ◌+◌, ◌++◌, ℕ, length, ap, ◌∙◌, arith}
+use Rattle.std.proofs.Common.{◌+◌, ◌++◌, length, ap, ◌∙◌}
 use Rattle.made_world.specs.Draws.{state_at}
 use Rattle.rehearse.specs.Rehearsal.{made_text}
 use Rattle.rehearse.proofs.RepeatableLemmas.{switch_repeatable}
-use Rattle.rehearse.proofs.RehearsalLemmas.{length_drawn, rehearsed_from}
+use Rattle.rehearse.proofs.RehearsalLemmas.{at_most, length_drawn, rehearsed_from}
 use Rattle.rehearse.proofs.rehearsing.rehearsal_of.Goals as goal
-
-at_most : (n most : ℕ) → n ≡ most → n ≤ most
-at_most n most is = omega (arith, is)
 
 pub rehearse_on-requires-clause-repeatable : goal.rehearse_on-requires-clause-repeatable
 rehearse_on-requires-clause-repeatable c = switch_repeatable c.into_parts-world.result.1

@@ -1,7 +1,6 @@
 use Rattle.std.proofs.Common.{◌≡◌, ◌≤◌, ◌<◌, ◌+◌, ℕ, List, Some, length, take, get_or, slice_get, refl, Err, ap, subst, ◌∙◌, arith}
 use Rattle.std.proofs.lemmas.List.Sums.{sum_by_more}
 use Rattle.std.proofs.lemmas.Option.{slice_get-get_or}
-use Rattle.host_memory.specs.MemoryHost.{host_of}
 use Rattle.host_trait.proofs.Moments.{started}
 use Rattle.rehearse.specs.declared.trouble.Trouble.{Trouble}
 use Rattle.rehearse.specs.declared.trouble.Trouble.TheVariants.{Cut}
@@ -26,7 +25,7 @@ more : (troubles : List Trouble) (at : ℕ) → at < length troubles → allowed
 more troubles at within = sum_by_more allowed_by troubles at no_trouble within
 
 pub loop-trouble-init : goal.loop-trouble-init
-loop-trouble-init c = record {
+loop-trouble-init g c = record {
   count = refl;
   way = started (IsHeld c.args.command.now) (λ w is. held_begins c.args.command.now w);
   still = λ none. record { to = λ w is. (w, is, refl) };
@@ -35,20 +34,20 @@ loop-trouble-init c = record {
 }
 
 pub returns-in-Ok-clause-some : goal.returns-in-Ok-clause-some
-returns-in-Ok-clause-some c =
+returns-in-Ok-clause-some g c =
     let troubles = c.args.troubles.now in let at = c.loop-trouble.trouble-index in let within = c.loop-trouble-test.true in
     through_here c.args.command.now c.requires.repeatable c.in-Ok.end at c.loop-trouble.invariant.way c.loop-trouble.invariant.still c.in-Ok.ensures.ended c.run_trouble.ensures.later
     troubles (get_or troubles at no_trouble) within (stands troubles at within) (more troubles at within) c.loop-trouble.invariant.bounded c.run_trouble.ensures.clock
     (c.loop-trouble.runs + 1) (ap (λ n. n + 1) c.loop-trouble.invariant.count)
 
 pub returns-in-Ok-clause-moments : goal.returns-in-Ok-clause-moments
-returns-in-Ok-clause-moments c = way_on c.args.command.now c.loop-trouble.invariant.way c.run_trouble.ensures.moments
+returns-in-Ok-clause-moments g c = way_on c.args.command.now c.loop-trouble.invariant.way c.run_trouble.ensures.moments
 
 pub returns-in-Err-Memory-clause-moments : goal.returns-in-Err-Memory-clause-moments
-returns-in-Err-Memory-clause-moments c = way_on c.args.command.now c.loop-trouble.invariant.way c.run_trouble.ensures.moments
+returns-in-Err-Memory-clause-moments g c = way_on c.args.command.now c.loop-trouble.invariant.way c.run_trouble.ensures.moments
 
 pub loop-trouble-preserved : goal.loop-trouble-preserved
-loop-trouble-preserved c =
+loop-trouble-preserved g c =
     let troubles = c.args.troubles.now in let at = c.loop-trouble.trouble-index in let within = c.loop-trouble-test.true in
     record {
       count = ap (λ n. n + 1) c.loop-trouble.invariant.count;
@@ -60,13 +59,13 @@ loop-trouble-preserved c =
     }
 
 pub returns-clause-none : goal.returns-clause-none
-returns-clause-none c none = subst (λ n. IsBounded (host_of c.args.host.now) (host_of c.loop-trouble.host) c.args.troubles.now n) (at_end c.loop-trouble.auto.trouble-index-end c.loop-trouble-test.false) c.loop-trouble.invariant.bounded
+returns-clause-none g c none = subst (λ n. IsBounded (g.H.Tree.host c.args.host.now) (g.H.Tree.host c.loop-trouble.host) c.args.troubles.now n) (at_end c.loop-trouble.auto.trouble-index-end c.loop-trouble-test.false) c.loop-trouble.invariant.bounded
 
 pub returns-clause-still : goal.returns-clause-still
-returns-clause-still c none empty = c.loop-trouble.invariant.still (at_end c.loop-trouble.auto.trouble-index-end c.loop-trouble-test.false ∙ empty)
+returns-clause-still g c none empty = c.loop-trouble.invariant.still (at_end c.loop-trouble.auto.trouble-index-end c.loop-trouble-test.false ∙ empty)
 
 pub returns-clause-moments : goal.returns-clause-moments
-returns-clause-moments c = c.loop-trouble.invariant.way
+returns-clause-moments g c = c.loop-trouble.invariant.way
 
 pub returns-clause-sure : goal.returns-clause-sure
-returns-clause-sure c = c.loop-trouble.invariant.sure
+returns-clause-sure g c = c.loop-trouble.invariant.sure

@@ -1,5 +1,4 @@
 use Rattle.std.proofs.Common.{◌≡◌, IsTrue}
-use Rattle.host_memory.specs.MemoryHost.{host_of}
 use Rattle.host_trait.specs.Change.{IsSame}
 use Rattle.host_trait.specs.Host.{Leads, Passes}
 use Rattle.rehearse.specs.Ends.{IsHeld}
@@ -8,9 +7,9 @@ use Rattle.rehearse.proofs.running.run_troubles.Given as goal
 
 -- each run so far met its trouble
 abbrev pub invariant-loop-trouble : goal.invariant-loop-trouble
-invariant-loop-trouble l =
-    let start = host_of l.fn.host in
-    let now = host_of l.host in
+invariant-loop-trouble g l =
+    let start = g.H.Tree.host l.fn.host in
+    let now = g.H.Tree.host l.host in
     record {
       count : l.runs ≡ l.trouble-index;
       way : Passes start now (IsHeld l.command);

@@ -58,8 +58,8 @@ returns-in_err-outcome-clause-moments g c =
     (subst (λ (o : Option BootDefaultPlan). Passes host then (IsPreparing (moves_of o) c.to-2.result.now)) c.profile.ensures c.prepare.ensures.moments)
     (subst (λ (o : Option BootDefaultPlan). Leads host then (IsPrepared (moves_of o) c.to-2.result.now)) c.profile.ensures c.in_ok-prepare.ensures.ok)
     c.to-3.result.now c.to-3.ensures
-    (subst (λ (o : Option ActivationPlan). Passes then (g.H.Tree.host c.carry_units.new.host) (IsSwitchMomentIf (is_some o) c.to-3.result.now (owed_of c.args.plan.now.units))) c.activation-activation.ensures
-    (subst (λ (units : UnitPlan). Passes then (g.H.Tree.host c.carry_units.new.host) (IsSwitchMomentIf (is_some (option_copied c.activation-activation.result)) c.to-3.result.now (owed_of units))) c.units.ensures c.carry_units.ensures.moments))
+    (subst (λ (o : Option ActivationPlan). Passes then (g.H.Tree.host c.carry_units.new.host) (IsSwitchMomentIf (is_some o) c.to-3.result.now (owed_of c.args.plan.now.units) c.args.plan.now.units.ordered.units)) c.activation-activation.ensures
+    (subst (λ (units : UnitPlan). Passes then (g.H.Tree.host c.carry_units.new.host) (IsSwitchMomentIf (is_some (option_copied c.activation-activation.result)) c.to-3.result.now (owed_of units) units.ordered.units)) c.units.ensures c.carry_units.ensures.moments))
 
 pub returns-in_err-finish-clause-moments : goal.returns-in_err-finish-clause-moments
 returns-in_err-finish-clause-moments g c =
@@ -68,10 +68,10 @@ returns-in_err-finish-clause-moments g c =
     (subst (λ (o : Option BootDefaultPlan). Passes host then (IsPreparing (moves_of o) c.to-2.result.now)) c.profile.ensures c.prepare.ensures.moments)
     (subst (λ (o : Option BootDefaultPlan). Leads host then (IsPrepared (moves_of o) c.to-2.result.now)) c.profile.ensures c.in_ok-prepare.ensures.ok)
     c.to-3.result.now c.to-3.ensures
-    (subst (λ (o : Option ActivationPlan). Passes then (g.H.Tree.host c.carry_units.new.host) (IsSwitchMomentIf (is_some o) c.to-3.result.now (owed_of c.args.plan.now.units))) c.activation-activation.ensures
-    (subst (λ (units : UnitPlan). Passes then (g.H.Tree.host c.carry_units.new.host) (IsSwitchMomentIf (is_some (option_copied c.activation-activation.result)) c.to-3.result.now (owed_of units))) c.units.ensures c.carry_units.ensures.moments))
-    (subst (λ (o : Option ActivationPlan). Leads then (g.H.Tree.host c.carry_units.new.host) (IsSwitchedIf (is_some o) c.to-3.result.now (owed_of c.args.plan.now.units))) c.activation-activation.ensures
-    (subst (λ (units : UnitPlan). Leads then (g.H.Tree.host c.carry_units.new.host) (IsSwitchedIf (is_some (option_copied c.activation-activation.result)) c.to-3.result.now (owed_of units))) c.units.ensures c.in_ok-outcome.ensures.ok))
+    (subst (λ (o : Option ActivationPlan). Passes then (g.H.Tree.host c.carry_units.new.host) (IsSwitchMomentIf (is_some o) c.to-3.result.now (owed_of c.args.plan.now.units) c.args.plan.now.units.ordered.units)) c.activation-activation.ensures
+    (subst (λ (units : UnitPlan). Passes then (g.H.Tree.host c.carry_units.new.host) (IsSwitchMomentIf (is_some (option_copied c.activation-activation.result)) c.to-3.result.now (owed_of units) units.ordered.units)) c.units.ensures c.carry_units.ensures.moments))
+    (subst (λ (o : Option ActivationPlan). Leads then (g.H.Tree.host c.carry_units.new.host) (IsSwitchedIf (is_some o) c.to-3.result.now (owed_of c.args.plan.now.units) c.args.plan.now.units.ordered.units)) c.activation-activation.ensures
+    (subst (λ (units : UnitPlan). Leads then (g.H.Tree.host c.carry_units.new.host) (IsSwitchedIf (is_some (option_copied c.activation-activation.result)) c.to-3.result.now (owed_of units) units.ordered.units)) c.units.ensures c.in_ok-outcome.ensures.ok))
     (subst (λ (o : Option BootDefaultPlan). Passes (g.H.Tree.host c.carry_units.new.host) (g.H.Tree.host c.finish.new.host) (IsClearStep (moves_of o))) c.profile-2.ensures c.finish.ensures.moments)
 
 pub returns-clause-moments : goal.returns-clause-moments
@@ -81,10 +81,10 @@ returns-clause-moments g c =
     (subst (λ (o : Option BootDefaultPlan). Passes host then (IsPreparing (moves_of o) c.to-2.result.now)) c.profile.ensures c.prepare.ensures.moments)
     (subst (λ (o : Option BootDefaultPlan). Leads host then (IsPrepared (moves_of o) c.to-2.result.now)) c.profile.ensures c.in_ok-prepare.ensures.ok)
     c.to-3.result.now c.to-3.ensures
-    (subst (λ (o : Option ActivationPlan). Passes then (g.H.Tree.host c.carry_units.new.host) (IsSwitchMomentIf (is_some o) c.to-3.result.now (owed_of c.args.plan.now.units))) c.activation-activation.ensures
-    (subst (λ (units : UnitPlan). Passes then (g.H.Tree.host c.carry_units.new.host) (IsSwitchMomentIf (is_some (option_copied c.activation-activation.result)) c.to-3.result.now (owed_of units))) c.units.ensures c.carry_units.ensures.moments))
-    (subst (λ (o : Option ActivationPlan). Leads then (g.H.Tree.host c.carry_units.new.host) (IsSwitchedIf (is_some o) c.to-3.result.now (owed_of c.args.plan.now.units))) c.activation-activation.ensures
-    (subst (λ (units : UnitPlan). Leads then (g.H.Tree.host c.carry_units.new.host) (IsSwitchedIf (is_some (option_copied c.activation-activation.result)) c.to-3.result.now (owed_of units))) c.units.ensures c.in_ok-outcome.ensures.ok))
+    (subst (λ (o : Option ActivationPlan). Passes then (g.H.Tree.host c.carry_units.new.host) (IsSwitchMomentIf (is_some o) c.to-3.result.now (owed_of c.args.plan.now.units) c.args.plan.now.units.ordered.units)) c.activation-activation.ensures
+    (subst (λ (units : UnitPlan). Passes then (g.H.Tree.host c.carry_units.new.host) (IsSwitchMomentIf (is_some (option_copied c.activation-activation.result)) c.to-3.result.now (owed_of units) units.ordered.units)) c.units.ensures c.carry_units.ensures.moments))
+    (subst (λ (o : Option ActivationPlan). Leads then (g.H.Tree.host c.carry_units.new.host) (IsSwitchedIf (is_some o) c.to-3.result.now (owed_of c.args.plan.now.units) c.args.plan.now.units.ordered.units)) c.activation-activation.ensures
+    (subst (λ (units : UnitPlan). Leads then (g.H.Tree.host c.carry_units.new.host) (IsSwitchedIf (is_some (option_copied c.activation-activation.result)) c.to-3.result.now (owed_of units) units.ordered.units)) c.units.ensures c.in_ok-outcome.ensures.ok))
     (subst (λ (o : Option BootDefaultPlan). Passes (g.H.Tree.host c.carry_units.new.host) (g.H.Tree.host c.finish.new.host) (IsClearStep (moves_of o))) c.profile-2.ensures c.finish.ensures.moments)
 
 pub returns-clause-ok : goal.returns-clause-ok
@@ -94,10 +94,10 @@ returns-clause-ok g c =
     (subst (λ (o : Option BootDefaultPlan). Passes host then (IsPreparing (moves_of o) c.to-2.result.now)) c.profile.ensures c.prepare.ensures.moments)
     (subst (λ (o : Option BootDefaultPlan). Leads host then (IsPrepared (moves_of o) c.to-2.result.now)) c.profile.ensures c.in_ok-prepare.ensures.ok)
     c.to-3.result.now c.to-3.ensures
-    (subst (λ (o : Option ActivationPlan). Passes then (g.H.Tree.host c.carry_units.new.host) (IsSwitchMomentIf (is_some o) c.to-3.result.now (owed_of c.args.plan.now.units))) c.activation-activation.ensures
-    (subst (λ (units : UnitPlan). Passes then (g.H.Tree.host c.carry_units.new.host) (IsSwitchMomentIf (is_some (option_copied c.activation-activation.result)) c.to-3.result.now (owed_of units))) c.units.ensures c.carry_units.ensures.moments))
-    (subst (λ (o : Option ActivationPlan). Leads then (g.H.Tree.host c.carry_units.new.host) (IsSwitchedIf (is_some o) c.to-3.result.now (owed_of c.args.plan.now.units))) c.activation-activation.ensures
-    (subst (λ (units : UnitPlan). Leads then (g.H.Tree.host c.carry_units.new.host) (IsSwitchedIf (is_some (option_copied c.activation-activation.result)) c.to-3.result.now (owed_of units))) c.units.ensures c.in_ok-outcome.ensures.ok))
+    (subst (λ (o : Option ActivationPlan). Passes then (g.H.Tree.host c.carry_units.new.host) (IsSwitchMomentIf (is_some o) c.to-3.result.now (owed_of c.args.plan.now.units) c.args.plan.now.units.ordered.units)) c.activation-activation.ensures
+    (subst (λ (units : UnitPlan). Passes then (g.H.Tree.host c.carry_units.new.host) (IsSwitchMomentIf (is_some (option_copied c.activation-activation.result)) c.to-3.result.now (owed_of units) units.ordered.units)) c.units.ensures c.carry_units.ensures.moments))
+    (subst (λ (o : Option ActivationPlan). Leads then (g.H.Tree.host c.carry_units.new.host) (IsSwitchedIf (is_some o) c.to-3.result.now (owed_of c.args.plan.now.units) c.args.plan.now.units.ordered.units)) c.activation-activation.ensures
+    (subst (λ (units : UnitPlan). Leads then (g.H.Tree.host c.carry_units.new.host) (IsSwitchedIf (is_some (option_copied c.activation-activation.result)) c.to-3.result.now (owed_of units) units.ordered.units)) c.units.ensures c.in_ok-outcome.ensures.ok))
     (subst (λ (o : Option BootDefaultPlan). Passes (g.H.Tree.host c.carry_units.new.host) (g.H.Tree.host c.finish.new.host) (IsClearStep (moves_of o))) c.profile-2.ensures c.finish.ensures.moments)
     (subst (λ (o : Option BootDefaultPlan). Leads (g.H.Tree.host c.carry_units.new.host) (g.H.Tree.host c.finish.new.host) (λ v x. x ≡ cleared_by (moves_of o) v)) c.profile-2.ensures c.in_ok-finish.ensures.ok)
 
@@ -108,10 +108,10 @@ returns-clause-states g c =
     (subst (λ (o : Option BootDefaultPlan). Passes host then (IsPreparing (moves_of o) c.to-2.result.now)) c.profile.ensures c.prepare.ensures.moments)
     (subst (λ (o : Option BootDefaultPlan). Leads host then (IsPrepared (moves_of o) c.to-2.result.now)) c.profile.ensures c.in_ok-prepare.ensures.ok)
     c.to-3.result.now c.to-3.ensures
-    (subst (λ (o : Option ActivationPlan). Passes then (g.H.Tree.host c.carry_units.new.host) (IsSwitchMomentIf (is_some o) c.to-3.result.now (owed_of c.args.plan.now.units))) c.activation-activation.ensures
-    (subst (λ (units : UnitPlan). Passes then (g.H.Tree.host c.carry_units.new.host) (IsSwitchMomentIf (is_some (option_copied c.activation-activation.result)) c.to-3.result.now (owed_of units))) c.units.ensures c.carry_units.ensures.moments))
-    (subst (λ (o : Option ActivationPlan). Leads then (g.H.Tree.host c.carry_units.new.host) (IsSwitchedIf (is_some o) c.to-3.result.now (owed_of c.args.plan.now.units))) c.activation-activation.ensures
-    (subst (λ (units : UnitPlan). Leads then (g.H.Tree.host c.carry_units.new.host) (IsSwitchedIf (is_some (option_copied c.activation-activation.result)) c.to-3.result.now (owed_of units))) c.units.ensures c.in_ok-outcome.ensures.ok))
+    (subst (λ (o : Option ActivationPlan). Passes then (g.H.Tree.host c.carry_units.new.host) (IsSwitchMomentIf (is_some o) c.to-3.result.now (owed_of c.args.plan.now.units) c.args.plan.now.units.ordered.units)) c.activation-activation.ensures
+    (subst (λ (units : UnitPlan). Passes then (g.H.Tree.host c.carry_units.new.host) (IsSwitchMomentIf (is_some (option_copied c.activation-activation.result)) c.to-3.result.now (owed_of units) units.ordered.units)) c.units.ensures c.carry_units.ensures.moments))
+    (subst (λ (o : Option ActivationPlan). Leads then (g.H.Tree.host c.carry_units.new.host) (IsSwitchedIf (is_some o) c.to-3.result.now (owed_of c.args.plan.now.units) c.args.plan.now.units.ordered.units)) c.activation-activation.ensures
+    (subst (λ (units : UnitPlan). Leads then (g.H.Tree.host c.carry_units.new.host) (IsSwitchedIf (is_some (option_copied c.activation-activation.result)) c.to-3.result.now (owed_of units) units.ordered.units)) c.units.ensures c.in_ok-outcome.ensures.ok))
     (subst (λ (o : Option BootDefaultPlan). Passes (g.H.Tree.host c.carry_units.new.host) (g.H.Tree.host c.finish.new.host) (IsClearStep (moves_of o))) c.profile-2.ensures c.finish.ensures.moments)
     (subst (λ (o : Option BootDefaultPlan). Leads (g.H.Tree.host c.carry_units.new.host) (g.H.Tree.host c.finish.new.host) (λ v x. x ≡ cleared_by (moves_of o) v)) c.profile-2.ensures c.in_ok-finish.ensures.ok)
     c.in_ok-outcome.outcome
@@ -124,10 +124,10 @@ returns-clause-verdict g c =
     (subst (λ (o : Option BootDefaultPlan). Passes host then (IsPreparing (moves_of o) c.to-2.result.now)) c.profile.ensures c.prepare.ensures.moments)
     (subst (λ (o : Option BootDefaultPlan). Leads host then (IsPrepared (moves_of o) c.to-2.result.now)) c.profile.ensures c.in_ok-prepare.ensures.ok)
     c.to-3.result.now c.to-3.ensures
-    (subst (λ (o : Option ActivationPlan). Passes then (g.H.Tree.host c.carry_units.new.host) (IsSwitchMomentIf (is_some o) c.to-3.result.now (owed_of c.args.plan.now.units))) c.activation-activation.ensures
-    (subst (λ (units : UnitPlan). Passes then (g.H.Tree.host c.carry_units.new.host) (IsSwitchMomentIf (is_some (option_copied c.activation-activation.result)) c.to-3.result.now (owed_of units))) c.units.ensures c.carry_units.ensures.moments))
-    (subst (λ (o : Option ActivationPlan). Leads then (g.H.Tree.host c.carry_units.new.host) (IsSwitchedIf (is_some o) c.to-3.result.now (owed_of c.args.plan.now.units))) c.activation-activation.ensures
-    (subst (λ (units : UnitPlan). Leads then (g.H.Tree.host c.carry_units.new.host) (IsSwitchedIf (is_some (option_copied c.activation-activation.result)) c.to-3.result.now (owed_of units))) c.units.ensures c.in_ok-outcome.ensures.ok))
+    (subst (λ (o : Option ActivationPlan). Passes then (g.H.Tree.host c.carry_units.new.host) (IsSwitchMomentIf (is_some o) c.to-3.result.now (owed_of c.args.plan.now.units) c.args.plan.now.units.ordered.units)) c.activation-activation.ensures
+    (subst (λ (units : UnitPlan). Passes then (g.H.Tree.host c.carry_units.new.host) (IsSwitchMomentIf (is_some (option_copied c.activation-activation.result)) c.to-3.result.now (owed_of units) units.ordered.units)) c.units.ensures c.carry_units.ensures.moments))
+    (subst (λ (o : Option ActivationPlan). Leads then (g.H.Tree.host c.carry_units.new.host) (IsSwitchedIf (is_some o) c.to-3.result.now (owed_of c.args.plan.now.units) c.args.plan.now.units.ordered.units)) c.activation-activation.ensures
+    (subst (λ (units : UnitPlan). Leads then (g.H.Tree.host c.carry_units.new.host) (IsSwitchedIf (is_some (option_copied c.activation-activation.result)) c.to-3.result.now (owed_of units) units.ordered.units)) c.units.ensures c.in_ok-outcome.ensures.ok))
     c.in_ok-outcome.outcome
     (subst (λ (o : Option ActivationPlan). IsTrue (is_some o) → Told (g.H.Tree.host c.carry_units.new.host) (λ v. c.in_ok-outcome.outcome.states ≡ v.manager.states)) c.activation-activation.ensures c.in_ok-outcome.ensures.states)
     (subst (λ (o : Option ActivationPlan). IsTrue (is_some o) → IsTrue c.in_ok-outcome.outcome.failed ↔ HasFailed c.args.plan.now.units.defs c.in_ok-outcome.outcome.states) c.activation-activation.ensures

@@ -13,20 +13,20 @@ carry_switch-requires-clause-can g c =
 
 pub returns-in-Some-clause-ok : goal.returns-in-Some-clause-ok
 returns-in-Some-clause-ok g c =
-    subst (λ (o : Option ActivationPlan). OnOk c.carry_switch.result (Leads (g.H.Tree.host c.args.host.now) (g.H.Tree.host c.carry_switch.new.host) (IsSwitchedIf (is_some o) c.args.system.now (owed_of c.args.plan.now))))
+    subst (λ (o : Option ActivationPlan). OnOk c.carry_switch.result (Leads (g.H.Tree.host c.args.host.now) (g.H.Tree.host c.carry_switch.new.host) (IsSwitchedIf (is_some o) c.args.system.now (owed_of c.args.plan.now) c.args.plan.now.ordered.units)))
     (sym (ap option_copied c.in-Some.is)) c.carry_switch.ensures.ok
 
 pub returns-in-Some-clause-moments : goal.returns-in-Some-clause-moments
 returns-in-Some-clause-moments g c =
-    subst (λ (o : Option ActivationPlan). Passes (g.H.Tree.host c.args.host.now) (g.H.Tree.host c.carry_switch.new.host) (IsSwitchMomentIf (is_some o) c.args.system.now (owed_of c.args.plan.now)))
+    subst (λ (o : Option ActivationPlan). Passes (g.H.Tree.host c.args.host.now) (g.H.Tree.host c.carry_switch.new.host) (IsSwitchMomentIf (is_some o) c.args.system.now (owed_of c.args.plan.now) c.args.plan.now.ordered.units))
     (sym (ap option_copied c.in-Some.is)) c.carry_switch.ensures.moments
 
 pub returns-in-None-clause-ok : goal.returns-in-None-clause-ok
 returns-in-None-clause-ok g c =
-    subst (λ (o : Option ActivationPlan). Leads (g.H.Tree.host c.args.host.now) (g.H.Tree.host c.args.host.now) (IsSwitchedIf (is_some o) c.args.system.now (owed_of c.args.plan.now)))
+    subst (λ (o : Option ActivationPlan). Leads (g.H.Tree.host c.args.host.now) (g.H.Tree.host c.args.host.now) (IsSwitchedIf (is_some o) c.args.system.now (owed_of c.args.plan.now) c.args.plan.now.ordered.units))
     (sym (ap option_copied c.in-None.is)) (record { to = λ w is. (w, is, refl) })
 
 pub returns-in-None-clause-moments : goal.returns-in-None-clause-moments
 returns-in-None-clause-moments g c =
-    subst (λ (o : Option ActivationPlan). Passes (g.H.Tree.host c.args.host.now) (g.H.Tree.host c.args.host.now) (IsSwitchMomentIf (is_some o) c.args.system.now (owed_of c.args.plan.now)))
-    (sym (ap option_copied c.in-None.is)) (started (IsSwitchMomentIf false c.args.system.now (owed_of c.args.plan.now)) (λ w is. refl))
+    subst (λ (o : Option ActivationPlan). Passes (g.H.Tree.host c.args.host.now) (g.H.Tree.host c.args.host.now) (IsSwitchMomentIf (is_some o) c.args.system.now (owed_of c.args.plan.now) c.args.plan.now.ordered.units))
+    (sym (ap option_copied c.in-None.is)) (started (IsSwitchMomentIf false c.args.system.now (owed_of c.args.plan.now) c.args.plan.now.ordered.units) (λ w is. refl))

@@ -1,4 +1,4 @@
-use Rattle.std.proofs.Common.{◌≡◌, ◌↔◌, Err, IsTrue, Some, refl, sym, ap, ◌∙◌}
+use Rattle.std.proofs.Common.{◌≡◌, ◌↔◌, Err, IsTrue, Some, refl, sym, ap, ◌∙◌, false}
 use Rattle.std.proofs.lemmas.Result.{err_from_is_err_and}
 use Rattle.host_trait.specs.declared.tree.HostFault.TheVariants.{Device}
 use Rattle.host_trait.proofs.Moments.{told_as}
@@ -22,7 +22,7 @@ returns-in_err-plan-clause-refused g c why e =
     let p = err_from_is_err_and c.from_residual.result c.from_residual.ensures.1 in
     let its = c.args.row.now in
     told_as (c.in_err-plan.ensures.refused why (ap (λ f. Err f) (sym p.2 ∙ same_fault p.0 (Refused why) (sym p.1 ∙ e))))
-    (λ w. (part_if its.switches (units_part its.system)).refusal w.leaves ≡ Some why)
+    (λ w. (part_if its.switches (units_part false its.system)).refusal w.leaves ≡ Some why)
     (λ w is refused. refused_switch its.switches _ _ w.leaves (Some why) (c.if-not-row.false) refl refused)
 
 pub returns-then-not-row-clause-steady : goal.returns-then-not-row-clause-steady

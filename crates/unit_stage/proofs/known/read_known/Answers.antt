@@ -34,7 +34,8 @@ returns-clause-known g c = record {
   has = λ w is. record {
     old = c.in_ok-old.ensures.old.has w is;
     new = (told_read c.read_old.ensures.reads c.in_ok-new.ensures.defs).has w is;
-    units = (told_before (same_twice c.read_old.ensures.reads.moments c.read_new.ensures.reads.moments) c.in_ok-units.ensures.states).has w is;
+    units = (told_before (same_twice c.read_old.ensures.reads.moments c.read_new.ensures.reads.moments) c.in_ok-units.ensures.states).has w is
+        c.args.system.now ((told_read c.read_old.ensures.reads c.in_ok-new.ensures.defs).has w is);
   };
 }
 

@@ -6,4 +6,4 @@ use Rattle.unit_stage.proofs.planning.plan_of.Goals as goal
 pub returns : goal.returns
 returns c =
     subst (λ (plan : UnitPlan). IsPlanBy c.args.known plan) (sym c.new.ensures)
-    (record { from = refl; defs = refl; owed = c.requires.owed; steady = c.requires.steady; duties = c.requires.duties })
+    (record { from = refl; defs = refl; owed = c.requires.owed; steady = c.requires.steady; in_order = c.requires.in_order; duties = c.requires.duties })

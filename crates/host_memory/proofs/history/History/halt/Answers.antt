@@ -13,3 +13,4 @@ returns-clause-ok c =
     (λ now grown.
     halved _ _ c.args.unit.now _ _ _ c.in_ok-name.ensures c.state_in-was.ensures c.args.self.now.states
     now (c.in_ok-call.ensures.does c.args.self.now.world.manager) grown)
+    (λ of. of)

@@ -12,3 +12,4 @@ returns-clause-ok c =
     (λ now grown.
     loaded_anew _ _ _ _ (c.in_ok-was.ensures ∙ c.loaded.ensures.text)
     now (c.in_ok-call.ensures.does c.args.self.now.world.manager) grown)
+    (λ of. of)

@@ -12,3 +12,4 @@ returns-clause-ok c =
     (λ now grown.
     performed _ _ c.args.act c.args.unit.now _ _ _ c.in_ok-name.ensures c.state_in-was.ensures c.args.self.now.states
     now (c.in_ok-call.ensures.does c.args.self.now.world.manager) grown)
+    (λ of. of)

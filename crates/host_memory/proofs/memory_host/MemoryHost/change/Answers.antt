@@ -1,6 +1,7 @@
 use Rattle.std.proofs.Common.{Option, ap, length, refl, subst, sym}
 use Rattle.std.specs.Option.{ForSome}
 use Rattle.host_memory.proofs.Admitted.{begun_at, changed_cause, no_answer, starved_cause, starved_does, within_stood}
+use Rattle.host_memory.proofs.Entering.{goes_beside, still_beside}
 use Rattle.host_memory.proofs.Hosts.{stands_in, stood, becomes, refused_cause, cut_cause, cut_does, within_fallen, admitted_does, one_at_most, within_admitted}
 use Rattle.host_memory.proofs.memory_host.MemoryHost.change.Goals as goal
 use Rattle.host_memory.specs.ChangingCall.{change_of}
@@ -98,3 +99,18 @@ pub invariant_of-self-in-Break-branch-3 : goal.invariant_of-self-in-Break-branch
 invariant_of-self-in-Break-branch-3 c = record {
   within = within_stood c.args.self.now.troubles c.admit.new.self _ _ c.args.self.now.within c.in_ok-admit.ensures.new c.in_err-cut_call-in-Some.ensures.err.1;
 }
+
+pub returns-in_err-admit-clause-beside : goal.returns-in_err-admit-clause-beside
+returns-in_err-admit-clause-beside c of = still_beside _ _ (change_of c.args.call) refl refl
+
+pub returns-in_err-make-in-None-clause-beside : goal.returns-in_err-make-in-None-clause-beside
+returns-in_err-make-in-None-clause-beside c of = still_beside _ _ (change_of c.args.call) c.in_err-make-in-None.ensures.err.0 c.in_err-make-in-None.ensures.err.1
+
+pub returns-in_ok-make-in-None-clause-beside : goal.returns-in_ok-make-in-None-clause-beside
+returns-in_ok-make-in-None-clause-beside c of = goes_beside _ _ (change_of c.args.call) (c.in_ok-make-in-None.ensures.ok.beside of)
+
+pub returns-in_err-cut_call-in-Some-clause-beside : goal.returns-in_err-cut_call-in-Some-clause-beside
+returns-in_err-cut_call-in-Some-clause-beside c of = still_beside _ _ (change_of c.args.call) c.in_err-cut_call-in-Some.ensures.err.0 c.in_err-cut_call-in-Some.ensures.err.1
+
+pub returns-in_ok-cut_call-in-Some-clause-beside : goal.returns-in_ok-cut_call-in-Some-clause-beside
+returns-in_ok-cut_call-in-Some-clause-beside c of = goes_beside _ _ (change_of c.args.call) (c.in_ok-cut_call-in-Some.ensures.ok.beside of)

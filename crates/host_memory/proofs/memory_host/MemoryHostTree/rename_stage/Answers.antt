@@ -1,0 +1,4 @@
+use Rattle.host_memory.proofs.memory_host.MemoryHostTree.rename_stage.Goals as goal
+
+pub returns-clause-beside : goal.returns-clause-beside
+returns-clause-beside c = c.change.ensures.beside tt

@@ -1,0 +1,7 @@
+use Rattle.host_trait.proofs.Readings.{read_then}
+use Rattle.job_host.proofs.MemoryLemmas.{still_reads}
+use Rattle.job_host.proofs.memory_calls.MemoryJobsTree.tops.Goals as goal
+
+pub returns-clause-reads : goal.returns-clause-reads
+returns-clause-reads c =
+    read_then c.turn.ensures.reads (still_reads c.turn.new.self.queue.items c.turn.new.self.host c.tops.new.self _ c.tops.ensures.still c.tops.ensures.reads)

@@ -1,0 +1,5 @@
+pub mod Collection
+pub mod Kept
+pub mod Laws
+pub mod Steps
+pub mod Unfinished

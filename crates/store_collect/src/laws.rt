@@ -1,0 +1,37 @@
+//! What holds of a collection.
+ghost use Rattle.store_collect.specs.Laws.{LiveLaw, NamesLaw, OneCollectionLaw, VersionLaw, WholeLaw};
+
+/// There is one collection of a world, and so one end of it.
+///
+/// Source: nix-collect-garbage(1).
+pub fn there_is_one_collection()
+    ensures one { OneCollectionLaw }
+{}
+
+/// At each moment of a collection that is planned nothing is lost that is live.
+///
+/// Source: nix-store(1), "--gc"; Nix manual, "Garbage Collector Roots".
+pub fn nothing_live_is_lost()
+    ensures live { LiveLaw }
+{}
+
+/// At each moment of a collection that is planned each generation that stands and names a system has all leaves of that.
+///
+/// Source: nix-store(1), "--gc"; Nix manual, "Garbage Collector Roots".
+pub fn generations_stand_whole()
+    ensures whole { WholeLaw }
+{}
+
+/// At each moment of a collection that is planned the profile names the system that it named.
+///
+/// Source: Nix manual, "Profiles".
+pub fn the_profile_names_the_same_system()
+    ensures names { NamesLaw }
+{}
+
+/// At each moment of a collection that is planned each store path whose version stands has all its leaves.
+///
+/// Source: nix-store(1), "--gc".
+pub fn what_has_its_version_is_whole()
+    ensures version { VersionLaw }
+{}

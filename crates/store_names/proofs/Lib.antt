@@ -1,0 +1,4 @@
+pub mod ChainLemmas
+pub mod FolderLemmas
+pub mod GreatestLemmas
+pub mod SearchLemmas
