@@ -81,4 +81,10 @@ pub enum Refusal {
     /// The highest generation has the last number and names another system.
     #[error("no further generation")]
     GenerationsFull,
+    /// The machine starts up, and its profile names no system.
+    #[error("no profile")]
+    NoProfile,
+    /// A collection is asked for while a switch or a rollback that was cut has something left to do.
+    #[error("a switch is unfinished")]
+    Unfinished,
 }

@@ -4,7 +4,7 @@ use Rattle.std.specs.Fmt.{decimal}
 use Rattle.switch_parts.specs.declared.refusal.MapFile.{MapFile}
 use Rattle.switch_parts.specs.declared.refusal.MapFile.TheVariants.{Gid, Uid}
 use Rattle.switch_parts.specs.declared.refusal.Refusal.{Refusal}
-use Rattle.switch_parts.specs.declared.refusal.Refusal.TheVariants.{EtcEntry, GenerationsFull, IdMap, InTheWay, NoFreeId, NoPrevious, NoSystem, Owner, Reserved, Table, UnitText, UnknownGroup, UsersSpec}
+use Rattle.switch_parts.specs.declared.refusal.Refusal.TheVariants.{EtcEntry, GenerationsFull, IdMap, InTheWay, NoFreeId, NoPrevious, NoProfile, NoSystem, Owner, Reserved, Table, Unfinished, UnitText, UnknownGroup, UsersSpec}
 use Rattle.switch_parts.specs.declared.refusal.TableFile.{TableFile}
 use Rattle.switch_parts.specs.declared.refusal.TableFile.TheVariants.{Group, Passwd, Shadow}
 use Rattle.users_spec.specs.declared.place.Place.{Place}
@@ -64,3 +64,5 @@ refusal_text (Reserved path) = codes "reserved " ++ path
 refusal_text (EtcEntry path) = codes "etc entry " ++ path
 refusal_text (Owner path) = codes "owner of " ++ path
 refusal_text GenerationsFull = codes "no further generation"
+refusal_text NoProfile = codes "no profile"
+refusal_text Unfinished = codes "a switch is unfinished"

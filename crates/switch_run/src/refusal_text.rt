@@ -109,5 +109,7 @@ pub fn refusal_text(alloc: Global, refusal: &Refusal) -> Result<String, AllocErr
         Refusal::EtcEntry(path) => format!(in alloc; "etc entry {}", path.as_str()),
         Refusal::Owner(path) => format!(in alloc; "owner of {}", path.as_str()),
         Refusal::GenerationsFull => String::from_str(alloc, "no further generation"),
+        Refusal::NoProfile => String::from_str(alloc, "no profile"),
+        Refusal::Unfinished => String::from_str(alloc, "a switch is unfinished"),
     }
 }
