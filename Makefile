@@ -6,6 +6,7 @@ PREFIX := /usr/local
 INTO := $(DESTDIR)$(PREFIX)
 # What is installed, as the file here and its place below the prefix.
 INSTALLED := $(PROGRAM):bin/nixswitch tools/import:bin/nixswitch-import tools/export:bin/nixswitch-export \
+	tools/reboot:bin/nixswitch-reboot \
 	man/nixswitch.8:share/man/man8/nixswitch.8 \
 	completion/nixswitch.bash:share/bash-completion/completions/nixswitch \
 	completion/nixswitch.fish:share/fish/vendor_completions.d/nixswitch.fish

@@ -1,6 +1,6 @@
 #!/bin/sh
-# Shows a boot, a dry run, a switch, the way back and the generations on copies of the example roots, and a switch that is killed and
-# run again.
+# Shows a boot, a dry run, a switch, the way back and the generations on copies of the example roots, a switch that is killed and
+# run again, and one that is killed before a reboot.
 #
 # bench/example.sh [PROGRAM]
 #
@@ -16,6 +16,7 @@
 set -u
 program=${1:+$(realpath "$1")}
 cd "$(dirname "$0")/.." || exit 1
+here=$PWD
 scratch=${TMPDIR:-/tmp}/nixswitch-example
 runs=$scratch/unproved
 failed=0
@@ -65,6 +66,7 @@ look() {
 
 # Sets `kind` and `number` to the rename by which a switch of the example puts this place: strace counts each kind of call.
 find_rename() {
+    rm -rf "$runs/traced"
     cp -r crates/nixswitch/data/example "$runs/traced"
     strace -f -o "$runs/calls" -e trace=rename,renameat,renameat2 \
         "$program" "$runs/traced" switch nix/store/web-24.11 >"$runs/stdout" 2>"$runs/stderr"
@@ -72,10 +74,10 @@ find_rename() {
     number=$(grep "^[0-9]* *$kind(" "$runs/calls" | grep -n "/$1\"" | head -n 1 | cut -d : -f 1)
 }
 
-# Runs a switch of the root `cut` that is killed as it makes this rename.
+# Runs a switch of a root that is killed as it makes this rename.
 killed_at() {
-    (cd "$scratch" && exec strace -f -o "$runs/calls" -e inject="$1:signal=KILL:when=$2" \
-        "$program" cut switch nix/store/web-24.11) >"$runs/stdout" 2>"$runs/stderr"
+    (cd "$scratch" && exec strace -f -o "$runs/calls" -e inject="$2:signal=KILL:when=$3" \
+        "$program" "$1" switch nix/store/web-24.11) >"$runs/stdout" 2>"$runs/stderr"
 }
 
 # Shows a switch that is killed at an entry of /etc, and that the next run leaves what the uncut one has left.
@@ -83,7 +85,7 @@ show_cut() {
     entry=tree/etc/metrics.toml
     find_rename "$entry"
     echo "$ nixswitch cut switch nix/store/web-24.11    # killed as it renames the stage to cut/$entry"
-    { killed_at "$kind" "$number"; } 2>"$runs/shell"
+    { killed_at cut "$kind" "$number"; } 2>"$runs/shell"
     if [ $? != 137 ] || [ -e "$scratch/cut/$entry" ]; then
         echo "it wasn't killed there"
         failed=1
@@ -97,11 +99,31 @@ show_cut() {
     fi
 }
 
+# Shows a switch that is killed once the profile names its system, a reboot, and the start-up that makes that system whole.
+show_reboot() {
+    entry=tree/boot/loader/entries/nixos-generation-1.conf
+    find_rename "$entry"
+    echo "$ nixswitch lost switch nix/store/web-24.11    # killed as it renames the stage to lost/$entry"
+    { killed_at lost "$kind" "$number"; } 2>"$runs/shell"
+    look cat lost/tree/nix/var/nix/profiles/system-1-link lost/tree/etc/static
+    "$here/tools/reboot" "$scratch/lost"
+    echo "$ tools/reboot lost"
+    look cat lost/manager
+    show 10-start-up 4 lost start-up
+    look cat lost/manager
+    if look diff -r example/tree/etc lost/tree/etc; then
+        echo "no difference"
+    else
+        failed=1
+    fi
+}
+
 rm -rf "$scratch"
 mkdir -p "$runs" || exit 1
 cp -r crates/nixswitch/data/root crates/nixswitch/data/example "$scratch" || exit 1
 cp -r crates/nixswitch/data/example "$scratch/cut" || exit 1
 cp -r crates/nixswitch/data/example "$scratch/back" || exit 1
+cp -r crates/nixswitch/data/example "$scratch/lost" || exit 1
 if [ -z "$program" ]; then
     echo "The program of this run isn't proved: its sources are compiled as they stand, in one to two minutes."
     echo "make build proves it, which takes up to half an hour the first time; from then on make run shows that one."
@@ -145,8 +167,10 @@ show 8-further 2 back rollback
 echo
 if [ -n "$program" ] && strace -o "$runs/calls" true 2>"$runs/stderr"; then
     show_cut
+    echo
+    show_reboot
 else
-    echo "The switch that is killed is left out: it needs the built program, and strace with leave to trace."
+    echo "The switches that are killed are left out: they need the built program, and strace with leave to trace."
 fi
 rm -rf "$runs"
 exit "$failed"

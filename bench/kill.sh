@@ -8,7 +8,8 @@
 # An uncut run is traced first, from six roots: a boot without a profile, a boot with three generations whose profile is
 # the second and whose boot menu is of the second and of one that is gone, a test of the example root, which sets its
 # accounts, makes its /etc and switches its units, a switch of it, which makes a generation and its boot menu too, a rollback
-# of it from the third generation to the second, and a switch where a rollback was killed that had recorded its goal.
+# of it from the third generation to the second, and a switch where a rollback was killed that had recorded its goal. After each kill
+# of the switch the machine is rebooted too, and its start-up killed, rebooted and made again.
 # Then each of its calls that change a file or write to standard output is a place for
 # the kill, twice: at its entry, where the call has no effect, and after it. As strace kills at an entry only, the kill
 # after a call is at the entry of the one that follows. strace counts each kind of call by itself, so a place is named by
@@ -320,6 +321,49 @@ root_rows() {
     [ "${words[0]}" != rollback ] || judge_backs
 }
 
+# The accounts and what stands below /etc.
+activated() {
+    (cd "$tree" && find etc var/lib/nixos -printf '%y %p %l\n' | sort &&
+        find etc var/lib/nixos -type f -print0 | sort -z | xargs -0 tail -v -c +1)
+}
+
+# Starts the rebooted machine of the root up, by way of the words given.
+start_up() {
+    "$@" "$program" "$root" start-up >"$work/stdout" 2>"$work/stderr"
+}
+
+# reboot_row NAME KIND NUMBER RENAME: a run is killed at a place and the machine rebooted. The start-up is killed as it makes
+# its rename of this number, where it makes so many, the machine rebooted again where that is even, and then it comes to its
+# end: it is refused where no profile is there, and else leaves the accounts and the /etc of the uncut run.
+reboot_row() {
+    local verdict=ok booted status wanted=4
+    "$make"
+    killed_run "$2" "$3"
+    "$here/tools/reboot" "$root"
+    booted=$(profile_system)
+    { start_up strace -f -o "$work/calls" --inject="/^rename:signal=KILL:when=$4"; } 2>"$work/shell"
+    [ $(($4 % 2)) = 1 ] || "$here/tools/reboot" "$root"
+    start_up
+    status=$?
+    [ "$booted" != none ] || wanted=2
+    [ $status = $wanted ] || verdict="the start-up ends with $status: $(cat "$work/stderr")"
+    [ "$booted" = none ] || [ "$booted" = "$goal" ] || verdict="the machine boots $booted"
+    [ "$booted" = none ] || [ "$(activated)" = "$activated" ] || verdict='accounts or /etc are others than after the uncut run'
+    note "$1, a reboot into $booted, the start-up killed at its rename $4" "$verdict"
+}
+
+# The rows of the last root in which the machine is rebooted after the kill.
+reboot_rows() {
+    local kind number calls place rename=0
+    "$make"
+    carry
+    activated=$(activated)
+    while read -r kind number calls place; do
+        rename=$((rename % 24 + 1))
+        reboot_row "$place" "$kind" "$number" $rename
+    done <"$work/places"
+}
+
 # Sets `further` and `further_ends` to what a further rollback leaves and ends with, which has to go to the first generation.
 go_further() {
     carry
@@ -407,6 +451,7 @@ root_rows 'a boot without a profile' make_empty 0
 root_rows 'a boot with three generations, the profile at the second' make_three 0
 root_rows 'a test of the example root' make_example 4
 root_rows 'a switch of the example root' make_switch 4
+reboot_rows
 keep_third
 root_rows 'a rollback of the example root from its third generation' make_rollback 0
 root_rows 'a switch where a rollback has recorded its goal' make_recorded 4

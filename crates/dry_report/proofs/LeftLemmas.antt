@@ -46,11 +46,11 @@ use Rattle.dry_report.proofs.CloseLemmas.{failed_units}
 -- ---- a command has one closing text
 
 -- what is owed is one, but for the units that are left
-same_end : (w : WorldState) (system : Name) (one other : Owed) → IsOwedBy false w system one → IsOwedBy false w system other → (unit : Name) → state_after system one w unit ≡ state_after system other w unit
-same_end w system one other is also unit =
+same_end : (start_up : Bool) (w : WorldState) (system : Name) (one other : Owed) → IsOwedBy start_up w system one → IsOwedBy start_up w system other → (unit : Name) → state_after system one w unit ≡ state_after system other w unit
+same_end start_up w system one other is also unit =
     let systems = systems_at w.leaves (current_system w.leaves) system in
     let states = state_of w.manager.states in
-    let same = same_waiting false w.leaves system is.0 also.0 is.1.listed also.1.listed in
+    let same = same_waiting start_up w.leaves system is.0 also.0 is.1.listed also.1.listed in
     let these : IsOwed systems states is.0 other = subst (λ (l : Lists). IsOwed systems states l other) (sym same) also.1.is_owed in
     let owed : (stops reloads restarts starts : List Name) → Owed = λ stops reloads restarts starts. record { stops = stops; reloads = reloads; restarts = restarts; starts = starts; left = one.left } in
     λ i. state_after system
@@ -61,26 +61,26 @@ same_end w system one other is also unit =
     (one_list one.starts other.starts (Starts systems states is.0) is.1.is_owed.starts these.starts i))
     w unit
 
-same_failed : (w : WorldState) (system : Name) (one other : Owed) → IsOwedBy false w system one → IsOwedBy false w system other → (unit : Name) → IsLeftFailed system other w unit → IsLeftFailed system one w unit
-same_failed w system one other is also unit left = record { failed = same_end w system one other is also unit ∙ left.failed; defined = left.defined }
+same_failed : (start_up : Bool) (w : WorldState) (system : Name) (one other : Owed) → IsOwedBy start_up w system one → IsOwedBy start_up w system other → (unit : Name) → IsLeftFailed system other w unit → IsLeftFailed system one w unit
+same_failed start_up w system one other is also unit left = record { failed = same_end start_up w system one other is also unit ∙ left.failed; defined = left.defined }
 
-one_unit_closing : (system : Name) (w : WorldState) (one other : List ℕ) → IsUnitClosing system w one → IsUnitClosing system w other → one ≡ other
-one_unit_closing system w one other is also =
+one_unit_closing : (start_up : Bool) (system : Name) (w : WorldState) (one other : List ℕ) → IsUnitClosing start_up system w one → IsUnitClosing start_up system w other → one ≡ other
+one_unit_closing start_up system w one other is also =
     is.is_text
     ∙ ap close_of (one_list is.failed also.failed (IsLeftFailed system is.owed w) is.are_failed
     (record {
       sorted = also.are_failed.sorted;
       exact = λ unit. (
-        λ found. same_failed w system is.owed also.owed is.is_owed also.is_owed unit ((also.are_failed.exact unit).0 found),
-        λ left. (also.are_failed.exact unit).1 (same_failed w system also.owed is.owed also.is_owed is.is_owed unit left),
+        λ found. same_failed start_up w system is.owed also.owed is.is_owed also.is_owed unit ((also.are_failed.exact unit).0 found),
+        λ left. (also.are_failed.exact unit).1 (same_failed start_up w system also.owed is.owed also.is_owed is.is_owed unit left),
       );
     }))
     ∙ sym also.is_text
 
-one_by : (changes : Bool) (to : Option Name) (w : WorldState) (one other : List ℕ) → IsClosingBy changes to w one → IsClosingBy changes to w other → one ≡ other
-one_by true (Some system) w one other is also = one_unit_closing system w one other is also
-one_by true None w one other is also = is ∙ sym also
-one_by false to w one other is also = is ∙ sym also
+one_by : (start_up changes : Bool) (to : Option Name) (w : WorldState) (one other : List ℕ) → IsClosingBy start_up changes to w one → IsClosingBy start_up changes to w other → one ≡ other
+one_by start_up true (Some system) w one other is also = one_unit_closing start_up system w one other is also
+one_by start_up true None w one other is also = is ∙ sym also
+one_by start_up false to w one other is also = is ∙ sym also
 
 pub one_closing : (command : Command) (w : WorldState) (one other : List ℕ) → IsClosing command w one → IsClosing command w other → one ≡ other
 one_closing command w one other is also = one_by (row command w.leaves).changes (switched_to command w.leaves) w one other is also
@@ -175,8 +175,8 @@ left_failed system w owed defs states are final = record {
   );
 }
 
-units_close : (system : Name) (w : WorldState) (defs : List Unit) (states now : UnitStates) → AreDefsOf w.leaves system defs → AreEndStates false system w (state_of now) → states ≡ now → IsUnitClosing system w (close_of (failed_in defs states))
-units_close system w defs states now are end same = record {
+units_close : (start_up : Bool) (system : Name) (w : WorldState) (defs : List Unit) (states now : UnitStates) → AreDefsOf w.leaves system defs → AreEndStates start_up system w (state_of now) → states ≡ now → IsUnitClosing start_up system w (close_of (failed_in defs states))
+units_close start_up system w defs states now are end same = record {
   owed = end.0;
   is_owed = end.1;
   failed = failed_in defs states;
@@ -193,10 +193,10 @@ none_defined [] = refl
 none_defined (one ∷ list) =
     ap (λ b. map (λ (o : UnitState). o.unit) (cond b (one ∷ filter (is_failed_of []) list) (filter (is_failed_of []) list))) (none_failed_of one) ∙ none_defined list
 
-states_close_by : (switches : Bool) (system : Name) (plan : UnitPlan) (states : UnitStates) (w v : WorldState) → AreUnitsPlanned switches system w plan → AreFinalUnits (if_so switches system) w v →
-    ((switches ≡ false → ⊥) → states ≡ v.manager.states) → IsClosingTo (if_so switches system) w (close_of (failed_in plan.defs states))
-states_close_by true system plan states w v planned final now = units_close system w plan.defs states v.manager.states planned.defs final.0 (now (λ same. both_ways _ same refl))
-states_close_by false system plan states w v planned final now =
+states_close_by : (start_up switches : Bool) (system : Name) (plan : UnitPlan) (states : UnitStates) (w v : WorldState) → AreUnitsPlanned start_up switches system w plan → AreFinalUnits start_up (if_so switches system) w v →
+    ((switches ≡ false → ⊥) → states ≡ v.manager.states) → IsClosingTo start_up (if_so switches system) w (close_of (failed_in plan.defs states))
+states_close_by start_up true system plan states w v planned final now = units_close start_up system w plan.defs states v.manager.states planned.defs final.0 (now (λ same. both_ways _ same refl))
+states_close_by start_up false system plan states w v planned final now =
     ap (λ (units : UnitPlan). close_of (failed_in units.defs states)) planned ∙ ap close_of (none_defined (listed_states states))
 
 pub states_close : (plan : Plan) (states : UnitStates) (w v : WorldState) → IsPlanOf w plan → (IsQuery plan.command → ⊥) → IsFinalOf plan.command w v →
@@ -205,6 +205,6 @@ states_close plan states w v planned changes final now =
     let on = changes_on plan.command w.leaves changes in
     let its = row plan.command w.leaves in
     let parts = subst (λ (r : Row). ArePlanned r w plan) planned.resolved planned.planned in
-    subst (λ b. IsClosingBy b (switched_to plan.command w.leaves) w (close_of (failed_in plan.units.defs states))) (sym on)
-    (states_close_by its.switches its.system plan.units states w v parts.units (subst (λ b. AreFinalUnits (if_so (b && its.switches) its.system) w v) on final.units)
+    subst (λ b. IsClosingBy its.start_up b (switched_to plan.command w.leaves) w (close_of (failed_in plan.units.defs states))) (sym on)
+    (states_close_by its.start_up its.switches its.system plan.units states w v parts.units (subst (λ b. AreFinalUnits its.start_up (if_so (b && its.switches) its.system) w v) on final.units)
     (λ switched. now (λ boot. switched (boot w.leaves))))

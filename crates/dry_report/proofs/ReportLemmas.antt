@@ -32,20 +32,20 @@ use Rattle.dry_report.specs.Report.{IsReport, IsReportBy, IsUnitReport, number_b
 
 -- ---- one report
 
-same_planned : (w : WorldState) (system : Name) (lists others : Lists) (one other : Owed) → IsPlannedIn false w system lists one → IsPlannedIn false w system others other → one ≡ other
-same_planned w system lists others one other is also =
+same_planned : (start_up : Bool) (w : WorldState) (system : Name) (lists others : Lists) (one other : Owed) → IsPlannedIn start_up w system lists one → IsPlannedIn start_up w system others other → one ≡ other
+same_planned start_up w system lists others one other is also =
     one_owed (systems_at w.leaves (current_system w.leaves) system) (state_of w.manager.states) lists one other is.planned
     (subst (λ (l : Lists). IsPlan (systems_at w.leaves (current_system w.leaves) system) (state_of w.manager.states) l other)
-    (sym (same_waiting false w.leaves system lists others is.listed also.listed)) also.planned)
+    (sym (same_waiting start_up w.leaves system lists others is.listed also.listed)) also.planned)
 
-one_unit_report : (number : Option ℕ) (system : Name) (w : WorldState) (one other : List ℕ) → IsUnitReport number system w one → IsUnitReport number system w other → one ≡ other
-one_unit_report number system w one other is also =
+one_unit_report : (start_up : Bool) (number : Option ℕ) (system : Name) (w : WorldState) (one other : List ℕ) → IsUnitReport start_up number system w one → IsUnitReport start_up number system w other → one ≡ other
+one_unit_report start_up number system w one other is also =
     is.is_text
     ∙ (λ i. report_of (current_system w.leaves) system number (calls_of (owed i) (ordered i).units (state_of w.manager.states)) (owed i).left (told i) (ordered i).cycles)
     ∙ sym also.is_text
   where
     owed : is.owed ≡ also.owed
-    owed = same_planned w system is.lists also.lists is.owed also.owed is.planned also.planned
+    owed = same_planned start_up w system is.lists also.lists is.owed also.owed is.planned also.planned
 
     ordered : is.ordered ≡ also.ordered
     ordered = one_in_order (text_of w.leaves system) also.owed.starts is.ordered also.ordered (subst (λ (o : Owed). AreOrderedAt w.leaves system o is.ordered) owed is.in_order) also.in_order
@@ -53,13 +53,13 @@ one_unit_report number system w one other is also =
     told : is.activation ≡ also.activation
     told = one_report system w.leaves is.activation also.activation is.is_activation also.is_activation
 
-one_by : (switches : Bool) (number : Option ℕ) (system : Name) (w : WorldState) (one other : List ℕ) → IsReportBy switches number system w one → IsReportBy switches number system w other → one ≡ other
-one_by true number system w one other is also = one_unit_report number system w one other is also
-one_by false number system w one other is also = is ∙ sym also
+one_by : (start_up switches : Bool) (number : Option ℕ) (system : Name) (w : WorldState) (one other : List ℕ) → IsReportBy start_up switches number system w one → IsReportBy start_up switches number system w other → one ≡ other
+one_by start_up true number system w one other is also = one_unit_report start_up number system w one other is also
+one_by start_up false number system w one other is also = is ∙ sym also
 
 pub one_told : (command : Command) (w : WorldState) (one other : List ℕ) → IsReport command w one → IsReport command w other → one ≡ other
 one_told command w one other is also =
-    let its = row command w.leaves in one_by its.switches (number_by its.moves its.system w.leaves) its.system w one other is also
+    let its = row command w.leaves in one_by its.start_up its.switches (number_by its.moves its.system w.leaves) its.system w one other is also
 
 -- ---- the text of a plan
 
@@ -67,9 +67,9 @@ pub if_ok_as : {T E : Type 0} {P : T → Type 0} (r : Result T E) → IfOk r P �
 if_ok_as (Ok x) holds Q weaker = weaker x holds
 if_ok_as (Err e) holds Q weaker = tt
 
-unit_report_is : (system : Name) (w : WorldState) (plan : UnitPlan) (number : Option ℕ) (told text : List ℕ) → IsUnitPlanOf false system w plan → IsActivationReport system w.leaves told →
-    text ≡ report_of plan.from system number plan.duties plan.left told plan.ordered.cycles → IsUnitReport number system w text
-unit_report_is system w plan number told text is is_told same = record {
+unit_report_is : (start_up : Bool) (system : Name) (w : WorldState) (plan : UnitPlan) (number : Option ℕ) (told text : List ℕ) → IsUnitPlanOf start_up system w plan → IsActivationReport system w.leaves told →
+    text ≡ report_of plan.from system number plan.duties plan.left told plan.ordered.cycles → IsUnitReport start_up number system w text
+unit_report_is start_up system w plan number told text is is_told same = record {
   lists = is.lists;
   owed = owed_of plan;
   planned = is.planned;
@@ -87,10 +87,10 @@ number_is : (moves : Option Move) (system : Name) (w : WorldState) (o : Option B
 number_is moves system w None planned = sym (ap (λ mv. number_by mv system w.leaves) planned)
 number_is moves system w (Some plan) planned = ap Some planned.1.number ∙ sym (ap (λ mv. number_by mv system w.leaves) planned.0)
 
-planned_by : (switches : Bool) (system : Name) (w : WorldState) (plan : UnitPlan) (number : Option ℕ) (told text : List ℕ) → AreUnitsPlanned switches system w plan → switches ≡ true →
-    IsActivationReport system w.leaves told → text ≡ report_of plan.from system number plan.duties plan.left told plan.ordered.cycles → IsReportBy switches number system w text
-planned_by true system w plan number told text is on is_told same = unit_report_is system w plan number told text is is_told same
-planned_by false system w plan number told text is on is_told same = absurd (both_ways _ refl on)
+planned_by : (start_up switches : Bool) (system : Name) (w : WorldState) (plan : UnitPlan) (number : Option ℕ) (told text : List ℕ) → AreUnitsPlanned start_up switches system w plan → switches ≡ true →
+    IsActivationReport system w.leaves told → text ≡ report_of plan.from system number plan.duties plan.left told plan.ordered.cycles → IsReportBy start_up switches number system w text
+planned_by start_up true system w plan number told text is on is_told same = unit_report_is start_up system w plan number told text is is_told same
+planned_by start_up false system w plan number told text is on is_told same = absurd (both_ways _ refl on)
 
 -- where the units are switched, an activation is planned
 activation_planned : (switches : Bool) (system : Name) (w : WorldState) (o : Option ActivationPlan) → IsActivationPlanned switches system w o → switches ≡ true →
@@ -106,7 +106,7 @@ IsTold plan text = (leaves : Leaves) (planned : ActivationPlan) → plan.activat
 
 -- the report of a row is that of its command
 abbrev IsReportOf : Row → WorldState → List ℕ → Type 0
-IsReportOf its w text = IsReportBy its.switches (number_by its.moves its.system w.leaves) its.system w text
+IsReportOf its w text = IsReportBy its.start_up its.switches (number_by its.moves its.system w.leaves) its.system w text
 
 -- where the units are switched
 pub units_reported : (w : WorldState) (plan : Plan) (text : List ℕ) → IsPlanOf w plan → plan.row.switches ≡ true → IsTold plan text → IsReport plan.command w text
@@ -115,7 +115,7 @@ units_reported w plan text is on same =
     let found = activation_planned plan.row.switches system w plan.activation is.planned.activation on in
     let told = same w.leaves found.0 found.1 found.2 in
     subst (λ (its : Row). IsReportOf its w text) is.resolved
-    (planned_by plan.row.switches system w plan.units (number_by plan.row.moves system w.leaves) told.0 text is.planned.units on told.1
+    (planned_by plan.row.start_up plan.row.switches system w plan.units (number_by plan.row.moves system w.leaves) told.0 text is.planned.units on told.1
     (told.2 ∙ ap (λ number. report_of plan.units.from system number plan.units.duties plan.units.left told.0 plan.units.ordered.cycles) (number_is plan.row.moves system w plan.profile is.planned.profile)))
 
 -- where the profile alone is set
@@ -123,5 +123,5 @@ pub profile_reported : (w : WorldState) (plan : Plan) (text : List ℕ) → IsPl
 profile_reported w plan text is off same =
     let system = plan.row.system in
     subst (λ (its : Row). IsReportOf its w text) is.resolved
-    (subst (λ b. IsReportBy b (number_by plan.row.moves system w.leaves) system w text) (sym off)
+    (subst (λ b. IsReportBy plan.row.start_up b (number_by plan.row.moves system w.leaves) system w text) (sym off)
     (same ∙ ap (profile_report system) (number_is plan.row.moves system w plan.profile is.planned.profile)))

@@ -40,7 +40,7 @@ use Rattle.switch_engine.specs.Rows.{final, part_if, parts, parts_in, refusal, s
 use Rattle.switch_engine.proofs.CarryLemmas.{IsCarriedFrom, ends}
 use Rattle.switch_engine.proofs.LawLemmas.{never_back}
 use Rattle.switch_engine.proofs.MovedPart.{default_in}
-use Rattle.switch_engine.proofs.UnderwayLemmas.{free_command, has_goal}
+use Rattle.switch_engine.proofs.UnderwayLemmas.{free_command, has_a_system}
 use Rattle.switch_names.specs.Names.{Name}
 use Rattle.switch_names.specs.SystemName.{IsSystemPath}
 use Rattle.switch_parts.specs.Part.{IsFree, final_leaf}
@@ -53,12 +53,12 @@ use Rattle.dry_report.specs.Report.{IsReport, IsReportBy, KeepsReport, number_by
 move_free : (command : Command) (leaves : Leaves) → refusal command leaves ≡ None → IsFree (default_in (row command leaves).moves (row command leaves).system leaves) leaves
 move_free command leaves none =
     let its = row command leaves in
-    second_free (part_if its.switches (switch_in its.system leaves)) (default_in its.moves its.system leaves) leaves (free_command command leaves none).parts
+    second_free (part_if its.switches (switch_in its.start_up its.system leaves)) (default_in its.moves its.system leaves) leaves (free_command command leaves none).parts
 
 -- the profile names it at the end
-profile_end : (system : Name) (owners : OwnerIds) (gens : Gens) (leaves : Leaves) → final_leaf (parts false (Some Set) system owners gens) leaves profile ≡ Some (Link (link_name (number_after leaves system)))
+profile_end : (start_up : Bool) (system : Name) (owners : OwnerIds) (gens : Gens) (leaves : Leaves) → final_leaf (parts start_up false (Some Set) system owners gens) leaves profile ≡ Some (Link (link_name (number_after leaves system)))
 unfolding profile
-profile_end system owners gens leaves = refl
+profile_end start_up system owners gens leaves = refl
 
 -- a command that brings no units into use doesn't go back
 not_back : (command : Command) (leaves : Leaves) → brought_to command leaves ≡ None → goes_back command leaves ≡ false
@@ -67,6 +67,7 @@ not_back (Command.Test system) leaves none = refl
 not_back (Command.Boot system) leaves none = refl
 not_back (Command.DryActivate system) leaves none = refl
 not_back Command.Rollback leaves none = absurd (none-some (new_system Command.Rollback leaves) (sym none))
+not_back Command.StartUp leaves none = refl
 
 module _ (command : Command) (its : Row) (on : its.changes ≡ true) (off : its.switches ≡ false) where
   abbrev moves : Option Move
@@ -80,9 +81,9 @@ module _ (command : Command) (its : Row) (on : its.changes ≡ true) (off : its.
     final_link leaves is =
         let owners = owners_after system leaves in
         let gens = gens_after system leaves in
-        ap (λ (r : Row). cond r.changes (final_leaf (parts_in r.switches r.moves r.system leaves) leaves profile) (get leaves profile)) is
-        ∙ (λ i. cond (on i) (final_leaf (parts_in (off i) (named i) system leaves) leaves profile) (get leaves profile))
-        ∙ profile_end system owners gens leaves
+        ap (λ (r : Row). cond r.changes (final_leaf (parts_in r.start_up r.switches r.moves r.system leaves) leaves profile) (get leaves profile)) is
+        ∙ (λ i. cond (on i) (final_leaf (parts_in its.start_up (off i) (named i) system leaves) leaves profile) (get leaves profile))
+        ∙ profile_end its.start_up system owners gens leaves
 
     small_number : (leaves : Leaves) → row command leaves ≡ its → refusal command leaves ≡ None → number_after leaves system < 2 ^ 64
     small_number leaves is none =
@@ -118,16 +119,16 @@ module _ (command : Command) (its : Row) (on : its.changes ≡ true) (off : its.
   underway_from : (w m : WorldState) → row command w.leaves ≡ its → goes_back command w.leaves ≡ false → IsMomentOf command w m → IsUnderway w command m
   underway_from w m here ahead moment =
       never_back (row command w.leaves).moves command w m ahead
-      (moment.underway (subst (λ (r : Row). IsSteadyTo (switched_by r) w) (sym here) (subst (λ b. IsSteadyTo (if_so b system) w) (sym off) tt)))
+      (moment.underway (subst (λ (r : Row). IsSteadyTo r.start_up (switched_by r) w) (sym here) (subst (λ b. IsSteadyTo its.start_up (if_so b system) w) (sym off) tt)))
 
   set_reports : (w m : WorldState) → row command w.leaves ≡ its → goes_back command w.leaves ≡ false → refusal command w.leaves ≡ None → IsMomentOf command w m → (end : WorldState) → IsFinalOf command w end → (text : List ℕ) →
       IsReport command m text ↔ IsReport command w text
   set_reports w m here ahead none moment end is_end text =
       let underway = underway_from w m here ahead moment in
       let same : profile_report system (number_by moves system m.leaves) ≡ profile_report system (number_by moves system w.leaves) = ap (profile_report system) (number_same w m here none underway end is_end) in
-      subst (λ (r : Row). IsReportBy r.switches (number_by r.moves r.system m.leaves) r.system m text ↔ IsReport command w text) (sym (underway.same_row ∙ here))
-      (subst (λ (r : Row). IsReportBy its.switches (number_by moves system m.leaves) system m text ↔ IsReportBy r.switches (number_by r.moves r.system w.leaves) r.system w text) (sym here)
-      (subst (λ b. IsReportBy b (number_by moves system m.leaves) system m text ↔ IsReportBy b (number_by moves system w.leaves) system w text) (sym off)
+      subst (λ (r : Row). IsReportBy r.start_up r.switches (number_by r.moves r.system m.leaves) r.system m text ↔ IsReport command w text) (sym (underway.same_row ∙ here))
+      (subst (λ (r : Row). IsReportBy its.start_up its.switches (number_by moves system m.leaves) system m text ↔ IsReportBy r.start_up r.switches (number_by r.moves r.system w.leaves) r.system w text) (sym here)
+      (subst (λ b. IsReportBy its.start_up b (number_by moves system m.leaves) system m text ↔ IsReportBy its.start_up b (number_by moves system w.leaves) system w text) (sym off)
       (λ is. is ∙ same, λ is. is ∙ sym same)))
 
 -- a world that the command leaves
@@ -145,7 +146,7 @@ module _ (command : Command) (w : WorldState) (on : (row command w.leaves).chang
   carried : IsCarriedFrom command nothing [] w
   carried = record {
     on = on;
-    has = has_goal command w.leaves none;
+    has = has_a_system command w.leaves none;
     named = named;
     free = free_command command w.leaves none;
     is_owed = λ switched. absurd (both_ways _ off switched);
@@ -188,7 +189,7 @@ keeps_same command w m same units text =
     (λ is. subst (λ (x : WorldState). IsReport command x text) same is, λ is. subst (λ (x : WorldState). IsReport command x text) (sym same) is)
 
 abbrev Step : Command → WorldState → WorldState → Bool → Type 0
-Step command w m changes = IsStepIf changes (moved_by (row command w.leaves)) (new_system command w.leaves) (brought_to command w.leaves) w m
+Step command w m changes = IsStepIf changes (row command w.leaves).start_up (moved_by (row command w.leaves)) (new_system command w.leaves) (brought_to command w.leaves) w m
 
 -- a moment keeps the report where the command leaves some world
 keeps_by : (command : Command) (w m : WorldState) → refusal command w.leaves ≡ None → IsMomentOf command w m → (end : WorldState) → IsFinalOf command w end → KeepsReport command w m

@@ -25,23 +25,23 @@ abbrev pub failed_in : List Unit → UnitStates → List Name
 failed_in defs states = map (λ one. one.unit) (filter (is_failed_of defs) (listed_states states))
 
 -- the closing text of a switch of the units to a system, from a world
-pub record IsUnitClosing (system : Name) (w : WorldState) (text : List ℕ) : Type 0 where
+pub record IsUnitClosing (start_up : Bool) (system : Name) (w : WorldState) (text : List ℕ) : Type 0 where
   pub owed : Owed
-  pub is_owed : IsOwedBy false w system owed
+  pub is_owed : IsOwedBy start_up w system owed
   pub failed : List Name
   pub are_failed : IsListOf failed (IsLeftFailed system owed w)
   pub is_text : text ≡ close_of failed
 
 -- the closing text after a switch of the units to a system, or without one
-abbrev pub IsClosingTo : Option Name → WorldState → List ℕ → Type 0
-IsClosingTo None w text = text ≡ closing
-IsClosingTo (Some system) w text = IsUnitClosing system w text
+abbrev pub IsClosingTo : Bool → Option Name → WorldState → List ℕ → Type 0
+IsClosingTo start_up None w text = text ≡ closing
+IsClosingTo start_up (Some system) w text = IsUnitClosing start_up system w text
 
 -- the same where something is changed; else there is no closing text
-abbrev pub IsClosingBy : Bool → Option Name → WorldState → List ℕ → Type 0
-IsClosingBy true system w text = IsClosingTo system w text
-IsClosingBy false system w text = text ≡ []
+abbrev pub IsClosingBy : Bool → Bool → Option Name → WorldState → List ℕ → Type 0
+IsClosingBy start_up true system w text = IsClosingTo start_up system w text
+IsClosingBy start_up false system w text = text ≡ []
 
 -- the closing text of a command, from a world
 abbrev pub IsClosing : Command → WorldState → List ℕ → Type 0
-IsClosing command w text = IsClosingBy (row command w.leaves).changes (switched_to command w.leaves) w text
+IsClosing command w text = IsClosingBy (row command w.leaves).start_up (row command w.leaves).changes (switched_to command w.leaves) w text

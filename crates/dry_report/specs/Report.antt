@@ -67,10 +67,10 @@ abbrev pub report_of : Option Name → Name → Option ℕ → List Duty → Lis
 report_of from to number duties left activation cycles = report_front from to number duties left ++ (activation ++ (flat_map cycle_line cycles ++ other_lines duties))
 
 -- the report of a switch of the units to a system, from a world, and the number of the generation where the profile is moved
-pub record IsUnitReport (number : Option ℕ) (system : Name) (w : WorldState) (text : List ℕ) : Type 0 where
+pub record IsUnitReport (start_up : Bool) (number : Option ℕ) (system : Name) (w : WorldState) (text : List ℕ) : Type 0 where
   pub lists : Lists
   pub owed : Owed
-  pub planned : IsPlannedIn false w system lists owed
+  pub planned : IsPlannedIn start_up w system lists owed
   pub ordered : Ordered
   pub in_order : AreOrderedAt w.leaves system owed ordered
   pub activation : List ℕ
@@ -91,14 +91,14 @@ number_by None system leaves = None
 number_by (Some move) system leaves = Some (number_moved move system leaves)
 
 -- the report about a system, to which the units are switched, or the profile alone is moved
-abbrev pub IsReportBy : Bool → Option ℕ → Name → WorldState → List ℕ → Type 0
-IsReportBy true number system w text = IsUnitReport number system w text
-IsReportBy false number system w text = text ≡ profile_report system number
+abbrev pub IsReportBy : Bool → Bool → Option ℕ → Name → WorldState → List ℕ → Type 0
+IsReportBy start_up true number system w text = IsUnitReport start_up number system w text
+IsReportBy start_up false number system w text = text ≡ profile_report system number
 
 -- the report of a command, from a world
 abbrev pub IsReport : Command → WorldState → List ℕ → Type 0
 IsReport command w text =
-    let its = row command w.leaves in IsReportBy its.switches (number_by its.moves its.system w.leaves) its.system w text
+    let its = row command w.leaves in IsReportBy its.start_up its.switches (number_by its.moves its.system w.leaves) its.system w text
 
 -- From the second of two worlds a command makes the report that it makes from the first, unless it switches units: what
 -- a switch of them has done it doesn't report again.

@@ -14,7 +14,7 @@ use Rattle.host_trait.specs.World.{Leaves, bytes_cmp, leaf_content}
 use Rattle.host_trait.proofs.Places.{bytes_total}
 use Rattle.rehearse.specs.Ends.{IsRepeatable}
 use Rattle.switch_engine.specs.declared.command.Command.{Command}
-use Rattle.switch_engine.specs.declared.command.Command.TheVariants.{Boot, Rollback, Switch, Test}
+use Rattle.switch_engine.specs.declared.command.Command.TheVariants.{Boot, Rollback, StartUp, Switch, Test}
 use Rattle.switch_engine.specs.Commands.{goes_back, is_back}
 use Rattle.switch_names.specs.Names.{Name}
 
@@ -27,12 +27,18 @@ test_repeatable system = record { changes = λ query. both_ways _ (query empty) 
 boot_repeatable : (system : Name) → IsRepeatable (Boot system)
 boot_repeatable system = record { changes = λ query. both_ways _ (query empty) refl; ahead = λ leaves. refl }
 
-pub repeatable : (command : Command) → ((system : Name) × command ≡ Switch system) ⊎ (((system : Name) × command ≡ Test system) ⊎ ((system : Name) × command ≡ Boot system)) → IsRepeatable command
+pub start_up_repeatable : IsRepeatable StartUp
+start_up_repeatable = record { changes = λ query. both_ways _ (query empty) refl; ahead = λ leaves. refl }
+
+pub repeatable : (command : Command) → ((system : Name) × command ≡ Switch system) ⊎ (((system : Name) × command ≡ Test system) ⊎ (((system : Name) × command ≡ Boot system) ⊎ (command ≡ StartUp))) → IsRepeatable command
 repeatable command is = ⊎_elim
     (λ one. subst IsRepeatable (sym one.1) (switch_repeatable one.0))
     (λ others. ⊎_elim
     (λ one. subst IsRepeatable (sym one.1) (test_repeatable one.0))
+    (λ last. ⊎_elim
     (λ one. subst IsRepeatable (sym one.1) (boot_repeatable one.0))
+    (λ start. subst IsRepeatable (sym start) start_up_repeatable)
+    last)
     others)
     is
 

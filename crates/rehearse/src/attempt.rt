@@ -14,7 +14,7 @@ pub fn is_repeatable(command: &Command) -> bool
     ensures { IsTrue result ↔ IsRepeatable command.now }
 {
     match command {
-        Command::Switch(_) | Command::Test(_) | Command::Boot(_) => true,
+        Command::Switch(_) | Command::Test(_) | Command::Boot(_) | Command::StartUp => true,
         // it has no end to come to
         Command::DryActivate(_) => false,
         // once its goal is removed, it would go back one generation further

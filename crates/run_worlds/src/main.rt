@@ -6,6 +6,7 @@ mod changes;
 mod ends;
 mod fallen;
 mod folders;
+mod reboots;
 mod reports;
 mod statuses;
 mod troubles;
@@ -13,6 +14,7 @@ mod troubles;
 use self::ends::{show_changing_run, show_run};
 use self::fallen::show_fallen;
 use self::folders::show_folder;
+use self::reboots::{show_all_reboots, show_reboot};
 use self::reports::show_switch;
 use self::statuses::show_fault_statuses;
 use self::troubles::{show_cut_and_then, show_troubles};
@@ -45,6 +47,12 @@ impl Commands for Runs<'_> {
             }
             ("then", [number, words, then, places @ ..]) => {
                 show_cut_and_then(alloc, lines, (number, words, then), places)
+            }
+            ("reboot", [number, words, places @ ..]) => {
+                show_reboot(alloc, lines, (number, words), places)
+            }
+            ("reboots", [words, system, places @ ..]) => {
+                show_all_reboots(alloc, lines, (words, system), places)
             }
             ("folder", [root, words]) => show_folder(self.rt, lines, root, words),
             ("faults", _) => show_fault_statuses(alloc, lines),

@@ -40,7 +40,7 @@ fn show_both_ends(
 ///
 /// Each call that changes something has three cuts, as the host picks them: before it, at its next moment, and at the one
 /// after that, where it has so many.
-fn trouble(
+pub fn trouble(
     alloc: Global,
     host: &mut MemoryHost,
     kind: &str,

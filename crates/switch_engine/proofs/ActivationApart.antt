@@ -131,8 +131,8 @@ activation_apart q own = or_from _ _ (owned_fails reads_accounts accounts_apart 
 
 -- ---- neither looks at what the other owns
 
-pub units_parted : (system : Name) (owners : OwnerIds) → AreParted (units_part false system) (activation_part system owners)
-units_parted system owners = record { first = activation_unread; second = units_unread; manager = refl }
+pub units_parted : (start_up : Bool) (system : Name) (owners : OwnerIds) → AreParted (units_part start_up system) (activation_part system owners)
+units_parted start_up system owners = record { first = activation_unread; second = units_unread; manager = refl }
 
 -- ---- the link at `static`
 

@@ -1,8 +1,7 @@
 -- What carrying a planned command out leaves at each moment and at its end, whichever of its parts it has.
-use Rattle.std.proofs.Common.{◌≡◌, ◌≢◌, ◌↔◌, ◌&&◌, ◌||◌, Bool, IsSome, IsTrue, true, false, cond, is_some, Option, None, Some, List, ℕ, [], ◌++◌, refl, sym, ap, subst, ◌∙◌, inl, inr, rules, unwrap_or, ⊎_elim}
-use Rattle.std.proofs.lemmas.Bool.{both_ways, cases_Bool, or_from, or_left, or_right}
+use Rattle.std.proofs.Common.{◌≡◌, ◌≢◌, ◌↔◌, ◌&&◌, ◌||◌, Bool, IsTrue, true, false, cond, is_some, Option, None, Some, List, [], ◌++◌, refl, sym, ap, subst, ◌∙◌, inl, inr, rules, unwrap_or, ⊎_elim}
+use Rattle.std.proofs.lemmas.Bool.{both_ways, cases_Bool, or_from, or_left}
 use Rattle.std.proofs.lemmas.List.{append-nil}
-use Rattle.std.specs.Cmp.Lexicographic.{nat_list_eq_equiv, same_text}
 use Rattle.std.specs.FinMap.{empty, get, gets}
 use Rattle.activation_stage.specs.ActivationPart.{activation_in, activation_part}
 use Rattle.activation_stage.specs.declared.activation_plan.ActivationPlan.{ActivationPlan}
@@ -10,7 +9,6 @@ use Rattle.activation_stage.specs.Owners.{owners_after}
 use Rattle.etc_manifest.specs.Owners.{OwnerIds}
 use Rattle.boot_entries.specs.BootDefault.{boot_default_in, boot_default_part}
 use Rattle.boot_entries.specs.BootPart.{boot_part}
-use Rattle.boot_entries.specs.DefaultLaws.{IsSameStore}
 use Rattle.boot_entries.specs.declared.boot_default.BootDefaultPlan.{BootDefaultPlan}
 use Rattle.boot_entries.specs.Laws.{IsBootGens}
 use Rattle.boot_entries.specs.Menu.{IsMenuBetween}
@@ -18,368 +16,84 @@ use Rattle.boot_entries.specs.Places.{owns_boot}
 use Rattle.generations.specs.declared.gens.Gens.{Gens}
 use Rattle.generations.specs.declared.moving.Move.{Move}
 use Rattle.generations.specs.declared.moving.Move.TheVariants.{Point, Set}
-use Rattle.generations.specs.Goal.{goal_leaf, goal_place}
+use Rattle.generations.specs.Goal.{goal_place}
 use Rattle.generations.specs.GoalPart.{goal_part, owns_goal, reads_goal}
 use Rattle.generations.specs.Move.{gens_moved, move_part}
-use Rattle.generations.specs.Places.{Names, link_path, profile}
-use Rattle.generations.proofs.GoalPartLemmas.{cleared_at_end, cleared_moment, goal_clear, goal_is, recorded_moment}
+use Rattle.generations.specs.Places.{link_path, profile}
+use Rattle.generations.proofs.GoalPartLemmas.{cleared_at_end, cleared_moment, goal_clear, goal_is}
 use Rattle.generations.proofs.PointLemmas.{can_point}
 use Rattle.generations.specs.ProfilePart.{owns_profile}
-use Rattle.generations.proofs.ProfileApart.{link_owned, owned_other, profile_owned, stage_not_owned}
-use Rattle.generations.proofs.SetLaws.{generation_of}
-use Rattle.generations.proofs.Apart.{link_not_stage as link_apart_stage}
+use Rattle.generations.proofs.ProfileApart.{link_owned, profile_owned}
 use Rattle.host_trait.specs.declared.entry.Entry.{Entry}
 use Rattle.host_trait.specs.declared.manager_state.ManagerState.{ManagerState}
 use Rattle.host_trait.specs.declared.unit_state.State.{State}
 use Rattle.host_trait.specs.declared.unit_state.State.TheVariants.{Failed, Inactive}
 use Rattle.host_trait.specs.States.{state_of}
-use Rattle.host_trait.specs.World.{Leaves, WorldState, bytes_cmp, is_path, seen, stage}
-use Rattle.host_trait.proofs.Seen.{get_removed_here, seen_at}
+use Rattle.host_trait.specs.World.{WorldState, bytes_cmp, seen, stage}
+use Rattle.host_trait.proofs.Seen.{get_removed_here}
 use Rattle.owed_plan.specs.declared.owed.Owed.{Owed}
 use Rattle.owed_plan.specs.Calls.{calls_of}
-use Rattle.owed_plan.specs.FinalStates.{final_state}
 use Rattle.switch_engine.specs.declared.command.Command.{Command}
 use Rattle.switch_engine.specs.declared.outcome.Outcome.{Outcome}
 use Rattle.switch_engine.specs.declared.plan.Plan.{Plan}
 use Rattle.switch_engine.specs.declared.row.Row.{Row}
 use Rattle.switch_engine.specs.Carried.{CanRecordBy, CanSetBy, CanSwitchBy, IsSwitchMomentIf, IsSwitchedIf, cleared_by, moves_of}
-use Rattle.switch_engine.specs.Commands.{IsQuery, brought_to, if_moved, if_so, lacks_goal, new_system, row, set_to}
+use Rattle.switch_engine.specs.Commands.{IsQuery, brought_to, if_moved, if_so, lacks_system, new_system, row, set_to}
 use Rattle.switch_engine.specs.Final.{AreEntries, AreFinalUnits, HasBegunToEnter, HasFailed, IsEndOf, LeavesFailedAt}
-use Rattle.switch_engine.specs.Moments.{IsClearStep, IsMomentOf, IsOnItsWay, IsRecordStep, IsSetStep, IsStepIf, IsStepOf, IsStepTo, IsSwitchEnd, IsSwitchStep, NamesOneOf, record_world, set_world}
+use Rattle.switch_engine.specs.Moments.{IsClearStep, IsMomentOf, IsOnItsWay, IsRecordStep, IsSetStep, IsStepIf, IsStepOf, IsStepTo, NamesOneOf, record_world, set_world}
 use Rattle.switch_engine.specs.Owing.{IsSteadyFor, IsUnderway}
 use Rattle.switch_engine.specs.Plan.{ArePlanned, AreUnitsPlanned, IsActivationPlanned, IsPlanOf, IsProfilePlanned}
-use Rattle.switch_engine.specs.Rows.{default_if, default_part, gens_to, part_if, part_of, switch_in, switch_part}
+use Rattle.switch_engine.specs.Rows.{default_if, gens_to, part_if, part_of, switch_in, switch_part}
 use Rattle.activation_stage.proofs.ActivationLemmas.{activation_part_law, activation_plan_law, owners_law}
-use Rattle.boot_entries.proofs.DefaultLemmas.{default_end_law, default_moment_law, default_names_law, default_part_law, default_plan_law, default_stays_law}
+use Rattle.boot_entries.proofs.DefaultLemmas.{default_part_law, default_plan_law, default_stays_law}
 use Rattle.boot_entries.proofs.GensLemmas.{gens_after_law}
-use Rattle.boot_entries.proofs.MenuLemmas.{menu_begins_law, menu_law, menu_since_law, menu_stays_law}
+use Rattle.boot_entries.proofs.MenuLemmas.{menu_begins_law, menu_since_law, menu_stays_law}
 use Rattle.switch_engine.proofs.DefinedLemmas.{left_failed}
 use Rattle.switch_engine.proofs.FlagLemmas.{changes_on}
 use Rattle.switch_engine.proofs.JournalLemmas.{switch_enters}
 use Rattle.switch_engine.proofs.LawLemmas.{ended_over}
 use Rattle.switch_engine.proofs.MovedPart.{default_in}
-use Rattle.switch_engine.proofs.MenuApart.{menu_not_stage}
 use Rattle.switch_engine.proofs.PartsLemmas.{are_parted, default_if_is, default_parted, gens_to_law, goal_parted, parts_are, switch_if_is}
-use Rattle.switch_engine.proofs.GoalApart.{goal_not_stage, goal_owned, goal_unread_default}
-use Rattle.switch_engine.proofs.GoalKeptLemmas.{IsGoalKept, IsMoveToBy, IsRecorded, kept_first, kept_recorded, move_to_kept, moves_to, recorded_at, recorded_same, row_same}
-use Rattle.switch_engine.proofs.SwitchLemmas.{switch_part_moment}
-use Rattle.switch_engine.proofs.UnderwayLemmas.{IsFreeCommand, free_command, has_goal, underway}
+use Rattle.switch_engine.proofs.GoalApart.{goal_not_stage, goal_unread_default}
+use Rattle.switch_engine.proofs.GoalKeptLemmas.{IsGoalKept, IsMoveToBy, IsProfileKept, IsRecorded, system_still, kept_recorded, move_to_kept, moves_to, recorded_at, recorded_same, row_same}
+use Rattle.switch_engine.proofs.StepLeaves.{IsDefaultLeft, IsUnitsEnd, brought_from, default_kept, goal_menu, goal_names_same, goal_not_own, goal_profile, goal_store, link_not_stage, names_since, names_then, of_goal, profile_not_own, profile_not_stage, record_kept, record_last, record_only, record_part_moment, set_end, set_goal, set_menu, set_names, set_part_moment, set_step, switch_end, switch_final, switch_if_moment, switch_menu, switch_names, switch_step, units_end}
+use Rattle.switch_engine.proofs.UnderwayLemmas.{IsFreeCommand, free_command, has_a_system, underway}
 use Rattle.switch_names.specs.Names.{Name}
 use Rattle.switch_names.specs.SystemName.{IsSystemPath}
-use Rattle.switch_parts.specs.Part.{IsAtEnd, IsFree, IsMomentOf as IsPartMoment, IsOnly, IsPart, IsSameFor, Part, both, final_leaf}
-use Rattle.switch_parts.specs.Store.{is_in_store}
+use Rattle.switch_parts.specs.Part.{IsFree, IsMomentOf as IsPartMoment, IsOnly, IsPart, IsSameFor, Part, both, final_leaf}
 use Rattle.switch_parts.proofs.Parts.{false_by, first_free, first_moment, moment_then, only_beside, second_free, second_moment}
 use Rattle.unit_defs.specs.declared.unit.Unit.{Unit}
 use Rattle.unit_stage.specs.declared.unit_plan.UnitPlan.{UnitPlan}
-use Rattle.unit_stage.specs.End.{AreEndStates, IsBrought, entries_of}
+use Rattle.unit_stage.specs.End.{AreEndStates}
 use Rattle.unit_stage.specs.Order.{IsOrderedAt}
 use Rattle.unit_stage.specs.Owned.{reads_units}
 use Rattle.unit_stage.specs.Plan.{IsOwedBy, IsUnitPlanOf, owed_of}
-use Rattle.unit_stage.specs.System.{definitions_of}
 use Rattle.unit_stage.proofs.EndLemmas.{one_end}
-use Rattle.unit_stage.proofs.OrderLemmas.{arranges}
 use Rattle.unit_stage.proofs.OwnedLemmas.{not_reads_stage}
-use Rattle.unit_stage.proofs.StepLemmas.{manager_seen}
 use Rattle.unit_stage.proofs.SystemsLemmas.{is_system}
 use Rattle.unit_stage.specs.Units.{units_part}
 use Rattle.unit_stage.proofs.UnitsPartLemmas.{order_same, owed_same}
-
--- ---- the profile's link isn't the stage
-
-profile_apart_stage : is_path profile stage ≡ false
-unfolding profile stage
-profile_apart_stage = refl
-
-profile_not_stage : profile ≢ stage
-profile_not_stage same = both_ways _ profile_apart_stage (subst (λ x. is_path profile x ≡ true) same (nat_list_eq_equiv.refl profile))
-
--- ---- the parts of a move of the profile
-
-module _ (move : Move) (system : Name) (gens : Gens) (are : IsBootGens gens) (w m : WorldState) where
-  of_default : IsPartMoment (boot_default_part move system gens) w m → IsPartMoment (default_part move system gens) w m
-  of_default moment = first_moment (boot_default_part move system gens) goal_part (default_part_law move system gens are) goal_is (goal_parted move system gens) w m moment
-
-  of_goal : IsPartMoment goal_part w m → IsPartMoment (default_part move system gens) w m
-  of_goal moment = second_moment (boot_default_part move system gens) goal_part (default_part_law move system gens are) goal_is (goal_parted move system gens) w m moment
-
--- the part is the same at each of its moments
-default_kept : (moves : Option Move) (system : Name) (w m : WorldState) → (default_in moves system w.leaves).Keeps w m → default_in moves system m.leaves ≡ default_in moves system w.leaves
-default_kept None system w m keeps = refl
-default_kept (Some move) system w m keeps = ap (λ (gens : Gens). default_part move system gens) (default_stays_law move system (gens_moved move system w.leaves) w m keeps.0)
-
-not_of_default : owns_profile goal_place || owns_boot goal_place ≡ false
-not_of_default = elim (cases_Bool (owns_profile goal_place || owns_boot goal_place)) [
-  | inl own ↦ absurd (both_ways _ (goal_unread_default goal_place own) goal_read)
-  | inr other ↦ other
-]
-  where
-    goal_read : reads_goal goal_place ≡ true
-    goal_read = goal_is.reads_own goal_place goal_owned
-
--- the same by the leaves of a world, with these generations
-abbrev IsDefaultLeft : Option Move → Name → Gens → WorldState → WorldState → Type 0
-IsDefaultLeft None system gens w u = Prim.Unit {0}
-IsDefaultLeft (Some move) system gens w u = IsAtEnd (boot_default_part move system gens) w u
-
--- what the boot default owns is at its end, where the profile is moved
-abbrev IsSetEnd : Option Move → Name → WorldState → WorldState → Type 0
-IsSetEnd None system w u = Prim.Unit {0}
-IsSetEnd (Some move) system w u = IsAtEnd (boot_default_in move system w.leaves) w u
-
--- ---- the goal is recorded, where the profile goes back to a generation
-
--- nothing has changed but the goal
-record_only : (moves : Option Move) (w m : WorldState) → IsRecordStep moves w m → IsOnly goal_part w m
-record_only None w m same = record { leaves = λ q none ne. seen_at m w same q ne; manager = λ call. manager_seen m w same }
-record_only (Some Set) w m same = record { leaves = λ q none ne. seen_at m w same q ne; manager = λ call. manager_seen m w same }
-record_only (Some (Point n)) w m step = (recorded_moment (goal_leaf n) w m step).only
-
-record_last : (moves : Option Move) (w r : WorldState) → seen r ≡ record_world moves w → IsRecordStep moves w r
-record_last None w r is = is
-record_last (Some Set) w r is = is
-record_last (Some (Point n)) w r is = inr is
-
-record_part_moment : (moves : Option Move) (system : Name) (gens : Gens) → IsBootGens gens → (w m : WorldState) → IsRecordStep moves w m → IsPartMoment (default_if moves system gens) w m
-record_part_moment None system gens are w m same = record { keeps = tt; only = record { leaves = λ q none ne. seen_at m w same q ne; manager = λ none. manager_seen m w same } }
-record_part_moment (Some Set) system gens are w m same = of_goal Set system gens are w m (recorded_moment (goal_leaf 0) w m (inl same))
-record_part_moment (Some (Point n)) system gens are w m step = of_goal (Point n) system gens are w m (recorded_moment (goal_leaf n) w m step)
-
-record_kept : (moves : Option Move) (w m : WorldState) → IsRecordStep moves w m → IsGoalKept moves w.leaves m.leaves
-record_kept None w m step = tt
-record_kept (Some Set) w m step = tt
-record_kept (Some (Point n)) w m step = ⊎_elim
-    (λ old. kept_first (Some (Point n)) w m (seen_at m w old profile profile_not_stage) old)
-    (λ new. kept_recorded (Some (Point n)) w.leaves m.leaves (recorded_at (Some (Point n)) w m new))
-    step
-
--- ---- a system is made the boot default, or the profile isn't moved
-
-module _ (system : Name) (named : IsSystemPath system) (w : WorldState) where
-  set_part_moment : (moves : Option Move) → IsFree (default_in moves system w.leaves) w.leaves → (m : WorldState) → IsSetStep moves system w m → IsPartMoment (default_in moves system w.leaves) w m
-  set_part_moment (Some move) free m step =
-      of_default move system (gens_moved move system w.leaves) (gens_after_law move system w.leaves named) w m
-      (default_moment_law move system w m named (first_free (boot_default_in move system w.leaves) goal_part w.leaves free) step)
-  set_part_moment None free m step = record { keeps = tt; only = record { leaves = λ q none ne. seen_at m w step q ne; manager = λ none. manager_seen m w step } }
-
-  -- the goal stays as it is
-  set_goal : (moves : Option Move) → IsFree (default_in moves system w.leaves) w.leaves → (m : WorldState) → IsSetStep moves system w m → get m.leaves goal_place ≡ get w.leaves goal_place
-  set_goal (Some move) free m step =
-      (default_moment_law move system w m named (first_free (boot_default_in move system w.leaves) goal_part w.leaves free) step).only.leaves goal_place not_of_default goal_not_stage
-  set_goal None free m step = seen_at m w step goal_place goal_not_stage
-
-  set_step : (moves : Option Move) → IsFree (default_in moves system w.leaves) w.leaves → (u : WorldState) → seen u ≡ set_world moves system w → IsSetStep moves system w u
-  set_step (Some move) free u is = (default_end_law move system w u named (first_free (boot_default_in move system w.leaves) goal_part w.leaves free) is).0
-  set_step None free u is = is
-
-  -- what the boot default owns is at its end
-  set_end : (moves : Option Move) → IsFree (default_in moves system w.leaves) w.leaves → (u : WorldState) → seen u ≡ set_world moves system w → IsSetEnd moves system w u
-  set_end (Some move) free u is = (default_end_law move system w u named (first_free (boot_default_in move system w.leaves) goal_part w.leaves free) is).1
-  set_end None free u is = tt
-
-  set_calls : (moves : Option Move) → IsFree (default_in moves system w.leaves) w.leaves → (u : WorldState) → seen u ≡ set_world moves system w → u.manager ≡ w.manager
-  set_calls (Some move) free u is = (set_part_moment (Some move) free u (set_step (Some move) free u is)).only.manager refl
-  set_calls None free u is = manager_seen u w is
-
-  -- the boot menu at each of its moments
-  set_menu : (moves : Option Move) → IsMoveToBy moves system w.leaves → IsFree (default_in moves system w.leaves) w.leaves → (m : WorldState) → IsSetStep moves system w m → IsMenuBetween w.leaves m.leaves
-  set_menu (Some move) to free m step = menu_law move system w m named to (first_free (boot_default_in move system w.leaves) goal_part w.leaves free) step
-  set_menu None to free m step = menu_begins_law w.leaves m.leaves (λ q own. seen_at m w step q (menu_not_stage q own))
-
--- ---- a switch of the units
-
-switch_if_moment : (switches : Bool) (system : Name) → IsSystemPath system → (owed : Owed) (order : List Name) (u m : WorldState) → (switches ≡ true → IsOwedBy false u system owed) →
-    (switches ≡ true → IsOrderedAt u.leaves system owed order) → IsFree (part_if switches (switch_in system u.leaves)) u.leaves → IsSwitchMomentIf switches system owed order u m → IsPartMoment (part_if switches (switch_in system u.leaves)) u m
-switch_if_moment true system named owed order u m is_owed is_ordered free moment =
-    switch_part_moment system named owed u (is_owed refl) order (arranges u.leaves system owed order (is_ordered refl)) free m moment
-switch_if_moment false system named owed order u m is_owed is_ordered free same = record {
-  keeps = tt;
-  only = record { leaves = λ q none ne. ap (λ (x : WorldState). get x.leaves q) same; manager = λ none. ap (λ (x : WorldState). x.manager) same };
-}
-
-switch_step : (switches : Bool) (system : Name) (owed : Owed) (order : List Name) (u m : WorldState) → (switches ≡ true → IsOwedBy false u system owed) → (switches ≡ true → IsOrderedAt u.leaves system owed order) →
-    IsSwitchMomentIf switches system owed order u m → IsSwitchStep (if_so switches system) u m
-switch_step true system owed order u m is_owed is_ordered moment = (owed, order, is_owed refl, is_ordered refl, moment)
-switch_step false system owed order u m is_owed is_ordered same = ap seen same
-
-switch_end : (switches : Bool) (system : Name) (owed : Owed) (order : List Name) (u v : WorldState) → (switches ≡ true → IsOwedBy false u system owed) → (switches ≡ true → IsOrderedAt u.leaves system owed order) →
-    IsSwitchedIf switches system owed order u v → IsSwitchEnd (if_so switches system) u v
-switch_end true system owed order u v is_owed is_ordered end = (owed, order, is_owed refl, is_ordered refl, end)
-switch_end false system owed order u v is_owed is_ordered same = ap seen same
-
-switch_final : (switches : Bool) (system : Name) (owed : Owed) (order : List Name) (u v : WorldState) → IsSwitchedIf switches system owed order u v → (q : Name) → q ≢ stage → get v.leaves q ≡ final_leaf (part_if switches (switch_in system u.leaves)) u.leaves q
-switch_final true system owed order u v is q ne = is.leaves q ne
-switch_final false system owed order u v is q ne = ap (λ (x : WorldState). get x.leaves q) is
-
--- ---- the profile names the same while it isn't written
-
-link_not_stage : (n : ℕ) → link_path n ≢ stage
-link_not_stage n same = both_ways _ (link_apart_stage n) (subst (λ x. is_path (link_path n) x ≡ true) same (nat_list_eq_equiv.refl (link_path n)))
-
-names_as : (m w : Leaves) → get m profile ≡ get w profile → ((n : ℕ) → get m (link_path n) ≡ get w (link_path n)) → (other : List ℕ) → Names w other → Names m other
-names_as m w same links other names = record {
-  number = names.number;
-  current = record {
-    linked = same ∙ names.current.linked;
-    stands = subst IsSome (sym (generation_of m w names.number (links names.number))) names.current.stands;
-  };
-  named = generation_of m w names.number (links names.number) ∙ names.named;
-}
-
-abbrev SameNames : WorldState → WorldState → Type 0
-SameNames w m = (other : List ℕ) → Names m.leaves other ↔ Names w.leaves other
-
-names_by : (w m : WorldState) → get m.leaves profile ≡ get w.leaves profile → ((n : ℕ) → get m.leaves (link_path n) ≡ get w.leaves (link_path n)) → SameNames w m
-names_by w m same links other = (
-  names_as w.leaves m.leaves (sym same) (λ n. sym (links n)) other,
-  names_as m.leaves w.leaves same links other,
-)
-
-seen_names : (w m : WorldState) → seen m ≡ seen w → SameNames w m
-seen_names w m same = names_by w m (seen_at m w same profile profile_not_stage) (λ n. seen_at m w same (link_path n) (link_not_stage n))
-
--- no place of the profile or of the boot menu is one of a switch of the units
-module _ (switches : Bool) (system : Name) (named : IsSystemPath system) (owners : OwnerIds) (gens : Gens) where
-  pub not_own : (q : Name) → (owns_profile q || owns_boot q) || owns_goal q ≡ true → (part_if switches (switch_part system owners)).owns q ≡ false
-  not_own q own = elim (cases_Bool ((part_if switches (switch_part system owners)).owns q)) [
-    | inl is ↦ absurd (both_ways _ ((are_parted switches (Some Set) system owners gens).second q own) ((switch_if_is switches system named owners).reads_own q is))
-    | inr other ↦ other
-  ]
-
-  profile_not_own : (q : Name) → owns_profile q ≡ true → (part_if switches (switch_part system owners)).owns q ≡ false
-  profile_not_own q own = not_own q (or_left _ (owns_goal q) (or_left (owns_profile q) (owns_boot q) own))
-
-  menu_not_own : (q : Name) → owns_boot q ≡ true → (part_if switches (switch_part system owners)).owns q ≡ false
-  menu_not_own q own = not_own q (or_left _ (owns_goal q) (or_right (owns_profile q) (owns_boot q) own))
-
-  pub goal_not_own : (part_if switches (switch_part system owners)).owns goal_place ≡ false
-  goal_not_own = not_own goal_place (or_right (owns_profile goal_place || owns_boot goal_place) (owns_goal goal_place) goal_owned)
-
-  switch_names : (u m : WorldState) → IsPartMoment (part_if switches (switch_part system owners)) u m → SameNames u m
-  switch_names u m moment =
-      names_by u m (moment.only.leaves profile (profile_not_own profile profile_owned) profile_not_stage)
-      (λ n. moment.only.leaves (link_path n) (profile_not_own (link_path n) (link_owned n)) (link_not_stage n))
-
-  switch_menu : (first : Leaves) (u m : WorldState) → IsPartMoment (part_if switches (switch_part system owners)) u m → IsMenuBetween first u.leaves → IsMenuBetween first m.leaves
-  switch_menu first u m moment before =
-      menu_stays_law first u.leaves m.leaves before (λ q own. moment.only.leaves q (menu_not_own q own) (menu_not_stage q own))
-      (λ q own. moment.only.leaves q (profile_not_own q own) (owned_other q stage own stage_not_owned))
-
-set_names : (moves : Option Move) (system : Name) → IsSystemPath system → (w m : WorldState) → IsMoveToBy moves system w.leaves → IsFree (default_in moves system w.leaves) w.leaves → IsSetStep moves system w m →
-    NamesOneOf (if_moved moves system) w m
-set_names (Some move) system named w m to free step = default_names_law move system w m named to (first_free (boot_default_in move system w.leaves) goal_part w.leaves free) step
-set_names None system named w m to free step = seen_names w m step
-
--- ---- nothing but the goal has changed
-
-goal_stored : is_in_store goal_place ≡ false
-unfolding is_in_store goal_place
-goal_stored = refl
-
-stage_stored : is_in_store stage ≡ false
-unfolding is_in_store stage
-stage_stored = refl
-
-goal_not_stored : (q : Name) → is_in_store q ≡ true → owns_goal q ≡ false
-goal_not_stored q stored = elim (cases_Bool (owns_goal q)) [
-  | inl own ↦ absurd (both_ways _ goal_stored (subst (λ x. is_in_store x ≡ true) (same_text q goal_place (sym own)) stored))
-  | inr other ↦ other
-]
-
-stored_not_stage : (q : Name) → is_in_store q ≡ true → q ≢ stage
-stored_not_stage q stored same = both_ways _ stage_stored (subst (λ x. is_in_store x ≡ true) same stored)
-
-module _ (w m : WorldState) (only : IsOnly goal_part w m) where
-  not_the_goal : (q : Name) → owns_profile q || owns_boot q ≡ true → owns_goal q ≡ false
-  not_the_goal q own = false_by (owns_goal q) (reads_goal q) (λ is. goal_is.reads_own q is) (goal_unread_default q own)
-
-  goal_profile : (q : Name) → owns_profile q ≡ true → get m.leaves q ≡ get w.leaves q
-  goal_profile q own = only.leaves q (not_the_goal q (or_left (owns_profile q) (owns_boot q) own)) (owned_other q stage own stage_not_owned)
-
-  goal_menu : (q : Name) → owns_boot q ≡ true → get m.leaves q ≡ get w.leaves q
-  goal_menu q own = only.leaves q (not_the_goal q (or_right (owns_profile q) (owns_boot q) own)) (menu_not_stage q own)
-
-  goal_names_same : SameNames w m
-  goal_names_same = names_by w m (goal_profile profile profile_owned) (λ n. goal_profile (link_path n) (link_owned n))
-
-  goal_store : IsSameStore m.leaves w.leaves
-  goal_store q stored = sym (only.leaves q (goal_not_stored q stored) (stored_not_stage q stored))
-
--- what is named at a moment is named at each at which the profile is the same
-names_then : (to : Option Name) (w u m : WorldState) → NamesOneOf to w u → SameNames u m → NamesOneOf to w m
-names_then None w u m before same = λ other. (λ is. (before other).0 ((same other).0 is), λ is. (same other).1 ((before other).1 is))
-names_then (Some system) w u m before same = ⊎_elim
-    (λ (old : SameNames w u). inl (λ other. (λ is. (old other).0 ((same other).0 is), λ is. (same other).1 ((old other).1 is))))
-    (λ now. inr ((same system).1 now))
-    before
-
--- and since each at which it is the same
-names_since : (to : Option Name) (w r m : WorldState) → SameNames w r → NamesOneOf to r m → NamesOneOf to w m
-names_since None w r m same after = λ other. (λ is. (same other).0 ((after other).0 is), λ is. (after other).1 ((same other).1 is))
-names_since (Some system) w r m same after = ⊎_elim
-    (λ (old : SameNames r m). inl (λ other. (λ is. (same other).0 ((old other).0 is), λ is. (old other).1 ((same other).1 is))))
-    (λ now. inr now)
-    after
-
--- ---- the units at the end
-
--- what is brought is the same where the manager began the same
-brought_from : (system : Name) (owed : Owed) (order : List Name) (w u v : WorldState) → u.manager ≡ w.manager → IsBrought system owed order u v → IsBrought system owed order w v
-brought_from system owed order w u v same is = record {
-  states = λ unit. is.states unit ∙ ap (λ (k : ManagerState). final_state owed (definitions_of system) k.bad (state_of k.states) unit) same;
-  loaded = is.loaded;
-  bad = is.bad ∙ ap (λ (k : ManagerState). k.bad) same;
-  journal = is.journal ∙ (λ i. (same i).journal ++ entries_of system owed order (record w { manager = same i }));
-}
-
--- the units where they were switched, or not
-record IsUnitsEnd (to : Option Name) (w v : WorldState) : Type 0 where
-  units : AreFinalUnits to w v
-  bad : v.manager.bad ≡ w.manager.bad
-  entries : List Entry
-  are_entered : AreEntries to w entries
-  journal : v.manager.journal ≡ w.manager.journal ++ entries
-
-units_end : (switches : Bool) (system : Name) (owed : Owed) (order : List Name) (w u v : WorldState) → (switches ≡ true → IsOwedBy false w system owed) → (switches ≡ true → IsOrderedAt w.leaves system owed order) →
-    u.manager ≡ w.manager → IsSwitchedIf switches system owed order u v → IsUnitsEnd (if_so switches system) w v
-units_end true system owed order w u v is_owed is_ordered same is =
-    let brought = brought_from system owed order w u v same is.units in
-    record {
-      units = ((owed, is_owed refl, brought.states), brought.loaded);
-      bad = brought.bad;
-      entries = entries_of system owed order w;
-      are_entered = (owed, order, is_owed refl, is_ordered refl, refl);
-      journal = brought.journal;
-    }
-units_end false system owed order w u v is_owed is_ordered same is =
-    let manager : v.manager ≡ w.manager = ap (λ (x : WorldState). x.manager) is ∙ same in
-    record {
-      units = (ap (λ (k : ManagerState). k.states) manager, ap (λ (k : ManagerState). k.loaded) manager);
-      bad = ap (λ (k : ManagerState). k.bad) manager;
-      entries = [];
-      are_entered = refl;
-      journal = ap (λ (k : ManagerState). k.journal) manager ∙ sym (append-nil w.manager.journal);
-    }
 
 -- ---- a command
 
 -- what is known of a command that is carried out, at its beginning
 pub record IsCarriedFrom (command : Command) (owed : Owed) (order : List Name) (w : WorldState) : Type 0 where
   pub on : (row command w.leaves).changes ≡ true
-  pub has : lacks_goal command w.leaves ≡ false
+  pub has : lacks_system command w.leaves ≡ false
   pub named : IsSystemPath (new_system command w.leaves)
   pub free : IsFreeCommand command w.leaves
-  pub is_owed : (row command w.leaves).switches ≡ true → IsOwedBy false w (new_system command w.leaves) owed
+  pub is_owed : (row command w.leaves).switches ≡ true → IsOwedBy (row command w.leaves).start_up w (new_system command w.leaves) owed
   pub is_ordered : (row command w.leaves).switches ≡ true → IsOrderedAt w.leaves (new_system command w.leaves) owed order
 
 -- ---- what a plan says
 
-owed_planned : (switches : Bool) (system : Name) (w : WorldState) (plan : UnitPlan) → AreUnitsPlanned switches system w plan → switches ≡ true → IsOwedBy false w system (owed_of plan)
-owed_planned true system w plan planned same = (planned.lists, record { listed = planned.planned.listed; is_owed = planned.planned.planned.is_owed })
-owed_planned false system w plan planned same = absurd (both_ways _ refl same)
+owed_planned : (start_up switches : Bool) (system : Name) (w : WorldState) (plan : UnitPlan) → AreUnitsPlanned start_up switches system w plan → switches ≡ true → IsOwedBy start_up w system (owed_of plan)
+owed_planned start_up true system w plan planned same = (planned.lists, record { listed = planned.planned.listed; is_owed = planned.planned.planned.is_owed })
+owed_planned start_up false system w plan planned same = absurd (both_ways _ refl same)
 
-order_planned : (switches : Bool) (system : Name) (w : WorldState) (plan : UnitPlan) → AreUnitsPlanned switches system w plan → switches ≡ true → IsOrderedAt w.leaves system (owed_of plan) plan.ordered.units
-order_planned true system w plan planned same = (plan.ordered, planned.in_order, refl)
-order_planned false system w plan planned same = absurd (both_ways _ refl same)
+order_planned : (start_up switches : Bool) (system : Name) (w : WorldState) (plan : UnitPlan) → AreUnitsPlanned start_up switches system w plan → switches ≡ true → IsOrderedAt w.leaves system (owed_of plan) plan.ordered.units
+order_planned start_up true system w plan planned same = (plan.ordered, planned.in_order, refl)
+order_planned start_up false system w plan planned same = absurd (both_ways _ refl same)
 
 module _ (plan : Plan) (w : WorldState) (is : IsPlanOf w plan) (changes : IsQuery plan.command → ⊥) where
   -- the parts are those of the command's row
@@ -389,11 +103,11 @@ module _ (plan : Plan) (w : WorldState) (is : IsPlanOf w plan) (changes : IsQuer
   pub carried_from : IsCarriedFrom plan.command (owed_of plan.units) plan.units.ordered.units w
   carried_from = record {
     on = changes_on plan.command w.leaves changes;
-    has = has_goal plan.command w.leaves is.not_refused;
+    has = has_a_system plan.command w.leaves is.not_refused;
     named = subst (λ (r : Row). IsSystemPath r.system) is.resolved is.named;
     free = free_command plan.command w.leaves is.not_refused;
-    is_owed = owed_planned (row plan.command w.leaves).switches (new_system plan.command w.leaves) w plan.units planned_parts.units;
-    is_ordered = order_planned (row plan.command w.leaves).switches (new_system plan.command w.leaves) w plan.units planned_parts.units;
+    is_owed = owed_planned (row plan.command w.leaves).start_up (row plan.command w.leaves).switches (new_system plan.command w.leaves) w plan.units planned_parts.units;
+    is_ordered = order_planned (row plan.command w.leaves).start_up (row plan.command w.leaves).switches (new_system plan.command w.leaves) w plan.units planned_parts.units;
   }
 
 -- the profile is moved as is planned
@@ -428,18 +142,19 @@ switches_same switches system w None planned = sym planned
 switches_same switches system w (Some activation) planned = sym planned.0
 
 -- a planned switch of the units can be made where the profile has been set
-pub can_switch : (switches : Bool) (system : Name) → IsSystemPath system → (w u : WorldState) (plan : UnitPlan) (o : Option ActivationPlan) → AreUnitsPlanned switches system w plan → IsActivationPlanned switches system w o →
-    u.manager ≡ w.manager → (switches ≡ true → IsOwedBy false u system (owed_of plan)) → (switches ≡ true → IsOrderedAt u.leaves system (owed_of plan) plan.ordered.units) → IsSameFor (activation_in system w.leaves) w u → IsFree (part_if switches (switch_in system u.leaves)) u.leaves → CanSwitchBy system plan o u
-can_switch switches system named w u plan None units planned manager is_owed is_ordered same free = tt
-can_switch switches system named w u plan (Some activation) units planned manager is_owed is_ordered same free =
-    let of_units : IsUnitPlanOf false system w plan = subst (λ b. AreUnitsPlanned b system w plan) planned.0 units in
+pub can_switch : (start_up switches : Bool) (system : Name) → IsSystemPath system → (w u : WorldState) (plan : UnitPlan) (o : Option ActivationPlan) → AreUnitsPlanned start_up switches system w plan → IsActivationPlanned switches system w o →
+    u.manager ≡ w.manager → (switches ≡ true → IsOwedBy start_up u system (owed_of plan)) → (switches ≡ true → IsOrderedAt u.leaves system (owed_of plan) plan.ordered.units) → IsSameFor (activation_in system w.leaves) w u → IsFree (part_if switches (switch_in start_up system u.leaves)) u.leaves → CanSwitchBy system plan o u
+can_switch start_up switches system named w u plan None units planned manager is_owed is_ordered same free = tt
+can_switch start_up switches system named w u plan (Some activation) units planned manager is_owed is_ordered same free =
+    let of_units : IsUnitPlanOf start_up system w plan = subst (λ b. AreUnitsPlanned start_up b system w plan) planned.0 units in
     record {
       named = named;
+      start_up = start_up;
       is_owed = is_owed planned.0;
       in_order = is_ordered planned.0;
       duties = of_units.duties ∙ ap (λ (k : ManagerState). calls_of (owed_of plan) plan.ordered.units (state_of k.states)) (sym manager);
       planned = activation_plan_law system w u activation named same planned.1;
-      free = subst (λ b. IsFree (part_if b (switch_in system u.leaves)) u.leaves) planned.0 free;
+      free = subst (λ b. IsFree (part_if b (switch_in start_up system u.leaves)) u.leaves) planned.0 free;
     }
 
 -- ---- which units have failed
@@ -461,22 +176,22 @@ none_failed defs outcome is = (
     not_failed is = cc
 
 -- what the outcome says is what the world leaves
-pub verdict : (switches : Bool) (system : Name) (plan : UnitPlan) (w u v : WorldState) (outcome : Outcome) → AreUnitsPlanned switches system w plan → u.manager ≡ w.manager → IsSwitchedIf switches system (owed_of plan) plan.ordered.units u v →
+pub verdict : (start_up switches : Bool) (system : Name) (plan : UnitPlan) (w u v : WorldState) (outcome : Outcome) → AreUnitsPlanned start_up switches system w plan → u.manager ≡ w.manager → IsSwitchedIf switches system (owed_of plan) plan.ordered.units u v →
     (switches ≡ true → outcome.states ≡ v.manager.states) → IsTrue outcome.failed ↔ HasFailed plan.defs outcome.states → (switches ≡ false → outcome ≡ record { states = empty; failed = false }) →
-    IsTrue outcome.failed ↔ LeavesFailedAt (if_so switches system) w
-verdict true system plan w u v outcome planned same end states failed none =
-    let is_owed = owed_planned true system w plan planned refl in
+    IsTrue outcome.failed ↔ LeavesFailedAt start_up (if_so switches system) w
+verdict start_up true system plan w u v outcome planned same end states failed none =
+    let is_owed = owed_planned start_up true system w plan planned refl in
     let says = left_failed system (owed_of plan) plan.ordered.units w v plan.defs outcome.states planned.defs (states refl) (brought_from system (owed_of plan) plan.ordered.units w u v same end.units) in (
       λ is. (owed_of plan, is_owed, says.0 (failed.0 is)),
       λ left. failed.1 (says.1 (
         left.2.0,
         record {
-          failed = sym (one_end false system is_owed.0 (owed_of plan) w is_owed.1 left.0 left.1 left.2.0) ∙ left.2.1.failed;
+          failed = sym (one_end start_up system is_owed.0 (owed_of plan) w is_owed.1 left.0 left.1 left.2.0) ∙ left.2.1.failed;
           defined = left.2.1.defined;
         },
       )),
     )
-verdict false system plan w u v outcome planned same end states failed none = (λ is. absurd (both_ways _ (ap (λ (o : Outcome). o.failed) (none refl)) is), λ left. absurd left)
+verdict start_up false system plan w u v outcome planned same end states failed none = (λ is. absurd (both_ways _ (ap (λ (o : Outcome). o.failed) (none refl)) is), λ left. absurd left)
 
 -- ---- the goal is removed, where the profile is moved
 
@@ -500,7 +215,7 @@ clear_last None v e is = is
 clear_last (Some move) v e is = inr is
 
 -- a journal that has all entries of a command has begun to have them
-all_entered : (command : Command) (w m : WorldState) (entries : List Entry) → AreEntries (brought_to command w.leaves) w entries → m.manager.journal ≡ w.manager.journal ++ entries → HasBegunToEnter command w m
+all_entered : (command : Command) (w m : WorldState) (entries : List Entry) → AreEntries (row command w.leaves).start_up (brought_to command w.leaves) w entries → m.manager.journal ≡ w.manager.journal ++ entries → HasBegunToEnter command w m
 all_entered command w m entries are journal = record { entries = entries; are_entered = are; made = entries; rest = []; in_order = sym (append-nil entries); journal = journal }
 
 -- where the system is the boot default, each place of that is at its end, by the first world
@@ -544,6 +259,9 @@ on_its_way (Some Set) command w m underway = underway
 on_its_way (Some (Point n)) command w m underway = inl underway
 
 module _ (command : Command) (owed : Owed) (order : List Name) (w : WorldState) (carried : IsCarriedFrom command owed order w) where
+  abbrev start_up : Bool
+  start_up = (row command w.leaves).start_up
+
   abbrev switches : Bool
   switches = (row command w.leaves).switches
 
@@ -560,13 +278,13 @@ module _ (command : Command) (owed : Owed) (order : List Name) (w : WorldState) 
   gens = gens_to moves system w.leaves
 
   abbrev first : Part
-  first = part_if switches (switch_part system owners)
+  first = part_if switches (switch_part start_up system owners)
 
   abbrev second : Part
   second = default_if moves system gens
 
   first_is : IsPart first
-  first_is = switch_if_is switches system carried.named owners
+  first_is = switch_if_is start_up switches system carried.named owners
 
   are_gens : IsBootGens gens
   are_gens = gens_to_law moves system w.leaves carried.named
@@ -575,7 +293,7 @@ module _ (command : Command) (owed : Owed) (order : List Name) (w : WorldState) 
   second_is = default_if_is moves system gens are_gens
 
   both_are : IsPart (both first second)
-  both_are = parts_are switches moves system carried.named owners gens are_gens
+  both_are = parts_are start_up switches moves system carried.named owners gens are_gens
 
   pub set_free : IsFree second w.leaves
   set_free = second_free first second w.leaves carried.free.parts
@@ -585,15 +303,23 @@ module _ (command : Command) (owed : Owed) (order : List Name) (w : WorldState) 
   calls_none None = refl
 
   of_second : (v m : WorldState) → IsPartMoment second v m → IsPartMoment (both first second) v m
-  of_second v m moment = second_moment first second first_is second_is (are_parted switches moves system owners gens) v m moment
+  of_second v m moment = second_moment first second first_is second_is (are_parted start_up switches moves system owners gens) v m moment
+
+  -- a profile that isn't moved stands as it did
+  profile_kept : (m : WorldState) → IsPartMoment (both first second) w m → moves ≡ None → IsProfileKept w.leaves m.leaves
+  profile_kept m moment unmoved =
+      let stays : (q : Name) → owns_profile q ≡ true → q ≢ stage → get m.leaves q ≡ get w.leaves q =
+      λ q own ne. moment.only.leaves q (or_from _ _ (profile_not_own start_up switches system carried.named owners gens q own) (ap (λ mv. (default_if mv system gens).owns q) unmoved)) ne in
+      record { links = λ n. stays (link_path n) (link_owned n) (link_not_stage n); same = stays profile profile_owned profile_not_stage }
 
   -- where the goal is as it was, or recorded, the command is underway
   underway_at : (m : WorldState) → IsPartMoment (both first second) w m → IsGoalKept moves w.leaves m.leaves → IsSteadyFor command w → IsUnderway w command m
   underway_at m moment kept steady =
-      underway command w m carried.on (row_same command gens w m carried.has moment.keeps.1 kept) carried.has carried.named carried.free moment steady
+      let same = row_same command gens w m carried.has moment.keeps.1 kept (profile_kept m moment) in
+      underway command w m carried.on same (system_still command w.leaves m.leaves same (profile_kept m moment) carried.has) carried.named carried.free moment steady
 
-  step_as : (m : WorldState) → IsStepTo moves system (if_so switches system) w m → IsStepOf command w m
-  step_as m step = subst (λ b. IsStepIf b (cond b moves None) system (if_so (b && switches) system) w m) (sym carried.on) step
+  step_as : (m : WorldState) → IsStepTo start_up moves system (if_so switches system) w m → IsStepOf command w m
+  step_as m step = subst (λ b. IsStepIf b start_up (cond b moves None) system (if_so (b && switches) system) w m) (sym carried.on) step
 
   to_as : (b m : WorldState) → NamesOneOf (if_moved moves system) b m → NamesOneOf (set_to command w.leaves) b m
   to_as b m names = subst (λ c. NamesOneOf (if_moved (cond c moves None) system) b m) (sym carried.on) names
@@ -693,14 +419,14 @@ module _ (command : Command) (owed : Owed) (order : List Name) (w : WorldState) 
       same_owners : owners_after system u.leaves ≡ owners
       same_owners = owners_law system owners w u ((activation_part_law system owners carried.named).frame w u activation_same)
 
-      pub switch_free : IsFree (part_if switches (switch_in system u.leaves)) u.leaves
+      pub switch_free : IsFree (part_if switches (switch_in start_up system u.leaves)) u.leaves
       switch_free =
-          subst (λ (o : OwnerIds). IsFree (part_if switches (switch_part system o)) u.leaves) (sym same_owners)
+          subst (λ (o : OwnerIds). IsFree (part_if switches (switch_part start_up system o)) u.leaves) (sym same_owners)
           (first_free first second u.leaves (both_are.stays_free w u at_set.keeps carried.free.parts))
 
       -- the units' part sees the same as before
-      units_same : switches ≡ true → IsSameFor (units_part false system) w u
-      units_same switched = by switches switched (are_parted switches moves system owners gens).second
+      units_same : switches ≡ true → IsSameFor (units_part start_up system) w u
+      units_same switched = by switches switched (are_parted start_up switches moves system owners gens).second
         where
           unchanged : (at : Name) → (second.owns at ≡ true → ⊥) → at ≢ stage → get u.leaves at ≡ get w.leaves at
           unchanged at none ne = elim (cases_Bool (second.owns at)) [
@@ -708,7 +434,7 @@ module _ (command : Command) (owed : Owed) (order : List Name) (w : WorldState) 
             | inr other ↦ alone_set.only.leaves at other ne
           ]
 
-          by : (b : Bool) → b ≡ true → ((at : Name) → second.owns at ≡ true → (part_if b (switch_part system owners)).reads at ≡ false) → IsSameFor (units_part false system) w u
+          by : (b : Bool) → b ≡ true → ((at : Name) → second.owns at ≡ true → (part_if b (switch_part start_up system owners)).reads at ≡ false) → IsSameFor (units_part start_up system) w u
           by true same_b apart = record {
             leaves = λ at read. unchanged at (λ own. both_ways _ (apart at own) (or_left _ _ read)) (λ same. both_ways _ not_reads_stage (subst (λ x. reads_units x ≡ true) same read));
             manager = λ call. same_manager;
@@ -716,38 +442,38 @@ module _ (command : Command) (owed : Owed) (order : List Name) (w : WorldState) 
           by false same_b apart = absurd (both_ways _ refl same_b)
 
       -- and so the same is owed, and the starts are in the same order
-      pub owed_still : switches ≡ true → IsOwedBy false u system owed
-      owed_still switched = owed_same false system w u (is_system system carried.named) (units_same switched) owed (carried.is_owed switched)
+      pub owed_still : switches ≡ true → IsOwedBy start_up u system owed
+      owed_still switched = owed_same start_up system w u (is_system system carried.named) (units_same switched) owed (carried.is_owed switched)
 
       pub ordered_still : switches ≡ true → IsOrderedAt u.leaves system owed order
-      ordered_still switched = order_same false system w u (is_system system carried.named) (units_same switched) owed order (carried.is_ordered switched)
+      ordered_still switched = order_same start_up system w u (is_system system carried.named) (units_same switched) owed order (carried.is_ordered switched)
 
       switch_moment_of : (m : WorldState) → IsSwitchMomentIf switches system owed order u m → IsPartMoment first u m
       switch_moment_of m moment =
-          subst (λ (o : OwnerIds). IsPartMoment (part_if switches (switch_part system o)) u m) same_owners
-          (switch_if_moment switches system carried.named owed order u m owed_still ordered_still switch_free moment)
+          subst (λ (o : OwnerIds). IsPartMoment (part_if switches (switch_part start_up system o)) u m) same_owners
+          (switch_if_moment start_up switches system carried.named owed order u m owed_still ordered_still switch_free moment)
 
       switch_of_parts : (m : WorldState) → IsSwitchMomentIf switches system owed order u m → IsPartMoment (both first second) w m
       switch_of_parts m moment =
           moment_then (both first second) both_are w u m at_set
-          (first_moment first second first_is second_is (are_parted switches moves system owners gens) u m (switch_moment_of m moment))
+          (first_moment first second first_is second_is (are_parted start_up switches moves system owners gens) u m (switch_moment_of m moment))
 
       switch_recorded : (m : WorldState) → IsSwitchMomentIf switches system owed order u m → IsRecorded moves m.leaves
       switch_recorded m moment =
-          recorded_same moves u.leaves m.leaves ((switch_moment_of m moment).only.leaves goal_place (goal_not_own switches system carried.named owners gens) goal_not_stage) (set_recorded u last_set)
+          recorded_same moves u.leaves m.leaves ((switch_moment_of m moment).only.leaves goal_place (goal_not_own start_up switches system carried.named owners gens) goal_not_stage) (set_recorded u last_set)
 
       switch_named : (m : WorldState) → IsSwitchMomentIf switches system owed order u m → NamesOneOf (if_moved moves system) w m
       switch_named m moment =
-          names_then (if_moved moves system) w u m (set_named u last_set) (switch_names switches system carried.named owners gens u m (switch_moment_of m moment))
+          names_then (if_moved moves system) w u m (set_named u last_set) (switch_names start_up switches system carried.named owners gens u m (switch_moment_of m moment))
 
       switch_between : (m : WorldState) → IsSwitchMomentIf switches system owed order u m → IsMenuBetween w.leaves m.leaves
-      switch_between m moment = switch_menu switches system carried.named owners gens w.leaves u m (switch_moment_of m moment) (set_between u last_set)
+      switch_between m moment = switch_menu start_up switches system carried.named owners gens w.leaves u m (switch_moment_of m moment) (set_between u last_set)
 
       -- each moment of a switch of the units is one of the command
       pub switch_moment : (m : WorldState) → IsSwitchMomentIf switches system owed order u m → IsMomentOf command w m
       switch_moment m moment = record {
-        step = step_as m (IsStepTo.Switching r u is_r is (switch_step switches system owed order u m owed_still ordered_still moment));
-        entered = inr (switch_enters command switches system owed order w u m (sym (ap (λ b. if_so (b && switches) system) carried.on)) carried.is_owed carried.is_ordered same_manager moment);
+        step = step_as m (IsStepTo.Switching r u is_r is (switch_step start_up switches system owed order u m owed_still ordered_still moment));
+        entered = inr (switch_enters command start_up switches system owed order w u m refl (sym (ap (λ b. if_so (b && switches) system) carried.on)) carried.is_owed carried.is_ordered same_manager moment);
         underway = λ steady. on_its_way moves command w m (underway_at m (switch_of_parts m moment) (kept_recorded moves w.leaves m.leaves (switch_recorded m moment)) steady);
         named = to_as w m (switch_named m moment);
         menu = switch_between m moment;
@@ -759,16 +485,16 @@ module _ (command : Command) (owed : Owed) (order : List Name) (w : WorldState) 
         clear_of_parts : (m : WorldState) → IsClearStep moves v m → IsPartMoment (both first second) w m
         clear_of_parts m step = moment_then (both first second) both_are w v m (switch_of_parts v moment) (of_second v m (clear_part_moment moves system gens are_gens v m step))
 
-        units : IsUnitsEnd (if_so switches system) w v
-        units = units_end switches system owed order w u v carried.is_owed carried.is_ordered same_manager end
+        units : IsUnitsEnd start_up (if_so switches system) w v
+        units = units_end start_up switches system owed order w u v carried.is_owed carried.is_ordered same_manager end
 
         -- the leaf that is left at each place
         left_at : (e : WorldState) → e ≡ cleared_by moves v → (q : Name) → q ≢ stage → get e.leaves q ≡ final_leaf (both first second) w.leaves q
         left_at e is_e q ne = elim (cases_Bool (first.owns q)) [
           | inl own ↦
               at_clear q (λ of_second. both_ways _ (second_unread q of_second) (first_is.reads_own q own)) ne
-              ∙ switch_final switches system owed order u v end q ne
-              ∙ ap (λ (o : OwnerIds). final_leaf (part_if switches (switch_part system o)) u.leaves q) same_owners
+              ∙ switch_final start_up switches system owed order u v end q ne
+              ∙ ap (λ (o : OwnerIds). final_leaf (part_if switches (switch_part start_up system o)) u.leaves q) same_owners
               ∙ ap (λ b. cond b (first.end u.leaves q) (get u.leaves q)) own ∙ first_is.same_end w u at_set.keeps.0 q own
               ∙ sym (ap (λ b. cond (b || second.owns q) (cond b (first.end w.leaves q) (second.end w.leaves q)) (get w.leaves q)) own)
           | inr none ↦
@@ -777,7 +503,7 @@ module _ (command : Command) (owed : Owed) (order : List Name) (w : WorldState) 
         ]
           where
             second_unread : (at : Name) → second.owns at ≡ true → first.reads at ≡ false
-            second_unread = (are_parted switches moves system owners gens).second
+            second_unread = (are_parted start_up switches moves system owners gens).second
 
             clear_step : IsClearStep moves v e
             clear_step = clear_last moves v e is_e
@@ -803,17 +529,17 @@ module _ (command : Command) (owed : Owed) (order : List Name) (w : WorldState) 
             record {
               final = record {
                 leaves = λ q ne. left_at e is_e q ne ∙ sym (ap (λ b. cond b (final_leaf (part_of command w.leaves) w.leaves q) (get w.leaves q)) carried.on);
-                units = subst (λ to. AreFinalUnits to w e) brought (units_as (if_so switches system) v e same units.units);
+                units = subst (λ to. AreFinalUnits start_up to w e) brought (units_as (if_so switches system) v e same units.units);
                 bad = ap (λ (k : ManagerState). k.bad) same ∙ units.bad;
               };
               entries = units.entries;
-              are_entered = subst (λ to. AreEntries to w units.entries) brought units.are_entered;
+              are_entered = subst (λ to. AreEntries start_up to w units.entries) brought units.are_entered;
               journal = ap (λ (k : ManagerState). k.journal) same ∙ units.journal;
             }
           where
-            units_as : (to : Option Name) (v e : WorldState) → e.manager ≡ v.manager → AreFinalUnits to w v → AreFinalUnits to w e
+            units_as : (to : Option Name) (v e : WorldState) → e.manager ≡ v.manager → AreFinalUnits start_up to w v → AreFinalUnits start_up to w e
             units_as None v e same is = (ap (λ (k : ManagerState). k.states) same ∙ is.0, ap (λ (k : ManagerState). k.loaded) same ∙ is.1)
-            units_as (Some to) v e same is = (subst (λ (k : ManagerState). AreEndStates false to w (state_of k.states)) (sym same) is.0, ap (λ (k : ManagerState). k.loaded) same ∙ is.1)
+            units_as (Some to) v e same is = (subst (λ (k : ManagerState). AreEndStates start_up to w (state_of k.states)) (sym same) is.0, ap (λ (k : ManagerState). k.loaded) same ∙ is.1)
 
         -- a rollback has come to its end once the goal is gone
         gone_on_its_way : (o : Option Move) → moves ≡ o → (m : WorldState) → m ≡ cleared_by o v → IsSteadyFor command w → IsOnItsWay o command w m
@@ -844,9 +570,9 @@ module _ (command : Command) (owed : Owed) (order : List Name) (w : WorldState) 
         clear_moment m step =
             let only = clear_only moves v m step in
             record {
-              step = step_as m (IsStepTo.Clearing r u v is_r is (switch_end switches system owed order u v owed_still ordered_still end) step);
+              step = step_as m (IsStepTo.Clearing r u v is_r is (switch_end start_up switches system owed order u v owed_still ordered_still end) step);
               underway = λ steady. clear_on_its_way moves refl m step steady;
-              entered = inr (all_entered command w m units.entries (subst (λ to. AreEntries to w units.entries) (sym (ap (λ b. if_so (b && switches) system) carried.on)) units.are_entered)
+              entered = inr (all_entered command w m units.entries (subst (λ to. AreEntries start_up to w units.entries) (sym (ap (λ b. if_so (b && switches) system) carried.on)) units.are_entered)
                   (ap (λ (k : ManagerState). k.journal) (only.manager refl) ∙ units.journal));
               named = to_as w m (names_then (if_moved moves system) w v m (switch_named v moment) (goal_names_same v m only));
               menu = menu_stays_law w.leaves v.leaves m.leaves (switch_between v moment) (goal_menu v m only) (goal_profile v m only);

@@ -17,6 +17,7 @@ same_flags (Command.Test system) one other = record { changes = refl; switches =
 same_flags (Command.Boot system) one other = record { changes = refl; switches = refl }
 same_flags (Command.DryActivate system) one other = record { changes = refl; switches = refl }
 same_flags Command.Rollback one other = record { changes = refl; switches = refl }
+same_flags Command.StartUp one other = record { changes = refl; switches = refl }
 
 -- whether a command changes something
 pub changes_on : (command : Command) (leaves : Leaves) → (IsQuery command → ⊥) → (row command leaves).changes ≡ true

@@ -1,14 +1,16 @@
 -- At each moment of a rollback before its goal is removed it has the row that it had.
-use Rattle.std.proofs.Common.{◌≡◌, ◌≢◌, ℕ, true, false, Option, None, Some, is_none, option_map, refl, ap, subst, ◌∙◌}
+use Rattle.std.proofs.Common.{◌≡◌, ◌≢◌, ℕ, [], true, false, Option, None, Some, is_none, option_map, unwrap_or, refl, ap, subst, ◌∙◌}
 use Rattle.std.proofs.lemmas.Bool.{both_ways}
+use Rattle.std.proofs.lemmas.Option.{none-some}
 use Rattle.std.specs.FinMap.{get}
 use Rattle.generations.specs.declared.gens.Gens.{Gens}
 use Rattle.generations.specs.declared.moving.Move.{Move}
 use Rattle.generations.specs.declared.moving.Move.TheVariants.{Point, Set}
-use Rattle.generations.specs.Goal.{IsBefore, goal, goal_leaf, goal_place, names_system}
+use Rattle.generations.specs.Goal.{HasSameLinks, IsBefore, goal, goal_leaf, goal_place, names_system}
 use Rattle.generations.specs.Goal.IsBefore.{Recorded, Unrecorded}
 use Rattle.generations.specs.Move.{IsMoveTo}
 use Rattle.generations.specs.Places.{generation_at, profile}
+use Rattle.generations.proofs.BootLemmas.{boot_same}
 use Rattle.generations.proofs.GoalLemmas.{goal_law, goal_names}
 use Rattle.generations.proofs.PointLemmas.{links_stay}
 use Rattle.generations.proofs.SetLaws.{generation_of}
@@ -17,7 +19,7 @@ use Rattle.host_trait.proofs.Places.{at_same}
 use Rattle.host_trait.proofs.Seen.{seen_at}
 use Rattle.switch_engine.specs.declared.command.Command.{Command}
 use Rattle.switch_engine.specs.declared.row.Row.{Row}
-use Rattle.switch_engine.specs.Commands.{lacks_goal, named_by, new_system, row, system_of}
+use Rattle.switch_engine.specs.Commands.{lacks_system, named_by, new_system, row, system_of}
 use Rattle.switch_engine.specs.Moments.{record_world}
 use Rattle.switch_engine.specs.Rows.{default_if}
 use Rattle.switch_engine.proofs.GoalApart.{goal_not_stage}
@@ -83,6 +85,7 @@ moves_to (Command.Switch system) leaves = tt
 moves_to (Command.Test system) leaves = tt
 moves_to (Command.Boot system) leaves = tt
 moves_to (Command.DryActivate system) leaves = tt
+moves_to Command.StartUp leaves = tt
 moves_to Command.Rollback leaves = by (goal leaves) refl
   where
     by : (o : Option ℕ) → goal leaves ≡ o → IsMoveToBy (option_map Point o) (system_of o leaves) leaves
@@ -96,20 +99,41 @@ move_to_kept (Some (Point n)) system gens w m keeps to = generation_of m.leaves 
 
 -- ---- the row
 
-abbrev pub back : Option ℕ → Leaves → Row
-back o leaves = record { system = system_of o leaves; moves = option_map Point o; switches = true; changes = true }
+-- the profile and the links of the generations stand as they did
+pub record IsProfileKept (w m : Leaves) : Type 0 where
+  pub links : HasSameLinks w m
+  pub same : get m profile ≡ get w profile
 
-pub row_same : (command : Command) (gens : Gens) (w m : WorldState) → lacks_goal command w.leaves ≡ false → (default_if (row command w.leaves).moves (new_system command w.leaves) gens).Keeps w m →
-    IsGoalKept (row command w.leaves).moves w.leaves m.leaves → row command m.leaves ≡ row command w.leaves
-row_same (Command.Switch system) gens w m has keeps kept = refl
-row_same (Command.Test system) gens w m has keeps kept = refl
-row_same (Command.Boot system) gens w m has keeps kept = refl
-row_same (Command.DryActivate system) gens w m has keeps kept = refl
-row_same Command.Rollback gens w m has keeps kept = by (goal w.leaves) refl has keeps kept
+-- where a command has the same row, and a profile that isn't moved stands as it did, the generations give it a system as before
+pub system_still : (command : Command) (w m : Leaves) → row command m ≡ row command w → ((row command w).moves ≡ None → IsProfileKept w m) → lacks_system command w ≡ false → lacks_system command m ≡ false
+system_still (Command.Switch system) w m same stands has = refl
+system_still (Command.Test system) w m same stands has = refl
+system_still (Command.Boot system) w m same stands has = refl
+system_still (Command.DryActivate system) w m same stands has = refl
+system_still Command.StartUp w m same stands has = let kept = stands refl in ap is_none (boot_same w m kept.links kept.same) ∙ has
+system_still Command.Rollback w m same stands has = by (goal m) (goal w) (ap (λ (r : Row). r.moves) same) has
+  where
+    by : (now before : Option ℕ) → option_map Point now ≡ option_map Point before → is_none before ≡ false → is_none now ≡ false
+    by (Some n) before same has = refl
+    by None None same has = has
+    by None (Some n) same has = absurd (none-some (Point n) same)
+
+abbrev pub back : Option ℕ → Leaves → Row
+back o leaves = record { system = system_of o leaves; moves = option_map Point o; switches = true; start_up = false; changes = true }
+
+pub row_same : (command : Command) (gens : Gens) (w m : WorldState) → lacks_system command w.leaves ≡ false → (default_if (row command w.leaves).moves (new_system command w.leaves) gens).Keeps w m →
+    IsGoalKept (row command w.leaves).moves w.leaves m.leaves → ((row command w.leaves).moves ≡ None → IsProfileKept w.leaves m.leaves) → row command m.leaves ≡ row command w.leaves
+row_same (Command.Switch system) gens w m has keeps kept stands = refl
+row_same (Command.Test system) gens w m has keeps kept stands = refl
+row_same (Command.Boot system) gens w m has keeps kept stands = refl
+row_same (Command.DryActivate system) gens w m has keeps kept stands = refl
+row_same Command.StartUp gens w m has keeps kept stands =
+    let kept = stands refl in ap (λ o. record { system = unwrap_or o []; moves = None; switches = true; start_up = true; changes = true }) (boot_same w.leaves m.leaves kept.links kept.same)
+row_same Command.Rollback gens w m has keeps kept stands = by (goal w.leaves) refl has keeps kept
   where
     by : (o : Option ℕ) → goal w.leaves ≡ o → is_none o ≡ false → (default_if (option_map Point o) (system_of o w.leaves) gens).Keeps w m → IsGoalKept (option_map Point o) w.leaves m.leaves → back (goal m.leaves) m.leaves ≡ back o w.leaves
     by None is has keeps kept = absurd (both_ways _ has refl)
     by (Some n) is has keeps kept =
         let links = links_stay n (system_of (Some n) w.leaves) w m keeps.0.0 in
         ap (λ o. back o m.leaves) (goal_law n w.leaves m.leaves (goal_names w.leaves n is) is links kept)
-        ∙ ap (λ o. record { system = named_by o; moves = Some (Point n); switches = true; changes = true }) (generation_of m.leaves w.leaves n (links n))
+        ∙ ap (λ o. record { system = named_by o; moves = Some (Point n); switches = true; start_up = false; changes = true }) (generation_of m.leaves w.leaves n (links n))

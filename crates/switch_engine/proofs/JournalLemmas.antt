@@ -18,7 +18,7 @@ use Rattle.owed_plan.specs.declared.owed.Owed.{Owed}
 use Rattle.owed_plan.specs.Law.{lists_of}
 use Rattle.switch_engine.specs.declared.command.Command.{Command}
 use Rattle.switch_engine.specs.Carried.{IsSwitchMomentIf}
-use Rattle.switch_engine.specs.Commands.{brought_to, if_so}
+use Rattle.switch_engine.specs.Commands.{brought_to, if_so, row}
 use Rattle.switch_engine.specs.Final.{AreEntries, HasBegunToEnter}
 use Rattle.switch_engine.specs.Moments.{AreStopped, IsSwitchMoment}
 use Rattle.switch_names.specs.Names.{Name}
@@ -188,21 +188,22 @@ module _ (system : Name) (owed : Owed) (order : List Name) (w : WorldState) wher
 
 -- a switch of the units, where they are switched, that began where the manager is that of a first world
 pub switch_enters :
-    (command : Command) (switches : Bool) (system : Name) (owed : Owed) (order : List Name) (w u m : WorldState) → if_so switches system ≡ brought_to command w.leaves → (switches ≡ true → IsOwedBy false w system owed) →
+    (command : Command) (start_up switches : Bool) (system : Name) (owed : Owed) (order : List Name) (w u m : WorldState) → start_up ≡ (row command w.leaves).start_up → if_so switches system ≡ brought_to command w.leaves → (switches ≡ true → IsOwedBy start_up w system owed) →
     (switches ≡ true → IsOrderedAt w.leaves system owed order) → u.manager ≡ w.manager → IsSwitchMomentIf switches system owed order u m → HasBegunToEnter command w m
-switch_enters command true system owed order w u m brought is_owed is_ordered same moment =
+switch_enters command start_up true system owed order w u m starts brought is_owed is_ordered same moment =
     let some = subst (λ (k : ManagerState). HasGrown (entries_of system owed order (record u { manager = k })) k m.manager) same (grown system owed order u m moment) in
     record {
       entries = entries_of system owed order w;
-      are_entered = subst (λ to. AreEntries to w (entries_of system owed order w)) brought (owed, order, is_owed refl, is_ordered refl, refl);
+      are_entered = subst (λ b. AreEntries b (brought_to command w.leaves) w (entries_of system owed order w)) starts
+          (subst (λ to. AreEntries start_up to w (entries_of system owed order w)) brought (owed, order, is_owed refl, is_ordered refl, refl));
       made = some.made;
       rest = some.rest;
       in_order = some.in_order;
       journal = some.journal;
     }
-switch_enters command false system owed order w u m brought is_owed is_ordered same moment = record {
+switch_enters command start_up false system owed order w u m starts brought is_owed is_ordered same moment = record {
   entries = [];
-  are_entered = subst (λ to. AreEntries to w []) brought refl;
+  are_entered = subst (λ to. AreEntries (row command w.leaves).start_up to w []) brought refl;
   made = [];
   rest = [];
   in_order = refl;

@@ -54,7 +54,7 @@ begins_step command w = by (row command w.leaves).changes
     record_begins (Some Set) = refl
     record_begins (Some (Point n)) = inl refl
 
-    by : (changes : Bool) → IsStepIf changes (moved_by (row command w.leaves)) (new_system command w.leaves) (brought_to command w.leaves) w w
+    by : (changes : Bool) → IsStepIf changes (row command w.leaves).start_up (moved_by (row command w.leaves)) (new_system command w.leaves) (brought_to command w.leaves) w w
     by true = IsStepTo.Recording (record_begins (moved_by (row command w.leaves)))
     by false = refl
 
@@ -135,22 +135,22 @@ module _ (command : Command) (first w : WorldState) (before : IsUnderway first c
 -- ---- the end of a run
 
 -- what a switch of the units to a system enters, or none, is about what it owes, and pays it
-record HasPaid (to : Option Name) (w v : WorldState) (entries : List Entry) : Type 0 where
-  owed_alone : AllByRecursion (λ entry. (act : Act) × OwesActTo to w act entry.unit) entries
-  others : (unit : Name) → ¬ ((act : Act) × OwesActTo to w act unit) → state_of v.manager.states unit ≡ state_of w.manager.states unit
-  paid : (act : Act) (unit : Name) → OwesActTo to w act unit → IsPaidBy to act unit entries
+record HasPaid (start_up : Bool) (to : Option Name) (w v : WorldState) (entries : List Entry) : Type 0 where
+  owed_alone : AllByRecursion (λ entry. (act : Act) × OwesActTo start_up to w act entry.unit) entries
+  others : (unit : Name) → ¬ ((act : Act) × OwesActTo start_up to w act unit) → state_of v.manager.states unit ≡ state_of w.manager.states unit
+  paid : (act : Act) (unit : Name) → OwesActTo start_up to w act unit → IsPaidBy to act unit entries
 
-has_paid : (switches : Bool) (system : Name) (w v : WorldState) (entries : List Entry) → AreFinalUnits (if_so switches system) w v → AreEntries (if_so switches system) w entries → HasPaid (if_so switches system) w v entries
-has_paid true system w v entries final are =
+has_paid : (start_up switches : Bool) (system : Name) (w v : WorldState) (entries : List Entry) → AreFinalUnits start_up (if_so switches system) w v → AreEntries start_up (if_so switches system) w entries → HasPaid start_up (if_so switches system) w v entries
+has_paid start_up true system w v entries final are =
     let states = final.0 in
     let same = arranges w.leaves system are.0 are.1 are.3 in
     record {
-      owed_alone = subst (λ (entries : List Entry). AllByRecursion (λ entry. units.OwesUnit false w system entry.unit) entries) (sym are.4) (entered_owed w system are.0 are.2 are.1 same);
-      others = λ unit other. states.2 unit ∙ left_alone w system states.0 states.1 unit other;
-      paid = λ act unit owes. subst (λ (entries : List Entry). units.IsPaid system act unit entries) (sym are.4) (entered_paid w system are.0 are.2 are.1 same act unit owes);
+      owed_alone = subst (λ (entries : List Entry). AllByRecursion (λ entry. units.OwesUnit start_up w system entry.unit) entries) (sym are.4) (entered_owed start_up w system are.0 are.2 are.1 same);
+      others = λ unit other. states.2 unit ∙ left_alone start_up w system states.0 states.1 unit other;
+      paid = λ act unit owes. subst (λ (entries : List Entry). units.IsPaid system act unit entries) (sym are.4) (entered_paid start_up w system are.0 are.2 are.1 same act unit owes);
     }
-has_paid false system w v entries final are = record {
-  owed_alone = subst (λ (entries : List Entry). AllByRecursion (λ entry. (act : Act) × OwesActTo None w act entry.unit) entries) (sym are) tt;
+has_paid start_up false system w v entries final are = record {
+  owed_alone = subst (λ (entries : List Entry). AllByRecursion (λ entry. (act : Act) × OwesActTo start_up None w act entry.unit) entries) (sym are) tt;
   others = λ unit other. ap (λ (states : UnitStates). state_of states unit) final.0;
   paid = λ act unit owes. absurd owes;
 }
@@ -159,8 +159,8 @@ has_paid false system w v entries final are = record {
 pub ended_over : (command : Command) (w v : WorldState) → (IsQuery command → ⊥) → IsEndOf command w v → IsOver w command v
 ended_over command w v changes end =
     let brought : brought_to command w.leaves ≡ switched_to command w.leaves = ap (λ b. if_so (b && (row command w.leaves).switches) (new_system command w.leaves)) (changes_on command w.leaves changes) in
-    let paid = has_paid (row command w.leaves).switches (new_system command w.leaves) w v end.entries
-    (subst (λ to. AreFinalUnits to w v) brought end.final.units) (subst (λ to. AreEntries to w end.entries) brought end.are_entered) in
+    let paid = has_paid (row command w.leaves).start_up (row command w.leaves).switches (new_system command w.leaves) w v end.entries
+    (subst (λ to. AreFinalUnits (row command w.leaves).start_up to w v) brought end.final.units) (subst (λ to. AreEntries (row command w.leaves).start_up to w end.entries) brought end.are_entered) in
     record {
       final = end.final;
       since = record { entered = end.entries; journal = end.journal; owed_alone = paid.owed_alone; others = paid.others };

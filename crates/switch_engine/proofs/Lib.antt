@@ -16,6 +16,7 @@ pub mod PlaceLemmas
 pub mod PlanLemmas
 pub mod RebootLemmas
 pub mod ResolveLemmas
+pub mod StepLeaves
 pub mod StoreApart
 pub mod SwitchLemmas
 pub mod UnderwayLemmas

@@ -1,5 +1,5 @@
 -- What a switch enters pays what it owes, and is about no other unit.
-use Rattle.std.proofs.Common.{◌≡◌, ◌&&◌, ◌||◌, ◌++◌, Bool, true, false, not, IsTrue, List, [], ◌∷◌, map, if◌then◌else◌, refl, sym, ap, subst, ◌∙◌, inl, inr}
+use Rattle.std.proofs.Common.{◌≡◌, ◌&&◌, ◌||◌, ◌++◌, Bool, true, false, not, List, [], ◌∷◌, map, if◌then◌else◌, refl, sym, ap, subst, ◌∙◌, inl, inr}
 use Rattle.std.specs.List.{AllByRecursion, list_any}
 use Rattle.std.proofs.lemmas.Bool.{or_cases, or_left, or_right}
 use Rattle.std.proofs.lemmas.List.{map-append}
@@ -82,7 +82,7 @@ reload_no_stop states stops unit = either (is_active (states unit) && not (has s
 
 -- ---- what a switch enters
 
-module _ (w : WorldState) (system : Name) (owed : Owed) (is : IsOwedBy false w system owed) where
+module _ (start_up : Bool) (w : WorldState) (system : Name) (owed : Owed) (is : IsOwedBy start_up w system owed) where
   abbrev systems : Systems
   systems = systems_at w.leaves (current_system w.leaves) system
 
@@ -90,10 +90,10 @@ module _ (w : WorldState) (system : Name) (owed : Owed) (is : IsOwedBy false w s
   states = state_of w.manager.states
 
   -- the units of the four lists are owed something
-  owes : (act : Act) (unit : Name) → IsOwedAct systems states is.0 act unit → OwesUnit false w system unit
+  owes : (act : Act) (unit : Name) → IsOwedAct systems states is.0 act unit → OwesUnit start_up w system unit
   owes act unit holds = (act, (is.0, is.1.listed, holds))
 
-  lacks : (names : List Name) (act : Act) (unit : Name) → ¬ OwesUnit false w system unit → (has names unit ≡ true → IsOwedAct systems states is.0 act unit) → has names unit ≡ false
+  lacks : (names : List Name) (act : Act) (unit : Name) → ¬ OwesUnit start_up w system unit → (has names unit ≡ true → IsOwedAct systems states is.0 act unit) → has names unit ≡ false
   lacks names act unit none exact = either (has names unit) refl
     where
       either : (b : Bool) → has names unit ≡ b → has names unit ≡ false
@@ -101,7 +101,7 @@ module _ (w : WorldState) (system : Name) (owed : Owed) (is : IsOwedBy false w s
       either false found = found
 
   -- a unit that is owed nothing stays in its state
-  pub left_alone : (unit : Name) → ¬ OwesUnit false w system unit → state_after system owed w unit ≡ states unit
+  pub left_alone : (unit : Name) → ¬ OwesUnit start_up w system unit → state_after system owed w unit ≡ states unit
   left_alone unit none =
       let stops = lacks owed.stops Stop unit none (λ found. (is.1.is_owed.stops.exact unit).0 found) in
       let reloads = lacks owed.reloads Reload unit none (λ found. (is.1.is_owed.reloads.exact unit).0 found) in
@@ -115,9 +115,9 @@ module _ (w : WorldState) (system : Name) (owed : Owed) (is : IsOwedBy false w s
       else states unit
 
   module _ (order : List Name) (arranges : ArrangesStarts owed order) where
-    pub entered_owed : AllByRecursion (λ entry. OwesUnit false w system entry.unit) (entries_of system owed order w)
+    pub entered_owed : AllByRecursion (λ entry. OwesUnit start_up w system entry.unit) (entries_of system owed order w)
     entered_owed =
-        let P : Name → Type 0 = λ unit. OwesUnit false w system unit in
+        let P : Name → Type 0 = λ unit. OwesUnit start_up w system unit in
         let C : Duty → Type 0 = λ call. P call.unit in
         let same : (call : Duty) → C call → C call = λ call holds. holds in
         let reloads : AllByRecursion C (reload_calls owed states) = all_calls P (reload_act states owed.stops) owed.reloads (λ unit found. owes Reload unit ((is.1.is_owed.reloads.exact unit).0 found)) in
@@ -186,6 +186,6 @@ module _ (w : WorldState) (system : Name) (owed : Owed) (is : IsOwedBy false w s
     paid_in Restart unit holds = by_restart Restart unit (others_pay system Restart (λ n. Restart) unit refl (λ n. refl) owed.restarts ((is.1.is_owed.restarts.exact unit).1 holds))
     paid_in Start unit holds = by_start Start unit (others_pay system Start (λ n. Start) unit refl (λ n. refl) order (arranges unit ∙ (is.1.is_owed.starts.exact unit).1 holds))
 
-    pub entered_paid : (act : Act) (unit : Name) → Owes false w system act unit → IsPaid system act unit (entries_of system owed order w)
+    pub entered_paid : (act : Act) (unit : Name) → Owes start_up w system act unit → IsPaid system act unit (entries_of system owed order w)
     entered_paid act unit holds =
-        paid_in act unit (subst (λ (l : Lists). IsOwedAct systems states l act unit) (same_waiting false w.leaves system holds.0 is.0 holds.1 is.1.listed) holds.2)
+        paid_in act unit (subst (λ (l : Lists). IsOwedAct systems states l act unit) (same_waiting start_up w.leaves system holds.0 is.0 holds.1 is.1.listed) holds.2)

@@ -54,9 +54,9 @@ none_is = record {
   no_stage = refl;
 }
 
-pub switch_is : (system : Name) → IsSystemPath system → (owners : OwnerIds) → IsPart (switch_part system owners)
-switch_is system named owners =
-    both_part (units_part false system) (activation_part system owners) (units_part_law false system (is_system system named)) (activation_part_law system owners named)
+pub switch_is : (start_up : Bool) (system : Name) → IsSystemPath system → (owners : OwnerIds) → IsPart (switch_part start_up system owners)
+switch_is start_up system named owners =
+    both_part (units_part start_up system) (activation_part system owners) (units_part_law start_up system (is_system system named)) (activation_part_law system owners named)
 
 -- ---- neither looks at what the other owns
 
@@ -132,11 +132,11 @@ moved_unread q own = or_from _ _ (default_unread q own) (goal_unread_switch q ow
 
 -- ---- a switch and a move of the profile, where they are made
 
-pub are_parted : (switches : Bool) (moves : Option Move) (system : Name) (owners : OwnerIds) (gens : Gens) → AreParted (part_if switches (switch_part system owners)) (default_if moves system gens)
-are_parted true (Some move) system owners gens = record { first = moved_unread; second = moved_apart; manager = refl }
-are_parted true None system owners gens = record { first = λ q own. refl; second = λ q own. absurd (both_ways false refl own); manager = refl }
-are_parted false (Some move) system owners gens = record { first = λ q own. absurd (both_ways false refl own); second = λ q own. refl; manager = refl }
-are_parted false None system owners gens = record { first = λ q own. refl; second = λ q own. refl; manager = refl }
+pub are_parted : (start_up switches : Bool) (moves : Option Move) (system : Name) (owners : OwnerIds) (gens : Gens) → AreParted (part_if switches (switch_part start_up system owners)) (default_if moves system gens)
+are_parted start_up true (Some move) system owners gens = record { first = moved_unread; second = moved_apart; manager = refl }
+are_parted start_up true None system owners gens = record { first = λ q own. refl; second = λ q own. absurd (both_ways false refl own); manager = refl }
+are_parted start_up false (Some move) system owners gens = record { first = λ q own. absurd (both_ways false refl own); second = λ q own. refl; manager = refl }
+are_parted start_up false None system owners gens = record { first = λ q own. refl; second = λ q own. refl; manager = refl }
 
 -- an activation alone is parted from a move of the profile too
 pub default_parted : (moves : Option Move) (system : Name) (owners : OwnerIds) (gens : Gens) → AreParted (default_if moves system gens) (activation_part system owners)
@@ -147,17 +147,17 @@ default_parted (Some move) system owners gens = record {
 }
 default_parted None system owners gens = record { first = λ q own. absurd (both_ways false refl own); second = λ q own. refl; manager = refl }
 
-pub switch_if_is : (switches : Bool) (system : Name) → IsSystemPath system → (owners : OwnerIds) → IsPart (part_if switches (switch_part system owners))
-switch_if_is true system named owners = switch_is system named owners
-switch_if_is false system named owners = none_is
+pub switch_if_is : (start_up switches : Bool) (system : Name) → IsSystemPath system → (owners : OwnerIds) → IsPart (part_if switches (switch_part start_up system owners))
+switch_if_is start_up true system named owners = switch_is start_up system named owners
+switch_if_is start_up false system named owners = none_is
 
 pub default_if_is : (moves : Option Move) (system : Name) (gens : Gens) → IsBootGens gens → IsPart (default_if moves system gens)
 default_if_is (Some move) system gens are = default_is move system gens are
 default_if_is None system gens are = none_is
 
-pub parts_are : (switches : Bool) (moves : Option Move) (system : Name) → IsSystemPath system → (owners : OwnerIds) (gens : Gens) → IsBootGens gens → IsPart (parts switches moves system owners gens)
-parts_are switches moves system named owners gens are =
-    both_part (part_if switches (switch_part system owners)) (default_if moves system gens) (switch_if_is switches system named owners) (default_if_is moves system gens are)
+pub parts_are : (start_up switches : Bool) (moves : Option Move) (system : Name) → IsSystemPath system → (owners : OwnerIds) (gens : Gens) → IsBootGens gens → IsPart (parts start_up switches moves system owners gens)
+parts_are start_up switches moves system named owners gens are =
+    both_part (part_if switches (switch_part start_up system owners)) (default_if moves system gens) (switch_if_is start_up switches system named owners) (default_if_is moves system gens are)
 
 -- the generations after a move are such as a boot menu has
 pub gens_to_law : (moves : Option Move) (system : Name) (leaves : Leaves) → IsSystemPath system → IsBootGens (gens_to moves system leaves)
@@ -172,8 +172,8 @@ switch_not_in_store q inside = or_from _ _ (units_not_in_store q inside) (not_ow
 moved_not_in_store : (q : Name) → IsInStore q → (owns_profile q || owns_boot q) || owns_goal q ≡ false
 moved_not_in_store q inside = or_from _ _ (or_from _ _ (store_not_owned q inside) (menu_not_in_store q inside)) (goal_not_in_store q inside)
 
-pub not_in_store : (switches : Bool) (moves : Option Move) (system : Name) (owners : OwnerIds) (gens : Gens) (q : Name) → IsInStore q → (parts switches moves system owners gens).owns q ≡ false
-not_in_store true (Some move) system owners gens q inside = or_from _ _ (switch_not_in_store q inside) (moved_not_in_store q inside)
-not_in_store true None system owners gens q inside = or_from _ _ (switch_not_in_store q inside) refl
-not_in_store false (Some move) system owners gens q inside = moved_not_in_store q inside
-not_in_store false None system owners gens q inside = refl
+pub not_in_store : (start_up switches : Bool) (moves : Option Move) (system : Name) (owners : OwnerIds) (gens : Gens) (q : Name) → IsInStore q → (parts start_up switches moves system owners gens).owns q ≡ false
+not_in_store start_up true (Some move) system owners gens q inside = or_from _ _ (switch_not_in_store q inside) (moved_not_in_store q inside)
+not_in_store start_up true None system owners gens q inside = or_from _ _ (switch_not_in_store q inside) refl
+not_in_store start_up false (Some move) system owners gens q inside = moved_not_in_store q inside
+not_in_store start_up false None system owners gens q inside = refl

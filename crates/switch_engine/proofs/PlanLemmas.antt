@@ -12,7 +12,7 @@ use Rattle.host_trait.specs.Host.{HostState, Passes, Told}
 use Rattle.host_trait.specs.World.{Leaves, WorldState, content_of}
 use Rattle.host_trait.proofs.Moments.{told_after}
 use Rattle.switch_engine.specs.declared.command.Command.{Command}
-use Rattle.switch_engine.specs.Commands.{if_so, lacks_goal, new_system}
+use Rattle.switch_engine.specs.Commands.{if_so, lacks_system, missing, new_system}
 use Rattle.switch_engine.specs.Owing.{IsSteadyTo}
 use Rattle.switch_engine.specs.Plan.{AreGensBy, AreUnitsPlanned, IsActivationPlanned, IsProfilePlanned}
 use Rattle.switch_engine.specs.Rows.{part_if, parts_in, parts_refusal, refusal, refusal_by, switch_in, system_refusal}
@@ -20,7 +20,7 @@ use Rattle.switch_engine.specs.System.{version_path}
 use Rattle.switch_engine.proofs.MovedPart.{default_in}
 use Rattle.switch_names.specs.Names.{Name}
 use Rattle.switch_parts.specs.declared.refusal.Refusal.{Refusal}
-use Rattle.switch_parts.specs.declared.refusal.Refusal.TheVariants.{InTheWay, NoPrevious, NoSystem}
+use Rattle.switch_parts.specs.declared.refusal.Refusal.TheVariants.{InTheWay, NoSystem}
 use Rattle.tree_put.specs.First.{first_in_the_way}
 use Rattle.unit_stage.specs.declared.unit_plan.UnitPlan.{UnitPlan}
 use Rattle.unit_stage.specs.Owes.{IsSteadyWorld}
@@ -28,12 +28,12 @@ use Rattle.unit_stage.specs.Plan.{IsUnitPlanOf, no_units}
 use Rattle.unit_stage.specs.System.{unit_refusal}
 use Rattle.unit_stage.specs.Units.{units_part}
 
-module _ (switches : Bool) (moves : Option Move) (system : Name) (leaves : Leaves) where
+module _ (start_up switches : Bool) (moves : Option Move) (system : Name) (leaves : Leaves) where
   abbrev way : Option Name
-  way = first_in_the_way ((parts_in switches moves system leaves).places leaves) leaves
+  way = first_in_the_way ((parts_in start_up switches moves system leaves).places leaves) leaves
 
   abbrev units_reason : Option Refusal
-  units_reason = (part_if switches (units_part false system)).refusal leaves
+  units_reason = (part_if switches (units_part start_up system)).refusal leaves
 
   abbrev activation_reason : Option Refusal
   activation_reason = (part_if switches (activation_in system leaves)).refusal leaves
@@ -42,34 +42,34 @@ module _ (switches : Bool) (moves : Option Move) (system : Name) (leaves : Leave
   profile_reason = (default_in moves system leaves).refusal leaves
 
   -- the reasons in their order
-  reasons : refusal_by switches moves system leaves ≡ option_or (option_map InTheWay way) (option_or (option_or units_reason activation_reason) profile_reason)
+  reasons : refusal_by start_up switches moves system leaves ≡ option_or (option_map InTheWay way) (option_or (option_or units_reason activation_reason) profile_reason)
   reasons = by switches
     where
       by : (b : Bool) →
-          option_or (option_map InTheWay way) (option_or ((part_if b (switch_in system leaves)).refusal leaves) profile_reason)
-          ≡ option_or (option_map InTheWay way) (option_or (option_or ((part_if b (units_part false system)).refusal leaves) ((part_if b (activation_in system leaves)).refusal leaves)) profile_reason)
+          option_or (option_map InTheWay way) (option_or ((part_if b (switch_in start_up system leaves)).refusal leaves) profile_reason)
+          ≡ option_or (option_map InTheWay way) (option_or (option_or ((part_if b (units_part start_up system)).refusal leaves) ((part_if b (activation_in system leaves)).refusal leaves)) profile_reason)
       by true = refl
       by false = refl
 
   -- something is in the way
-  pub way_refused : (why : Refusal) → option_map InTheWay way ≡ Some why → refusal_by switches moves system leaves ≡ Some why
+  pub way_refused : (why : Refusal) → option_map InTheWay way ≡ Some why → refusal_by start_up switches moves system leaves ≡ Some why
   way_refused why is = reasons ∙ ap (λ o. option_or o (option_or (option_or units_reason activation_reason) profile_reason)) is
 
   module _ (free : way ≡ None) where
-    free_reasons : refusal_by switches moves system leaves ≡ option_or (option_or units_reason activation_reason) profile_reason
+    free_reasons : refusal_by start_up switches moves system leaves ≡ option_or (option_or units_reason activation_reason) profile_reason
     free_reasons = reasons ∙ ap (λ o. option_or (option_map InTheWay o) (option_or (option_or units_reason activation_reason) profile_reason)) free
 
     -- nothing is, and so the units are refused
-    pub units_refused : (why : Refusal) → units_reason ≡ Some why → refusal_by switches moves system leaves ≡ Some why
+    pub units_refused : (why : Refusal) → units_reason ≡ Some why → refusal_by start_up switches moves system leaves ≡ Some why
     units_refused why is = free_reasons ∙ ap (λ o. option_or (option_or o activation_reason) profile_reason) is
 
     module _ (none : units_reason ≡ None) where
       -- or they aren't, and so the activation is
-      pub activation_refused : (why : Refusal) → activation_reason ≡ Some why → refusal_by switches moves system leaves ≡ Some why
+      pub activation_refused : (why : Refusal) → activation_reason ≡ Some why → refusal_by start_up switches moves system leaves ≡ Some why
       activation_refused why is = free_reasons ∙ ap (λ o. option_or (option_or o activation_reason) profile_reason) none ∙ ap (λ o. option_or o profile_reason) is
 
       -- or it isn't, and so the parts are refused for what the profile is refused for
-      pub profile_refused : (why : Option Refusal) → activation_reason ≡ None → profile_reason ≡ why → refusal_by switches moves system leaves ≡ why
+      pub profile_refused : (why : Option Refusal) → activation_reason ≡ None → profile_reason ≡ why → refusal_by start_up switches moves system leaves ≡ why
       profile_refused why other is = free_reasons ∙ ap (λ o. option_or (option_or o activation_reason) profile_reason) none ∙ ap (λ o. option_or o profile_reason) other ∙ is
 
 -- what is told before a call that changes nothing is told after it
@@ -107,26 +107,26 @@ some_is (Some x) true is = refl
 some_is (Some x) false is = absurd cc
 
 -- a command that has what goal it wants is refused for what its system is refused for
-has_its_goal : (command : Command) (leaves : Leaves) → lacks_goal command leaves ≡ false → refusal command leaves ≡ system_refusal command leaves
-has_its_goal command leaves has = ap (λ b. cond b (Some NoPrevious) (system_refusal command leaves)) has
+has_its_system : (command : Command) (leaves : Leaves) → lacks_system command leaves ≡ false → refusal command leaves ≡ system_refusal command leaves
+has_its_system command leaves has = ap (λ b. cond b (Some (missing command)) (system_refusal command leaves)) has
 
 -- a system without its file is refused, whatever else is so
-pub no_system : (command : Command) (leaves : Leaves) (named : Name) → lacks_goal command leaves ≡ false → named ≡ new_system command leaves → is_some (content_of leaves (version_path named)) ≡ false → refusal command leaves ≡ Some NoSystem
+pub no_system : (command : Command) (leaves : Leaves) (named : Name) → lacks_system command leaves ≡ false → named ≡ new_system command leaves → is_some (content_of leaves (version_path named)) ≡ false → refusal command leaves ≡ Some NoSystem
 no_system command leaves named has is lacks =
-    has_its_goal command leaves has
+    has_its_system command leaves has
     ∙ ap (λ system. cond (is_none (content_of leaves (version_path system))) (Some NoSystem) (parts_refusal command leaves)) (sym is)
     ∙ ap (λ b. cond b (Some NoSystem) (parts_refusal command leaves)) (some_is (content_of leaves (version_path named)) false lacks)
 
 -- with its file it is refused for what its parts are refused for
-pub has_system : (command : Command) (leaves : Leaves) (named : Name) → lacks_goal command leaves ≡ false → named ≡ new_system command leaves → is_some (content_of leaves (version_path named)) ≡ true → refusal command leaves ≡ parts_refusal command leaves
+pub has_system : (command : Command) (leaves : Leaves) (named : Name) → lacks_system command leaves ≡ false → named ≡ new_system command leaves → is_some (content_of leaves (version_path named)) ≡ true → refusal command leaves ≡ parts_refusal command leaves
 has_system command leaves named has is stands =
-    has_its_goal command leaves has
+    has_its_system command leaves has
     ∙ ap (λ system. cond (is_none (content_of leaves (version_path system))) (Some NoSystem) (parts_refusal command leaves)) (sym is)
     ∙ ap (λ b. cond b (Some NoSystem) (parts_refusal command leaves)) (some_is (content_of leaves (version_path named)) true stands)
 
 -- a switch of the units is refused for what their part is refused for
-pub refused_switch : (switches : Bool) (named system : Name) (leaves : Leaves) (why : Option Refusal) → switches ≡ true → named ≡ system → unit_refusal leaves named ≡ why → (part_if switches (units_part false system)).refusal leaves ≡ why
-refused_switch switches named system leaves why on is refused = ap (λ b. (part_if b (units_part false system)).refusal leaves) on ∙ ap (unit_refusal leaves) (sym is) ∙ refused
+pub refused_switch : (start_up switches : Bool) (named system : Name) (leaves : Leaves) (why : Option Refusal) → switches ≡ true → named ≡ system → unit_refusal leaves named ≡ why → (part_if switches (units_part start_up system)).refusal leaves ≡ why
+refused_switch start_up switches named system leaves why on is refused = ap (λ b. (part_if b (units_part start_up system)).refusal leaves) on ∙ ap (unit_refusal leaves) (sym is) ∙ refused
 
 -- and for what the activation is refused for
 pub refused_activation : (switches : Bool) (named system : Name) (leaves : Leaves) (why : Option Refusal) → switches ≡ true → named ≡ system → (activation_in named leaves).refusal leaves ≡ why → (part_if switches (activation_in system leaves)).refusal leaves ≡ why
@@ -134,17 +134,17 @@ refused_activation switches named system leaves why on is refused =
     ap (λ b. (part_if b (activation_in system leaves)).refusal leaves) on ∙ ap (λ s. (activation_in s leaves).refusal leaves) (sym is) ∙ refused
 
 -- what a plan says of its world's steadiness is said for its command
-pub steady_off : (switches : Bool) (system : Name) (w : WorldState) (units : UnitPlan) → switches ≡ false → units ≡ no_units → IsTrue units.steady ↔ IsSteadyTo (if_so switches system) w
-steady_off switches system w units off none =
-    (λ is. subst (λ b. IsSteadyTo (if_so b system) w) (sym off) tt, λ steady. ap (λ (units : UnitPlan). units.steady) none)
+pub steady_off : (start_up switches : Bool) (system : Name) (w : WorldState) (units : UnitPlan) → switches ≡ false → units ≡ no_units → IsTrue units.steady ↔ IsSteadyTo start_up (if_so switches system) w
+steady_off start_up switches system w units off none =
+    (λ is. subst (λ b. IsSteadyTo start_up (if_so b system) w) (sym off) tt, λ steady. ap (λ (units : UnitPlan). units.steady) none)
 
-pub steady_on : (switches : Bool) (named system : Name) (w : WorldState) (units : UnitPlan) → switches ≡ true → named ≡ system → IsTrue units.steady ↔ IsSteadyWorld false w named → IsTrue units.steady ↔ IsSteadyTo (if_so switches system) w
-steady_on switches named system w units on is told =
-    subst (λ b. IsTrue units.steady ↔ IsSteadyTo (if_so b system) w) (sym on) (subst (λ s. IsTrue units.steady ↔ IsSteadyWorld false w s) is told)
+pub steady_on : (start_up switches : Bool) (named system : Name) (w : WorldState) (units : UnitPlan) → switches ≡ true → named ≡ system → IsTrue units.steady ↔ IsSteadyWorld start_up w named → IsTrue units.steady ↔ IsSteadyTo start_up (if_so switches system) w
+steady_on start_up switches named system w units on is told =
+    subst (λ b. IsTrue units.steady ↔ IsSteadyTo start_up (if_so b system) w) (sym on) (subst (λ s. IsTrue units.steady ↔ IsSteadyWorld start_up w s) is told)
 
 -- what is planned for a system is planned for its command
-pub planned_on : (switches : Bool) (named system : Name) (w : WorldState) (units : UnitPlan) → switches ≡ true → named ≡ system → IsUnitPlanOf false named w units → AreUnitsPlanned switches system w units
-planned_on switches named system w units on is planned = subst (λ b. AreUnitsPlanned b system w units) (sym on) (subst (λ s. IsUnitPlanOf false s w units) is planned)
+pub planned_on : (start_up switches : Bool) (named system : Name) (w : WorldState) (units : UnitPlan) → switches ≡ true → named ≡ system → IsUnitPlanOf start_up named w units → AreUnitsPlanned start_up switches system w units
+planned_on start_up switches named system w units on is planned = subst (λ b. AreUnitsPlanned start_up b system w units) (sym on) (subst (λ s. IsUnitPlanOf start_up s w units) is planned)
 
 pub activation_on : (switches : Bool) (named system : Name) (w : WorldState) (plan : ActivationPlan) → switches ≡ true → named ≡ system → IsActivationPlanOf named w.leaves plan → IsActivationPlanned switches system w (Some plan)
 activation_on switches named system w plan on is planned = (on, subst (λ s. IsActivationPlanOf s w.leaves plan) is planned)

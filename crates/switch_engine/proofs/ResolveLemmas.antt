@@ -1,18 +1,23 @@
--- What a rollback does, by the generations that are read.
-use Rattle.std.proofs.Common.{◌≡◌, ℕ, true, Option, Some, sym, ap, ◌∙◌}
+-- What a rollback or a start-up does, by the generations that are read.
+use Rattle.std.proofs.Common.{◌≡◌, ℕ, [], true, false, cond, Option, None, Some, is_none, unwrap_or, sym, ap, ◌∙◌, inl, inr}
 use Rattle.std.proofs.lemmas.Option.{same_Some}
 use Rattle.std.specs.Option.{option_and_then}
 use Rattle.generations.specs.declared.gens.Gens.{Gens}
 use Rattle.generations.specs.declared.moving.Move.TheVariants.{Point}
+use Rattle.generations.specs.Boot.{boot_system}
 use Rattle.generations.specs.Gens.{IsGensOf, listed_at}
 use Rattle.generations.specs.Goal.{goal}
 use Rattle.generations.specs.Places.{generation_at}
 use Rattle.generations.proofs.GoalLemmas.{goal_names}
 use Rattle.host_trait.specs.World.{Leaves}
-use Rattle.switch_engine.specs.declared.command.Command.TheVariants.{Rollback}
+use Rattle.switch_engine.specs.declared.command.Command.{Command}
+use Rattle.switch_engine.specs.declared.command.Command.TheVariants.{Rollback, StartUp}
 use Rattle.switch_engine.specs.Commands.{named_by, row}
+use Rattle.switch_engine.specs.Resolved.{IsRowOf}
+use Rattle.switch_engine.specs.Rows.{refusal, system_refusal}
 use Rattle.switch_engine.proofs.GoalKeptLemmas.{back, names_it}
 use Rattle.switch_names.specs.Names.{Name}
+use Rattle.switch_parts.specs.declared.refusal.Refusal.TheVariants.{NoProfile}
 
 -- the system that is found for the goal is the one that its generation names
 module _ (leaves : Leaves) (gens : Gens) (n : ℕ) (are : IsGensOf leaves gens) (is : goal leaves ≡ Some n) where
@@ -22,7 +27,24 @@ module _ (leaves : Leaves) (gens : Gens) (n : ℕ) (are : IsGensOf leaves gens) 
   pub found_back : (found : Option Name) → found ≡ option_and_then (λ (target : Option Name). target) (listed_at gens.list n) → found ≡ Some (named_by (generation_at leaves n))
   found_back found is_found = is_found ∙ named_back
 
-  pub found_row : (system : Name) → Some system ≡ Some (named_by (generation_at leaves n)) → record { system = system; moves = Some (Point n); switches = true; changes = true } ≡ row Rollback leaves
+  pub found_row : (system : Name) → Some system ≡ Some (named_by (generation_at leaves n)) → record { system = system; moves = Some (Point n); switches = true; start_up = false; changes = true } ≡ row Rollback leaves
   found_row system same =
-      ap (λ s. record { system = s; moves = Some (Point n); switches = true; changes = true }) (same_Some system (named_by (generation_at leaves n)) same)
+      ap (λ s. record { system = s; moves = Some (Point n); switches = true; start_up = false; changes = true }) (same_Some system (named_by (generation_at leaves n)) same)
       ∙ sym (ap (λ o. back o leaves) is)
+
+-- ---- a start-up
+
+-- what a machine boots into is the system of its row
+pub start_row : (leaves : Leaves) (system : Name) → Some system ≡ boot_system leaves → record { system = system; moves = None; switches = true; start_up = true; changes = true } ≡ row StartUp leaves
+start_row leaves system is = ap (λ o. record { system = unwrap_or o []; moves = None; switches = true; start_up = true; changes = true }) is
+
+-- without one it is refused
+pub no_profile : (leaves : Leaves) (found : Option Name) → found ≡ boot_system leaves → found ≡ None → refusal StartUp leaves ≡ Some NoProfile
+no_profile leaves found is none = ap (λ o. cond (is_none o) (Some NoProfile) (system_refusal StartUp leaves)) (sym is ∙ none)
+
+-- ---- a command that goes by the generations
+
+-- but for a start-up it is a rollback
+pub not_start : (command : Command) → IsRowOf command None → (command ≡ StartUp → ⊥) → command ≡ Rollback
+not_start command (inl back) other = back
+not_start command (inr start) other = absurd (other start)

@@ -1,5 +1,5 @@
 -- All steps of a switch of the units, one after the other: each is a moment of its parts, and the last leaves them at their ends.
-use Rattle.std.proofs.Common.{◌≡◌, true, false, cond, ◌||◌, List, length, ◌++◌, None, Some, refl, sym, ap, subst, ◌∙◌, inl, inr}
+use Rattle.std.proofs.Common.{◌≡◌, Bool, true, false, cond, ◌||◌, List, length, ◌++◌, None, Some, refl, sym, ap, subst, ◌∙◌, inl, inr}
 use Rattle.std.proofs.lemmas.Bool.{both_ways, cases_Bool, or_from}
 use Rattle.std.specs.Cmp.Lexicographic.{same_text}
 use Rattle.std.specs.FinMap.{get}
@@ -51,19 +51,19 @@ use Rattle.unit_stage.proofs.SystemsLemmas.{is_system}
 use Rattle.unit_stage.proofs.TableLemmas.{all_entered, can_rest, final_states, in_one, ready, started_all}
 use Rattle.unit_stage.proofs.UnitsPartLemmas.{unit_moment_law, units_part_law}
 
-module _ (system : Name) (named : IsSystemPath system) (owed : Owed) (w : WorldState) (is_owed : IsOwedBy false w system owed) (order : List Name) (arranges : ArrangesStarts owed order)
-    (free : IsFree (switch_in system w.leaves) w.leaves) where
+module _ (start_up : Bool) (system : Name) (named : IsSystemPath system) (owed : Owed) (w : WorldState) (is_owed : IsOwedBy start_up w system owed) (order : List Name) (arranges : ArrangesStarts owed order)
+    (free : IsFree (switch_in start_up system w.leaves) w.leaves) where
   abbrev owners : OwnerIds
   owners = owners_after system w.leaves
 
   abbrev units : Part
-  units = units_part false system
+  units = units_part start_up system
 
   abbrev activation : Part
   activation = activation_part system owners
 
   abbrev whole : Part
-  whole = switch_in system w.leaves
+  whole = switch_in start_up system w.leaves
 
   abbrev states : Name → State
   states = state_of w.manager.states
@@ -76,22 +76,22 @@ module _ (system : Name) (named : IsSystemPath system) (owed : Owed) (w : WorldS
   system_is = is_system system named
 
   units_is : IsPart units
-  units_is = units_part_law false system system_is
+  units_is = units_part_law start_up system system_is
 
   activation_is : IsPart activation
   activation_is = activation_part_law system owners named
 
   whole_is : IsPart whole
-  whole_is = switch_is system named owners
+  whole_is = switch_is start_up system named owners
 
   -- what the units' part alone has changed is nothing to the activation
   kept_beside : (v m : WorldState) → IsOnly units v m → activation.Keeps v m
-  kept_beside v m only = activation_is.frame v m (only_beside units activation activation_is (units_parted system owners).first refl v m only)
+  kept_beside v m only = activation_is.frame v m (only_beside units activation activation_is (units_parted start_up system owners).first refl v m only)
 
   -- the activation owns nothing that the units' part looks at
   not_activated : (q : Name) → units.reads q ≡ true → activation.owns q ≡ false
   not_activated q read = elim (cases_Bool (activation.owns q)) [
-    | inl own ↦ absurd (both_ways _ ((units_parted system owners).second q own) read)
+    | inl own ↦ absurd (both_ways _ ((units_parted start_up system owners).second q own) read)
     | inr other ↦ other
   ]
 
@@ -100,13 +100,13 @@ module _ (system : Name) (named : IsSystemPath system) (owed : Owed) (w : WorldS
   stop_units : (m : WorldState) → IsStopMoment (lists_of owed) (stop_calls owed) w m → IsMomentOf units w m
   stop_units m moment =
       let u = moment.0 in
-      unit_moment_law false system owed order w m system_is is_owed arranges (IsUnitMoment.Stopping u moment.1 (units_seen u m moment.2)) (record {
+      unit_moment_law start_up system owed order w m system_is is_owed arranges (IsUnitMoment.Stopping u moment.1 (units_seen u m moment.2)) (record {
         leaves = λ q none ne. seen_at m u moment.2 q ne ∙ stop_elsewhere (lists_of owed) (stop_calls owed) w u q none ne moment.1;
         manager = λ never. absurd (both_ways true never refl);
       })
 
   stop_moment : (m : WorldState) → IsStopMoment (lists_of owed) (stop_calls owed) w m → IsMomentOf whole w m
-  stop_moment m moment = first_moment units activation units_is activation_is (units_parted system owners) w m (stop_units m moment)
+  stop_moment m moment = first_moment units activation units_is activation_is (units_parted start_up system owners) w m (stop_units m moment)
 
   module _ (u : WorldState) (stopped : AreStopped owed w u) where
     last_stop : IsStopMoment (lists_of owed) (stop_calls owed) w u
@@ -131,7 +131,7 @@ module _ (system : Name) (named : IsSystemPath system) (owed : Owed) (w : WorldS
 
     pub can_activate : (plan : ActivationPlan) → IsActivationPlanOf system w.leaves plan → CanActivate system plan u
     can_activate plan planned = record {
-      planned = activation_plan_law system w u plan named (only_beside units activation activation_is (units_parted system owners).first refl w u (stop_units u last_stop).only) planned;
+      planned = activation_plan_law system w u plan named (only_beside units activation activation_is (units_parted start_up system owners).first refl w u (stop_units u last_stop).only) planned;
       free = still_free;
     }
 
@@ -139,7 +139,7 @@ module _ (system : Name) (named : IsSystemPath system) (owed : Owed) (w : WorldS
     activate_moment m moment =
         let part : IsMomentOf activation u m =
         subst (λ (o : OwnerIds). IsMomentOf (activation_part system o) u m) same_owners (activation_moment_law system u m named still_free moment) in
-        moment_then whole whole_is w u m at_stop (second_moment units activation units_is activation_is (units_parted system owners) u m part)
+        moment_then whole whole_is w u m at_stop (second_moment units activation units_is activation_is (units_parted start_up system owners) u m part)
 
     module _ (v : WorldState) (activated : HasActivated system u v) where
       at_ready : IsMomentOf whole w v
@@ -172,15 +172,15 @@ module _ (system : Name) (named : IsSystemPath system) (owed : Owed) (w : WorldS
       all_only : (m : WorldState) → IsBringing m → IsOnly whole w m
       all_only m moment = only_then whole w v m at_ready.only (only_first units activation v m (bring_only m moment))
 
-      bring_units : (m : WorldState) → IsBringing m → AreUnitsKept false system w m
+      bring_units : (m : WorldState) → IsBringing m → AreUnitsKept start_up system w m
       bring_units m moment =
           let there = same_bringing (reload_calls owed states) (restart_calls owed) (start_calls order) system stopped_world v moment.0 units_ready moment.1 in
           let step : IsUnitMoment system owed order w m = IsUnitMoment.Bringing there.0 there.1 (units_then there.0 moment.0 m there.2 (units_seen moment.0 m moment.2)) in
           let beside : AreSameBeside w m =
           λ q read none. (all_only m moment).leaves q (or_from _ _ none (not_activated q read)) (λ same. both_ways _ not_reads_stage (subst (λ x. units.reads x ≡ true) same read)) in
           record {
-            free = λ before. free_law false system owed order w m system_is is_owed step beside before;
-            underway = λ before steady. underway_law false system owed order w m system_is is_owed arranges before steady step beside;
+            free = λ before. free_law start_up system owed order w m system_is is_owed step beside before;
+            underway = λ before steady. underway_law start_up system owed order w m system_is is_owed arranges before steady step beside;
           }
 
       bring_moment : (m : WorldState) → IsBringing m → IsMomentOf whole w m

@@ -1,5 +1,5 @@
 -- Where the work of a command's parts has come to a moment, the command is underway.
-use Rattle.std.proofs.Common.{◌≡◌, ◌≢◌, ◌⊎◌, ◌↔◌, ◌&&◌, Bool, true, false, cond, ◌++◌, ℕ, List, [], codes, append_assoc, Option, None, Some, is_none, option_map, refl, sym, ap, subst, ◌∙◌}
+use Rattle.std.proofs.Common.{◌≡◌, ◌≢◌, ◌⊎◌, ◌↔◌, ◌&&◌, Bool, true, false, cond, ◌++◌, List, [], codes, append_assoc, Option, None, Some, is_none, option_map, refl, sym, ap, subst, ◌∙◌}
 use Rattle.std.proofs.lemmas.List.{append-nil}
 use Rattle.std.proofs.lemmas.Option.{none-some}
 use Rattle.std.specs.FinMap.{get}
@@ -9,8 +9,6 @@ use Rattle.activation_stage.specs.Owners.{owners_after}
 use Rattle.etc_manifest.specs.Owners.{OwnerIds}
 use Rattle.generations.specs.declared.gens.Gens.{Gens}
 use Rattle.generations.specs.declared.moving.Move.{Move}
-use Rattle.generations.specs.declared.moving.Move.TheVariants.{Point}
-use Rattle.generations.specs.Goal.{goal}
 use Rattle.generations.specs.Move.{gens_moved}
 use Rattle.host_trait.specs.declared.entry.Act.{Act}
 use Rattle.host_trait.specs.declared.entry.Entry.{Entry}
@@ -21,7 +19,7 @@ use Rattle.owed_plan.specs.Store.{AreSameInStore, IsInStore}
 use Rattle.owed_plan.proofs.StoreLemmas.{content_same}
 use Rattle.switch_engine.specs.declared.command.Command.{Command}
 use Rattle.switch_engine.specs.declared.row.Row.{Row}
-use Rattle.switch_engine.specs.Commands.{brought_by, brought_to, if_so, lacks_goal, new_system, row, switched_by, switched_to}
+use Rattle.switch_engine.specs.Commands.{brought_by, brought_to, if_so, lacks_system, missing, new_system, row, switched_by, switched_to}
 use Rattle.switch_engine.specs.Final.{AreFinalUnits}
 use Rattle.switch_engine.specs.Owing.{IsPaidBy, IsSteadyFor, IsSteadyTo, IsUnderway, OwesActTo}
 use Rattle.switch_engine.specs.Rows.{default_if, final, gens_to, part_of, parts, parts_in, refusal, refusal_by, switch_part, system_refusal}
@@ -39,7 +37,7 @@ use Rattle.switch_names.proofs.Below.{below_front}
 use Rattle.switch_names.proofs.StorePaths.{IsStorePath-from_named, store_path_is}
 use Rattle.switch_names.proofs.Outcomes.{option_or_parts, option_or_nothing, none_mapped}
 use Rattle.switch_parts.specs.declared.refusal.Refusal.{Refusal}
-use Rattle.switch_parts.specs.declared.refusal.Refusal.TheVariants.{InTheWay, NoPrevious, NoSystem}
+use Rattle.switch_parts.specs.declared.refusal.Refusal.TheVariants.{InTheWay, NoSystem}
 use Rattle.switch_parts.specs.Part.{IsFree, IsMomentOf, IsPart, final_leaf}
 use Rattle.switch_parts.proofs.Parts.{ends_alike, first_free}
 use Rattle.unit_stage.specs.Units.{AreUnitsUnderway, units_part}
@@ -47,59 +45,46 @@ use Rattle.unit_stage.specs.Units.{AreUnitsUnderway, units_part}
 -- ---- why a command isn't refused
 
 -- what a command has that isn't refused: its system's file stands, and its parts are free
-pub record IsFreeBy (switches : Bool) (moves : Option Move) (system : Name) (leaves : Leaves) : Type 0 where
+pub record IsFreeBy (start_up switches : Bool) (moves : Option Move) (system : Name) (leaves : Leaves) : Type 0 where
   pub version : is_none (content_of leaves (version_path system)) ≡ false
-  pub parts : IsFree (parts_in switches moves system leaves) leaves
+  pub parts : IsFree (parts_in start_up switches moves system leaves) leaves
 
-abbrev refused_by : Bool → Option Move → Name → Leaves → Option Refusal
-refused_by switches moves system leaves = cond (is_none (content_of leaves (version_path system))) (Some NoSystem) (refusal_by switches moves system leaves)
+abbrev refused_by : Bool → Bool → Option Move → Name → Leaves → Option Refusal
+refused_by start_up switches moves system leaves = cond (is_none (content_of leaves (version_path system))) (Some NoSystem) (refusal_by start_up switches moves system leaves)
 
-free_by : (switches : Bool) (moves : Option Move) (system : Name) (leaves : Leaves) → refused_by switches moves system leaves ≡ None → IsFreeBy switches moves system leaves
-free_by switches moves system leaves none =
-    let first = split (is_none (content_of leaves (version_path system))) (refusal_by switches moves system leaves) none in
-    let second = option_or_parts (option_map InTheWay (first_in_the_way ((parts_in switches moves system leaves).places leaves) leaves)) ((parts_in switches moves system leaves).refusal leaves) first.1 in
+free_by : (start_up switches : Bool) (moves : Option Move) (system : Name) (leaves : Leaves) → refused_by start_up switches moves system leaves ≡ None → IsFreeBy start_up switches moves system leaves
+free_by start_up switches moves system leaves none =
+    let first = split (is_none (content_of leaves (version_path system))) (refusal_by start_up switches moves system leaves) none in
+    let second = option_or_parts (option_map InTheWay (first_in_the_way ((parts_in start_up switches moves system leaves).places leaves) leaves)) ((parts_in start_up switches moves system leaves).refusal leaves) first.1 in
     record {
       version = first.0;
-      parts = record { way = (none_as_listed ((parts_in switches moves system leaves).places leaves) leaves).0 (none_mapped InTheWay (first_in_the_way ((parts_in switches moves system leaves).places leaves) leaves) second.0); refusal = second.1 };
+      parts = record { way = (none_as_listed ((parts_in start_up switches moves system leaves).places leaves) leaves).0 (none_mapped InTheWay (first_in_the_way ((parts_in start_up switches moves system leaves).places leaves) leaves) second.0); refusal = second.1 };
     }
   where
     split : (b : Bool) (o : Option Refusal) → cond b (Some NoSystem) o ≡ None → (b ≡ false) × (o ≡ None)
     split true o is = absurd (none-some NoSystem (sym is))
     split false o is = (refl, is)
 
-by_free : (switches : Bool) (moves : Option Move) (system : Name) (leaves : Leaves) → IsFreeBy switches moves system leaves → refused_by switches moves system leaves ≡ None
-by_free switches moves system leaves free =
-    ap (λ b. cond b (Some NoSystem) (refusal_by switches moves system leaves)) free.version
-    ∙ option_or_nothing (option_map InTheWay (first_in_the_way ((parts_in switches moves system leaves).places leaves) leaves)) ((parts_in switches moves system leaves).refusal leaves)
-    (ap (option_map InTheWay) ((none_as_listed ((parts_in switches moves system leaves).places leaves) leaves).1 free.parts.way)) free.parts.refusal
+by_free : (start_up switches : Bool) (moves : Option Move) (system : Name) (leaves : Leaves) → IsFreeBy start_up switches moves system leaves → refused_by start_up switches moves system leaves ≡ None
+by_free start_up switches moves system leaves free =
+    ap (λ b. cond b (Some NoSystem) (refusal_by start_up switches moves system leaves)) free.version
+    ∙ option_or_nothing (option_map InTheWay (first_in_the_way ((parts_in start_up switches moves system leaves).places leaves) leaves)) ((parts_in start_up switches moves system leaves).refusal leaves)
+    (ap (option_map InTheWay) ((none_as_listed ((parts_in start_up switches moves system leaves).places leaves) leaves).1 free.parts.way)) free.parts.refusal
 
 abbrev pub IsFreeCommand : Command → Leaves → Type 0
-IsFreeCommand command leaves = IsFreeBy (row command leaves).switches (row command leaves).moves (new_system command leaves) leaves
+IsFreeCommand command leaves = IsFreeBy (row command leaves).start_up (row command leaves).switches (row command leaves).moves (new_system command leaves) leaves
 
 -- what it has of its goal too
-split_goal : (b : Bool) (o : Option Refusal) → cond b (Some NoPrevious) o ≡ None → (b ≡ false) × (o ≡ None)
-split_goal true o is = absurd (none-some NoPrevious (sym is))
-split_goal false o is = (refl, is)
+split_lacks : (why : Refusal) (b : Bool) (o : Option Refusal) → cond b (Some why) o ≡ None → (b ≡ false) × (o ≡ None)
+split_lacks why true o is = absurd (none-some why (sym is))
+split_lacks why false o is = (refl, is)
 
-pub has_goal : (command : Command) (leaves : Leaves) → refusal command leaves ≡ None → lacks_goal command leaves ≡ false
-has_goal command leaves none = (split_goal (lacks_goal command leaves) (system_refusal command leaves) none).0
+pub has_a_system : (command : Command) (leaves : Leaves) → refusal command leaves ≡ None → lacks_system command leaves ≡ false
+has_a_system command leaves none = (split_lacks (missing command) (lacks_system command leaves) (system_refusal command leaves) none).0
 
 pub free_command : (command : Command) (leaves : Leaves) → refusal command leaves ≡ None → IsFreeCommand command leaves
 free_command command leaves none =
-    free_by (row command leaves).switches (row command leaves).moves (new_system command leaves) leaves (split_goal (lacks_goal command leaves) (system_refusal command leaves) none).1
-
--- where a command has the same row it has a goal as before
-goal_still : (command : Command) (m w : Leaves) → row command m ≡ row command w → lacks_goal command w ≡ false → lacks_goal command m ≡ false
-goal_still (Command.Switch system) m w same has = refl
-goal_still (Command.Test system) m w same has = refl
-goal_still (Command.Boot system) m w same has = refl
-goal_still (Command.DryActivate system) m w same has = refl
-goal_still Command.Rollback m w same has = by (goal m) (goal w) (ap (λ (r : Row). r.moves) same) has
-  where
-    by : (now before : Option ℕ) → option_map Point now ≡ option_map Point before → is_none before ≡ false → is_none now ≡ false
-    by (Some n) before same has = refl
-    by None None same has = has
-    by None (Some n) same has = absurd (none-some (Point n) same)
+    free_by (row command leaves).start_up (row command leaves).switches (row command leaves).moves (new_system command leaves) leaves (split_lacks (missing command) (lacks_system command leaves) (system_refusal command leaves) none).1
 
 -- ---- the file that each system has
 
@@ -114,19 +99,19 @@ version_inside system named =
 -- ---- what a moment keeps for the units
 
 -- a switch of the units to a system, or none, is underway
-pub record IsSince (to : Option Name) (w m : WorldState) : Type 0 where
-  pub units : (v : WorldState) → AreFinalUnits to m v ↔ AreFinalUnits to w v
+pub record IsSince (start_up : Bool) (to : Option Name) (w m : WorldState) : Type 0 where
+  pub units : (v : WorldState) → AreFinalUnits start_up to m v ↔ AreFinalUnits start_up to w v
   pub same_bad : m.manager.bad ≡ w.manager.bad
   pub entered : List Entry
   pub journal : m.manager.journal ≡ w.manager.journal ++ entered
-  pub owed_alone : AllByRecursion (λ entry. (act : Act) × OwesActTo to w act entry.unit) entered
-  pub others : (unit : Name) → ¬ ((act : Act) × OwesActTo to w act unit) → state_of m.manager.states unit ≡ state_of w.manager.states unit
-  pub paid_or_owed : (act : Act) (unit : Name) → OwesActTo to w act unit → IsPaidBy to act unit entered ⊎ OwesActTo to m act unit
-  pub no_more_owed : (unit : Name) → ((act : Act) × OwesActTo to m act unit) → (act : Act) × OwesActTo to w act unit
-  pub steady : IsSteadyTo to m
+  pub owed_alone : AllByRecursion (λ entry. (act : Act) × OwesActTo start_up to w act entry.unit) entered
+  pub others : (unit : Name) → ¬ ((act : Act) × OwesActTo start_up to w act unit) → state_of m.manager.states unit ≡ state_of w.manager.states unit
+  pub paid_or_owed : (act : Act) (unit : Name) → OwesActTo start_up to w act unit → IsPaidBy to act unit entered ⊎ OwesActTo start_up to m act unit
+  pub no_more_owed : (unit : Name) → ((act : Act) × OwesActTo start_up to m act unit) → (act : Act) × OwesActTo start_up to w act unit
+  pub steady : IsSteadyTo start_up to m
 
-since_units : (system : Name) (w m : WorldState) → AreUnitsUnderway false system w m → IsSince (Some system) w m
-since_units system w m units = record {
+since_units : (start_up : Bool) (system : Name) (w m : WorldState) → AreUnitsUnderway start_up system w m → IsSince start_up (Some system) w m
+since_units start_up system w m units = record {
   units = λ v. (
     λ is. ((units.same_states (state_of v.manager.states)).0 is.0, is.1),
     λ is. ((units.same_states (state_of v.manager.states)).1 is.0, is.1),
@@ -141,8 +126,8 @@ since_units system w m units = record {
   steady = units.steady;
 }
 
-since_none : (w m : WorldState) → m.manager ≡ w.manager → IsSince None w m
-since_none w m same = record {
+since_none : (start_up : Bool) (w m : WorldState) → m.manager ≡ w.manager → IsSince start_up None w m
+since_none start_up w m same = record {
   units = λ v. (
     λ is. (is.0 ∙ ap (λ (k : ManagerState). k.states) same, is.1 ∙ ap (λ (k : ManagerState). k.loaded) same),
     λ is. (is.0 ∙ sym (ap (λ (k : ManagerState). k.states) same), is.1 ∙ sym (ap (λ (k : ManagerState). k.loaded) same)),
@@ -157,49 +142,52 @@ since_none w m same = record {
   steady = tt;
 }
 
-since_by : (switches : Bool) (moves : Option Move) (system : Name) (owners : OwnerIds) (gens : Gens) (w m : WorldState) → IsFree (parts switches moves system owners gens) w.leaves → IsMomentOf (parts switches moves system owners gens) w m → IsSteadyTo (if_so switches system) w →
-    IsSince (if_so switches system) w m
-since_by true moves system owners gens w m free moment steady =
-    let both = first_free (switch_part system owners) (default_if moves system gens) w.leaves free in
-    let units = first_free (units_part false system) (activation_part system owners) w.leaves both in
-    since_units system w m (moment.keeps.0.0.underway (record { way = units.way; refusal = units.refusal }) steady)
-since_by false (Some move) system owners gens w m free moment steady = since_none w m (moment.only.manager refl)
-since_by false None system owners gens w m free moment steady = since_none w m (moment.only.manager refl)
+since_by : (start_up switches : Bool) (moves : Option Move) (system : Name) (owners : OwnerIds) (gens : Gens) (w m : WorldState) → IsFree (parts start_up switches moves system owners gens) w.leaves → IsMomentOf (parts start_up switches moves system owners gens) w m → IsSteadyTo start_up (if_so switches system) w →
+    IsSince start_up (if_so switches system) w m
+since_by start_up true moves system owners gens w m free moment steady =
+    let both = first_free (switch_part start_up system owners) (default_if moves system gens) w.leaves free in
+    let units = first_free (units_part start_up system) (activation_part system owners) w.leaves both in
+    since_units start_up system w m (moment.keeps.0.0.underway (record { way = units.way; refusal = units.refusal }) steady)
+since_by start_up false (Some move) system owners gens w m free moment steady = since_none start_up w m (moment.only.manager refl)
+since_by start_up false None system owners gens w m free moment steady = since_none start_up w m (moment.only.manager refl)
 
 -- ---- the owners of what is put below /etc, and the generations that stand after a set
 
 -- A moment of the parts keeps the owners where the units are switched, and without that nothing asks for them. It keeps the
 -- generations where the profile is set, and without that nothing asks for these.
-module _ (system : Name) (w m : WorldState) where
-  final_owners : (switches : Bool) (moves : Option Move) → IsMomentOf (parts_in switches moves system w.leaves) w m → (q : Name) →
-      final_leaf (parts_in switches moves system m.leaves) m.leaves q ≡ final_leaf (parts switches moves system (owners_after system w.leaves) (gens_to moves system m.leaves)) m.leaves q
+module _ (start_up : Bool) (system : Name) (w m : WorldState) where
+  final_owners : (switches : Bool) (moves : Option Move) → IsMomentOf (parts_in start_up switches moves system w.leaves) w m → (q : Name) →
+      final_leaf (parts_in start_up switches moves system m.leaves) m.leaves q ≡ final_leaf (parts start_up switches moves system (owners_after system w.leaves) (gens_to moves system m.leaves)) m.leaves q
   final_owners true moves moment q =
-      ap (λ (o : OwnerIds). final_leaf (parts true moves system o (gens_to moves system m.leaves)) m.leaves q) (owners_law system (owners_after system w.leaves) w m moment.keeps.0.1)
+      ap (λ (o : OwnerIds). final_leaf (parts start_up true moves system o (gens_to moves system m.leaves)) m.leaves q) (owners_law system (owners_after system w.leaves) w m moment.keeps.0.1)
   final_owners false moves moment q = refl
 
-  final_gens : (switches : Bool) (moves : Option Move) → IsMomentOf (parts_in switches moves system w.leaves) w m → (q : Name) →
-      final_leaf (parts switches moves system (owners_after system w.leaves) (gens_to moves system m.leaves)) m.leaves q ≡ final_leaf (parts_in switches moves system w.leaves) m.leaves q
+  final_gens : (switches : Bool) (moves : Option Move) → IsMomentOf (parts_in start_up switches moves system w.leaves) w m → (q : Name) →
+      final_leaf (parts start_up switches moves system (owners_after system w.leaves) (gens_to moves system m.leaves)) m.leaves q ≡ final_leaf (parts_in start_up switches moves system w.leaves) m.leaves q
   final_gens switches (Some move) moment q =
-      ap (λ (gens : Gens). final_leaf (parts switches (Some move) system (owners_after system w.leaves) gens) m.leaves q) (default_stays_law move system (gens_moved move system w.leaves) w m moment.keeps.1.0)
+      ap (λ (gens : Gens). final_leaf (parts start_up switches (Some move) system (owners_after system w.leaves) gens) m.leaves q) (default_stays_law move system (gens_moved move system w.leaves) w m moment.keeps.1.0)
   final_gens switches None moment q = refl
 
-  free_owners : (switches : Bool) (moves : Option Move) → IsMomentOf (parts_in switches moves system w.leaves) w m →
-      IsFree (parts switches moves system (owners_after system w.leaves) (gens_to moves system m.leaves)) m.leaves → IsFree (parts_in switches moves system m.leaves) m.leaves
+  free_owners : (switches : Bool) (moves : Option Move) → IsMomentOf (parts_in start_up switches moves system w.leaves) w m →
+      IsFree (parts start_up switches moves system (owners_after system w.leaves) (gens_to moves system m.leaves)) m.leaves → IsFree (parts_in start_up switches moves system m.leaves) m.leaves
   free_owners true moves moment free =
-      subst (λ (o : OwnerIds). IsFree (parts true moves system o (gens_to moves system m.leaves)) m.leaves) (sym (owners_law system (owners_after system w.leaves) w m moment.keeps.0.1)) free
+      subst (λ (o : OwnerIds). IsFree (parts start_up true moves system o (gens_to moves system m.leaves)) m.leaves) (sym (owners_law system (owners_after system w.leaves) w m moment.keeps.0.1)) free
   free_owners false moves moment free = free
 
-  free_gens : (switches : Bool) (moves : Option Move) → IsMomentOf (parts_in switches moves system w.leaves) w m → IsFree (parts_in switches moves system w.leaves) m.leaves →
-      IsFree (parts switches moves system (owners_after system w.leaves) (gens_to moves system m.leaves)) m.leaves
+  free_gens : (switches : Bool) (moves : Option Move) → IsMomentOf (parts_in start_up switches moves system w.leaves) w m → IsFree (parts_in start_up switches moves system w.leaves) m.leaves →
+      IsFree (parts start_up switches moves system (owners_after system w.leaves) (gens_to moves system m.leaves)) m.leaves
   free_gens switches (Some move) moment free =
-      subst (λ (gens : Gens). IsFree (parts switches (Some move) system (owners_after system w.leaves) gens) m.leaves)
+      subst (λ (gens : Gens). IsFree (parts start_up switches (Some move) system (owners_after system w.leaves) gens) m.leaves)
       (sym (default_stays_law move system (gens_moved move system w.leaves) w m moment.keeps.1.0)) free
   free_gens switches None moment free = free
 
 -- ---- a command is underway
 
 module _ (command : Command) (w m : WorldState) (on : (row command w.leaves).changes ≡ true) (same : row command m.leaves ≡ row command w.leaves)
-    (has : lacks_goal command w.leaves ≡ false) (named : IsSystemPath (new_system command w.leaves)) (free : IsFreeCommand command w.leaves) (moment : IsMomentOf (part_of command w.leaves) w m) where
+    (has : lacks_system command m.leaves ≡ false) (named : IsSystemPath (new_system command w.leaves)) (free : IsFreeCommand command w.leaves) (moment : IsMomentOf (part_of command w.leaves) w m) where
+  abbrev start_up : Bool
+  start_up = (row command w.leaves).start_up
+
   abbrev switches : Bool
   switches = (row command w.leaves).switches
 
@@ -210,61 +198,61 @@ module _ (command : Command) (w m : WorldState) (on : (row command w.leaves).cha
   system = new_system command w.leaves
 
   same_store : AreSameInStore m.leaves w.leaves
-  same_store q inside = moment.only.leaves q (not_in_store switches moves system (owners_after system w.leaves) (gens_to moves system w.leaves) q inside) (store_not_stage q inside)
+  same_store q inside = moment.only.leaves q (not_in_store start_up switches moves system (owners_after system w.leaves) (gens_to moves system w.leaves) q inside) (store_not_stage q inside)
 
-  parts_is : IsPart (parts_in switches moves system w.leaves)
-  parts_is = parts_are switches moves system named (owners_after system w.leaves) (gens_to moves system w.leaves) (gens_to_law moves system w.leaves named)
-
-  same_to : switched_to command m.leaves ≡ switched_to command w.leaves
-  same_to = ap switched_by same
+  parts_is : IsPart (parts_in start_up switches moves system w.leaves)
+  parts_is = parts_are start_up switches moves system named (owners_after system w.leaves) (gens_to moves system w.leaves) (gens_to_law moves system w.leaves named)
 
   brought_first : brought_to command w.leaves ≡ switched_to command w.leaves
   brought_first = ap (λ b. if_so (b && switches) system) on
 
-  brought_later : brought_to command m.leaves ≡ switched_to command w.leaves
-  brought_later = ap brought_by same ∙ brought_first
+  -- the units at the end by the row there
+  units_here : (v : WorldState) → AreFinalUnits (row command m.leaves).start_up (brought_to command m.leaves) m v ↔ AreFinalUnits start_up (switched_to command w.leaves) m v
+  units_here v = (
+    λ is. subst (λ to. AreFinalUnits start_up to m v) brought_first (subst (λ (r : Row). AreFinalUnits r.start_up (brought_by r) m v) same is),
+    λ is. subst (λ (r : Row). AreFinalUnits r.start_up (brought_by r) m v) (sym same) (subst (λ to. AreFinalUnits start_up to m v) (sym brought_first) is),
+  )
 
   final_same : (q : Name) → q ≢ stage → final command m.leaves q ≡ final command w.leaves q
   final_same q ne =
-      ap (λ (r : Row). cond r.changes (final_leaf (parts_in r.switches r.moves r.system m.leaves) m.leaves q) (get m.leaves q)) same
-      ∙ ap (λ b. cond b (final_leaf (parts_in switches moves system m.leaves) m.leaves q) (get m.leaves q)) on
-      ∙ final_owners system w m switches moves moment q
-      ∙ final_gens system w m switches moves moment q
-      ∙ ends_alike (parts_in switches moves system w.leaves) parts_is w m moment q ne
+      ap (λ (r : Row). cond r.changes (final_leaf (parts_in r.start_up r.switches r.moves r.system m.leaves) m.leaves q) (get m.leaves q)) same
+      ∙ ap (λ b. cond b (final_leaf (parts_in start_up switches moves system m.leaves) m.leaves q) (get m.leaves q)) on
+      ∙ final_owners start_up system w m switches moves moment q
+      ∙ final_gens start_up system w m switches moves moment q
+      ∙ ends_alike (parts_in start_up switches moves system w.leaves) parts_is w m moment q ne
       ∙ sym (ap (λ b. cond b (final_leaf (part_of command w.leaves) w.leaves q) (get w.leaves q)) on)
 
-  still_free : IsFreeBy switches moves system m.leaves
+  still_free : IsFreeBy start_up switches moves system m.leaves
   still_free = record {
     version = ap is_none (content_same m.leaves w.leaves same_store (version_path system) (version_inside system named)) ∙ free.version;
-    parts = free_owners system w m switches moves moment (free_gens system w m switches moves moment (parts_is.stays_free w m moment.keeps free.parts));
+    parts = free_owners start_up system w m switches moves moment (free_gens start_up system w m switches moves moment (parts_is.stays_free w m moment.keeps free.parts));
   }
 
   still_not_refused : refusal command m.leaves ≡ None
   still_not_refused =
-      ap (λ b. cond b (Some NoPrevious) (system_refusal command m.leaves)) (goal_still command m.leaves w.leaves same has)
-      ∙ ap (λ (r : Row). refused_by r.switches r.moves r.system m.leaves) same ∙ by_free switches moves system m.leaves still_free
+      ap (λ b. cond b (Some (missing command)) (system_refusal command m.leaves)) has
+      ∙ ap (λ (r : Row). refused_by r.start_up r.switches r.moves r.system m.leaves) same ∙ by_free start_up switches moves system m.leaves still_free
 
   pub underway : IsSteadyFor command w → IsUnderway w command m
   underway steady =
-      let since = since_by switches moves system (owners_after system w.leaves) (gens_to moves system w.leaves) w m free.parts moment steady in
-      let to_m = sym same_to in
+      let since = since_by start_up switches moves system (owners_after system w.leaves) (gens_to moves system w.leaves) w m free.parts moment steady in
       record {
         same_row = same;
         same_end = λ v. (
           λ is. record {
             leaves = λ q ne. is.leaves q ne ∙ final_same q ne;
-            units = subst (λ to. AreFinalUnits to w v) (sym brought_first) ((since.units v).0 (subst (λ to. AreFinalUnits to m v) brought_later is.units));
+            units = subst (λ to. AreFinalUnits start_up to w v) (sym brought_first) ((since.units v).0 ((units_here v).0 is.units));
             bad = is.bad ∙ since.same_bad;
           },
           λ is. record {
             leaves = λ q ne. is.leaves q ne ∙ sym (final_same q ne);
-            units = subst (λ to. AreFinalUnits to m v) (sym brought_later) ((since.units v).1 (subst (λ to. AreFinalUnits to w v) brought_first is.units));
+            units = (units_here v).1 ((since.units v).1 (subst (λ to. AreFinalUnits start_up to w v) brought_first is.units));
             bad = is.bad ∙ sym since.same_bad;
           },
         );
         since = record { entered = since.entered; journal = since.journal; owed_alone = since.owed_alone; others = since.others };
-        paid_or_owed = λ act unit owed. subst (λ to. IsPaidBy (switched_to command w.leaves) act unit since.entered ⊎ OwesActTo to m act unit) to_m (since.paid_or_owed act unit owed);
-        no_more_owed = λ unit owed. since.no_more_owed unit (owed.0, subst (λ to. OwesActTo to m owed.0 unit) same_to owed.1);
+        paid_or_owed = λ act unit owed. subst (λ (r : Row). IsPaidBy (switched_to command w.leaves) act unit since.entered ⊎ OwesActTo r.start_up (switched_by r) m act unit) (sym same) (since.paid_or_owed act unit owed);
+        no_more_owed = λ unit owed. since.no_more_owed unit (owed.0, subst (λ (r : Row). OwesActTo r.start_up (switched_by r) m owed.0 unit) same owed.1);
         not_refused = still_not_refused;
-        steady = subst (λ to. IsSteadyTo to m) to_m since.steady;
+        steady = subst (λ (r : Row). IsSteadyTo r.start_up (switched_by r) m) (sym same) since.steady;
       }

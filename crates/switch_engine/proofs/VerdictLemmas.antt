@@ -9,7 +9,8 @@ use Rattle.owed_plan.specs.Store.{AreSameInStore, IsInStore}
 use Rattle.owed_plan.specs.Systems.{Systems}
 use Rattle.owed_plan.proofs.StoreLemmas.{systems_law}
 use Rattle.switch_engine.specs.declared.command.Command.{Command}
-use Rattle.switch_engine.specs.Commands.{brought_by, brought_to, if_so, new_system, row}
+use Rattle.switch_engine.specs.declared.row.Row.{Row}
+use Rattle.switch_engine.specs.Commands.{brought_by, if_so, new_system, row}
 use Rattle.switch_engine.specs.Final.{AreFinalUnits, IsEndOf, IsFinalOf, LeavesFailed, LeavesFailedAt}
 use Rattle.switch_engine.specs.Owing.{IsUnderway}
 use Rattle.switch_engine.specs.Rows.{gens_to, part_of}
@@ -32,7 +33,7 @@ left_in_store command w v final q inside =
     let its = row command w.leaves in
     sym (final.leaves q (store_not_stage q inside)
     ∙ ap (λ b. cond its.changes (cond b ((part_of command w.leaves).end w.leaves q) (get w.leaves q)) (get w.leaves q))
-    (not_in_store its.switches its.moves its.system (owners_after its.system w.leaves) (gens_to its.moves its.system w.leaves) q inside)
+    (not_in_store its.start_up its.switches its.moves its.system (owners_after its.system w.leaves) (gens_to its.moves its.system w.leaves) q inside)
     ∙ either its.changes (get w.leaves q))
 
 -- what a system defines is what it defines in each tree with the same in the store
@@ -43,29 +44,28 @@ same_defined one other system unit inside same = ap (λ (systems : Systems). (sy
 abbrev IsFailedAtEnd : Name → WorldState → WorldState → Type 0
 IsFailedAtEnd system w v = (unit : Name) × (state_of v.manager.states unit ≡ Failed) × IsSome (text_of w.leaves system unit)
 
-failed_at_end : (system : Name) (w v : WorldState) → AreEndStates false system w (state_of v.manager.states) → LeavesFailedAt (Some system) w ↔ IsFailedAtEnd system w v
-failed_at_end system w v (owed, (lists, owes), states) = (
-  λ left. (left.2.0, states left.2.0 ∙ sym (one_end false system lists owed w owes left.0 left.1 left.2.0) ∙ left.2.1.failed, left.2.1.defined),
+failed_at_end : (start_up : Bool) (system : Name) (w v : WorldState) → AreEndStates start_up system w (state_of v.manager.states) → LeavesFailedAt start_up (Some system) w ↔ IsFailedAtEnd system w v
+failed_at_end start_up system w v (owed, (lists, owes), states) = (
+  λ left. (left.2.0, states left.2.0 ∙ sym (one_end start_up system lists owed w owes left.0 left.1 left.2.0) ∙ left.2.1.failed, left.2.1.defined),
   λ failed. (owed, (lists, owes), (failed.0, record { failed = sym (states failed.0) ∙ failed.1; defined = failed.2 })),
 )
 
-verdict_if : (b : Bool) (system : Name) → IsInStore system → (g w v : WorldState) → AreSameInStore g.leaves w.leaves → AreFinalUnits (if_so b system) w v → AreFinalUnits (if_so b system) g v →
-    LeavesFailedAt (if_so b system) w → LeavesFailedAt (if_so b system) g
-verdict_if true system inside g w v same ends first left =
-    let failed = (failed_at_end system w v ends.0).0 left in
-    (failed_at_end system g v first.0).1 (failed.0, failed.1, same_defined g.leaves w.leaves system failed.0 inside same ∙ failed.2)
-verdict_if false system inside g w v same ends first left = absurd left
+verdict_if : (start_up b : Bool) (system : Name) → IsInStore system → (g w v : WorldState) → AreSameInStore g.leaves w.leaves → AreFinalUnits start_up (if_so b system) w v → AreFinalUnits start_up (if_so b system) g v →
+    LeavesFailedAt start_up (if_so b system) w → LeavesFailedAt start_up (if_so b system) g
+verdict_if start_up true system inside g w v same ends first left =
+    let failed = (failed_at_end start_up system w v ends.0).0 left in
+    (failed_at_end start_up system g v first.0).1 (failed.0, failed.1, same_defined g.leaves w.leaves system failed.0 inside same ∙ failed.2)
+verdict_if start_up false system inside g w v same ends first left = absurd left
 
 pub same_verdict : (command : Command) (g w v : WorldState) → IsSystemPath (new_system command w.leaves) → IsUnderway g command w → IsEndOf command w v → LeavesFailed command w ↔ LeavesFailed command g
 same_verdict command g w v named before end =
     let its = row command w.leaves in
-    let system = its.system in let b = its.changes && its.switches in
+    let system = its.system in let start_up = its.start_up in let b = its.changes && its.switches in
     let inside = (is_system system named).inside in
     let final_g = (before.same_end v).0 end.final in
-    let one : brought_to command g.leaves ≡ brought_to command w.leaves = ap brought_by (sym before.same_row) in
-    let first : AreFinalUnits (if_so b system) g v = subst (λ to. AreFinalUnits to g v) one final_g.units in
+    let first : AreFinalUnits start_up (if_so b system) g v = subst (λ (r : Row). AreFinalUnits r.start_up (brought_by r) g v) (sym before.same_row) final_g.units in
     let same : AreSameInStore g.leaves w.leaves = λ q in_store. left_in_store command g v final_g q in_store ∙ sym (left_in_store command w v end.final q in_store) in
     let back : AreSameInStore w.leaves g.leaves = λ q in_store. sym (same q in_store) in (
-      λ left. subst (λ to. LeavesFailedAt to g) (sym one) (verdict_if b system inside g w v same end.final.units first left),
-      λ left. verdict_if b system inside w g v back first end.final.units (subst (λ to. LeavesFailedAt to g) one left),
+      λ left. subst (λ (r : Row). LeavesFailedAt r.start_up (brought_by r) g) before.same_row (verdict_if start_up b system inside g w v same end.final.units first left),
+      λ left. verdict_if start_up b system inside w g v back first end.final.units (subst (λ (r : Row). LeavesFailedAt r.start_up (brought_by r) g) (sym before.same_row) left),
     )

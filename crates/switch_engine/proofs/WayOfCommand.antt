@@ -40,6 +40,9 @@ record HasSwitched (moves : Option Move) (switches : Bool) (system : Name) (owed
   moment : IsSwitchMomentIf switches system owed order u v
 
 module _ (plan : Plan) (changes : IsQuery plan.command → ⊥) {a : HostState} (planned : Told a (λ w. IsPlanOf w plan)) where
+  abbrev starts : WorldState → Bool
+  starts w = (row plan.command w.leaves).start_up
+
   abbrev switches : WorldState → Bool
   switches w = (row plan.command w.leaves).switches
 
@@ -122,7 +125,7 @@ module _ (plan : Plan) (changes : IsQuery plan.command → ⊥) {a : HostState} 
               told_after way led (CanSwitchBy last plan.units plan.activation)
               (λ w u is prepared. let from_w = from w is in let at = came w u is prepared in
               subst (λ s. CanSwitchBy s plan.units plan.activation u) (sym (to_last w is))
-              (can_switch (switches w) (named w) from_w.named w u plan.units plan.activation (parts w is).units (parts w is).activation
+              (can_switch (starts w) (switches w) (named w) from_w.named w u plan.units plan.activation (parts w is).units (parts w is).activation
               (same_manager plan.command owed order w from_w at.recorded at.is_recorded u at.is_set) (owed_still plan.command owed order w from_w at.recorded at.is_recorded u at.is_set)
               (ordered_still plan.command owed order w from_w at.recorded at.is_recorded u at.is_set)
               (activation_same plan.command owed order w from_w at.recorded at.is_recorded u at.is_set) (switch_free plan.command owed order w from_w at.recorded at.is_recorded u at.is_set)))
@@ -187,8 +190,8 @@ module _ (plan : Plan) (changes : IsQuery plan.command → ⊥) {a : HostState} 
                       let u = led.to w is in
                       let v = done.to u.0 u.1 in
                       let at = came w u.0 is u.2 in
-                      subst (λ b. IsTrue outcome.failed ↔ LeavesFailedAt (if_so (b && switches w) (named w)) w) (sym (changes_on plan.command w.leaves changes))
-                      (verdict (switches w) (named w) plan.units w u.0 v.0 outcome (parts w is).units (same_manager plan.command owed order w (from w is) at.recorded at.is_recorded u.0 at.is_set) (end_as w u.0 v.0 is v.2)
+                      subst (λ b. IsTrue outcome.failed ↔ LeavesFailedAt (starts w) (if_so (b && switches w) (named w)) w) (sym (changes_on plan.command w.leaves changes))
+                      (verdict (starts w) (switches w) (named w) plan.units w u.0 v.0 outcome (parts w is).units (same_manager plan.command owed order w (from w is) at.recorded at.is_recorded u.0 at.is_set) (end_as w u.0 v.0 is v.2)
                       (λ on. (told (is_by w is ∙ on)).has v.0 v.1)
                       (failed_of by plan.units.defs (Ok outcome) failed none)
                       (λ off. none (is_by w is ∙ off)));

@@ -1,5 +1,5 @@
 -- The steps of a switch of the units over a host, one call after another.
-use Rattle.std.proofs.Common.{◌≡◌, List, Some, sym, subst, ◌∙◌, false}
+use Rattle.std.proofs.Common.{◌≡◌, List, Some, sym, subst, ◌∙◌}
 use Rattle.activation_stage.specs.ActivationPart.{CanActivate, IsActivated, IsActivating, activation_in}
 use Rattle.activation_stage.specs.declared.activation_plan.ActivationPlan.{ActivationPlan}
 use Rattle.host_trait.specs.declared.unit_state.State.{State}
@@ -59,7 +59,7 @@ module _ (system : Name) (plan : UnitPlan) (activation : ActivationPlan) (lists 
 
   pub lists_can : Told a CanRecord
   lists_can = told_as can CanRecord (λ w is known.
-      let clear = all_clear w.leaves (first_free (units_part false system) (activation_in system w.leaves) w.leaves known.free).way in
+      let clear = all_clear w.leaves (first_free (units_part known.start_up system) (activation_in system w.leaves) w.leaves known.free).way in
       record { stage = clear.stage; starts = clear.starts; restarts = clear.restarts; reloads = clear.reloads })
 
   pub stops_can : Told a (λ w. CanPerform stops w.manager)
@@ -79,7 +79,7 @@ module _ (system : Name) (plan : UnitPlan) (activation : ActivationPlan) (lists 
       pub activation_can : Told b (CanActivate system activation)
       activation_can =
           told_after stop_way came (CanActivate system activation)
-          (λ w u is came. let known = can.has w is in can_activate system known.named owed w known.is_owed order (arranged_at w is) known.free u came activation known.planned)
+          (λ w u is came. let known = can.has w is in can_activate known.start_up system known.named owed w known.is_owed order (arranged_at w is) known.free u came activation known.planned)
 
       module _ {c : HostState} (activate_way : Passes b c (IsActivating system)) where
         pub second_way : Passes a c (IsSwitchMoment system owed order)
@@ -95,16 +95,16 @@ module _ (system : Name) (plan : UnitPlan) (activation : ActivationPlan) (lists 
           units_can =
               told_after second_way gets_ready (CanBring system reloads restarts starts)
               (λ w v is at. let known = can.has w is in let calls = calls_at w is in
-              can_bring system known.named owed w known.is_owed order (arranged_at w is) known.free at.stopped at.came v at.activated reloads restarts starts calls.are_reloads calls.are_restarts calls.are_starts)
+              can_bring known.start_up system known.named owed w known.is_owed order (arranged_at w is) known.free at.stopped at.came v at.activated reloads restarts starts calls.are_reloads calls.are_restarts calls.are_starts)
 
           pub third_way : {d : HostState} → Passes c d (IsBringMoment system reloads restarts starts) → Passes a d (IsSwitchMoment system owed order)
           third_way bring_way =
               goes_on second_way gets_ready bring_way (IsSwitchMoment system owed order) (λ w m is moment. moment)
               (λ w v m is is_v at moment. let known = can.has w is in let calls = calls_at w is in
-              bringing system known.named owed w known.is_owed order (arranged_at w is) known.free at.stopped at.came v at.activated reloads restarts starts calls.are_reloads calls.are_restarts calls.are_starts m moment)
+              bringing known.start_up system known.named owed w known.is_owed order (arranged_at w is) known.free at.stopped at.came v at.activated reloads restarts starts calls.are_reloads calls.are_restarts calls.are_starts m moment)
 
           pub ends : {d : HostState} → Comes c d (with_brought system reloads restarts starts) → Leads a d (IsSwitched system owed order)
           ends brought =
               leads_then gets_ready brought (IsSwitched system owed order)
               (λ w v d is is_v at came. let known = can.has w is in let calls = calls_at w is in
-              switched system known.named owed w known.is_owed order (arranged_at w is) known.free at.stopped at.came v at.activated reloads restarts starts calls.are_reloads calls.are_restarts calls.are_starts d came)
+              switched known.start_up system known.named owed w known.is_owed order (arranged_at w is) known.free at.stopped at.came v at.activated reloads restarts starts calls.are_reloads calls.are_restarts calls.are_starts d came)

@@ -24,7 +24,7 @@ use Rattle.switch_engine.specs.Final.{IsFinalOf}
 use Rattle.switch_engine.specs.Rows.{part_if, part_of, refusal, switch_in}
 use Rattle.boot_entries.proofs.DefaultLemmas.{default_end_law}
 use Rattle.boot_entries.proofs.MenuLemmas.{menu_end_law}
-use Rattle.switch_engine.proofs.CarryLemmas.{not_own}
+use Rattle.switch_engine.proofs.StepLeaves.{not_own}
 use Rattle.switch_engine.proofs.MovedPart.{default_in}
 use Rattle.switch_engine.proofs.GoalKeptLemmas.{IsMoveToBy, moves_to}
 use Rattle.switch_engine.proofs.MenuApart.{menu_not_stage}
@@ -50,7 +50,7 @@ module _ (command : Command) (w : WorldState) (named : IsSystemPath (new_system 
   system = new_system command w.leaves
 
   abbrev first : Part
-  first = part_if (row command w.leaves).switches (switch_in system w.leaves)
+  first = part_if (row command w.leaves).switches (switch_in (row command w.leaves).start_up system w.leaves)
 
   abbrev default : Part
   default = boot_default_in move system w.leaves
@@ -80,7 +80,7 @@ module _ (command : Command) (w : WorldState) (named : IsSystemPath (new_system 
         ∙ ap (λ b. cond b (final_leaf (part_of command w.leaves) w.leaves q) (get w.leaves q)) on
         ∙ ap (λ moves. final_leaf (both first (default_in moves system w.leaves)) w.leaves q) moved
         ∙ beside_first first second w.leaves q
-        (not_own (row command w.leaves).switches system named (owners_after system w.leaves) (gens_moved move system w.leaves) q (or_left (owns_profile q || owns_boot q) (owns_goal q) own))
+        (not_own (row command w.leaves).start_up (row command w.leaves).switches system named (owners_after system w.leaves) (gens_moved move system w.leaves) q (or_left (owns_profile q || owns_boot q) (owns_goal q) own))
         ∙ ap (λ b. cond (b || owns_goal q) (cond b (default.end w.leaves q) None) (get w.leaves q)) own
         ∙ sym (at_end q own)
 

@@ -36,14 +36,16 @@ abbrev pub CanSetBy : Name → Option BootDefaultPlan → WorldState → Type 0
 CanSetBy system None w = Unit {0}
 CanSetBy system (Some plan) w = CanMakeDefault system plan w
 
--- what is owed, the starts in order and the calls of a plan are those of this world, and so is the activation, and nothing is in the way
+-- what is owed, as the machine starts up or later, the starts in order and the calls of a plan are those of this world, and so is the
+-- activation, and nothing is in the way
 pub record CanSwitch (system : Name) (plan : UnitPlan) (activation : ActivationPlan) (w : WorldState) : Type 0 where
   pub named : IsSystemPath system
-  pub is_owed : IsOwedBy false w system (owed_of plan)
+  pub start_up : Bool
+  pub is_owed : IsOwedBy start_up w system (owed_of plan)
   pub in_order : IsOrderedAt w.leaves system (owed_of plan) plan.ordered.units
   pub duties : plan.duties ≡ calls_of (owed_of plan) plan.ordered.units (state_of w.manager.states)
   pub planned : IsActivationPlanOf system w.leaves activation
-  pub free : IsFree (switch_in system w.leaves) w.leaves
+  pub free : IsFree (switch_in start_up system w.leaves) w.leaves
 
 -- the same, where an activation is planned, as it is where the units are switched
 abbrev pub CanSwitchBy : Name → UnitPlan → Option ActivationPlan → WorldState → Type 0

@@ -1,14 +1,17 @@
 -- What each command does, a row for each: NixOS manual, "Changing the configuration".
-use Rattle.std.specs.Prelude.{◌≡◌, ◌&&◌, Bool, true, false, [], ℕ, Option, None, Some, is_none, option_map, if◌then◌else◌}
+use Rattle.std.specs.Prelude.{◌≡◌, ◌&&◌, Bool, true, false, [], ℕ, Option, None, Some, is_none, option_map, unwrap_or, if◌then◌else◌}
 use Rattle.generations.specs.declared.moving.Move.{Move}
 use Rattle.generations.specs.declared.moving.Move.TheVariants.{Point, Set}
+use Rattle.generations.specs.Boot.{boot_system}
 use Rattle.generations.specs.Goal.{goal}
 use Rattle.generations.specs.Places.{generation_at}
 use Rattle.host_trait.specs.World.{Leaves}
 use Rattle.switch_engine.specs.declared.command.Command.{Command}
-use Rattle.switch_engine.specs.declared.command.Command.TheVariants.{Switch, Test, Boot, DryActivate, Rollback}
+use Rattle.switch_engine.specs.declared.command.Command.TheVariants.{Switch, Test, Boot, DryActivate, Rollback, StartUp}
 use Rattle.switch_engine.specs.declared.row.Row.{Row}
 use Rattle.switch_names.specs.Names.{Name}
+use Rattle.switch_parts.specs.declared.refusal.Refusal.{Refusal}
+use Rattle.switch_parts.specs.declared.refusal.Refusal.TheVariants.{NoPrevious, NoProfile}
 
 -- the system that a generation names, where it names one
 abbrev pub named_by : Option (Option Name) → Name
@@ -21,21 +24,29 @@ abbrev pub system_of : Option ℕ → Leaves → Name
 system_of None leaves = []
 system_of (Some n) leaves = named_by (generation_at leaves n)
 
--- what a command does, given the leaves where it begins: a rollback goes to the generation that is its goal there
+-- what a command does, given the leaves where it begins: a rollback goes to the generation that is its goal there, and a start-up is
+-- about the system that the machine boots into there
 abbrev pub row : Command → Leaves → Row
-row (Switch system) leaves = record { system = system; moves = Some Set; switches = true; changes = true }
-row (Test system) leaves = record { system = system; moves = None; switches = true; changes = true }
-row (Boot system) leaves = record { system = system; moves = Some Set; switches = false; changes = true }
-row (DryActivate system) leaves = record { system = system; moves = None; switches = true; changes = false }
-row Rollback leaves = record { system = system_of (goal leaves) leaves; moves = option_map Point (goal leaves); switches = true; changes = true }
+row (Switch system) leaves = record { system = system; moves = Some Set; switches = true; start_up = false; changes = true }
+row (Test system) leaves = record { system = system; moves = None; switches = true; start_up = false; changes = true }
+row (Boot system) leaves = record { system = system; moves = Some Set; switches = false; start_up = false; changes = true }
+row (DryActivate system) leaves = record { system = system; moves = None; switches = true; start_up = false; changes = false }
+row Rollback leaves = record { system = system_of (goal leaves) leaves; moves = option_map Point (goal leaves); switches = true; start_up = false; changes = true }
+row StartUp leaves = record { system = unwrap_or (boot_system leaves) []; moves = None; switches = true; start_up = true; changes = true }
 
--- a command has no goal and wants one
-abbrev pub lacks_goal : Command → Leaves → Bool
-lacks_goal (Switch system) leaves = false
-lacks_goal (Test system) leaves = false
-lacks_goal (Boot system) leaves = false
-lacks_goal (DryActivate system) leaves = false
-lacks_goal Rollback leaves = is_none (goal leaves)
+-- a command goes by the generations, and they give it no system
+abbrev pub lacks_system : Command → Leaves → Bool
+lacks_system (Switch system) leaves = false
+lacks_system (Test system) leaves = false
+lacks_system (Boot system) leaves = false
+lacks_system (DryActivate system) leaves = false
+lacks_system Rollback leaves = is_none (goal leaves)
+lacks_system StartUp leaves = is_none (boot_system leaves)
+
+-- why a command is refused to which the generations give no system
+abbrev pub missing : Command → Refusal
+missing StartUp = NoProfile
+missing command = NoPrevious
 
 -- the system that a command is about in a world
 abbrev pub new_system : Command → Leaves → Name

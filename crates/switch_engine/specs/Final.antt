@@ -9,7 +9,7 @@ use Rattle.host_trait.specs.States.{UnitStates, state_of}
 use Rattle.host_trait.specs.World.{WorldState, stage}
 use Rattle.owed_plan.specs.declared.owed.Owed.{Owed}
 use Rattle.switch_engine.specs.declared.command.Command.{Command}
-use Rattle.switch_engine.specs.Commands.{brought_to}
+use Rattle.switch_engine.specs.Commands.{brought_to, row}
 use Rattle.switch_engine.specs.Rows.{final}
 use Rattle.switch_names.specs.Names.{Name}
 use Rattle.unit_defs.specs.declared.unit.Unit.{Unit}
@@ -21,32 +21,32 @@ use Rattle.unit_stage.specs.Plan.{IsOwedBy}
 use Rattle.unit_stage.specs.System.{definitions_of}
 
 -- the states of the units and what is loaded, after a switch of them to a system or without one
-abbrev pub AreFinalUnits : Option Name → WorldState → WorldState → Type 0
-AreFinalUnits None w v = (v.manager.states ≡ w.manager.states) × (v.manager.loaded ≡ w.manager.loaded)
-AreFinalUnits (Some system) w v = AreEndStates false system w (state_of v.manager.states) × (v.manager.loaded ≡ definitions_of system)
+abbrev pub AreFinalUnits : Bool → Option Name → WorldState → WorldState → Type 0
+AreFinalUnits start_up None w v = (v.manager.states ≡ w.manager.states) × (v.manager.loaded ≡ w.manager.loaded)
+AreFinalUnits start_up (Some system) w v = AreEndStates start_up system w (state_of v.manager.states) × (v.manager.loaded ≡ definitions_of system)
 
 -- the world that a command leaves: each leaf but the stage's, the states of the units, and what is loaded
 pub record IsFinalOf (command : Command) (w v : WorldState) : Type 0 where
   pub leaves : (q : Name) → q ≢ stage → get v.leaves q ≡ final command w.leaves q
-  pub units : AreFinalUnits (brought_to command w.leaves) w v
+  pub units : AreFinalUnits (row command w.leaves).start_up (brought_to command w.leaves) w v
   pub bad : v.manager.bad ≡ w.manager.bad
 
 -- what a switch of the units to a system enters in the journal, and nothing without one
-abbrev pub AreEntries : Option Name → WorldState → List Entry → Type 0
-AreEntries None w entries = entries ≡ []
-AreEntries (Some system) w entries = (owed : Owed) × (order : List Name) × IsOwedBy false w system owed × IsOrderedAt w.leaves system owed order × (entries ≡ entries_of system owed order w)
+abbrev pub AreEntries : Bool → Option Name → WorldState → List Entry → Type 0
+AreEntries start_up None w entries = entries ≡ []
+AreEntries start_up (Some system) w entries = (owed : Owed) × (order : List Name) × IsOwedBy start_up w system owed × IsOrderedAt w.leaves system owed order × (entries ≡ entries_of system owed order w)
 
 -- the world at the end of a command, whose journal has grown by exactly what the command enters
 pub record IsEndOf (command : Command) (w v : WorldState) : Type 0 where
   pub final : IsFinalOf command w v
   pub entries : List Entry
-  pub are_entered : AreEntries (brought_to command w.leaves) w entries
+  pub are_entered : AreEntries (row command w.leaves).start_up (brought_to command w.leaves) w entries
   pub journal : v.manager.journal ≡ w.manager.journal ++ entries
 
 -- the journal of a world is that of the first one, and then a beginning of what a command enters
 pub record HasBegunToEnter (command : Command) (w m : WorldState) : Type 0 where
   pub entries : List Entry
-  pub are_entered : AreEntries (brought_to command w.leaves) w entries
+  pub are_entered : AreEntries (row command w.leaves).start_up (brought_to command w.leaves) w entries
   pub made : List Entry
   pub rest : List Entry
   pub in_order : entries ≡ made ++ rest
@@ -62,13 +62,13 @@ pub record IsLeftFailed (system : Name) (owed : Owed) (w : WorldState) (unit : N
   pub defined : IsSome (text_of w.leaves system unit)
 
 -- a switch of the units to a system leaves one of them failed
-abbrev pub LeavesFailedAt : Option Name → WorldState → Type 0
-LeavesFailedAt None w = ⊥
-LeavesFailedAt (Some system) w = (owed : Owed) × IsOwedBy false w system owed × ((unit : Name) × IsLeftFailed system owed w unit)
+abbrev pub LeavesFailedAt : Bool → Option Name → WorldState → Type 0
+LeavesFailedAt start_up None w = ⊥
+LeavesFailedAt start_up (Some system) w = (owed : Owed) × IsOwedBy start_up w system owed × ((unit : Name) × IsLeftFailed system owed w unit)
 
 -- a command leaves a unit failed that its system defines
 abbrev pub LeavesFailed : Command → WorldState → Type 0
-LeavesFailed command w = LeavesFailedAt (brought_to command w.leaves) w
+LeavesFailed command w = LeavesFailedAt (row command w.leaves).start_up (brought_to command w.leaves) w
 
 -- a unit that the system defines has failed
 abbrev pub HasFailed : List Unit → UnitStates → Type 0

@@ -18,9 +18,8 @@ use Rattle.switch_engine.specs.declared.command.Command.{Command}
 use Rattle.switch_engine.specs.Commands.{brought_to, moved_by, new_system, row, set_to}
 use Rattle.switch_engine.specs.Final.{IsEndOf, IsEntering}
 use Rattle.switch_engine.specs.Owing.{IsOver, IsSteadyFor, IsUnderway}
-use Rattle.switch_engine.specs.Rows.{switch_in}
+use Rattle.switch_engine.specs.Rows.{switched_leaf}
 use Rattle.switch_names.specs.Names.{Name}
-use Rattle.switch_parts.specs.Part.{final_leaf}
 use Rattle.tree_put.specs.Put.{IsOldOrGone, IsOldOrNew}
 use Rattle.unit_stage.specs.End.{IsBrought}
 use Rattle.unit_stage.specs.Order.{IsOrderedAt}
@@ -46,7 +45,7 @@ pub data IsSwitchMoment (system : Name) (owed : Owed) (order : List Name) (w m :
 
 -- the world that a switch of the units leaves: each place is at its end, and so is each unit
 pub record IsSwitched (system : Name) (owed : Owed) (order : List Name) (w v : WorldState) : Type 0 where
-  pub leaves : (q : Name) → q ≢ stage → get v.leaves q ≡ final_leaf (switch_in system w.leaves) w.leaves q
+  pub leaves : (q : Name) → q ≢ stage → get v.leaves q ≡ switched_leaf system w.leaves q
   pub units : IsBrought system owed order w v
 
 -- a step of recording the goal, where the profile goes back to a generation
@@ -73,14 +72,14 @@ set_world None system w = seen w
 set_world (Some move) system w = default_end move system w
 
 -- a step of a switch of the units, where they are switched to a system
-abbrev pub IsSwitchStep : Option Name → WorldState → WorldState → Type 0
-IsSwitchStep None w m = seen m ≡ seen w
-IsSwitchStep (Some system) w m = (owed : Owed) × (order : List Name) × IsOwedBy false w system owed × IsOrderedAt w.leaves system owed order × IsSwitchMoment system owed order w m
+abbrev pub IsSwitchStep : Bool → Option Name → WorldState → WorldState → Type 0
+IsSwitchStep start_up None w m = seen m ≡ seen w
+IsSwitchStep start_up (Some system) w m = (owed : Owed) × (order : List Name) × IsOwedBy start_up w system owed × IsOrderedAt w.leaves system owed order × IsSwitchMoment system owed order w m
 
 -- the world that a switch of the units leaves, where they are switched to a system
-abbrev pub IsSwitchEnd : Option Name → WorldState → WorldState → Type 0
-IsSwitchEnd None w v = seen v ≡ seen w
-IsSwitchEnd (Some system) w v = (owed : Owed) × (order : List Name) × IsOwedBy false w system owed × IsOrderedAt w.leaves system owed order × IsSwitched system owed order w v
+abbrev pub IsSwitchEnd : Bool → Option Name → WorldState → WorldState → Type 0
+IsSwitchEnd start_up None w v = seen v ≡ seen w
+IsSwitchEnd start_up (Some system) w v = (owed : Owed) × (order : List Name) × IsOwedBy start_up w system owed × IsOrderedAt w.leaves system owed order × IsSwitched system owed order w v
 
 -- a step of removing the goal, where the profile is moved
 abbrev pub IsClearStep : Option Move → WorldState → WorldState → Type 0
@@ -89,21 +88,21 @@ IsClearStep (Some move) w m = IsOldOrGone goal_place w m
 
 -- the goal is being recorded, or the system is being made the boot default, or the units are being switched, or the goal is
 -- being removed; each begins in the world that the one before it leaves
-pub data IsStepTo (moves : Option Move) (system : Name) (switches : Option Name) (w m : WorldState) : Type 0 where
-  Recording : IsRecordStep moves w m → IsStepTo moves system switches w m
-  Setting : (r : WorldState) → seen r ≡ record_world moves w → IsSetStep moves system r m → IsStepTo moves system switches w m
-  Switching : (r u : WorldState) → seen r ≡ record_world moves w → seen u ≡ set_world moves system r → IsSwitchStep switches u m → IsStepTo moves system switches w m
-  Clearing : (r u v : WorldState) → seen r ≡ record_world moves w → seen u ≡ set_world moves system r → IsSwitchEnd switches u v → IsClearStep moves v m →
-      IsStepTo moves system switches w m
+pub data IsStepTo (start_up : Bool) (moves : Option Move) (system : Name) (switches : Option Name) (w m : WorldState) : Type 0 where
+  Recording : IsRecordStep moves w m → IsStepTo start_up moves system switches w m
+  Setting : (r : WorldState) → seen r ≡ record_world moves w → IsSetStep moves system r m → IsStepTo start_up moves system switches w m
+  Switching : (r u : WorldState) → seen r ≡ record_world moves w → seen u ≡ set_world moves system r → IsSwitchStep start_up switches u m → IsStepTo start_up moves system switches w m
+  Clearing : (r u v : WorldState) → seen r ≡ record_world moves w → seen u ≡ set_world moves system r → IsSwitchEnd start_up switches u v → IsClearStep moves v m →
+      IsStepTo start_up moves system switches w m
 
 -- where exactly a moment stands: a command that changes nothing has none but its beginning
-abbrev pub IsStepIf : Bool → Option Move → Name → Option Name → WorldState → WorldState → Type 0
-IsStepIf false moves system switches w m = m ≡ w
-IsStepIf true moves system switches w m = IsStepTo moves system switches w m
+abbrev pub IsStepIf : Bool → Bool → Option Move → Name → Option Name → WorldState → WorldState → Type 0
+IsStepIf false start_up moves system switches w m = m ≡ w
+IsStepIf true start_up moves system switches w m = IsStepTo start_up moves system switches w m
 
 -- the same for a command
 abbrev pub IsStepOf : Command → WorldState → WorldState → Type 0
-IsStepOf command w m = IsStepIf (row command w.leaves).changes (moved_by (row command w.leaves)) (new_system command w.leaves) (brought_to command w.leaves) w m
+IsStepOf command w m = IsStepIf (row command w.leaves).changes (row command w.leaves).start_up (moved_by (row command w.leaves)) (new_system command w.leaves) (brought_to command w.leaves) w m
 
 -- a rollback has come to its end: it is over, and no goal stands
 pub record HasComeBack (command : Command) (w m : WorldState) : Type 0 where

@@ -1,5 +1,5 @@
 -- What a command owes each unit, and a run of it that is underway: NixOS manual, "Unit handling".
-use Rattle.std.specs.Prelude.{◌≡◌, ◌⊎◌, ◌↔◌, ◌++◌, false, List, Option, None, Some}
+use Rattle.std.specs.Prelude.{◌≡◌, ◌⊎◌, ◌↔◌, ◌++◌, Bool, List, Option, None, Some}
 use Rattle.std.specs.List.{AllByRecursion}
 use Rattle.host_trait.specs.declared.entry.Act.{Act}
 use Rattle.host_trait.specs.declared.entry.Entry.{Entry}
@@ -13,13 +13,13 @@ use Rattle.switch_names.specs.Names.{Name}
 use Rattle.unit_stage.specs.Owes.{IsPaid, IsSteadyWorld, Owes}
 
 -- a switch of the units to a system, where there is one, owes a unit of a world an act of this kind
-abbrev pub OwesActTo : Option Name → WorldState → Act → Name → Type 0
-OwesActTo None w act unit = ⊥
-OwesActTo (Some system) w act unit = Owes false w system act unit
+abbrev pub OwesActTo : Bool → Option Name → WorldState → Act → Name → Type 0
+OwesActTo start_up None w act unit = ⊥
+OwesActTo start_up (Some system) w act unit = Owes start_up w system act unit
 
 -- a command owes a unit of a world an act of this kind
 abbrev pub OwesAct : Command → WorldState → Act → Name → Type 0
-OwesAct command w act unit = OwesActTo (switched_to command w.leaves) w act unit
+OwesAct command w act unit = OwesActTo (row command w.leaves).start_up (switched_to command w.leaves) w act unit
 
 -- a command owes a unit of a world something
 abbrev pub OwesUnit : Command → WorldState → Name → Type 0
@@ -31,13 +31,13 @@ IsPaidBy None act unit entries = ⊥
 IsPaidBy (Some system) act unit entries = IsPaid system act unit entries
 
 -- a world whose marks and lists don't contradict each other, as far as a switch of the units looks at them
-abbrev pub IsSteadyTo : Option Name → WorldState → Type 0
-IsSteadyTo None w = Unit {0}
-IsSteadyTo (Some system) w = IsSteadyWorld false w system
+abbrev pub IsSteadyTo : Bool → Option Name → WorldState → Type 0
+IsSteadyTo start_up None w = Unit {0}
+IsSteadyTo start_up (Some system) w = IsSteadyWorld start_up w system
 
 -- such a world for a command
 abbrev pub IsSteadyFor : Command → WorldState → Type 0
-IsSteadyFor command w = IsSteadyTo (switched_to command w.leaves) w
+IsSteadyFor command w = IsSteadyTo (row command w.leaves).start_up (switched_to command w.leaves) w
 
 -- What a run of a command has entered since it began in a world: only units that were owed something have been called,
 -- and every other is in the state that it was in.

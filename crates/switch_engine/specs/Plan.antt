@@ -18,9 +18,9 @@ use Rattle.unit_stage.specs.declared.unit_plan.UnitPlan.{UnitPlan}
 use Rattle.unit_stage.specs.Plan.{IsUnitPlanOf, no_units}
 
 -- what is planned for the units, where they are switched to a system
-abbrev pub AreUnitsPlanned : Bool → Name → WorldState → UnitPlan → Type 0
-AreUnitsPlanned true system w plan = IsUnitPlanOf false system w plan
-AreUnitsPlanned false system w plan = plan ≡ no_units
+abbrev pub AreUnitsPlanned : Bool → Bool → Name → WorldState → UnitPlan → Type 0
+AreUnitsPlanned start_up true system w plan = IsUnitPlanOf start_up system w plan
+AreUnitsPlanned start_up false system w plan = plan ≡ no_units
 
 -- what is planned for the accounts and /etc, where the units are switched to a system
 abbrev pub IsActivationPlanned : Bool → Name → WorldState → Option ActivationPlan → Type 0
@@ -43,7 +43,7 @@ IsProfilePlanned moves system w (Some plan) = (moves ≡ Some plan.to) × IsDefa
 
 -- the parts that are planned for a row
 pub record ArePlanned (its : Row) (w : WorldState) (plan : Plan) : Type 0 where
-  pub units : AreUnitsPlanned its.switches its.system w plan.units
+  pub units : AreUnitsPlanned its.start_up its.switches its.system w plan.units
   pub activation : IsActivationPlanned its.switches its.system w plan.activation
   pub profile : IsProfilePlanned its.moves its.system w plan.profile
 

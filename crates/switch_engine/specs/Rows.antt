@@ -14,23 +14,27 @@ use Rattle.generations.specs.Move.{gens_moved}
 use Rattle.host_trait.specs.declared.leaf.LeafKind.{LeafKind}
 use Rattle.host_trait.specs.World.{Leaves, content_of}
 use Rattle.switch_engine.specs.declared.command.Command.{Command}
-use Rattle.switch_engine.specs.Commands.{lacks_goal, new_system, row}
+use Rattle.switch_engine.specs.Commands.{lacks_system, missing, new_system, row}
 use Rattle.switch_engine.specs.System.{version_path}
 use Rattle.switch_names.specs.Names.{Name}
 use Rattle.switch_parts.specs.declared.refusal.Refusal.{Refusal}
-use Rattle.switch_parts.specs.declared.refusal.Refusal.TheVariants.{InTheWay, NoPrevious, NoSystem}
+use Rattle.switch_parts.specs.declared.refusal.Refusal.TheVariants.{InTheWay, NoSystem}
 use Rattle.switch_parts.specs.Part.{Part, both, final_leaf, no_part}
 use Rattle.tree_put.specs.First.{first_in_the_way}
 use Rattle.unit_stage.specs.Units.{units_part}
 
 -- what is brought into use by a switch to a system, where these are the owners of what is put below /etc; that is made
--- between the stops and the starts
-abbrev pub switch_part : Name → OwnerIds → Part
-switch_part system owners = both (units_part false system) (activation_part system owners)
+-- between the stops and the starts; as the machine starts up its target is started too
+abbrev pub switch_part : Bool → Name → OwnerIds → Part
+switch_part start_up system owners = both (units_part start_up system) (activation_part system owners)
 
 -- the same with the owners of the tables that are left
-abbrev pub switch_in : Name → Leaves → Part
-switch_in system leaves = switch_part system (owners_after system leaves)
+abbrev pub switch_in : Bool → Name → Leaves → Part
+switch_in start_up system leaves = switch_part start_up system (owners_after system leaves)
+
+-- the leaf that a switch of the units to a system leaves at a place, as the machine starts up or later
+abbrev pub switched_leaf : Name → Leaves → Name → Option LeafKind
+switched_leaf system leaves q = final_leaf (switch_in false system leaves) leaves q
 
 -- a part, where this is so
 abbrev pub part_if : Bool → Part → Part
@@ -53,34 +57,34 @@ gens_to None system leaves = gens_after system leaves
 gens_to (Some move) system leaves = gens_moved move system leaves
 
 -- the parts of a command that is about a system: what it switches, and the boot default
-abbrev pub parts : Bool → Option Move → Name → OwnerIds → Gens → Part
-parts switches moves system owners gens = both (part_if switches (switch_part system owners)) (default_if moves system gens)
+abbrev pub parts : Bool → Bool → Option Move → Name → OwnerIds → Gens → Part
+parts start_up switches moves system owners gens = both (part_if switches (switch_part start_up system owners)) (default_if moves system gens)
 
 -- the same with the owners of the tables that are left, and the generations that stand after a move of the profile
-abbrev pub parts_in : Bool → Option Move → Name → Leaves → Part
-parts_in switches moves system leaves = parts switches moves system (owners_after system leaves) (gens_to moves system leaves)
+abbrev pub parts_in : Bool → Bool → Option Move → Name → Leaves → Part
+parts_in start_up switches moves system leaves = parts start_up switches moves system (owners_after system leaves) (gens_to moves system leaves)
 
 -- the parts of a command
 abbrev pub part_of : Command → Leaves → Part
-part_of command leaves = parts_in (row command leaves).switches (row command leaves).moves (new_system command leaves) leaves
+part_of command leaves = parts_in (row command leaves).start_up (row command leaves).switches (row command leaves).moves (new_system command leaves) leaves
 
 -- why the parts of a command that is about a system are refused, or nothing: something is in the way, or a part is refused
-abbrev pub refusal_by : Bool → Option Move → Name → Leaves → Option Refusal
-refusal_by switches moves system leaves =
-    let part = parts_in switches moves system leaves in option_or (option_map InTheWay (first_in_the_way (part.places leaves) leaves)) (part.refusal leaves)
+abbrev pub refusal_by : Bool → Bool → Option Move → Name → Leaves → Option Refusal
+refusal_by start_up switches moves system leaves =
+    let part = parts_in start_up switches moves system leaves in option_or (option_map InTheWay (first_in_the_way (part.places leaves) leaves)) (part.refusal leaves)
 
 -- the same for a command
 abbrev pub parts_refusal : Command → Leaves → Option Refusal
-parts_refusal command leaves = refusal_by (row command leaves).switches (row command leaves).moves (new_system command leaves) leaves
+parts_refusal command leaves = refusal_by (row command leaves).start_up (row command leaves).switches (row command leaves).moves (new_system command leaves) leaves
 
 -- why the system of a command is refused, or nothing: it isn't there, or its parts are refused
 abbrev pub system_refusal : Command → Leaves → Option Refusal
 system_refusal command leaves =
     if is_none (content_of leaves (version_path (new_system command leaves))) then Some NoSystem else parts_refusal command leaves
 
--- why a command is refused, or nothing: it has no generation to go back to, or its system is refused
+-- why a command is refused, or nothing: the generations give it no system, or its system is refused
 abbrev pub refusal : Command → Leaves → Option Refusal
-refusal command leaves = if lacks_goal command leaves then Some NoPrevious else system_refusal command leaves
+refusal command leaves = if lacks_system command leaves then Some (missing command) else system_refusal command leaves
 
 -- the leaf that a command leaves at a place: its owner's end, else as it was
 abbrev pub final : Command → Leaves → Name → Option LeafKind

@@ -23,6 +23,9 @@ pub enum Command {
     /// the units to the system of that generation: the one whose number is recorded by a rollback that was
     /// cut, else the one before the current one.
     Rollback,
+    /// Does as the machine starts up what a `test` does of the system that the profile names, and starts
+    /// `multi-user.target` with what that wants.
+    StartUp,
 }
 
 impl Command {
@@ -31,7 +34,11 @@ impl Command {
         ensures { IsTrue result ↔ IsQuery self.now }
     {
         match self {
-            Command::Switch(_) | Command::Test(_) | Command::Boot(_) | Command::Rollback => false,
+            Command::Switch(_)
+            | Command::Test(_)
+            | Command::Boot(_)
+            | Command::Rollback
+            | Command::StartUp => false,
             Command::DryActivate(_) => true,
         }
     }
@@ -46,6 +53,7 @@ impl Command {
             Command::Boot(system) => Ok(Command::Boot(system.copy(alloc)?)),
             Command::DryActivate(system) => Ok(Command::DryActivate(system.copy(alloc)?)),
             Command::Rollback => Ok(Command::Rollback),
+            Command::StartUp => Ok(Command::StartUp),
         }
     }
 }

@@ -1,14 +1,13 @@
 //! The laws by which the promise for one cut becomes that for any number of cuts.
 ghost use Rattle.std.specs.Prelude.{◌≡◌, ◌⊎◌, ◌↔◌, IsSome, List, None, false};
 ghost use Rattle.boot_entries.specs.Menu.{IsMenuWhole};
-ghost use Rattle.generations.specs.Boot.{boot_system};
 ghost use Rattle.host_trait.specs.World.{WorldState};
 ghost use Rattle.switch_engine.specs.declared.command.Command.{Command};
 ghost use Rattle.switch_engine.specs.Commands.{IsQuery, goes_back, new_system, set_to};
 ghost use Rattle.switch_engine.specs.Final.{IsEndOf, IsFinalOf, LeavesFailed};
 ghost use Rattle.switch_engine.specs.Moments.{HasComeBackIn, IsMomentOf, LeadsBy};
 ghost use Rattle.switch_engine.specs.Owing.{IsOver, IsSteadyFor, IsUnderway};
-ghost use Rattle.switch_engine.specs.Reboot.{SwitchRebootLaw};
+ghost use Rattle.switch_engine.specs.Reboot.{BootsOldOrNew, SwitchRebootLaw};
 ghost use Rattle.switch_engine.specs.Rows.{refusal};
 ghost use Rattle.switch_names.specs.SystemName.{IsSystemPath};
 
@@ -66,12 +65,12 @@ pub fn an_ended_run_leaves_a_whole_boot_menu()
 ///
 /// Source: Nix manual, "Profiles".
 pub fn a_cut_run_boots_into_the_old_system_or_the_new()
-    ensures { (command : Command) (w m : WorldState) → IsMomentOf command w m
-        → (boot_system m.leaves ≡ boot_system w.leaves) ⊎ (IsSome (set_to command w.leaves) × (boot_system m.leaves ≡ set_to command w.leaves)) }
+    ensures { (command : Command) (w m : WorldState) → IsMomentOf command w m → BootsOldOrNew command w m }
 {}
 
-/// Where a machine is rebooted at any moment of a switch, or when that is over, a `test` of its system leaves
-/// of the accounts and of `/etc` what the switch leaves that isn't cut.
+/// Where a machine is rebooted at any moment of a switch, or when that is over, and boots into its system, the
+/// start-up leaves of the accounts and of `/etc` what the switch leaves that isn't cut, however often it is cut
+/// itself and the machine is rebooted again.
 ///
 /// Source: file-hierarchy(7), "/run/".
 pub fn a_switch_outlasts_a_reboot()

@@ -99,7 +99,7 @@ fn add_switch_if(
     places: &mut Listed<WrittenPlace>,
     row: &Row,
 ) -> Result<(), AllocError>
-    ensures places { OnOk result ((leaves : Leaves) (owners : OwnerIds) → places.new ≡ places.old ++ (part_if row.now.switches (switch_part row.now.system owners)).places leaves) }
+    ensures places { OnOk result ((leaves : Leaves) (owners : OwnerIds) → places.new ≡ places.old ++ (part_if row.now.switches (switch_part row.now.start_up row.now.system owners)).places leaves) }
     ensures apart { AreApartFromStage places.old → OnOk result (AreApartFromStage places.new) }
 {
     if !row.switches {
@@ -115,7 +115,7 @@ pub fn places_of(
     gens: Option<&Gens>,
 ) -> Result<Listed<WrittenPlace>, AllocError>
     ensures places { IfOk result (λ list. (leaves : Leaves) (owners : OwnerIds) → AreGensBy row.now.moves leaves (option_copied gens.entry)
-        → list ≡ (parts row.now.switches row.now.moves row.now.system owners (gens_to row.now.moves row.now.system leaves)).places leaves) }
+        → list ≡ (parts row.now.start_up row.now.switches row.now.moves row.now.system owners (gens_to row.now.moves row.now.system leaves)).places leaves) }
     ensures apart { IfOk result (λ list. AreApartFromStage list) }
 {
     let mut list = Listed::new(alloc);

@@ -62,9 +62,9 @@ fn check_places<T: Tree>(
     gens: Option<&Gens>,
 ) -> Result<(), PlanFault>
     requires { Told (T.host host.old) (λ w. AreGensBy row.now.moves w.leaves (option_copied gens)) }
-    ensures free { OnOk result (Told (T.host host.old) (λ w. first_in_the_way ((parts_in row.now.switches row.now.moves row.now.system w.leaves).places w.leaves) w.leaves ≡ None)) }
+    ensures free { OnOk result (Told (T.host host.old) (λ w. first_in_the_way ((parts_in row.now.start_up row.now.switches row.now.moves row.now.system w.leaves).places w.leaves) w.leaves ≡ None)) }
     ensures refused { (why : Refusal) → IsErrOf result (Refused why)
-        → Told (T.host host.old) (λ w. option_map InTheWay (first_in_the_way ((parts_in row.now.switches row.now.moves row.now.system w.leaves).places w.leaves) w.leaves) ≡ Some why) }
+        → Told (T.host host.old) (λ w. option_map InTheWay (first_in_the_way ((parts_in row.now.start_up row.now.switches row.now.moves row.now.system w.leaves).places w.leaves) w.leaves) ≡ Some why) }
     ensures reads { IsReadingOf (T.host host.old) (T.host host.new) (IsErrOf result (Host Device)) }
 {
     let places = places_of(alloc, row, gens)?;
@@ -74,17 +74,17 @@ fn check_places<T: Tree>(
 
 /// Plans what a command does to the units, or nothing where it doesn't switch them.
 fn plan_switch<H: Manager>(alloc: Global, host: &mut H, row: &Row) -> Result<UnitPlan, PlanFault>
-    ensures plan { IfOk result (λ plan. Told (H.host host.old) (λ w. AreUnitsPlanned row.now.switches row.now.system w plan)) }
-    ensures steady { IfOk result (λ plan. Told (H.host host.old) (λ w. IsTrue plan.steady ↔ IsSteadyTo (switched_by row.now) w)) }
-    ensures not_refused { OnOk result (Told (H.host host.old) (λ w. (part_if row.now.switches (units_part false row.now.system)).refusal w.leaves ≡ None)) }
+    ensures plan { IfOk result (λ plan. Told (H.host host.old) (λ w. AreUnitsPlanned row.now.start_up row.now.switches row.now.system w plan)) }
+    ensures steady { IfOk result (λ plan. Told (H.host host.old) (λ w. IsTrue plan.steady ↔ IsSteadyTo row.now.start_up (switched_by row.now) w)) }
+    ensures not_refused { OnOk result (Told (H.host host.old) (λ w. (part_if row.now.switches (units_part row.now.start_up row.now.system)).refusal w.leaves ≡ None)) }
     ensures refused { (why : Refusal) → IsErrOf result (Refused why)
-        → Told (H.host host.old) (λ w. (part_if row.now.switches (units_part false row.now.system)).refusal w.leaves ≡ Some why) }
+        → Told (H.host host.old) (λ w. (part_if row.now.switches (units_part row.now.start_up row.now.system)).refusal w.leaves ≡ Some why) }
     ensures reads { IsReadingOf (H.host host.old) (H.host host.new) (IsErrOf result (Host Device)) }
 {
     if !row.switches {
         return Ok(UnitPlan::none(alloc));
     }
-    let plan = plan_units(alloc, host, &row.system, false)?;
+    let plan = plan_units(alloc, host, &row.system, row.start_up)?;
     Ok(plan)
 }
 
@@ -144,10 +144,10 @@ fn plan_parts<H: Manager>(
     ensures command { IfOk result (λ plan. plan.command ≡ command.now) }
     ensures row { IfOk result (λ plan. plan.row ≡ row) }
     ensures plan { IfOk result (λ plan. Told (H.host host.old) (λ w. ArePlanned row w plan)) }
-    ensures steady { IfOk result (λ plan. Told (H.host host.old) (λ w. IsTrue plan.units.steady ↔ IsSteadyTo (switched_by row) w)) }
+    ensures steady { IfOk result (λ plan. Told (H.host host.old) (λ w. IsTrue plan.units.steady ↔ IsSteadyTo row.start_up (switched_by row) w)) }
     ensures sound { IfOk result IsSound }
-    ensures not_refused { OnOk result (Told (H.host host.old) (λ w. refusal_by row.switches row.moves row.system w.leaves ≡ None)) }
-    ensures refused { (why : Refusal) → IsErrOf result (Refused why) → Told (H.host host.old) (λ w. refusal_by row.switches row.moves row.system w.leaves ≡ Some why) }
+    ensures not_refused { OnOk result (Told (H.host host.old) (λ w. refusal_by row.start_up row.switches row.moves row.system w.leaves ≡ None)) }
+    ensures refused { (why : Refusal) → IsErrOf result (Refused why) → Told (H.host host.old) (λ w. refusal_by row.start_up row.switches row.moves row.system w.leaves ≡ Some why) }
     ensures reads { IsReadingOf (H.host host.old) (H.host host.new) (IsErrOf result (Host Device)) }
 {
     let planned = command.copy(alloc)?;
@@ -161,7 +161,7 @@ fn plan_parts<H: Manager>(
 
 /// Plans what a command does, before anything is put or changed, and changes nothing.
 ///
-/// The refusals are sought in this order: `NoPrevious` of a rollback, `NoSystem`, `InTheWay`; of a switch of the units `UnitText`,
+/// The refusals are sought in this order: `NoPrevious` of a rollback or `NoProfile` of a start-up, `NoSystem`, `InTheWay`; of a switch of the units `UnitText`,
 /// `UsersSpec`, `Table`, `IdMap`, then the first of `NoFreeId` and `UnknownGroup`, and then the first of
 /// `Reserved`, `EtcEntry` and `Owner`; and of a set of the profile `GenerationsFull`. The boot menu
 /// after a set is planned last, and is refused for nothing but what is in the way of its places.

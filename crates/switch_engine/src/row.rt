@@ -1,18 +1,18 @@
 //! What a command does in a world.
-ghost use Rattle.std.specs.Prelude.{◌≡◌, Some, IfOk, IsErrOf};
+ghost use Rattle.std.specs.Prelude.{◌≡◌, false, true, None, Some, IfOk, IsErrOf};
 ghost use Rattle.generations.specs.Gens.{IsGensOf};
 ghost use Rattle.generations.specs.Goal.{goal};
 ghost use Rattle.host_trait.specs.declared.tree.HostFault.TheVariants.{Device};
 ghost use Rattle.host_trait.specs.Host.{Told};
 ghost use Rattle.host_trait.specs.Reading.{IsReadingOf};
-ghost use Rattle.switch_engine.specs.declared.command.Command.TheVariants.{Rollback};
+ghost use Rattle.switch_engine.specs.declared.command.Command.TheVariants.{Rollback, StartUp};
 ghost use Rattle.switch_engine.specs.Resolved.{IsResolved, IsRowOf};
 ghost use Rattle.switch_engine.specs.Rows.{refusal};
 ghost use Rattle.switch_parts.specs.declared.plan_fault.PlanFault.TheVariants.{Host, Refused};
 ghost use Rattle.switch_parts.specs.declared.refusal.Refusal.{Refusal};
 
 use crate::command::Command;
-use generations::{Gens, GoalFault, Move, all, goal, system_of};
+use generations::{Gens, GoalFault, Move, all, boot_system, goal, system_of};
 use host_trait::Tree;
 use std::alloc::{AllocError, Global};
 use switch_names::SystemName;
@@ -26,6 +26,8 @@ pub struct Row {
     pub moves: Option<Move>,
     /// Whether the units are switched to the system.
     pub switches: bool,
+    /// Whether that is done as the machine starts up, so that its target is started too.
+    pub start_up: bool,
     /// Whether what is planned is carried out.
     pub changes: bool,
 }
@@ -37,6 +39,7 @@ impl Drop for Row {
             system: _,
             moves: _,
             switches: _,
+            start_up: _,
             changes: _,
         } = self;
     }
@@ -51,7 +54,7 @@ pub struct Resolved {
     pub gens: Option<Gens>,
 }
 
-/// A row over a system.
+/// A row over a system, not as the machine starts up.
 fn row_over(
     alloc: Global,
     system: &SystemName,
@@ -59,12 +62,13 @@ fn row_over(
     switches: bool,
     changes: bool,
 ) -> Result<Row, AllocError>
-    ensures { IfOk result (λ row. row ≡ record { system = system.now; moves = moves; switches = switches; changes = changes }) }
+    ensures { IfOk result (λ row. row ≡ record { system = system.now; moves = moves; switches = switches; start_up = false; changes = changes }) }
 {
     Ok(Row {
         system: system.copy(alloc)?,
         moves,
         switches,
+        start_up: false,
         changes,
     })
 }
@@ -101,7 +105,37 @@ fn resolve_back<T: Tree>(alloc: Global, host: &mut T) -> Result<Resolved, PlanFa
     })
 }
 
-/// What a command does wherever it begins, and nothing for a rollback.
+/// The row of a start-up, over the system that the machine boots into.
+fn start_row(alloc: Global, system: &SystemName) -> Result<Row, AllocError>
+    ensures { IfOk result (λ row. row ≡ record { system = system.now; moves = None; switches = true; start_up = true; changes = true }) }
+{
+    Ok(Row {
+        system: system.copy(alloc)?,
+        moves: None,
+        switches: true,
+        start_up: true,
+        changes: true,
+    })
+}
+
+/// What a start-up does: it is about the system that the profile names.
+fn resolve_start<T: Tree>(alloc: Global, host: &mut T) -> Result<Resolved, PlanFault>
+    ensures resolved { IfOk result (λ its. Told (T.host host.old) (λ w. IsResolved StartUp w.leaves its)) }
+    ensures refused { (why : Refusal) → IsErrOf result (Refused why) → Told (T.host host.old) (λ w. refusal StartUp w.leaves ≡ Some why) }
+    ensures reads { IsReadingOf (T.host host.old) (T.host host.new) (IsErrOf result (Host Device)) }
+{
+    let gens = all(alloc, host)?;
+    let Some(system) = boot_system(&gens) else {
+        return Err(PlanFault::Refused(Refusal::NoProfile));
+    };
+    let row = start_row(alloc, system)?;
+    Ok(Resolved {
+        row,
+        gens: Some(gens),
+    })
+}
+
+/// What a command does wherever it begins, and nothing for one that goes by the generations.
 fn row_of(alloc: Global, command: &Command) -> Result<Option<Row>, AllocError>
     ensures { IfOk result (IsRowOf command.now) }
 {
@@ -122,13 +156,31 @@ fn row_of(alloc: Global, command: &Command) -> Result<Option<Row>, AllocError>
             let row = row_over(alloc, system, None, true, false)?;
             Ok(Some(row))
         }
-        Command::Rollback => Ok(None),
+        Command::Rollback | Command::StartUp => Ok(None),
+    }
+}
+
+/// What a command does that goes by the generations.
+fn resolve_by_generations<T: Tree>(
+    alloc: Global,
+    host: &mut T,
+    command: &Command,
+) -> Result<Resolved, PlanFault>
+    requires { IsRowOf command.now None }
+    ensures resolved { IfOk result (λ its. Told (T.host host.old) (λ w. IsResolved command.now w.leaves its)) }
+    ensures refused { (why : Refusal) → IsErrOf result (Refused why) → Told (T.host host.old) (λ w. refusal command.now w.leaves ≡ Some why) }
+    ensures reads { IsReadingOf (T.host host.old) (T.host host.new) (IsErrOf result (Host Device)) }
+{
+    match command {
+        Command::StartUp => resolve_start(alloc, host),
+        _ => resolve_back(alloc, host),
     }
 }
 
 /// What a command does in the world where it begins.
 ///
-/// A rollback is refused where it has no goal; nothing else is read, and no other command is refused.
+/// A rollback is refused where it has no goal, and a start-up where the profile names no system; nothing else is read, and no
+/// other command is refused.
 pub fn resolve<T: Tree>(
     alloc: Global,
     host: &mut T,
@@ -140,6 +192,6 @@ pub fn resolve<T: Tree>(
 {
     match row_of(alloc, command)? {
         Some(row) => Ok(Resolved { row, gens: None }),
-        None => resolve_back(alloc, host),
+        None => resolve_by_generations(alloc, host, command),
     }
 }

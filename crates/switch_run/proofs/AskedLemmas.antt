@@ -18,7 +18,7 @@ use Rattle.host_trait.proofs.Causes.{causes, started_of}
 use Rattle.host_trait.proofs.Moments.{each_moment, same_as}
 use Rattle.dry_report.proofs.PutLemmas.{puts_nothing}
 use Rattle.switch_engine.specs.declared.command.Command.{Command}
-use Rattle.switch_engine.specs.declared.command.Command.TheVariants.{Rollback}
+use Rattle.switch_engine.specs.declared.command.Command.TheVariants.{Rollback, StartUp}
 use Rattle.switch_parts.specs.declared.refusal.Refusal.{Refusal}
 use Rattle.switch_run.specs.declared.asked.Asked.TheVariants as asked
 use Rattle.switch_run.specs.declared.run_fault.RunFault.{RunFault}
@@ -47,7 +47,7 @@ use Rattle.switch_run.proofs.WordLemmas.{same_command}
 -- words that ask for the list give no command
 no_command_listed : (words : List (List ℕ)) → asks_list words ≡ true → command_of words ≡ None
 no_command_listed [] asks = refl
-no_command_listed (verb ∷ []) asks = ap (λ v. cond (pointwise nat_eq v (codes "rollback")) (Some Rollback) None) (same_text verb (codes "generations") (sym asks))
+no_command_listed (verb ∷ []) asks = ap (λ v. cond (pointwise nat_eq v (codes "rollback")) (Some Rollback) (cond (pointwise nat_eq v (codes "start-up")) (Some StartUp) None)) (same_text verb (codes "generations") (sym asks))
 no_command_listed (verb ∷ more ∷ rest) asks = absurd (both_ways _ refl asks)
 
 never_listed : {X : Type 0} (words : List (List ℕ)) (command : Command) → asks_list words ≡ true → command_of words ≡ Some command → X

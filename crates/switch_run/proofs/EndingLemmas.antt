@@ -190,16 +190,16 @@ module _ {host : HostState} (plan : Plan) (planned : Told host (λ w. IsPlanOf w
               record {
                 final = record {
                   leaves = λ q other. sym (ap (λ b. cond b (final_leaf (part_of command w.leaves) w.leaves q) (get w.leaves q)) (query w.leaves));
-                  units = subst (λ to. AreFinalUnits to w w) none (refl, refl);
+                  units = subst (λ to. AreFinalUnits (row command w.leaves).start_up to w w) none (refl, refl);
                   bad = refl;
                 };
                 entries = [];
-                are_entered = subst (λ to. AreEntries to w []) none refl;
+                are_entered = subst (λ to. AreEntries (row command w.leaves).start_up to w []) none refl;
                 journal = sym (append-nil w.manager.journal);
               }
 
           query_fails : (command : Command) → IsQuery command → (w : WorldState) → LeavesFailed command w → ⊥
-          query_fails command query w left = subst (λ b. LeavesFailedAt (if_so (b && (row command w.leaves).switches) (new_system command w.leaves)) w) (query w.leaves) left
+          query_fails command query w left = subst (λ b. LeavesFailedAt (row command w.leaves).start_up (if_so (b && (row command w.leaves).switches) (new_system command w.leaves)) w) (query w.leaves) left
 
           query_whole : (command : Command) → IsQuery command → (w : WorldState) (more : List ℕ) → IsReport command w more → IsWhole command w more
           query_whole command query w more report = record {

@@ -1,6 +1,7 @@
 pub mod AskedLemmas
 pub mod EndingLemmas
 pub mod MomentLemmas
+pub mod RebootsLemmas
 pub mod RunLemmas
 pub mod RunsLemmas
 pub mod TellingLemmas

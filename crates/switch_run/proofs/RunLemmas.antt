@@ -9,8 +9,9 @@ use Rattle.host_trait.specs.World.{Leaves, WorldState}
 use Rattle.host_trait.proofs.Moments.{passes_as, told_as, none_not_some}
 use Rattle.switch_engine.specs.declared.command.Command.{Command}
 use Rattle.switch_engine.specs.declared.command.Command.TheVariants.{Test, DryActivate}
-use Rattle.switch_engine.specs.Commands.{IsQuery, lacks_goal, new_system}
+use Rattle.switch_engine.specs.Commands.{IsQuery, lacks_system, new_system}
 use Rattle.switch_engine.specs.Final.{IsEndOf}
+use Rattle.switch_engine.specs.Reboot.{BootsOldOrNew}
 use Rattle.switch_engine.specs.Rows.{refusal}
 use Rattle.switch_names.specs.SystemName.{IsSystemPath}
 use Rattle.switch_parts.specs.declared.refusal.Refusal.{Refusal}
@@ -26,7 +27,7 @@ use Rattle.switch_run.specs.Moments.{IsMomentOf}
 use Rattle.switch_run.specs.Output.{IsBrokenOff, IsFailedOutput, IsIdle, IsPutFirst, IsWhole}
 use Rattle.switch_run.specs.Output.IsBrokenOff.{AfterReport, BeforeReport}
 use Rattle.switch_run.specs.Run.{Answers, IsAnswerTo, IsBroken, IsEnded, IsVerdict, status_of}
-use Rattle.switch_run.proofs.MomentLemmas.{of_query, of_report}
+use Rattle.switch_run.proofs.MomentLemmas.{boots_of, of_query, of_report}
 
 -- ---- which ending has a status
 
@@ -178,9 +179,13 @@ module _ {host_state after : HostState} {sink put : SinkState} (given : Option C
   queries command some query =
       passes_as is.moments IsSame (λ w m told moment. of_query command w m query (subst (λ (g : Option Command). IsMomentOf g w m) some moment))
 
-  pub same_report : (command : Command) → ((leaves : Leaves) → lacks_goal command leaves ≡ false → IsSystemPath (new_system command leaves)) → given ≡ Some command → Passes host_state after (KeepsReport command)
+  pub same_report : (command : Command) → ((leaves : Leaves) → lacks_system command leaves ≡ false → IsSystemPath (new_system command leaves)) → given ≡ Some command → Passes host_state after (KeepsReport command)
   same_report command named some =
       passes_as is.moments (KeepsReport command) (λ w m told moment. of_report command w m (named w.leaves) (subst (λ (g : Option Command). IsMomentOf g w m) some moment))
+
+  pub boots : (command : Command) → given ≡ Some command → Passes host_state after (BootsOldOrNew command)
+  boots command some =
+      passes_as is.moments (BootsOldOrNew command) (λ w m told moment. boots_of (refusal command w.leaves) command w m (subst (λ (g : Option Command). IsMomentOf g w m) some moment))
 
   pub broken_off : IsBroken status → (command : Command) → given ≡ Some command → IsBrokenOff command host_state after sink put
   broken_off s command some = let it = broken_of ending (subst IsBroken tells s) in come_as (Some command) (Err (fault.Host it.0)) some it.1

@@ -31,7 +31,7 @@ use Rattle.unit_stage.proofs.WaitingLemmas.{same_waiting}
 
 -- ---- runs of words are runs of their command
 
-moment_of : (words : List (List ℕ)) (command : Command) → command_of words ≡ Some command → (w m : WorldState) → refusal command w.leaves ≡ None → IsMomentOf (command_of words) w m → moments.IsMomentOf command w m
+pub moment_of : (words : List (List ℕ)) (command : Command) → command_of words ≡ Some command → (w m : WorldState) → refusal command w.leaves ≡ None → IsMomentOf (command_of words) w m → moments.IsMomentOf command w m
 moment_of words command given w m none moment =
     subst (λ (o : Option Refusal). IsMomentBy o command w m) none (subst (λ (o : Option Command). IsMomentOf o w m) given moment)
 
@@ -78,10 +78,10 @@ on_its_way_then (Some (Point n)) command first w m before is = ⊎_elim
 abbrev kept_owed : Owed → Owed
 kept_owed owed = record { stops = owed.stops; reloads = owed.reloads; restarts = owed.restarts; starts = owed.starts; left = [] }
 
-one_owed : (w : WorldState) (system : Name) (one other : Owed) → IsOwedBy false w system one → IsOwedBy false w system other → kept_owed one ≡ kept_owed other
-one_owed w system one other is also =
+one_owed : (start_up : Bool) (w : WorldState) (system : Name) (one other : Owed) → IsOwedBy start_up w system one → IsOwedBy start_up w system other → kept_owed one ≡ kept_owed other
+one_owed start_up w system one other is also =
     let mine = is.1.is_owed in
-    let lists = same_waiting false w.leaves system is.0 also.0 is.1.listed also.1.listed in
+    let lists = same_waiting start_up w.leaves system is.0 also.0 is.1.listed also.1.listed in
     let others = subst (λ (l : Lists). IsOwed (systems_at w.leaves (current_system w.leaves) system) (state_of w.manager.states) l other) (sym lists) also.1.is_owed in
     λ i. record {
       stops = one_list one.stops other.stops _ mine.stops others.stops i;
@@ -91,24 +91,24 @@ one_owed w system one other is also =
       left = [];
     }
 
-one_state : (w : WorldState) (system : Name) (one other : Owed) → IsOwedBy false w system one → IsOwedBy false w system other → (unit : Name) → state_after system one w unit ≡ state_after system other w unit
-one_state w system one other is also unit =
-    ap (λ (owed : Owed). final_state owed (definitions_of system) w.manager.bad (state_of w.manager.states) unit) (one_owed w system one other is also)
+one_state : (start_up : Bool) (w : WorldState) (system : Name) (one other : Owed) → IsOwedBy start_up w system one → IsOwedBy start_up w system other → (unit : Name) → state_after system one w unit ≡ state_after system other w unit
+one_state start_up w system one other is also unit =
+    ap (λ (owed : Owed). final_state owed (definitions_of system) w.manager.bad (state_of w.manager.states) unit) (one_owed start_up w system one other is also)
 
-one_end_of_states : (to : Option Name) (w v u : WorldState) → AreFinalUnits to w v → AreFinalUnits to w u → (unit : Name) → state_of v.manager.states unit ≡ state_of u.manager.states unit
-one_end_of_states None w v u is also unit = ap (λ (states : UnitStates). state_of states unit) (is.0 ∙ sym also.0)
-one_end_of_states (Some system) w v u is also unit =
-    is.0.2 unit ∙ one_state w system is.0.0 also.0.0 is.0.1 also.0.1 unit ∙ sym (also.0.2 unit)
+one_end_of_states : (start_up : Bool) (to : Option Name) (w v u : WorldState) → AreFinalUnits start_up to w v → AreFinalUnits start_up to w u → (unit : Name) → state_of v.manager.states unit ≡ state_of u.manager.states unit
+one_end_of_states start_up None w v u is also unit = ap (λ (states : UnitStates). state_of states unit) (is.0 ∙ sym also.0)
+one_end_of_states start_up (Some system) w v u is also unit =
+    is.0.2 unit ∙ one_state start_up w system is.0.0 also.0.0 is.0.1 also.0.1 unit ∙ sym (also.0.2 unit)
 
-one_loaded : (to : Option Name) (w v u : WorldState) → AreFinalUnits to w v → AreFinalUnits to w u → v.manager.loaded ≡ u.manager.loaded
-one_loaded None w v u is also = is.1 ∙ sym also.1
-one_loaded (Some system) w v u is also = is.1 ∙ sym also.1
+one_loaded : (start_up : Bool) (to : Option Name) (w v u : WorldState) → AreFinalUnits start_up to w v → AreFinalUnits start_up to w u → v.manager.loaded ≡ u.manager.loaded
+one_loaded start_up None w v u is also = is.1 ∙ sym also.1
+one_loaded start_up (Some system) w v u is also = is.1 ∙ sym also.1
 
 one_end : (command : Command) (w v u : WorldState) → IsFinalOf command w v → IsFinalOf command w u → LooksAlike v u
 one_end command w v u is also = record {
   leaves = λ at other. is.leaves at other ∙ sym (also.leaves at other);
-  states = one_end_of_states (brought_to command w.leaves) w v u is.units also.units;
-  loaded = one_loaded (brought_to command w.leaves) w v u is.units also.units;
+  states = one_end_of_states (row command w.leaves).start_up (brought_to command w.leaves) w v u is.units also.units;
+  loaded = one_loaded (row command w.leaves).start_up (brought_to command w.leaves) w v u is.units also.units;
 }
 
 pub alike : (words : List (List ℕ)) (cuts : List WorldState) (first last uncut : WorldState) → (may : MayBeCut words first) → goes_back may.command first.leaves ≡ false → RunsLead words cuts first last → RunsLead words [] first uncut → LooksAlike last uncut

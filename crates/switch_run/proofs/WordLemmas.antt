@@ -1,15 +1,17 @@
 -- The words of a command.
-use Rattle.std.proofs.Common.{◌≡◌, ℕ, Bool, true, false, codes, nat_eq, List, [], ◌∷◌, Option, None, Some, cond, is_none, option_and_then, ap, refl, sym, subst, ◌∙◌}
+use Rattle.std.proofs.Common.{◌≡◌, ℕ, Bool, true, false, codes, nat_eq, List, [], ◌∷◌, Option, None, Some, cond, is_none, option_and_then, unwrap_or, ap, refl, sym, subst, ◌∙◌}
 use Rattle.std.proofs.lemmas.Option.{none-some}
 use Rattle.generations.specs.Places.{system_of}
 use Rattle.host_trait.specs.World.{Leaves}
 use Rattle.switch_engine.specs.declared.command.Command.{Command}
-use Rattle.switch_engine.specs.declared.command.Command.TheVariants.{Switch, Test, Boot, DryActivate, Rollback}
-use Rattle.switch_engine.specs.Commands.{lacks_goal, named_by, new_system, system_of as system_of_goal}
+use Rattle.switch_engine.specs.declared.command.Command.TheVariants.{Switch, Test, Boot, DryActivate, Rollback, StartUp}
+use Rattle.switch_engine.specs.Commands.{lacks_system, named_by, new_system, system_of as system_of_goal}
 use Rattle.switch_engine.proofs.GoalKeptLemmas.{names_it}
+use Rattle.generations.specs.Boot.{boot_system}
 use Rattle.generations.specs.Goal.{goal}
 use Rattle.generations.specs.Places.{generation_at}
 use Rattle.generations.proofs.AfterLemmas.{named_at}
+use Rattle.generations.proofs.BootLemmas.{named_law}
 use Rattle.generations.proofs.GoalLemmas.{goal_names}
 use Rattle.std.proofs.lemmas.Bool.{both_ways}
 use Rattle.std.specs.Cmp.Lexicographic.{pointwise}
@@ -44,16 +46,24 @@ named_back : (leaves : Leaves) (o : Option ℕ) → goal leaves ≡ o → is_non
 named_back leaves None is has = absurd (both_ways _ has refl)
 named_back leaves (Some n) is has = named_at leaves n (Some (named_by (generation_at leaves n))) (names_it (generation_at leaves n) (goal_names leaves n is))
 
--- words give a command for a system, or a rollback
-pub named_of : (words : List (List ℕ)) (command : Command) → command_of words ≡ Some command → (leaves : Leaves) → lacks_goal command leaves ≡ false → IsSystemPath (new_system command leaves)
+-- a start-up that has a system is about what the machine boots into
+named_booted : (leaves : Leaves) (o : Option (List ℕ)) → boot_system leaves ≡ o → is_none o ≡ false → IsSystemPath (unwrap_or o [])
+named_booted leaves None is has = absurd (both_ways _ has refl)
+named_booted leaves (Some system) is has = let names = (named_law leaves system).1 is in named_at leaves names.number (Some system) names.named
+
+-- words give a command for a system, a rollback, or a start-up
+pub named_of : (words : List (List ℕ)) (command : Command) → command_of words ≡ Some command → (leaves : Leaves) → lacks_system command leaves ≡ false → IsSystemPath (new_system command leaves)
 named_of [] command is leaves has = absurd (none-some command is)
-named_of (verb ∷ []) command is leaves has = by (pointwise nat_eq verb (codes "rollback")) is has
+named_of (verb ∷ []) command is leaves has = by (pointwise nat_eq verb (codes "rollback")) (pointwise nat_eq verb (codes "start-up")) is has
   where
-    by : (b : Bool) → cond b (Some Rollback) None ≡ Some command → lacks_goal command leaves ≡ false → IsSystemPath (new_system command leaves)
-    by true is has =
+    by : (back start : Bool) → cond back (Some Rollback) (cond start (Some StartUp) None) ≡ Some command → lacks_system command leaves ≡ false → IsSystemPath (new_system command leaves)
+    by true start is has =
         let same = same_command Rollback command is in
-        subst (λ (c : Command). IsSystemPath (new_system c leaves)) same (named_back leaves (goal leaves) refl (subst (λ (c : Command). lacks_goal c leaves ≡ false) (sym same) has))
-    by false is has = absurd (none-some command is)
+        subst (λ (c : Command). IsSystemPath (new_system c leaves)) same (named_back leaves (goal leaves) refl (subst (λ (c : Command). lacks_system c leaves ≡ false) (sym same) has))
+    by false true is has =
+        let same = same_command StartUp command is in
+        subst (λ (c : Command). IsSystemPath (new_system c leaves)) same (named_booted leaves (boot_system leaves) refl (subst (λ (c : Command). lacks_system c leaves ≡ false) (sym same) has))
+    by false false is has = absurd (none-some command is)
 named_of (verb ∷ word ∷ []) command is leaves has = by (system_fault word) refl is
   where
     by : (fault : Option NameFault) → system_fault word ≡ fault → option_and_then (command_for verb) (cond (is_none fault) (Some (system_path word)) None) ≡ Some command → IsSystemPath (new_system command leaves)

@@ -3,7 +3,7 @@ use Rattle.std.specs.Prelude.{ℕ, List, [], ◌∷◌, codes, nat_eq, Option, N
 use Rattle.std.specs.Cmp.Lexicographic.{pointwise}
 use Rattle.generations.specs.Places.{system_of}
 use Rattle.switch_engine.specs.declared.command.Command.{Command}
-use Rattle.switch_engine.specs.declared.command.Command.TheVariants.{Switch, Test, Boot, DryActivate, Rollback}
+use Rattle.switch_engine.specs.declared.command.Command.TheVariants.{Switch, Test, Boot, DryActivate, Rollback, StartUp}
 
 -- the command that a word gives for a system, or none
 abbrev pub command_for : List ℕ → List ℕ → Option Command
@@ -16,7 +16,10 @@ command_for verb system =
 
 -- the command that a word gives alone, or none
 abbrev pub command_alone : List ℕ → Option Command
-command_alone verb = if pointwise nat_eq verb (codes "rollback") then Some Rollback else None
+command_alone verb =
+    if pointwise nat_eq verb (codes "rollback") then Some Rollback
+    else if pointwise nat_eq verb (codes "start-up") then Some StartUp
+    else None
 
 -- the command that words give, or none
 abbrev pub command_of : List (List ℕ) → Option Command

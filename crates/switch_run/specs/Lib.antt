@@ -4,6 +4,7 @@ pub mod Ending
 pub mod Listing
 pub mod Moments
 pub mod Output
+pub mod Reboots
 pub mod RefusalTexts
 pub mod Rehearsing
 pub mod Run

@@ -64,6 +64,9 @@ fn read_alone(verb: &Text) -> Option<Command>
     if verb.as_str() == "rollback" {
         return Some(Command::Rollback);
     }
+    if verb.as_str() == "start-up" {
+        return Some(Command::StartUp);
+    }
     None
 }
 

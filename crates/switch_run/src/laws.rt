@@ -4,6 +4,7 @@ ghost use Rattle.host_trait.specs.World.{WorldState};
 ghost use Rattle.switch_engine.specs.Commands.{goes_back};
 ghost use Rattle.switch_engine.specs.Moments.{HasComeBackIn};
 ghost use Rattle.switch_engine.specs.Owing.{IsOver};
+ghost use Rattle.switch_run.specs.Reboots.{RebootsLaw};
 ghost use Rattle.switch_run.specs.Runs.{LooksAlike, MayBeCut, RunsLead};
 
 /// At whatever moments runs of the same words are cut, and however often, the one that then comes to its end leaves what a
@@ -25,4 +26,13 @@ pub fn cut_runs_end_as_one()
 pub fn cut_rollbacks_end_as_one()
     ensures { (words : List (List ℕ)) (cuts : List WorldState) (first last : WorldState) → (may : MayBeCut words first)
         → RunsLead words cuts first last → IsOver first may.command last ⊎ HasComeBackIn may.command first cuts }
+{}
+
+/// Where runs of a switch were cut, however often, and the machine was then rebooted and has booted into its system, the
+/// start-up leaves the account tables, the maps of ids, the declared names and what a switch writes below `/etc` as an
+/// uncut switch leaves them, however often it is cut itself and the machine is rebooted again.
+///
+/// That it boots into this system or into the one before is the clause `boots` of `run`. Source: bootup(7).
+pub fn a_reboot_makes_the_switch_whole()
+    ensures { RebootsLaw }
 {}

@@ -10,6 +10,7 @@ ghost use Rattle.switch_engine.specs.Commands.{IsQuery, row};
 ghost use Rattle.switch_engine.specs.Final.{IsEndOf};
 ghost use Rattle.switch_engine.specs.Moments.{IsOnItsWay};
 ghost use Rattle.switch_engine.specs.Owing.{IsOver, IsUnderway};
+ghost use Rattle.switch_engine.specs.Reboot.{BootsOldOrNew};
 ghost use Rattle.switch_engine.specs.Rows.{refusal};
 ghost use Rattle.switch_parts.specs.declared.refusal.Refusal.{Refusal};
 ghost use Rattle.dry_report.specs.Report.{KeepsReport};
@@ -102,6 +103,9 @@ pub fn run<H: Manager, S: Sink>(alloc: Global, words: &[Text], host: &mut H, out
     // beginning of exactly what the command enters.
     ensures each_moment { EachMoment (H.host host.old) (H.host host.new) (IsMomentOf (command_of words.now)) }
     ensures moments { Passes (H.host host.old) (H.host host.new) (IsMomentOf (command_of words.now)) }
+
+    // A machine that loses power then boots into the system that it would have booted into before, or into the new one.
+    ensures boots { (command : Command) → command_of words.now ≡ Some command → Passes (H.host host.old) (H.host host.new) (BootsOldOrNew command) }
 
     // However often runs of these words were cut before, since one that wasn't refused began in a steady world: each
     // moment is underway from there, or a rollback has come to its end, and the end is the one that it has.

@@ -18,3 +18,7 @@ returns-in-Switch-2 c = (λ so. repeatable c.args.command.now c.in-Switch.is, λ
 -- src/attempt.rt:13:1
 pub returns-in-Switch-3 : goal.returns-in-Switch-3
 returns-in-Switch-3 c = (λ so. repeatable c.args.command.now c.in-Switch.is, λ is. refl)
+
+-- src/attempt.rt:13:1
+pub returns-in-Switch-4 : goal.returns-in-Switch-4
+returns-in-Switch-4 c = (λ so. repeatable c.args.command.now c.in-Switch.is, λ is. refl)

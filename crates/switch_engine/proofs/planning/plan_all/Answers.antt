@@ -46,7 +46,7 @@ pub returns-then-not-branch-clause-refused : goal.returns-then-not-branch-clause
 returns-then-not-branch-clause-refused g c why e =
     told_as c.in_ok-resolved.ensures.resolved (λ w. refusal c.args.command.now w.leaves ≡ Some why)
     (λ w is its.
-    no_system c.args.command.now w.leaves c.in_ok-resolved.resolved.row.system its.goal (ap (λ (r : Row). r.system) its.row)
+    no_system c.args.command.now w.leaves c.in_ok-resolved.resolved.row.system its.has_one (ap (λ (r : Row). r.system) its.row)
     (sym ((told_before c.resolve.ensures.reads.moments c.in_ok-has_version.ensures.has).has w is) ∙ c.if-not-branch.true) ∙ ap Some (refused_is NoSystem why e))
 
 pub returns-in_err-plan-clause-refused : goal.returns-in_err-plan-clause-refused
@@ -56,9 +56,9 @@ returns-in_err-plan-clause-refused g c why e =
     told_as (told_before c.resolve.ensures.reads.moments (told_read c.has_version.ensures.reads refused)) (λ w. refusal c.args.command.now w.leaves ≡ Some why)
     (λ w is parts.
     let its = c.in_ok-resolved.ensures.resolved.has w is in
-    has_system c.args.command.now w.leaves c.in_ok-resolved.resolved.row.system its.goal (ap (λ (r : Row). r.system) its.row)
+    has_system c.args.command.now w.leaves c.in_ok-resolved.resolved.row.system its.has_one (ap (λ (r : Row). r.system) its.row)
     (sym ((told_before c.resolve.ensures.reads.moments c.in_ok-has_version.ensures.has).has w is) ∙ c.if-not-branch.false)
-    ∙ subst (λ (r : Row). refusal_by r.switches r.moves r.system w.leaves ≡ Some why) its.row parts)
+    ∙ subst (λ (r : Row). refusal_by r.start_up r.switches r.moves r.system w.leaves ≡ Some why) its.row parts)
 
 pub returns-clause-plan : goal.returns-clause-plan
 returns-clause-plan g c =
@@ -72,9 +72,9 @@ returns-clause-plan g c =
       planned = subst (λ (r : Row). ArePlanned r w plan) (sym same_row) planned;
       named = subst (λ (r : Row). IsSystemPath r.system) (sym same_row) c.path-path.ensures.names;
       not_refused = subst (λ (command : Command). refusal command w.leaves ≡ None) (sym c.in_ok-plan.ensures.command)
-          (has_system c.args.command.now w.leaves c.in_ok-resolved.resolved.row.system its.goal (ap (λ (r : Row). r.system) its.row)
+          (has_system c.args.command.now w.leaves c.in_ok-resolved.resolved.row.system its.has_one (ap (λ (r : Row). r.system) its.row)
           (sym ((told_before c.resolve.ensures.reads.moments c.in_ok-has_version.ensures.has).has w is) ∙ c.if-not-branch.false)
-          ∙ subst (λ (r : Row). refusal_by r.switches r.moves r.system w.leaves ≡ None) its.row
+          ∙ subst (λ (r : Row). refusal_by r.start_up r.switches r.moves r.system w.leaves ≡ None) its.row
           ((told_before c.resolve.ensures.reads.moments (told_read c.has_version.ensures.reads c.in_ok-plan.ensures.not_refused)).has w is));
     })
 
@@ -82,7 +82,7 @@ pub returns-clause-steady : goal.returns-clause-steady
 returns-clause-steady g c =
     let plan = c.in_ok-plan.plan in
     told_as (told_before c.resolve.ensures.reads.moments (told_read c.has_version.ensures.reads c.in_ok-plan.ensures.steady)) (λ w. IsTrue plan.units.steady ↔ IsSteadyFor c.args.command.now w)
-    (λ w is told. subst (λ (r : Row). IsTrue plan.units.steady ↔ IsSteadyTo (switched_by r) w) (c.in_ok-resolved.ensures.resolved.has w is).row told)
+    (λ w is told. subst (λ (r : Row). IsTrue plan.units.steady ↔ IsSteadyTo r.start_up (switched_by r) w) (c.in_ok-resolved.ensures.resolved.has w is).row told)
 
 pub returns-in_err-resolved-clause-refused : goal.returns-in_err-resolved-clause-refused
 returns-in_err-resolved-clause-refused g c why e =

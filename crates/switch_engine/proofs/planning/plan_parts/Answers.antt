@@ -23,8 +23,8 @@ returns-in_err-check_places-clause-refused g c why e =
     let p = err_from_is_err_and c.from_residual-in_err-check_places.result c.from_residual-in_err-check_places.ensures.1 in
     let its = c.args.row in
     told_as (told_read c.gens_for.ensures.reads (c.in_err-check_places.ensures.refused why (ap (λ f. Err f) (sym p.2 ∙ same_fault p.0 (Refused why) (sym p.1 ∙ e)))))
-    (λ w. refusal_by its.switches its.moves its.system w.leaves ≡ Some why)
-    (λ w is way. way_refused its.switches its.moves its.system w.leaves why way)
+    (λ w. refusal_by its.start_up its.switches its.moves its.system w.leaves ≡ Some why)
+    (λ w is way. way_refused its.start_up its.switches its.moves its.system w.leaves why way)
 
 pub returns-in_err-check_places-clause-reads : goal.returns-in_err-check_places-clause-reads
 returns-in_err-check_places-clause-reads g c =
@@ -37,8 +37,8 @@ returns-in_err-units-clause-refused g c why e =
     let its = c.args.row in
     let refused = c.in_err-units.ensures.refused why (ap (λ f. Err f) (sym p.2 ∙ same_fault p.0 (Refused why) (sym p.1 ∙ e))) in
     let way = told_read c.gens_for.ensures.reads c.in_ok-check_places.ensures.free in
-    told_as (told_read c.gens_for.ensures.reads (told_before c.check_places.ensures.reads.moments refused)) (λ w. refusal_by its.switches its.moves its.system w.leaves ≡ Some why)
-    (λ w is units. units_refused its.switches its.moves its.system w.leaves (way.has w is) why units)
+    told_as (told_read c.gens_for.ensures.reads (told_before c.check_places.ensures.reads.moments refused)) (λ w. refusal_by its.start_up its.switches its.moves its.system w.leaves ≡ Some why)
+    (λ w is units. units_refused its.start_up its.switches its.moves its.system w.leaves (way.has w is) why units)
 
 pub returns-in_err-units-clause-reads : goal.returns-in_err-units-clause-reads
 returns-in_err-units-clause-reads g c =
@@ -52,8 +52,8 @@ returns-in_err-activation-clause-refused g c why e =
     let refused = c.in_err-activation.ensures.refused why (ap (λ f. Err f) (sym p.2 ∙ same_fault p.0 (Refused why) (sym p.1 ∙ e))) in
     let way = told_read c.gens_for.ensures.reads c.in_ok-check_places.ensures.free in
     let units = told_read c.gens_for.ensures.reads (told_before c.check_places.ensures.reads.moments c.in_ok-units.ensures.not_refused) in
-    told_as (told_read c.gens_for.ensures.reads (told_before c.check_places.ensures.reads.moments (told_before c.plan_switch.ensures.reads.moments refused))) (λ w. refusal_by its.switches its.moves its.system w.leaves ≡ Some why)
-    (λ w is activation. activation_refused its.switches its.moves its.system w.leaves (way.has w is) (units.has w is) why activation)
+    told_as (told_read c.gens_for.ensures.reads (told_before c.check_places.ensures.reads.moments (told_before c.plan_switch.ensures.reads.moments refused))) (λ w. refusal_by its.start_up its.switches its.moves its.system w.leaves ≡ Some why)
+    (λ w is activation. activation_refused its.start_up its.switches its.moves its.system w.leaves (way.has w is) (units.has w is) why activation)
 
 pub returns-in_err-activation-clause-reads : goal.returns-in_err-activation-clause-reads
 returns-in_err-activation-clause-reads g c =
@@ -80,8 +80,8 @@ returns-in_err-profile-clause-refused g c why e =
     let way = told_read c.gens_for.ensures.reads c.in_ok-check_places.ensures.free in
     let units = told_read c.gens_for.ensures.reads (told_before c.check_places.ensures.reads.moments c.in_ok-units.ensures.not_refused) in
     let activation = told_read c.gens_for.ensures.reads (told_before c.check_places.ensures.reads.moments (told_before c.plan_switch.ensures.reads.moments c.in_ok-activation.ensures.not_refused)) in
-    told_as (told_read c.gens_for.ensures.reads (told_before c.check_places.ensures.reads.moments (told_before c.plan_switch.ensures.reads.moments (told_before c.plan_accounts_and_etc.ensures.reads.moments refused)))) (λ w. refusal_by its.switches its.moves its.system w.leaves ≡ Some why)
-    (λ w is profile. profile_refused its.switches its.moves its.system w.leaves (way.has w is) (units.has w is) (Some why) (activation.has w is) profile)
+    told_as (told_read c.gens_for.ensures.reads (told_before c.check_places.ensures.reads.moments (told_before c.plan_switch.ensures.reads.moments (told_before c.plan_accounts_and_etc.ensures.reads.moments refused)))) (λ w. refusal_by its.start_up its.switches its.moves its.system w.leaves ≡ Some why)
+    (λ w is profile. profile_refused its.start_up its.switches its.moves its.system w.leaves (way.has w is) (units.has w is) (Some why) (activation.has w is) profile)
 
 pub returns-clause-plan : goal.returns-clause-plan
 returns-clause-plan g c =
@@ -98,8 +98,8 @@ returns-clause-not_refused g c =
     let way = told_read c.gens_for.ensures.reads c.in_ok-check_places.ensures.free in
     let units = told_read c.gens_for.ensures.reads (told_before c.check_places.ensures.reads.moments c.in_ok-units.ensures.not_refused) in
     let activation = told_read c.gens_for.ensures.reads (told_before c.check_places.ensures.reads.moments (told_before c.plan_switch.ensures.reads.moments c.in_ok-activation.ensures.not_refused)) in
-    told_as (told_read c.gens_for.ensures.reads (told_before c.check_places.ensures.reads.moments (told_before c.plan_switch.ensures.reads.moments (told_before c.plan_accounts_and_etc.ensures.reads.moments c.in_ok-profile.ensures.not_refused)))) (λ w. refusal_by its.switches its.moves its.system w.leaves ≡ None)
-    (λ w is profile. profile_refused its.switches its.moves its.system w.leaves (way.has w is) (units.has w is) None (activation.has w is) profile)
+    told_as (told_read c.gens_for.ensures.reads (told_before c.check_places.ensures.reads.moments (told_before c.plan_switch.ensures.reads.moments (told_before c.plan_accounts_and_etc.ensures.reads.moments c.in_ok-profile.ensures.not_refused)))) (λ w. refusal_by its.start_up its.switches its.moves its.system w.leaves ≡ None)
+    (λ w is profile. profile_refused its.start_up its.switches its.moves its.system w.leaves (way.has w is) (units.has w is) None (activation.has w is) profile)
 
 pub returns-clause-sound : goal.returns-clause-sound
 returns-clause-sound g c =
@@ -113,5 +113,5 @@ returns-clause-reads g c =
 
 pub returns-clause-steady : goal.returns-clause-steady
 returns-clause-steady g c =
-    told_as (told_read c.gens_for.ensures.reads (told_before c.check_places.ensures.reads.moments c.in_ok-units.ensures.steady)) (λ w. IsTrue c.new.result.units.steady ↔ IsSteadyTo (switched_by c.args.row) w)
-    (λ w is told. subst (λ (plan : Plan). IsTrue plan.units.steady ↔ IsSteadyTo (switched_by c.args.row) w) (sym c.new.ensures) told)
+    told_as (told_read c.gens_for.ensures.reads (told_before c.check_places.ensures.reads.moments c.in_ok-units.ensures.steady)) (λ w. IsTrue c.new.result.units.steady ↔ IsSteadyTo c.args.row.start_up (switched_by c.args.row) w)
+    (λ w is told. subst (λ (plan : Plan). IsTrue plan.units.steady ↔ IsSteadyTo c.args.row.start_up (switched_by c.args.row) w) (sym c.new.ensures) told)

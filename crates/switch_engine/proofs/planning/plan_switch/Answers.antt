@@ -22,20 +22,20 @@ returns-in_err-plan-clause-refused g c why e =
     let p = err_from_is_err_and c.from_residual.result c.from_residual.ensures.1 in
     let its = c.args.row.now in
     told_as (c.in_err-plan.ensures.refused why (ap (λ f. Err f) (sym p.2 ∙ same_fault p.0 (Refused why) (sym p.1 ∙ e))))
-    (λ w. (part_if its.switches (units_part false its.system)).refusal w.leaves ≡ Some why)
-    (λ w is refused. refused_switch its.switches _ _ w.leaves (Some why) (c.if-not-row.false) refl refused)
+    (λ w. (part_if its.switches (units_part its.start_up its.system)).refusal w.leaves ≡ Some why)
+    (λ w is refused. refused_switch its.start_up its.switches _ _ w.leaves (Some why) (c.if-not-row.false) refl refused)
 
 pub returns-then-not-row-clause-steady : goal.returns-then-not-row-clause-steady
 returns-then-not-row-clause-steady g c = record {
-  has = λ w is. steady_off c.args.row.now.switches c.args.row.now.system w c.none.result (c.if-not-row.true) c.none.ensures;
+  has = λ w is. steady_off c.args.row.now.start_up c.args.row.now.switches c.args.row.now.system w c.none.result (c.if-not-row.true) c.none.ensures;
 }
 
 pub returns-clause-steady : goal.returns-clause-steady
 returns-clause-steady g c =
-    told_as c.in_ok-plan.ensures.steady (λ w. IsTrue c.in_ok-plan.plan.steady ↔ IsSteadyTo (switched_by c.args.row.now) w)
-    (λ w is told. steady_on c.args.row.now.switches _ c.args.row.now.system w c.in_ok-plan.plan (c.if-not-row.false) refl told)
+    told_as c.in_ok-plan.ensures.steady (λ w. IsTrue c.in_ok-plan.plan.steady ↔ IsSteadyTo c.args.row.now.start_up (switched_by c.args.row.now) w)
+    (λ w is told. steady_on c.args.row.now.start_up c.args.row.now.switches _ c.args.row.now.system w c.in_ok-plan.plan (c.if-not-row.false) refl told)
 
 pub returns-clause-plan : goal.returns-clause-plan
 returns-clause-plan g c =
-    told_as c.in_ok-plan.ensures.plan (λ w. AreUnitsPlanned c.args.row.now.switches c.args.row.now.system w c.in_ok-plan.plan)
-    (λ w is planned. planned_on c.args.row.now.switches _ c.args.row.now.system w c.in_ok-plan.plan (c.if-not-row.false) refl planned)
+    told_as c.in_ok-plan.ensures.plan (λ w. AreUnitsPlanned c.args.row.now.start_up c.args.row.now.switches c.args.row.now.system w c.in_ok-plan.plan)
+    (λ w is planned. planned_on c.args.row.now.start_up c.args.row.now.switches _ c.args.row.now.system w c.in_ok-plan.plan (c.if-not-row.false) refl planned)

@@ -1,12 +1,9 @@
-use Rattle.std.proofs.Common.{◌≡◌, Option, Some, subst, sym}
+use Rattle.std.proofs.Common.{Option, subst}
 use Rattle.std.proofs.lemmas.Result.{err_from_is_err_and}
 use Rattle.host_trait.specs.declared.tree.HostFault.TheVariants.{Device}
-use Rattle.host_trait.specs.Host.{Told}
 use Rattle.host_trait.proofs.Readings.{nothing_read_of}
-use Rattle.switch_engine.specs.declared.command.Command.{Command}
 use Rattle.switch_engine.specs.declared.row.Row.{Row}
 use Rattle.switch_engine.specs.Resolved.{IsRowOf}
-use Rattle.switch_engine.specs.Rows.{refusal}
 use Rattle.switch_parts.specs.declared.plan_fault.PlanFault.TheVariants.{Host}
 use Rattle.switch_parts.proofs.Faults.{memory_no_device, no_err}
 use Rattle.switch_engine.proofs.row.resolve.Goals as goal
@@ -18,7 +15,5 @@ returns-in_err-row-clause-reads g c =
 pub returns-in-Some-clause-reads : goal.returns-in-Some-clause-reads
 returns-in-Some-clause-reads g c = nothing_read_of _ (λ e. absurd (no_err _ (Host Device) e))
 
-pub returns-in-None-clause-refused : goal.returns-in-None-clause-refused
-returns-in-None-clause-refused g c why e =
-    subst (λ (command : Command). Told (g.T.Tree.host c.args.host.now) (λ w. refusal command w.leaves ≡ Some why))
-    (sym (subst (λ (o : Option Row). IsRowOf c.args.command.now o) c.in-None.is c.in_ok-row.ensures)) (c.resolve_back.ensures.refused why e)
+pub resolve_by_generations-requires : goal.resolve_by_generations-requires
+resolve_by_generations-requires g c = subst (λ (o : Option Row). IsRowOf c.args.command.now o) c.in-None.is c.in_ok-row.ensures

@@ -51,7 +51,7 @@ returns-clause-resolved g c =
       row = c.in_ok-row.ensures
           ∙ found_row w.leaves c.in_ok-gens.gens c.in_ok-number.number (c.in_ok-gens.ensures.gens.has w is) named c.in-Some.system.now
           (sym (ap option_copied c.in-Some.is) ∙ found_back w.leaves c.in_ok-gens.gens c.in_ok-number.number (c.in_ok-gens.ensures.gens.has w is) named (option_copied c.system_of.result) c.system_of.ensures);
-      goal = ap is_none named;
+      has_one = ap is_none named;
       gens = c.in_ok-gens.ensures.gens.has w is;
     })
 
