@@ -83,7 +83,7 @@ one_by start_up true None w one other is also = is ∙ sym also
 one_by start_up false to w one other is also = is ∙ sym also
 
 pub one_closing : (command : Command) (w : WorldState) (one other : List ℕ) → IsClosing command w one → IsClosing command w other → one ≡ other
-one_closing command w one other is also = one_by (row command w.leaves).changes (switched_to command w.leaves) w one other is also
+one_closing command w one other is also = one_by (row command w.leaves).start_up (row command w.leaves).changes (switched_to command w.leaves) w one other is also
 
 -- ---- the units that have failed, among the states of all
 
