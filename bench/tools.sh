@@ -444,7 +444,7 @@ try_completions() {
     fi
     if fish -c true 2>"$work/none"; then
         holds "fish completes a root" [ "$(fished 'nixswitch my')" = 'my root/ ' ]
-        holds "fish offers the commands" [ "$(fished 'nixswitch my\ root ')" = 'boot dry-activate generations rehearse rehearse-jobs rollback start-up switch test ' ]
+        holds "fish offers the commands" [ "$(fished 'nixswitch my\ root ')" = 'boot collect dry-activate generations rehearse rehearse-jobs rollback start-up switch test ' ]
         holds "fish offers the systems" [ "$(fished 'nixswitch "my root" test ')" = 'nix/store/a-sys nix/store/b=sys ' ]
         holds "fish offers no system for a rollback" [ -z "$(fished 'nixswitch "my root" rollback ')" ]
     else

@@ -44,7 +44,7 @@ _nixswitch() {
             mapfile -t COMPREPLY < <(compgen -d -- "${COMP_WORDS[COMP_CWORD]}")
         fi
         ;;
-    3) mapfile -t COMPREPLY < <(compgen -W 'switch test boot dry-activate rollback start-up generations rehearse rehearse-jobs' -- "$word") ;;
+    3) mapfile -t COMPREPLY < <(compgen -W 'switch test boot dry-activate rollback start-up generations collect rehearse rehearse-jobs' -- "$word") ;;
     4)
         [[ ${words[2]} == @(switch|test|boot|dry-activate) ]] || return 0
         [[ $word != /* ]] || slash=/

@@ -27,6 +27,7 @@ complete -c nixswitch -n '__nixswitch_words 2' -a dry-activate -d 'what test wou
 complete -c nixswitch -n '__nixswitch_words 2' -a rollback -d 'back to the generation before'
 complete -c nixswitch -n '__nixswitch_words 2' -a start-up -d 'what the profile names, after a boot'
 complete -c nixswitch -n '__nixswitch_words 2' -a generations -d 'which there are'
+complete -c nixswitch -n '__nixswitch_words 2' -a collect -d 'drops old generations and what no root reaches'
 complete -c nixswitch -n '__nixswitch_words 2' -a rehearse -d 'a made machine, in memory'
 complete -c nixswitch -n '__nixswitch_words 2' -a rehearse-jobs -d 'a made machine, whose jobs end later'
 complete -c nixswitch -n __nixswitch_takes_system -a '(__nixswitch_systems)' -d 'a built system'

@@ -1,6 +1,7 @@
 pub mod ActivationLemmas
 pub mod ChangeLemmas
 pub mod CloseLemmas
+pub mod CollectionLemmas
 pub mod LeftLemmas
 pub mod PlanLemmas
 pub mod PutLemmas

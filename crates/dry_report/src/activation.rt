@@ -5,4 +5,5 @@ mod changes;
 mod lines;
 mod reporting;
 
+pub(crate) use self::lines::write_told;
 pub(crate) use self::reporting::write_activation;

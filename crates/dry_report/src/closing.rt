@@ -62,3 +62,12 @@ pub fn close<S: Sink>(out: &mut S, plan: &Plan, outcome: &Outcome) -> Result<(),
     out.put(CLOSING.as_bytes())?;
     Ok(())
 }
+
+/// Puts the last line alone: the closing text of a collection, which touches no unit. It takes no memory.
+pub fn put_last_line<S: Sink>(out: &mut S) -> Result<(), SinkFault>
+    ensures ok { OnOk result (Puts (S.sink out.old) (S.sink out.new) (λ more. more ≡ closing)) }
+    ensures prefix { Puts (S.sink out.old) (S.sink out.new) (IsPrefixOf closing) }
+    ensures cause { HasSinkCause (S.sink out.old) (S.sink out.new) result }
+{
+    out.put(CLOSING.as_bytes())
+}

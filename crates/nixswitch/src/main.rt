@@ -18,6 +18,7 @@ nixswitch makes a built NixOS system the one of a root folder.
 
 usage: nixswitch ROOT switch|test|boot|dry-activate SYSTEM
        nixswitch ROOT rollback|generations
+       nixswitch ROOT collect KEEP
        nixswitch ROOT rehearse|rehearse-jobs NUMBER
        nixswitch --help | --version
 
@@ -32,6 +33,8 @@ dry-activate SYSTEM  says what bringing the system into use would do, and change
 rollback             points the profile back to the greatest generation below the current one that names a system, makes
                      the boot menu, and brings that system into use; cut and run again, it goes to the same generation
 generations          lists the generations: the number, the system, and a mark at the current one; it changes nothing
+collect KEEP         drops the generations but the KEEP with the highest numbers and the current one, and then what of the store
+                     no root reaches; it is refused where a switch is unfinished
 rehearse NUMBER      makes a machine from the number, in memory alone, switches it under cuts until that ends, and tells what it
                      has left; ROOT is neither read nor changed
 
@@ -145,7 +148,7 @@ fn run_line(rt: &HostRuntime, line: &[Text]) -> End {
         return End::plain(Status::Usage);
     };
     match Asked::read(rt.alloc(), words) {
-        Ok(Asked::Command(_) | Asked::Generations) => run_alone(rt, root.as_str(), words),
+        Ok(Asked::Command(_) | Asked::Generations | Asked::Collection(_)) => run_alone(rt, root.as_str(), words),
         Ok(Asked::Rehearsal(_) | Asked::RehearsalWithJobs(_)) => {
             run_on(rt, rt.alloc(), root.as_str(), syncing_of(rt), words)
         }

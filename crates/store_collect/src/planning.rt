@@ -149,6 +149,7 @@ pub fn plan<M: Manager>(alloc: Global, host: &mut M, keep: u32) -> Result<Collec
     ensures can { IfOk result (λ collection. Told (M.host host.old) (CanApplyBoot collection.texts)) }
     ensures finished { OnOk result (Told (M.host host.old) (λ w. is_unfinished w.leaves ≡ false)) }
     ensures unfinished { IsErrOf result (Refused Unfinished) → Told (M.host host.old) (λ w. is_unfinished w.leaves ≡ true) }
+    ensures in_order { (at : Name) → IsErrOf result (Refused (InTheWay at)) → Told (M.host host.old) (λ w. is_unfinished w.leaves ≡ false) }
     ensures in_the_way { (at : Name) → IsErrOf result (Refused (InTheWay at)) → Told (M.host host.old) (λ w. IsRefusedAt keep w.leaves at) }
     ensures reads { IsReadingOf (M.host host.old) (M.host host.new) (IsErrOf result (Host Device)) }
 {

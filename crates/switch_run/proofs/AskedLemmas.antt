@@ -9,6 +9,7 @@ use Rattle.std.specs.Cmp.Lexicographic.{pointwise, same_text}
 use Rattle.std.specs.Fmt.{decimal}
 use Rattle.std.specs.Str.{bytes_eq}
 use Rattle.std.specs.Str.Parse.{ParsesUnsigned}
+use Rattle.generations.specs.Digits.{BearsNumber}
 use Rattle.generations.specs.Places.{system_of}
 use Rattle.host_trait.specs.declared.tree.HostFault.TheVariants as host
 use Rattle.host_trait.specs.Change.{IsSame}
@@ -25,8 +26,10 @@ use Rattle.switch_run.specs.declared.run_fault.RunFault.{RunFault}
 use Rattle.switch_run.specs.declared.run_fault.RunFault.TheVariants as fault
 use Rattle.switch_run.specs.declared.status.Status.{Status}
 use Rattle.switch_run.specs.declared.status.Status.TheVariants.{Done, Usage, Refused, HostFault, SinkFault, NoMemory}
-use Rattle.switch_run.specs.Asked.{AsksNothing, IsRun, IsUntouched}
+use Rattle.switch_run.specs.Asked.{AsksNoCollection, AsksNothing, IsRun, IsUntouched}
 use Rattle.switch_run.specs.Asked.IsRun.{Answered, Unread}
+use Rattle.switch_run.specs.Collecting.{AsksCollection, IsCollectionMoment, collected_word}
+use Rattle.switch_run.specs.CollectionEnding.{IsCollectionBroken, IsCollectionRun}
 use Rattle.switch_run.specs.Commands.{command_for, command_of}
 use Rattle.switch_run.specs.Ending.{HasCome, IsEnding, IsSinkCaused}
 use Rattle.switch_run.specs.Listing.{IsInList, IsListing, IsListOf, asks_list}
@@ -35,6 +38,8 @@ use Rattle.switch_run.specs.Output.{IsIdle}
 use Rattle.switch_run.specs.Output.IsBrokenOff.{BeforeReport}
 use Rattle.switch_run.specs.Rehearsing.{AsksRehearsal, IsInRehearsal, IsNumber, IsRehearsing, Tells, is_rehearsal, rehearsed_word}
 use Rattle.switch_run.specs.Run.{IsBroken, IsEnded, status_of}
+use Rattle.switch_run.proofs.CollectedLemmas as collected
+use Rattle.switch_run.proofs.CollectionWordLemmas as collecting
 use Rattle.switch_run.proofs.EndingLemmas.{host_no_sink, memory_no_device, no_sink}
 use Rattle.switch_run.proofs.MomentLemmas.{begins}
 use Rattle.switch_run.proofs.RunLemmas as run
@@ -136,11 +141,26 @@ nothing_behind words word text unlisted behind same none = record {
   command = no_command words word behind;
   list = unlisted;
   rehearsal = λ number asks. none number (subst (λ (t : List ℕ). IsNumber t number) (sym same) (of_word words word number behind asks));
+  collection = λ keep asks. collecting.unrehearsed words keep asks word behind;
 }
 
--- and so do words without a command that ask for none of these
-pub nothing_asked : (words : List (List ℕ)) → asks_list words ≡ false → rehearsed_word words ≡ None → command_of words ≡ None → AsksNothing words
-nothing_asked words unlisted none no_command = record { command = no_command; list = unlisted; rehearsal = λ number asks. lacks_word words number none asks }
+-- and so do words whose word behind `collect` is no number
+pub nothing_kept : (words : List (List ℕ)) (word text : List ℕ) → asks_list words ≡ false → rehearsed_word words ≡ None → collected_word words ≡ Some word → text ≡ word → BearsNumber decimal text None → AsksNothing words
+nothing_kept words word text unlisted none behind same lacks = record {
+  command = collecting.no_command words word behind;
+  list = unlisted;
+  rehearsal = λ number asks. lacks_word words number none asks;
+  collection = collecting.no_collection words word text behind same lacks;
+}
+
+-- and words without a command that ask for none of these
+pub nothing_asked : (words : List (List ℕ)) → asks_list words ≡ false → rehearsed_word words ≡ None → collected_word words ≡ None → command_of words ≡ None → AsksNothing words
+nothing_asked words unlisted none no_word no_command = record {
+  command = no_command;
+  list = unlisted;
+  rehearsal = λ number asks. lacks_word words number none asks;
+  collection = collecting.lacks_word words no_word;
+}
 
 -- ---- how a run ends that asks for one of these
 
@@ -172,6 +192,7 @@ module _ (words : List (List ℕ)) (host_state after : HostState) (sink put : Si
   as_command (Answered asked.Generations asks is) command some = never_listed words command asks some
   as_command (Answered (asked.Rehearsal number) asks is) command some = never words asks.1.word command asks.1.behind some
   as_command (Answered (asked.RehearsalWithJobs number) asks is) command some = never words asks.1.word command asks.1.behind some
+  as_command (Answered (asked.Collection keep) asks is) command some = collecting.never_command words keep asks command some
   as_command (Answered asked.Nothing asks is) command some = absurd (none-some command (sym asks.command ∙ some))
   as_command (Unread same quiet is) command some = unread same (Some command) quiet is
 
@@ -180,6 +201,7 @@ module _ (words : List (List ℕ)) (host_state after : HostState) (sink put : Si
   as_nothing (Answered asked.Generations asks is) none = absurd (both_ways _ none.list asks)
   as_nothing (Answered (asked.Rehearsal number) asks is) none = absurd (none.rehearsal number asks.1)
   as_nothing (Answered (asked.RehearsalWithJobs number) asks is) none = absurd (none.rehearsal number asks.1)
+  as_nothing (Answered (asked.Collection keep) asks is) none = absurd (none.collection keep asks)
   as_nothing (Answered asked.Nothing asks is) none = is
   as_nothing (Unread same quiet is) none = unread same None quiet is
 
@@ -188,6 +210,7 @@ module _ (words : List (List ℕ)) (host_state after : HostState) (sink put : Si
   as_list (Answered asked.Generations asks is) list = is
   as_list (Answered (asked.Rehearsal number) asks is) list = no_rehearsal words number list asks.1
   as_list (Answered (asked.RehearsalWithJobs number) asks is) list = no_rehearsal words number list asks.1
+  as_list (Answered (asked.Collection keep) asks is) list = collecting.never_list words keep asks list
   as_list (Answered asked.Nothing asks is) list = absurd (both_ways _ asks.list list)
   as_list (Unread same quiet is) list = unread_as (λ s e. IsListing host_state after sink s e) quiet is (record {
     come = puts_nothing sink (λ more. more ≡ []) refl;
@@ -203,6 +226,7 @@ module _ (words : List (List ℕ)) (host_state after : HostState) (sink put : Si
       (is.0, subst (λ (n : ℕ). IsRehearsing n sink put ending) (one_number of.word other number (of_word words of.word other of.behind asks.1) of.is_number) is.1)
   as_rehearsal (Answered (asked.RehearsalWithJobs other) asks is) number of =
       (is.0, subst (λ (n : ℕ). IsRehearsing n sink put ending) (one_number of.word other number (of_word words of.word other of.behind asks.1) of.is_number) is.1)
+  as_rehearsal (Answered (asked.Collection keep) asks is) number of = collecting.never_rehearsal words keep asks number of
   as_rehearsal (Answered asked.Nothing asks is) number of = absurd (asks.rehearsal number of)
   as_rehearsal (Unread same quiet is) number of = (
     same,
@@ -213,6 +237,21 @@ module _ (words : List (List ℕ)) (host_state after : HostState) (sink put : Si
     }),
   )
 
+  pub as_collection : IsRun words host_state after sink put ending → (keep : ℕ) → AsksCollection words keep → IsCollectionRun keep host_state after sink put ending
+  as_collection (Answered (asked.Command other) asks is) keep of = collecting.never_command words keep of other asks
+  as_collection (Answered asked.Generations asks is) keep of = collecting.never_list words keep of asks
+  as_collection (Answered (asked.Rehearsal number) asks is) keep of = collecting.never_rehearsal words keep of number asks.1
+  as_collection (Answered (asked.RehearsalWithJobs number) asks is) keep of = collecting.never_rehearsal words keep of number asks.1
+  as_collection (Answered (asked.Collection other) asks is) keep of =
+      subst (λ (n : ℕ). IsCollectionRun n host_state after sink put ending) (collecting.one_keep words other keep asks of) is
+  as_collection (Answered asked.Nothing asks is) keep of = absurd (asks.collection keep of)
+  as_collection (Unread same quiet is) keep of = unread_as (λ s e. IsCollectionRun keep host_state after sink s e) quiet is (record {
+    come = IsCollectionBroken.BeforeReport (record { unchanged = same.same; silent = puts_nothing sink (λ more. more ≡ []) refl });
+    moments = same_as same.same (IsCollectionMoment keep) (λ w told. IsCollectionMoment.Unchanged refl);
+    cause = untouched_cause same (IsErrOf {T = Bool} (Err (fault.Host host.Memory)) (fault.Host host.Device)) memory_no_device;
+    sink_cause = no_sink sink (IsErrOf {T = Bool} (Err (fault.Host host.Memory)) fault.Sink) (host_no_sink host.Memory);
+  })
+
   -- ---- what holds of each run
 
   pub cause : IsRun words host_state after sink put ending → HasCauseOf host_state after (IsErrOf ending (fault.Host host.Device))
@@ -220,6 +259,7 @@ module _ (words : List (List ℕ)) (host_state after : HostState) (sink put : Si
   cause (Answered asked.Generations asks is) = is.cause
   cause (Answered (asked.Rehearsal number) asks is) = untouched_cause is.0 (IsErrOf ending (fault.Host host.Device)) is.1.no_device
   cause (Answered (asked.RehearsalWithJobs number) asks is) = untouched_cause is.0 (IsErrOf ending (fault.Host host.Device)) is.1.no_device
+  cause (Answered (asked.Collection keep) asks is) = is.cause
   cause (Answered asked.Nothing asks is) = is.cause
   cause (Unread same quiet is) =
       subst (λ (e : Result Bool RunFault). HasCauseOf host_state after (IsErrOf e (fault.Host host.Device))) (sym is)
@@ -230,6 +270,7 @@ module _ (words : List (List ℕ)) (host_state after : HostState) (sink put : Si
   sink_cause (Answered asked.Generations asks is) = is.sink_cause
   sink_cause (Answered (asked.Rehearsal number) asks is) = is.1.sink_cause
   sink_cause (Answered (asked.RehearsalWithJobs number) asks is) = is.1.sink_cause
+  sink_cause (Answered (asked.Collection keep) asks is) = is.sink_cause
   sink_cause (Answered asked.Nothing asks is) = is.sink_cause
   sink_cause (Unread same quiet is) =
       unread_as (λ s e. IsSinkCaused sink s (IsErrOf e fault.Sink)) quiet is (no_sink sink (IsErrOf {T = Bool} (Err (fault.Host host.Memory)) fault.Sink) (host_no_sink host.Memory))
@@ -238,16 +279,17 @@ module _ (words : List (List ℕ)) (host_state after : HostState) (sink put : Si
   without_command : command_of words ≡ None → Passes host_state after IsSame → Passes host_state after (IsMomentOf (command_of words))
   without_command none same = subst (λ (given : Option Command). Passes host_state after (IsMomentOf given)) (sym none) same
 
-  pub moments : IsRun words host_state after sink put ending → Passes host_state after (IsMomentOf (command_of words))
-  moments (Answered (asked.Command command) asks is) = subst (λ (given : Option Command). Passes host_state after (IsMomentOf given)) (sym asks) is.moments
-  moments (Answered asked.Generations asks is) = without_command (no_command_listed words asks) is.unchanged
-  moments (Answered (asked.Rehearsal number) asks is) = without_command (no_command words asks.1.word asks.1.behind) is.0.same
-  moments (Answered (asked.RehearsalWithJobs number) asks is) = without_command (no_command words asks.1.word asks.1.behind) is.0.same
-  moments (Answered asked.Nothing asks is) = without_command asks.command is.moments
-  moments (Unread same quiet is) = same_as same.same (IsMomentOf (command_of words)) (λ w told. begins (command_of words) w)
+  pub moments : IsRun words host_state after sink put ending → AsksNoCollection words → Passes host_state after (IsMomentOf (command_of words))
+  moments (Answered (asked.Command command) asks is) none = subst (λ (given : Option Command). Passes host_state after (IsMomentOf given)) (sym asks) is.moments
+  moments (Answered asked.Generations asks is) none = without_command (no_command_listed words asks) is.unchanged
+  moments (Answered (asked.Rehearsal number) asks is) none = without_command (no_command words asks.1.word asks.1.behind) is.0.same
+  moments (Answered (asked.RehearsalWithJobs number) asks is) none = without_command (no_command words asks.1.word asks.1.behind) is.0.same
+  moments (Answered (asked.Collection keep) asks is) none = absurd (none keep asks)
+  moments (Answered asked.Nothing asks is) none = without_command asks.command is.moments
+  moments (Unread same quiet is) none = same_as same.same (IsMomentOf (command_of words)) (λ w told. begins (command_of words) w)
 
-  pub each : IsRun words host_state after sink put ending → IsHost host_state → EachMoment host_state after (IsMomentOf (command_of words))
-  each is host_is = each_moment host_is (moments is) (λ w told. begins (command_of words) w)
+  pub each : IsRun words host_state after sink put ending → AsksNoCollection words → IsHost host_state → EachMoment host_state after (IsMomentOf (command_of words))
+  each is none host_is = each_moment host_is (moments is none) (λ w told. begins (command_of words) w)
 
   -- ---- what its status tells
 
@@ -260,6 +302,7 @@ module _ (words : List (List ℕ)) (host_state after : HostState) (sink put : Si
     usage (Answered asked.Generations asks is) s = absurd (telling.never_usage _ _ sink put ending is.come status tells s)
     usage (Answered (asked.Rehearsal number) asks is) s = absurd (telling.never_usage _ _ sink put ending is.1.come status tells s)
     usage (Answered (asked.RehearsalWithJobs number) asks is) s = absurd (telling.never_usage _ _ sink put ending is.1.come status tells s)
+    usage (Answered (asked.Collection keep) asks is) s = absurd (collected.never_usage keep ending is status tells s)
     usage (Answered asked.Nothing asks is) s = asks
     usage (Unread same quiet is) s = absurd (let never : NoMemory ≡ Usage = sym (memory_status is) ∙ s in cc)
 
@@ -268,6 +311,7 @@ module _ (words : List (List ℕ)) (host_state after : HostState) (sink put : Si
     refused_output (Answered asked.Generations asks is) why s = absurd (telling.never_refused _ _ sink put ending is.come status tells why s)
     refused_output (Answered (asked.Rehearsal number) asks is) why s = absurd (telling.never_refused _ _ sink put ending is.1.come status tells why s)
     refused_output (Answered (asked.RehearsalWithJobs number) asks is) why s = absurd (telling.never_refused _ _ sink put ending is.1.come status tells why s)
+    refused_output (Answered (asked.Collection keep) asks is) why s = (collected.refused keep ending is status tells why s).idle.silent
     refused_output (Answered asked.Nothing asks is) why s = run.refused_output None ending is status tells why s
     refused_output (Unread same quiet is) why s = absurd (let never : NoMemory ≡ Refused why = sym (memory_status is) ∙ s in cc)
 

@@ -53,13 +53,13 @@ host_no_sink f is = cc
 pub memory_no_device : {T : Type 0} → IsErrOf {T = T} (Err (Host Memory)) (Host Device) → ⊥
 memory_no_device is = cc
 
-host_is : {T U : Type 0} (f why : HostFault) → IsErrOf {T = T} (Err (Host f)) (Host why) → IsErrOf {T = U} (Err f) why
+pub host_is : {T U : Type 0} (f why : HostFault) → IsErrOf {T = T} (Err (Host f)) (Host why) → IsErrOf {T = U} (Err f) why
 host_is f why is = let same : f ≡ why = cc in ap (λ f. Err f) same
 
-refused_no_host : {T : Type 0} (why : Refusal) → IsErrOf {T = T} (Err (Refused why)) (Host Device) → ⊥
+pub refused_no_host : {T : Type 0} (why : Refusal) → IsErrOf {T = T} (Err (Refused why)) (Host Device) → ⊥
 refused_no_host why is = cc
 
-refused_no_sink : {T : Type 0} (why : Refusal) → IsErrOf {T = T} (Err (Refused why)) Sink → ⊥
+pub refused_no_sink : {T : Type 0} (why : Refusal) → IsErrOf {T = T} (Err (Refused why)) Sink → ⊥
 refused_no_sink why is = cc
 
 plan_host : {T U : Type 0} (why : HostFault) → IsErrOf {T = T} (Err (Host why)) (Host Device) → IsErrOf {T = U} (Err (plan.Host why)) (plan.Host Device)

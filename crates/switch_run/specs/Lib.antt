@@ -1,4 +1,6 @@
 pub mod Asked
+pub mod Collecting
+pub mod CollectionEnding
 pub mod Commands
 pub mod Ending
 pub mod Listing

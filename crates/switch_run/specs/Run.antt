@@ -5,9 +5,14 @@ use Rattle.host_trait.specs.World.{WorldState}
 use Rattle.switch_engine.specs.declared.command.Command.{Command}
 use Rattle.switch_engine.specs.Final.{LeavesFailed}
 use Rattle.switch_engine.specs.Rows.{refusal}
+use Rattle.store_collect.specs.declared.collection.CollectFault.{CollectFault}
+use Rattle.store_collect.specs.declared.collection.CollectFault.TheVariants as collect
+use Rattle.store_collect.specs.declared.collection.CollectRefusal.{CollectRefusal}
+use Rattle.store_collect.specs.declared.collection.CollectRefusal.TheVariants as collect_refusal
 use Rattle.switch_parts.specs.declared.plan_fault.PlanFault.{PlanFault}
 use Rattle.switch_parts.specs.declared.plan_fault.PlanFault.TheVariants as plan
 use Rattle.switch_parts.specs.declared.refusal.Refusal.{Refusal}
+use Rattle.switch_parts.specs.declared.refusal.Refusal.TheVariants as refusals
 use Rattle.switch_run.specs.declared.run_fault.RunFault.{RunFault}
 use Rattle.switch_run.specs.declared.run_fault.RunFault.TheVariants as fault
 use Rattle.switch_run.specs.declared.status.Status.{Status}
@@ -44,6 +49,16 @@ Answers command w status = IsAnswerTo (refusal command w.leaves) command w statu
 abbrev pub fault_of : PlanFault → RunFault
 fault_of (plan.Refused why) = fault.Refused why
 fault_of (plan.Host why) = fault.Host why
+
+-- why a collection is refused, as a refusal of a run
+abbrev pub refusal_of : CollectRefusal → Refusal
+refusal_of collect_refusal.Unfinished = refusals.Unfinished
+refusal_of (collect_refusal.InTheWay at) = refusals.InTheWay at
+
+-- why a run breaks off whose collection isn't planned
+abbrev pub collect_fault_of : CollectFault → RunFault
+collect_fault_of (collect.Refused why) = fault.Refused (refusal_of why)
+collect_fault_of (collect.Host why) = fault.Host why
 
 -- the status of a run that broke off so
 abbrev pub fault_status : RunFault → Status

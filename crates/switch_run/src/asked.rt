@@ -2,8 +2,10 @@
 ghost use Rattle.std.specs.Prelude.{◌≡◌, ◌↔◌, IfOk, IsTrue, MatchOption, None, Some, option_and_then, ℕ};
 ghost use Rattle.std.specs.Fmt.{decimal};
 ghost use Rattle.std.specs.Str.{bytes_eq};
+ghost use Rattle.generations.specs.Digits.{BearsNumber};
 ghost use Rattle.generations.specs.Places.{system_of};
 ghost use Rattle.switch_run.specs.Asked.{IsAskedBy};
+ghost use Rattle.switch_run.specs.Collecting.{collected_word};
 ghost use Rattle.switch_run.specs.Commands.{command_alone, command_for, command_of};
 ghost use Rattle.switch_run.specs.Listing.{asks_list};
 ghost use Rattle.switch_run.specs.Rehearsing.{IsNumber, asks_jobs, is_rehearsal, rehearsed_word};
@@ -23,6 +25,8 @@ pub enum Asked {
     Rehearsal(u64),
     /// The same on a manager whose jobs end later.
     RehearsalWithJobs(u64),
+    /// The collection that keeps the generations with the highest numbers, so many of them, and the current one.
+    Collection(u32),
     /// Nothing that the program does.
     Nothing,
 }
@@ -147,10 +151,30 @@ fn read_number(alloc: Global, text: &str) -> Result<Option<u64>, AllocError>
     Ok(is_written.then_some(number))
 }
 
+/// What stands behind the word that asks for a collection, or none.
+fn collected_word(words: &[Text]) -> Option<&Text>
+    ensures { MatchOption result (collected_word words.now ≡ None) (λ word. collected_word words.now ≡ Some word.now) }
+{
+    match words {
+        [verb, word] if verb.as_str() == "collect" => Some(word),
+        _ => None,
+    }
+}
+
+/// The number below 2^32 of which a text is the digits, without leading zeros, or none.
+fn read_small_number(alloc: Global, text: &str) -> Result<Option<u32>, AllocError>
+    ensures { IfOk result (BearsNumber decimal text.now) }
+{
+    match read_number(alloc, text)? {
+        Some(number) => Ok(u32::try_from(number).ok()),
+        None => Ok(None),
+    }
+}
+
 impl Asked {
     /// What words ask for: the words behind the root folder on the command line.
     ///
-    /// Source: NixOS manual, "Upgrading NixOS"; nix-env(1), "--list-generations".
+    /// Source: NixOS manual, "Upgrading NixOS"; nix-env(1), "--list-generations"; nix-collect-garbage(1).
     pub fn read(alloc: Global, words: &[Text]) -> Result<Asked, AllocError>
         ensures { IfOk result (IsAskedBy words.now) }
     {
@@ -162,6 +186,13 @@ impl Asked {
             return Ok(match number {
                 Some(number) if asks_jobs(words) => Asked::RehearsalWithJobs(number),
                 Some(number) => Asked::Rehearsal(number),
+                None => Asked::Nothing,
+            });
+        }
+        if let Some(word) = collected_word(words) {
+            let keep = read_small_number(alloc, word.as_str())?;
+            return Ok(match keep {
+                Some(keep) => Asked::Collection(keep),
                 None => Asked::Nothing,
             });
         }

@@ -4,6 +4,7 @@
 #![tactic(auto)]
 
 mod asked;
+mod collecting;
 mod laws;
 mod refusal_text;
 mod run_fault;

@@ -2,10 +2,11 @@
 ghost use Rattle.std.specs.Prelude.{◌≡◌};
 ghost use Rattle.host_trait.specs.declared.tree.HostFault.TheVariants.{Memory};
 ghost use Rattle.switch_run.specs.declared.run_fault.RunFault.TheVariants.{Host, Sink};
-ghost use Rattle.switch_run.specs.Run.{fault_of};
+ghost use Rattle.switch_run.specs.Run.{collect_fault_of, fault_of};
 
 use host_trait::{HostFault, SinkFault};
 use std::alloc::AllocError;
+use store_collect::{CollectFault, CollectRefusal};
 use switch_engine::{PlanFault, Refusal};
 use thiserror::Error;
 
@@ -33,6 +34,22 @@ impl From<PlanFault> for RunFault {
         match fault {
             PlanFault::Refused(why) => RunFault::Refused(why),
             PlanFault::Host(why) => RunFault::Host(why),
+        }
+    }
+}
+
+impl From<CollectFault> for RunFault {
+    ghost from_gives = { λ fault given. given ≡ collect_fault_of fault };
+
+    fn from(fault: CollectFault) -> RunFault {
+        match fault {
+            CollectFault::Refused(CollectRefusal::Unfinished) => {
+                RunFault::Refused(Refusal::Unfinished)
+            }
+            CollectFault::Refused(CollectRefusal::InTheWay(at)) => {
+                RunFault::Refused(Refusal::InTheWay(at))
+            }
+            CollectFault::Host(why) => RunFault::Host(why),
         }
     }
 }

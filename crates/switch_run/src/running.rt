@@ -1,4 +1,4 @@
-//! Does what words ask for: a command, from its plan to its closing text, a list or a rehearsal.
+//! Does what words ask for: a command, from its plan to its closing text, a list, a rehearsal or a collection.
 ghost use Rattle.std.specs.Prelude.{◌≡◌, Some, IsErrOf};
 ghost use Rattle.host_trait.specs.Host.{Told};
 ghost use Rattle.switch_engine.specs.Plan.{IsPlanOf, IsSound};
@@ -9,6 +9,7 @@ ghost use Rattle.switch_run.specs.Listing.{IsListing};
 ghost use Rattle.switch_run.specs.Rehearsing.{IsRehearsing};
 
 use crate::asked::Asked;
+use crate::collecting::run_collection;
 use crate::run_fault::RunFault;
 use dry_report::{close, generation_list, report};
 use generations::all;
@@ -111,6 +112,7 @@ pub fn run_words<H: Manager, S: Sink>(
         Asked::Generations => run_list(alloc, host, out),
         Asked::Rehearsal(number) => run_rehearsal(alloc, number, out),
         Asked::RehearsalWithJobs(number) => run_rehearsal_with_jobs(alloc, number, out),
+        Asked::Collection(keep) => run_collection(alloc, host, out, keep),
         Asked::Nothing => Err(RunFault::Usage),
     }
 }

@@ -14,7 +14,10 @@ ghost use Rattle.switch_engine.specs.Reboot.{BootsOldOrNew};
 ghost use Rattle.switch_engine.specs.Rows.{refusal};
 ghost use Rattle.switch_parts.specs.declared.refusal.Refusal.{Refusal};
 ghost use Rattle.dry_report.specs.Report.{KeepsReport};
-ghost use Rattle.switch_run.specs.Asked.{AsksNothing};
+ghost use Rattle.store_collect.specs.Unfinished.{is_unfinished};
+ghost use Rattle.switch_run.specs.Asked.{AsksNoCollection, AsksNothing};
+ghost use Rattle.switch_run.specs.Collecting.{AnswersCollection, AsksCollection, IsCollected, IsCollectionMoment, IsWholeCollection};
+ghost use Rattle.switch_run.specs.CollectionEnding.{IsCollectionBroken, IsCollectionRefused, IsCollectionUnput};
 ghost use Rattle.switch_run.specs.Commands.{command_of};
 ghost use Rattle.switch_run.specs.Listing.{IsInList, IsListOf, asks_list};
 ghost use Rattle.switch_run.specs.Moments.{IsMomentOf};
@@ -37,7 +40,9 @@ use switch_names::Text;
 ///
 /// A `rollback` is promised the same until its last step, by `cut_rollbacks_end_as_one`. The word `generations` alone puts the list
 /// of the generations that stand, as nix-env(1) does with `--list-generations`, and changes nothing. `rehearse` with a number
-/// switches a made machine in memory under cuts, tells what came of it, and touches nothing of the host.
+/// switches a made machine in memory under cuts, tells what came of it, and touches nothing of the host. `collect` with a number
+/// drops old generations and what of the store no root reaches, as nix-collect-garbage(1) does; the laws of `store_collect`
+/// say what stays at each moment.
 pub fn run<H: Manager, S: Sink>(alloc: Global, words: &[Text], host: &mut H, out: &mut S) -> Status
     // Words that ask for nothing that the program does.
     ensures usage { result ≡ Status.Usage → AsksNothing words.now }
@@ -61,6 +66,19 @@ pub fn run<H: Manager, S: Sink>(alloc: Global, words: &[Text], host: &mut H, out
     ensures rehearsal_never_refused { (number : ℕ) → AsksRehearsal words.now number → (why : Refusal) → result ≡ Status.Refused why → ⊥ }
     ensures rehearsal_touches_nothing { (number : ℕ) → AsksRehearsal words.now number → Passes (H.host host.old) (H.host host.new) IsSame × ((H.host host.new).faults ≡ (H.host host.old).faults) }
     ensures rehearsal_completes { (number : ℕ) → AsksRehearsal words.now number → ¬ Rose (S.sink out.old).faults (S.sink out.new).faults → (result ≡ Status.Done) ⊎ (result ≡ Status.NoMemory) }
+
+    // Words that ask for a collection. It is refused only where the world refuses it, and nothing is put and nothing changes
+    // then. Else its report is put before anything changes, and the last line once all is removed; and each moment is one of
+    // the collection of the world at the beginning.
+    ensures collect { (keep : ℕ) → AsksCollection words.now keep → IsEnded result → (result ≡ Status.Done) × Leads (H.host host.old) (H.host host.new) (IsCollected keep) }
+    ensures collect_output { (keep : ℕ) → AsksCollection words.now keep → IsEnded result → Told (H.host host.old) (λ w. Puts (S.sink out.old) (S.sink out.new) (IsWholeCollection keep w)) }
+    ensures collect_broken { (keep : ℕ) → AsksCollection words.now keep → IsBroken result → IsCollectionBroken keep (H.host host.old) (H.host host.new) (S.sink out.old) (S.sink out.new) }
+    ensures collect_failed_output { (keep : ℕ) → AsksCollection words.now keep → result ≡ Status.SinkFault → IsCollectionUnput keep (H.host host.old) (H.host host.new) (S.sink out.old) (S.sink out.new) }
+    ensures collect_refused { (keep : ℕ) → AsksCollection words.now keep → (why : Refusal) → result ≡ Status.Refused why → IsCollectionRefused keep (H.host host.old) (H.host host.new) (S.sink out.old) (S.sink out.new) why }
+    ensures collect_unfinished { (keep : ℕ) → AsksCollection words.now keep → Told (H.host host.old) (λ w. is_unfinished w.leaves ≡ true → IsIdle (H.host host.old) (H.host host.new) (S.sink out.old) (S.sink out.new)) }
+    ensures collect_completes { (keep : ℕ) → AsksCollection words.now keep → ¬ Rose (H.host host.old).faults (H.host host.new).faults → ¬ Rose (S.sink out.old).faults (S.sink out.new).faults → Told (H.host host.old) (λ w. AnswersCollection keep w.leaves result) }
+    ensures collect_each_moment { (keep : ℕ) → AsksCollection words.now keep → EachMoment (H.host host.old) (H.host host.new) (IsCollectionMoment keep) }
+    ensures collect_moments { (keep : ℕ) → AsksCollection words.now keep → Passes (H.host host.old) (H.host host.new) (IsCollectionMoment keep) }
 
     // A refusal is the world's. Where there is one, nothing is put and nothing changes, whatever is answered.
     ensures refused { (why : Refusal) → result ≡ Status.Refused why → (command : Command) → command_of words.now ≡ Some command → Told (H.host host.old) (λ w. refusal command w.leaves ≡ Some why) }
@@ -100,9 +118,9 @@ pub fn run<H: Manager, S: Sink>(alloc: Global, words: &[Text], host: &mut H, out
     ensures completes { ¬ Rose (H.host host.old).faults (H.host host.new).faults → ¬ Rose (S.sink out.old).faults (S.sink out.new).faults → (command : Command) → command_of words.now ≡ Some command → Told (H.host host.old) (λ w. Answers command w result) }
 
     // Whatever cuts it, the same run ends as if it hadn't been cut, and the journal has grown by a
-    // beginning of exactly what the command enters.
-    ensures each_moment { EachMoment (H.host host.old) (H.host host.new) (IsMomentOf (command_of words.now)) }
-    ensures moments { Passes (H.host host.old) (H.host host.new) (IsMomentOf (command_of words.now)) }
+    // beginning of exactly what the command enters. Of a collection see above.
+    ensures each_moment { AsksNoCollection words.now → EachMoment (H.host host.old) (H.host host.new) (IsMomentOf (command_of words.now)) }
+    ensures moments { AsksNoCollection words.now → Passes (H.host host.old) (H.host host.new) (IsMomentOf (command_of words.now)) }
 
     // A machine that loses power then boots into the system that it would have booted into before, or into the new one.
     ensures boots { (command : Command) → command_of words.now ≡ Some command → Passes (H.host host.old) (H.host host.new) (BootsOldOrNew command) }

@@ -47,6 +47,9 @@ returns-in-Some-clause-in_the_way g c at e =
       first = ap (λ (gens : Gens). first_in_the_way (boot_places gens.list) w.leaves) (sym c.in_ok-kept.ensures) ∙ sym first ∙ c.in-Some.is ∙ ap (λ (x : Name). Some x) (same_place c.in-Some.at at e);
     })
 
+pub returns-in-Some-clause-in_order : goal.returns-in-Some-clause-in_order
+returns-in-Some-clause-in_order g c at e = told_as c.in_ok-is_unfinished.ensures.unfinished (λ w. is_unfinished w.leaves ≡ false) (λ w world is. sym is ∙ c.if-branch.false)
+
 pub returns-in_err-gens-clause-reads : goal.returns-in_err-gens-clause-reads
 returns-in_err-gens-clause-reads g c =
     let p = err_from_is_err_and c.from_residual-in_err-gens.result c.from_residual-in_err-gens.ensures.1 in

@@ -31,5 +31,8 @@ pub returns-in-RehearsalWithJobs : goal.returns-in-RehearsalWithJobs
 returns-in-RehearsalWithJobs g c =
     Answered (asked.RehearsalWithJobs c.in-RehearsalWithJobs.number) (subst (IsAskedBy c.args.words.now) c.in-RehearsalWithJobs.is c.in_ok-command.ensures) (untouched, c.run_rehearsal_with_jobs.ensures)
 
+pub returns-in-Collection : goal.returns-in-Collection
+returns-in-Collection g c = Answered (asked.Collection c.in-Collection.keep) (subst (IsAskedBy c.args.words.now) c.in-Collection.is c.in_ok-command.ensures) c.run_collection.ensures
+
 pub returns-in-Nothing : goal.returns-in-Nothing
 returns-in-Nothing g c = Answered asked.Nothing (subst (IsAskedBy c.args.words.now) c.in-Nothing.is c.in_ok-command.ensures) no_command
