@@ -1,6 +1,8 @@
 pub mod ApplyLemmas
 pub mod BootSystemLemmas
+pub mod EntryLemmas
 pub mod FaultLemmas
+pub mod GenLists
 pub mod LawLemmas
 pub mod OneLemmas
 pub mod VersionLemmas

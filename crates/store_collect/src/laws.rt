@@ -1,5 +1,5 @@
 //! What holds of a collection.
-ghost use Rattle.store_collect.specs.Laws.{LiveLaw, NamesLaw, OneCollectionLaw, VersionLaw, WholeLaw};
+ghost use Rattle.store_collect.specs.Laws.{EntryLaw, LiveLaw, NamesLaw, OneCollectionLaw, VersionLaw, WholeLaw};
 
 /// There is one collection of a world, and so one end of it.
 ///
@@ -34,4 +34,12 @@ pub fn the_profile_names_the_same_system()
 /// Source: nix-store(1), "--gc".
 pub fn what_has_its_version_is_whole()
     ensures version { VersionLaw }
+{}
+
+/// At each moment of a collection that is planned each number of which a boot entry stands has the link of its generation
+/// as it was, so that no entry outlasts its generation's link. (An entry whose number has no link goes before the first link.)
+///
+/// Source: Boot Loader Specification, "Type #1 Boot Loader Specification Entries"; Nix manual, "Profiles".
+pub fn no_entry_outlasts_its_generation()
+    ensures entry { EntryLaw }
 {}
