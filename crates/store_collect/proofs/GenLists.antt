@@ -107,25 +107,34 @@ module _ (passes : Gen → Bool) where
 -- ---- the generations that are kept
 
 module _ (keep : ℕ) (gens : Gens) where
-  pub last_of : List Gen
+  -- the last so many
+  abbrev pub last_of : List Gen
   last_of = drop (length gens.list - keep) gens.list
 
-  whole : older keep gens ++ last_of ≡ gens.list
-  unfolding last_of
+  pub whole : older keep gens ++ last_of ≡ gens.list
   whole = take-append-drop (length gens.list - keep) gens.list
 
   pub kept_all : (P : Gen → Type 0) → AllByRecursion P gens.list → AllByRecursion P (gens_kept keep gens).list
-  unfolding last_of
   kept_all P all = all_kept (is_current_of gens) P (older keep gens) last_of (subst (AllByRecursion P) (sym whole) all)
+
+  -- a number of those that are kept is one of all
+  pub among_kept : (n : ℕ) → is_among n (gens_kept keep gens).list ≡ true → is_among n gens.list ≡ true
+  among_kept n kept =
+      let is_current : ℕ → Bool = λ k. option_map_or (λ c. k == c) gens.current false in
+      let cases = or_cases (is_among n (filter (λ (gen : Gen). is_current gen.number) (older keep gens))) (is_among n last_of)
+      (sym (list_any-append (λ (g : Gen). g.number == n) (filter (λ (gen : Gen). is_current gen.number) (older keep gens)) last_of) ∙ kept) in
+      let either : (is_among n (older keep gens) || is_among n last_of) ≡ true = elim cases [
+        | inl current ↦ or_left (is_among n (older keep gens)) (is_among n last_of) (and_parts (is_current n) (is_among n (older keep gens)) (sym (among_passing is_current n (older keep gens)) ∙ current)).1
+        | inr last ↦ or_right (is_among n (older keep gens)) (is_among n last_of) last
+      ] in
+      subst (λ list. is_among n list ≡ true) whole (list_any-append (λ (g : Gen). g.number == n) (older keep gens) last_of ∙ either)
 
   module _ (rising : IsStrictlySortedBy nat_cmp (numbers_of gens.list)) where
     pub kept_rising : IsStrictlySortedBy nat_cmp (numbers_of (gens_kept keep gens).list)
-    unfolding last_of
     kept_rising = rising_kept (is_current_of gens) (older keep gens) last_of (subst (λ list. IsStrictlySortedBy nat_cmp (numbers_of list)) (sym whole) rising)
 
     -- the link of a generation that is kept doesn't go
     pub kept_stays : (n : ℕ) → n < 2 ^ 64 → AllByRecursion (λ (gen : Gen). is_number gen.number ≡ true) gens.list → is_among n (gens_kept keep gens).list ≡ true → has (links_gone keep gens) (link_path n) ≡ true → ⊥
-    unfolding last_of
     kept_stays n small numbers kept gone =
         let is_current : ℕ → Bool = λ k. option_map_or (λ c. k == c) gens.current false in
         let first = all_take (λ (gen : Gen). is_number gen.number ≡ true) gens.list (length gens.list - keep) numbers in

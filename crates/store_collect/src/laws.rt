@@ -1,4 +1,5 @@
 //! What holds of a collection.
+ghost use Rattle.store_collect.specs.Again.{CollectedAgainLaw, CutCollectionsLaw};
 ghost use Rattle.store_collect.specs.Laws.{EntryLaw, LiveLaw, NamesLaw, OneCollectionLaw, VersionLaw, WholeLaw};
 
 /// There is one collection of a world, and so one end of it.
@@ -42,4 +43,19 @@ pub fn what_has_its_version_is_whole()
 /// Source: Boot Loader Specification, "Type #1 Boot Loader Specification Entries"; Nix manual, "Profiles".
 pub fn no_entry_outlasts_its_generation()
     ensures entry { EntryLaw }
+{}
+
+/// A collection that is cut at any of its moments and run again, to keep as many generations, ends as one that isn't cut.
+///
+/// Source: nix-collect-garbage(1).
+pub fn a_collection_run_again_ends_alike()
+    ensures again { CollectedAgainLaw }
+{}
+
+/// However often collections that keep as many generations are cut, each at any of its moments, the last leaves what one
+/// leaves that isn't cut.
+///
+/// Source: nix-collect-garbage(1).
+pub fn cut_collections_end_alike()
+    ensures cuts { CutCollectionsLaw }
 {}
