@@ -115,13 +115,17 @@ module _ (keep : ℕ) (one : Collection) (w m : WorldState) (is : IsCollectionOf
       by true number None some = some
       by false number o some = absurd (both_ways _ refl number)
 
+  -- of the generations that stand now the same are kept
+  pub kept_now : (others : Gens) → IsGensOf m.leaves others → gens_kept keep others ≡ gens_kept keep gens
+  kept_now others stand = ap (gens_kept keep) (one_gens m.leaves others now stand now_stand) ∙ kept_same keep gens stays last_stays current_kept
+
   module _ (again : Collection) (also : IsCollectionOf keep m again) where
     same_gens : also.gens ≡ now
     same_gens = one_gens m.leaves also.gens now also.stand now_stand
 
     -- a collection of this moment keeps the same generations
     pub kept_again : gens_kept keep also.gens ≡ gens_kept keep gens
-    kept_again = ap (gens_kept keep) same_gens ∙ kept_same keep gens stays last_stays current_kept
+    kept_again = kept_now also.gens also.stand
 
     links_of : again.links ≡ links_gone keep now
     links_of = also.planned.links ∙ ap (links_gone keep) same_gens

@@ -43,7 +43,7 @@ use Rattle.store_collect.specs.Steps.{IsCollecting, removals}
 use Rattle.store_collect.proofs.AgainGens.{again_still, again_was, kept_again, kept_stands}
 use Rattle.store_collect.proofs.AgainLive.{dead_before, dead_still, owned_outside, put_places}
 use Rattle.store_collect.proofs.BootSystemLemmas.{outside}
-use Rattle.store_collect.proofs.EntryLemmas.{are_entries, kept_list}
+use Rattle.store_collect.proofs.EntryLemmas.{are_entries, kept_gens}
 use Rattle.store_collect.proofs.FewerGens.{listed_passing}
 use Rattle.store_collect.proofs.GenLists.{found_among, last_of, rising_apart, whole, numbers_of}
 use Rattle.store_collect.proofs.LawLemmas.{in_both, menu_made, store_kept}
@@ -136,7 +136,7 @@ module _ (keep : ℕ) (one : Collection) (w : WorldState) (is : IsCollectionOf k
   menu_end : (q : Name) → owns_boot q ≡ true → get end_world.leaves q ≡ boot_end (gens_kept keep is.gens) w.leaves q
   menu_end q own =
       removed_at q false (list_any-append (is_name q) one.links one.leaves ∙ or_none (has one.links q) (has one.leaves q) (leaves_inside keep one w is q (owned_outside q own)) ∙ owned_links q own)
-      ∙ at_end (gens_kept keep is.gens) one.texts w (with_menu one.texts w) (kept_list keep w.leaves is.gens is.stand) entries is.planned.texts refl q own
+      ∙ at_end (gens_kept keep is.gens) one.texts w (with_menu one.texts w) (kept_gens keep w.leaves is.gens is.stand).list entries is.planned.texts refl q own
 
   end_manager : end_world.manager ≡ w.manager
   end_manager =

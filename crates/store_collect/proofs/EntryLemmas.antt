@@ -1,7 +1,6 @@
 -- No boot entry outlasts its generation's link.
-use Rattle.std.proofs.Common.{◌≡◌, ℕ, ◌^◌, ◌<◌, Bool, true, false, cond, List, [], ◌∷◌, take, Option, None, Some, IsSome, option_map, refl, sym, ap, subst, ◌∙◌, inl, inr, arith}
+use Rattle.std.proofs.Common.{IfSome, ◌≡◌, ℕ, ◌^◌, ◌<◌, Bool, true, false, cond, List, take, Option, None, Some, IsSome, option_map, refl, sym, ap, subst, ◌∙◌, inl, inr, arith}
 use Rattle.std.specs.FinMap.{get}
-use Rattle.std.specs.List.{AllByRecursion, cons_option}
 use Rattle.std.specs.Option.{option_map_or}
 use Rattle.std.specs.Prelude.{option_and_then}
 use Rattle.generations.specs.declared.gens.Gen.{Gen}
@@ -9,19 +8,19 @@ use Rattle.generations.specs.declared.gens.Gens.{Gens}
 use Rattle.generations.specs.Gens.{IsGensOf, listed_at}
 use Rattle.generations.specs.Places.{is_number, link_path}
 use Rattle.generations.proofs.Apart.{link_apart}
-use Rattle.generations.proofs.Numbers.{below_bound}
 use Rattle.host_trait.specs.World.{Leaves, WorldState, stage}
 use Rattle.host_trait.proofs.Seen.{seen_at}
 use Rattle.switch_names.specs.Names.{Name, has}
+use Rattle.switch_names.specs.SystemName.{IsSystemPath}
 use Rattle.tree_put.specs.Sequence.{without_places}
 use Rattle.tree_put.proofs.LeftLemmas.{gone_at}
 use Rattle.tree_put.proofs.PutLemmas.{apart_ne}
 use Rattle.boot_entries.specs.BootPart.{entry_end, loader_end, system_at}
-use Rattle.boot_entries.specs.Laws.{IsGenList}
+use Rattle.boot_entries.specs.Laws.{IsBootGens}
 use Rattle.boot_entries.specs.Places.{entry_path, numbered}
 use Rattle.boot_entries.specs.Steps.{AreEntries, with_menu}
-use Rattle.boot_entries.specs.Texts.{entries_of, entry_of}
 use Rattle.boot_entries.proofs.AtEndLemmas.{at_end, entry_not_loader}
+use Rattle.boot_entries.proofs.DefaultLemmas.{menu_entries}
 use Rattle.boot_entries.proofs.EndLemmas.{boot_owned, numbered_entry, only_law}
 use Rattle.boot_entries.proofs.PutLemmas.{place_apart}
 use Rattle.store_collect.specs.declared.collection.Collection.{Collection}
@@ -31,29 +30,24 @@ use Rattle.store_collect.specs.Laws.{EntryLaw}
 use Rattle.store_collect.specs.Steps.{IsCollecting, removals}
 use Rattle.store_collect.proofs.BootSystemLemmas.{link_either}
 use Rattle.store_collect.proofs.GenLists.{found_among, kept_all, kept_rising, kept_stays}
-use Rattle.store_collect.proofs.OneLemmas.{of_numbers}
+use Rattle.store_collect.proofs.OneLemmas.{of_numbers, of_systems}
 use Rattle.store_collect.proofs.WholeLemmas.{link_unowned}
 
 -- ---- the generations that are kept, and their entries
 
-pub kept_list : (keep : ℕ) (leaves : Leaves) (gens : Gens) → IsGensOf leaves gens → IsGenList (gens_kept keep gens).list
-kept_list keep leaves gens stand = record {
-  rising = kept_rising keep gens stand.rising;
-  numbers = kept_all keep gens (λ (gen : Gen). is_number gen.number ≡ true) (of_numbers leaves gens stand);
+pub kept_gens : (keep : ℕ) (leaves : Leaves) (gens : Gens) → IsGensOf leaves gens → IsBootGens (gens_kept keep gens)
+kept_gens keep leaves gens stand = record {
+  list = record {
+    rising = kept_rising keep gens stand.rising;
+    numbers = kept_all keep gens (λ (gen : Gen). is_number gen.number ≡ true) (of_numbers leaves gens stand);
+  };
+  systems = kept_all keep gens (λ (gen : Gen). IfSome gen.target IsSystemPath) (of_systems leaves gens stand);
 }
-
-entries_placed : (leaves : Leaves) (list : List Gen) → AllByRecursion (λ (gen : Gen). is_number gen.number ≡ true) list → AreEntries (entries_of leaves list)
-entries_placed leaves [] numbers = tt
-entries_placed leaves (gen ∷ list) numbers = by gen.target (entries_placed leaves list numbers.1)
-  where
-    by : (target : Option Name) → AreEntries (entries_of leaves list) → AreEntries (cons_option (option_map (entry_of leaves gen.number) target) (entries_of leaves list))
-    by None rest = rest
-    by (Some system) rest = ((gen.number, below_bound gen.number numbers.0, refl), rest)
 
 -- the entries of a collection are put at the places of entries
 pub are_entries : (keep : ℕ) (w : WorldState) (collection : Collection) → IsCollectionOf keep w collection → AreEntries collection.texts.entries
 are_entries keep w collection is =
-    subst (λ texts. AreEntries texts.entries) (sym is.planned.texts) (entries_placed w.leaves (gens_kept keep is.gens).list (kept_list keep w.leaves is.gens is.stand).numbers)
+    subst (λ texts. AreEntries texts.entries) (sym is.planned.texts) (menu_entries (gens_kept keep is.gens) w.leaves (kept_gens keep w.leaves is.gens is.stand))
 
 some_system : {X : Type 0} (f : Name → X) (list : List Gen) (n : ℕ) → IsSome (option_map f (system_at list n)) → IsSome (listed_at list n)
 some_system f list n = by (listed_at list n)
@@ -75,7 +69,7 @@ module _ (keep : ℕ) (collection : Collection) (w m : WorldState) (is : IsColle
   -- once the boot menu is made, an entry that stands is that of a generation that is kept
   made_at : get (with_menu collection.texts w).leaves (entry_path n) ≡ entry_end (gens_kept keep is.gens).list w.leaves n
   made_at =
-      at_end (gens_kept keep is.gens) collection.texts w (with_menu collection.texts w) (kept_list keep w.leaves is.gens is.stand) entries is.planned.texts refl (entry_path n)
+      at_end (gens_kept keep is.gens) collection.texts w (with_menu collection.texts w) (kept_gens keep w.leaves is.gens is.stand).list entries is.planned.texts refl (entry_path n)
       (boot_owned (entry_path n) (inr (n, small, refl)))
       ∙ ap (λ b. cond b (loader_end is.gens.current w.leaves) (option_map_or (entry_end (gens_kept keep is.gens).list w.leaves) (numbered (entry_path n)) (get w.leaves (entry_path n)))) (entry_not_loader n)
       ∙ ap (λ o. option_map_or (entry_end (gens_kept keep is.gens).list w.leaves) o (get w.leaves (entry_path n))) (numbered_entry n small)

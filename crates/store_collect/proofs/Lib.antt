@@ -1,6 +1,7 @@
 pub mod AgainGens
 pub mod AgainLemmas
 pub mod AgainLive
+pub mod AllowedLemmas
 pub mod ApplyLemmas
 pub mod BootSystemLemmas
 pub mod EntryLemmas

@@ -1,9 +1,12 @@
 -- Collections that are cut, and run again: nix-collect-garbage(1).
-use Rattle.std.specs.Prelude.{ℕ, List, [], ◌∷◌}
-use Rattle.host_trait.specs.World.{WorldState}
+use Rattle.std.specs.Prelude.{◌≡◌, ◌∷◌, ℕ, false, List, []}
+use Rattle.host_trait.specs.World.{Leaves, WorldState}
+use Rattle.switch_names.specs.Names.{Name}
+use Rattle.boot_entries.specs.Steps.{CanApplyBoot}
 use Rattle.store_collect.specs.declared.collection.Collection.{Collection}
-use Rattle.store_collect.specs.Collection.{IsCollectionOf}
+use Rattle.store_collect.specs.Collection.{IsCollectionOf, IsRefusedAt}
 use Rattle.store_collect.specs.Steps.{IsCollectedBy, IsCollecting}
+use Rattle.store_collect.specs.Unfinished.{is_unfinished}
 
 -- a collection of a world that keeps so many generations is cut at this moment
 pub record IsCut (keep : ℕ) (w m : WorldState) : Type 0 where
@@ -32,3 +35,14 @@ CollectedAgainLaw =
 -- however often collections are cut, the last leaves what one leaves that isn't cut
 abbrev pub CutCollectionsLaw : Type 0
 CutCollectionsLaw = (keep : ℕ) (cuts : List WorldState) (w v : WorldState) → CollectsBy keep cuts w v → IsCollected keep w v
+
+-- no collection that keeps so many generations is refused: no switch is unfinished, and nothing is in the way
+pub record IsAllowed (keep : ℕ) (leaves : Leaves) : Type 0 where
+  pub finished : is_unfinished leaves ≡ false
+  pub free : (at : Name) → IsRefusedAt keep leaves at → ⊥
+
+-- at each moment of a collection that isn't refused none is refused
+abbrev pub AllowedLaw : Type 0
+AllowedLaw =
+    (keep : ℕ) (collection : Collection) (w m : WorldState) → IsCollectionOf keep w collection → is_unfinished w.leaves ≡ false → CanApplyBoot collection.texts w → IsCollecting collection w m →
+    IsAllowed keep m.leaves

@@ -1,5 +1,5 @@
 //! What holds of a collection.
-ghost use Rattle.store_collect.specs.Again.{CollectedAgainLaw, CutCollectionsLaw};
+ghost use Rattle.store_collect.specs.Again.{AllowedLaw, CollectedAgainLaw, CutCollectionsLaw};
 ghost use Rattle.store_collect.specs.Laws.{EntryLaw, LiveLaw, NamesLaw, OneCollectionLaw, VersionLaw, WholeLaw};
 
 /// There is one collection of a world, and so one end of it.
@@ -58,4 +58,12 @@ pub fn a_collection_run_again_ends_alike()
 /// Source: nix-collect-garbage(1).
 pub fn cut_collections_end_alike()
     ensures cuts { CutCollectionsLaw }
+{}
+
+/// At each moment of a collection that isn't refused none is refused that keeps as many generations, so that one which is cut
+/// can be run again.
+///
+/// Source: nix-collect-garbage(1).
+pub fn a_cut_collection_is_not_refused()
+    ensures allowed { AllowedLaw }
 {}
