@@ -9,7 +9,6 @@ use Rattle.generations.specs.declared.gens.Gens.{Gens}
 use Rattle.generations.specs.Places.{IsCurrent, Names, generation_at, is_number, link_path, profile, target_of}
 use Rattle.generations.proofs.Apart.{link_apart, link_profile, one_link_path, profile_apart}
 use Rattle.generations.proofs.Numbers.{small_number, stands_at_number}
-use Rattle.generations.proofs.PointLemmas.{gens_at_numbers}
 use Rattle.generations.proofs.ProfileApart.{profile_owned}
 use Rattle.host_trait.specs.declared.leaf.LeafKind.{LeafKind}
 use Rattle.host_trait.specs.World.{WorldState, listed, stage}
@@ -35,7 +34,7 @@ use Rattle.store_collect.specs.Kept.{gens_kept, is_current_of}
 use Rattle.store_collect.specs.Laws.{NamesLaw}
 use Rattle.store_collect.specs.Steps.{IsCollecting, removals}
 use Rattle.store_collect.proofs.LawLemmas.{among_first, in_both, in_first_of, in_flat, link_outside, menu_made}
-use Rattle.store_collect.proofs.OneLemmas.{of_list}
+use Rattle.store_collect.proofs.OneLemmas.{of_numbers}
 use Rattle.store_collect.proofs.WholeLemmas.{link_unowned}
 
 profile_outside : begins store_folder profile ≡ false
@@ -70,7 +69,7 @@ no_current gens n (gen ∷ list) current number all there = by (is_current_of ge
 
 module _ (keep : ℕ) (collection : Collection) (w m : WorldState) (entries : AreEntries collection.texts.entries) (is : IsCollectionOf keep w collection) (moment : IsCollecting collection w m) where
   -- outside the store and the boot menu a place stays, or is that of a link that goes
-  outside : (p : Name) → owns_boot p ≡ false → p ≢ stage → begins store_folder p ≡ false → (get m.leaves p ≡ get w.leaves p) ⊎ ((has collection.links p ≡ true) × (get m.leaves p ≡ None))
+  pub outside : (p : Name) → owns_boot p ≡ false → p ≢ stage → begins store_folder p ≡ false → (get m.leaves p ≡ get w.leaves p) ⊎ ((has collection.links p ≡ true) × (get m.leaves p ≡ None))
   outside p free other away = by_moment moment
     where
       kept : (v : WorldState) → IsBootMoment collection.texts w v → get v.leaves p ≡ get w.leaves p
@@ -97,7 +96,7 @@ module _ (keep : ℕ) (collection : Collection) (w m : WorldState) (entries : Ar
             | inr apart ↦ inl (after ∙ ap (λ b. cond b None (get u.leaves p)) apart ∙ kept u (menu_made collection.texts w))
           ]
 
-  profile_stays : get m.leaves profile ≡ get w.leaves profile
+  pub profile_stays : get m.leaves profile ≡ get w.leaves profile
   profile_stays = elim (outside profile profile_unowned (apart_ne profile stage profile_apart) profile_outside) [
     | inl same ↦ same
     | inr both ↦ absurd (no_profile _ (subst (λ l. has l profile ≡ true) is.planned.links both.0))
@@ -111,16 +110,16 @@ module _ (keep : ℕ) (collection : Collection) (w m : WorldState) (entries : Ar
       ]
 
   numbers : AllByRecursion (λ (gen : Gen). is_number gen.number ≡ true) is.gens.list
-  numbers = subst (AllByRecursion (λ (gen : Gen). is_number gen.number ≡ true)) (sym (of_list w.leaves is.gens is.gens is.stand is.stand is.gens is.stand)) (gens_at_numbers 0 w.leaves)
+  numbers = of_numbers w.leaves is.gens is.stand
 
-  link_either : (n : ℕ) → (get m.leaves (link_path n) ≡ get w.leaves (link_path n)) ⊎ ((has collection.links (link_path n) ≡ true) × (get m.leaves (link_path n) ≡ None))
+  pub link_either : (n : ℕ) → (get m.leaves (link_path n) ≡ get w.leaves (link_path n)) ⊎ ((has collection.links (link_path n) ≡ true) × (get m.leaves (link_path n) ≡ None))
   link_either n = outside (link_path n) (link_unowned n) (apart_ne (link_path n) stage (link_apart n)) (link_outside n)
 
-  at_same : (n : ℕ) → get m.leaves (link_path n) ≡ get w.leaves (link_path n) → generation_at m.leaves n ≡ generation_at w.leaves n
+  pub at_same : (n : ℕ) → get m.leaves (link_path n) ≡ get w.leaves (link_path n) → generation_at m.leaves n ≡ generation_at w.leaves n
   at_same n same = ap (λ o. cond (is_number n) (option_map target_of o) None) same
 
   -- a generation that stands now stood before
-  stood : (n : ℕ) → IsSome (generation_at m.leaves n) → generation_at m.leaves n ≡ generation_at w.leaves n
+  pub stood : (n : ℕ) → IsSome (generation_at m.leaves n) → generation_at m.leaves n ≡ generation_at w.leaves n
   stood n stands = elim (link_either n) [
     | inl same ↦ at_same n same
     | inr both ↦ absurd (none_some (is_number n) (get m.leaves (link_path n)) both.1 stands)
@@ -131,7 +130,7 @@ module _ (keep : ℕ) (collection : Collection) (w m : WorldState) (entries : Ar
       none_some true (Some x) none some = absurd cc
       none_some false o none some = absurd cc
 
-  current_stays : (n : ℕ) → IsCurrent w.leaves n → generation_at m.leaves n ≡ generation_at w.leaves n
+  pub current_stays : (n : ℕ) → IsCurrent w.leaves n → generation_at m.leaves n ≡ generation_at w.leaves n
   current_stays n current = elim (link_either n) [
     | inl same ↦ at_same n same
     | inr both ↦ absurd (no_current is.gens n _ (is.stand.only_current n current) (stands_at_number w.leaves n current.stands)

@@ -71,7 +71,7 @@ no_link (gen ∷ gens) q is there = elim (or_cases (is_name q (link_path gen.num
   | inr later ↦ no_link gens q is later
 ]
 
-in_store_of : (q : Name) → begins store_folder q ≡ true → is_in_store q ≡ true
+pub in_store_of : (q : Name) → begins store_folder q ≡ true → is_in_store q ≡ true
 unfolding is_in_store
 in_store_of q is = is
 

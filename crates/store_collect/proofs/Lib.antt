@@ -1,7 +1,15 @@
+pub mod AgainGens
+pub mod AgainLemmas
+pub mod AgainLive
+pub mod AllowedLemmas
 pub mod ApplyLemmas
 pub mod BootSystemLemmas
+pub mod EntryLemmas
 pub mod FaultLemmas
+pub mod FewerGens
+pub mod GenLists
 pub mod LawLemmas
+pub mod MomentLemmas
 pub mod OneLemmas
 pub mod VersionLemmas
 pub mod WholeLemmas

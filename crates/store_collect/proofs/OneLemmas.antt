@@ -1,13 +1,16 @@
 -- There is one collection of a world.
-use Rattle.std.proofs.Common.{◌≡◌, ℕ, List, Option, None, Some, IfSome, refl, sym, ap, subst, ◌∙◌}
+use Rattle.std.proofs.Common.{◌≡◌, ℕ, true, List, Option, None, Some, IfSome, refl, sym, ap, subst, ◌∙◌}
+use Rattle.std.specs.List.{AllByRecursion}
+use Rattle.generations.specs.declared.gens.Gen.{Gen}
 use Rattle.generations.specs.declared.gens.Gens.{Gens}
 use Rattle.generations.specs.Gens.{IsGensOf}
 use Rattle.generations.specs.Move.{gens_at}
-use Rattle.generations.specs.Places.{IsCurrent}
-use Rattle.generations.proofs.PointLemmas.{at_of_list}
+use Rattle.generations.specs.Places.{IsCurrent, is_number}
+use Rattle.generations.proofs.PointLemmas.{at_of_list, gens_at_numbers, gens_at_systems}
 use Rattle.host_trait.specs.World.{Leaves}
 use Rattle.owed_lists.proofs.ListLemmas.{one_list}
 use Rattle.switch_names.specs.Names.{IsListOf, Name, has}
+use Rattle.switch_names.specs.SystemName.{IsSystemPath}
 use Rattle.boot_entries.specs.Texts.{menu_of}
 use Rattle.store_live.specs.Live.{IsDead}
 use Rattle.store_collect.specs.Collection.{leaves_of, passed_over}
@@ -28,6 +31,13 @@ module _ (leaves : Leaves) (one other : Gens) (is : IsGensOf leaves one) (also :
       let list = of_list one is ∙ sym (of_list other also) in
       let current = current_same one.current other.current refl refl in
       λ i. record { list = list i; current = current i }
+
+-- their numbers are such, and each that has a target names a system
+pub of_numbers : (leaves : Leaves) (gens : Gens) → IsGensOf leaves gens → AllByRecursion (λ (gen : Gen). is_number gen.number ≡ true) gens.list
+of_numbers leaves gens stand = subst (AllByRecursion (λ (gen : Gen). is_number gen.number ≡ true)) (sym (of_list leaves gens gens stand stand gens stand)) (gens_at_numbers 0 leaves)
+
+pub of_systems : (leaves : Leaves) (gens : Gens) → IsGensOf leaves gens → AllByRecursion (λ (gen : Gen). IfSome gen.target IsSystemPath) gens.list
+of_systems leaves gens stand = subst (AllByRecursion (λ (gen : Gen). IfSome gen.target IsSystemPath)) (sym (of_list leaves gens gens stand stand gens stand)) (gens_at_systems 0 leaves)
 
 pub one_collection : OneCollectionLaw
 one_collection keep w one other is also =

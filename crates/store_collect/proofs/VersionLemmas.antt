@@ -83,7 +83,7 @@ module _ (leaves : Leaves) (x q : Name) (path : is_store_path x ≡ true) (at : 
             (version_before names (j - length block) (λ z among. paths z (or_right (is_name z y) (has names z) among)) later)
       ]
 
-version_inside : (x : Name) → is_at x (version_path x) ≡ true
+pub version_inside : (x : Name) → is_at x (version_path x) ≡ true
 unfolding version_path
 version_inside x = or_right (is_path (version_path x) x) _ (below_front x (codes "nixos-version"))
 

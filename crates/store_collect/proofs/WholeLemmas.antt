@@ -46,14 +46,14 @@ use Rattle.store_collect.proofs.LawLemmas.{among_first, in_both, live_kept, link
 
 -- ---- the system that a link names
 
-system_named : (text system : List ℕ) → system_of text ≡ Some system → (system_fault text ≡ None) × (system_path text ≡ system)
+pub system_named : (text system : List ℕ) → system_of text ≡ Some system → (system_fault text ≡ None) × (system_path text ≡ system)
 system_named text system is = by (system_fault text) refl is
   where
     by : (o : Option NameFault) → system_fault text ≡ o → cond (is_none o) (Some (system_path text)) None ≡ Some system → (system_fault text ≡ None) × (system_path text ≡ system)
     by None none is = (none, cc)
     by (Some fault) some is = absurd cc
 
-link_named : (b : Bool) (o : Option LeafKind) (system : Name) → cond b (option_map target_of o) None ≡ Some (Some system) → (target : List ℕ) × (o ≡ Some (Link target)) × (system_of target ≡ Some system)
+pub link_named : (b : Bool) (o : Option LeafKind) (system : Name) → cond b (option_map target_of o) None ≡ Some (Some system) → (target : List ℕ) × (o ≡ Some (Link target)) × (system_of target ≡ Some system)
 link_named false o system is = absurd cc
 link_named true None system is = absurd cc
 link_named true (Some (File bytes mode uid gid)) system is = absurd (let no : None ≡ Some system = cc in cc)
@@ -62,7 +62,7 @@ link_named true (Some (Link target)) system is = (target, refl, let same : syste
 byte_free : (byte : ℕ) → is_no_store_byte byte ≡ false → is_slash byte ≡ false
 byte_free byte is = grind arith
 
-system_stored : (target : List ℕ) → system_fault target ≡ None → is_store_path (system_path target) ≡ true
+pub system_stored : (target : List ℕ) → system_fault target ≡ None → is_store_path (system_path target) ≡ true
 system_stored target none =
     let path = IsStorePath-from_named target none in
     and_from (begins store_folder (system_path target)) (not (list_any is_slash (store_name (system_path target)))) path.begins
@@ -119,7 +119,7 @@ none_where false o x is = refl
 
 module _ (keep : ℕ) (collection : Collection) (w : WorldState) (entries : AreEntries collection.texts.entries) (is : IsCollectionOf keep w collection) where
   -- the link of a generation that doesn't go counts
-  not_passed : (n : ℕ) → has collection.links (link_path n) ≡ false → has (passed_over collection.links collection.texts) (link_path n) ≡ false
+  pub not_passed : (n : ℕ) → has collection.links (link_path n) ≡ false → has (passed_over collection.links collection.texts) (link_path n) ≡ false
   not_passed n kept = false_from _ (λ there. elim (in_both collection.links _ (link_path n) there) [
     | inl link ↦ both_ways _ kept link
     | inr rest ↦ elim (in_both collection.texts.gone _ (link_path n) rest) [

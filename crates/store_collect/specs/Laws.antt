@@ -1,10 +1,11 @@
 -- What holds of a collection: nix-store(1), "--gc"; Nix manual, "Garbage Collector Roots".
-use Rattle.std.specs.Prelude.{◌≡◌, ◌↔◌, ℕ, true, IsSome, Some}
+use Rattle.std.specs.Prelude.{◌≡◌, ◌↔◌, ◌<◌, ◌^◌, ℕ, true, IsSome, Some}
 use Rattle.std.specs.FinMap.{get}
-use Rattle.generations.specs.Places.{Names, generation_at}
+use Rattle.generations.specs.Places.{Names, generation_at, link_path}
 use Rattle.host_trait.specs.World.{WorldState}
 use Rattle.switch_names.specs.Names.{Name, has}
 use Rattle.boot_entries.specs.Entries.{version_path}
+use Rattle.boot_entries.specs.Places.{entry_path}
 use Rattle.boot_entries.specs.Steps.{AreEntries}
 use Rattle.store_live.specs.Live.{Live}
 use Rattle.store_live.specs.StorePaths.{is_at, is_store_path}
@@ -39,3 +40,9 @@ abbrev pub VersionLaw : Type 0
 VersionLaw =
     (keep : ℕ) (collection : Collection) (w m : WorldState) (x q : Name) → AreEntries collection.texts.entries → IsCollectionOf keep w collection → IsCollecting collection w m →
     is_store_path x ≡ true → IsSome (get m.leaves (version_path x)) → is_at x q ≡ true → get m.leaves q ≡ get w.leaves q
+
+-- at each moment a number whose boot entry stands has the link that it had, or none where it had none
+abbrev pub EntryLaw : Type 0
+EntryLaw =
+    (keep : ℕ) (collection : Collection) (w m : WorldState) (n : ℕ) → IsCollectionOf keep w collection → IsCollecting collection w m → n < 2 ^ 32 →
+    IsSome (get m.leaves (entry_path n)) → get m.leaves (link_path n) ≡ get w.leaves (link_path n)

@@ -1,3 +1,4 @@
+pub mod Again
 pub mod Collection
 pub mod Kept
 pub mod Laws

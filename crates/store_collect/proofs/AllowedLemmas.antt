@@ -1,0 +1,165 @@
+-- Where a collection isn't refused, none is at a moment of it.
+use Rattle.std.proofs.Common.{◌≡◌, ◌≢◌, ℕ, ◌||◌, ◌&&◌, Bool, true, false, cond, codes, List, [], ◌∷◌, ◌++◌, map, take, Option, None, Some, is_some, option_map, refl, sym, ap, subst, ◌∙◌, inl, inr}
+use Rattle.std.proofs.lemmas.Bool.{both_ways, or_from, or_parts}
+use Rattle.std.specs.Cmp.Lexicographic.{nat_list_eq_equiv}
+use Rattle.std.specs.FinMap.{from_entries, get, keys}
+use Rattle.std.specs.List.{AllByRecursion, cons_option, filter_map}
+use Rattle.generations.specs.declared.gens.Gen.{Gen}
+use Rattle.generations.specs.declared.gens.Gens.{Gens}
+use Rattle.generations.specs.Goal.{goal_place}
+use Rattle.host_trait.specs.World.{Leaves, WorldState, bytes_cmp, is_in_line, is_path, seen, stage}
+use Rattle.host_trait.proofs.Fronts.{begins}
+use Rattle.host_trait.proofs.Seen.{clear_seen}
+use Rattle.host_trait.proofs.Sound.{not_in_line}
+use Rattle.owed_lists.specs.Lists.{reloads_place, restarts_place, starts_place}
+use Rattle.switch_names.specs.Names.{Name}
+use Rattle.switch_names.specs.SystemName.{store_folder}
+use Rattle.switch_parts.specs.Part.{IsFree}
+use Rattle.tree_put.specs.declared.written_place.WrittenPlace.{WrittenPlace}
+use Rattle.tree_put.specs.First.{first_in_the_way, lesser}
+use Rattle.tree_put.specs.Put.{is_blocked}
+use Rattle.tree_put.specs.Sequence.{without_places}
+use Rattle.tree_put.specs.WrittenPlace.{AreApartFromStage, in_the_way, is_in_the_way, lacks_content, written}
+use Rattle.tree_put.proofs.BlockedLemmas.{clear_of_free, free_of_clear}
+use Rattle.tree_put.proofs.FirstLemmas.{none_as_listed}
+use Rattle.tree_put.proofs.SequenceLemmas.{removed_clear}
+use Rattle.boot_entries.specs.declared.boot_texts.BootFile.{BootFile}
+use Rattle.boot_entries.specs.declared.boot_texts.BootTexts.{BootTexts}
+use Rattle.boot_entries.specs.BootPart.{boot_part, boot_places, entry_places, place_if}
+use Rattle.boot_entries.specs.Laws.{IsBootGens}
+use Rattle.boot_entries.specs.Places.{entry_path, loader_path, numbered, owns_boot}
+use Rattle.boot_entries.specs.Steps.{AreEntries, CanApplyBoot, IsBootMoment, with_menu}
+use Rattle.boot_entries.specs.Texts.{entries_of, entry_of}
+use Rattle.boot_entries.proofs.MenuPlacesLemmas.{menu_apart}
+use Rattle.boot_entries.proofs.NumberLemmas.{bears_numbered}
+use Rattle.boot_entries.proofs.PartLemmas.{moment_law, part_law}
+use Rattle.store_collect.specs.declared.collection.Collection.{Collection}
+use Rattle.store_collect.specs.Again.{AllowedLaw}
+use Rattle.store_collect.specs.Collection.{IsCollectionOf, IsRefusedAt}
+use Rattle.store_collect.specs.Kept.{gens_kept}
+use Rattle.store_collect.specs.Steps.{IsCollecting, removals}
+use Rattle.store_collect.specs.Unfinished.{owed_log_place, stands_at_one, unfinished_places}
+use Rattle.store_collect.proofs.AgainGens.{kept_now}
+use Rattle.store_collect.proofs.BootSystemLemmas.{outside}
+use Rattle.store_collect.proofs.EntryLemmas.{are_entries, kept_gens}
+use Rattle.store_collect.proofs.LawLemmas.{menu_made}
+
+-- ---- where an unfinished switch has its records
+
+-- a place is none of the boot menu's, nor in the store, nor the stage
+record IsBeside (p : Name) : Type 0 where
+  free : owns_boot p ≡ false
+  other : p ≢ stage
+  away : begins store_folder p ≡ false
+
+-- what lies below this folder is such
+run_beside : (rest : Name) → is_path (codes "run/nixos/" ++ rest) loader_path ≡ false → IsBeside (codes "run/nixos/" ++ rest)
+unfolding entry_path stage
+run_beside rest apart = record {
+  free = ap (λ b. b || is_some (numbered (codes "run/nixos/" ++ rest))) apart ∙ ap is_some (sym (bears_numbered (codes "run/nixos/" ++ rest) None (λ n small same.
+      both_ways (is_path (codes "run/nixos/" ++ rest) (entry_path n)) refl (subst (λ x. is_path (codes "run/nixos/" ++ rest) x ≡ true) same (nat_list_eq_equiv.refl (codes "run/nixos/" ++ rest))))));
+  other = λ same. both_ways (is_path (codes "run/nixos/" ++ rest) stage) refl (subst (λ x. is_path (codes "run/nixos/" ++ rest) x ≡ true) same (nat_list_eq_equiv.refl (codes "run/nixos/" ++ rest)));
+  away = refl;
+}
+
+all_beside : AllByRecursion IsBeside unfinished_places
+unfolding owed_log_place starts_place restarts_place reloads_place goal_place loader_path
+all_beside = (
+  run_beside (codes "owed-log") refl,
+  (run_beside (codes "start-list") refl, (run_beside (codes "restart-list") refl, (run_beside (codes "reload-list") refl, (run_beside (codes "rollback-goal") refl, tt)))),
+)
+
+-- ---- what is in the way of places
+
+-- the places that a boot menu's entries are put at, by what is put
+entries_at : (leaves : Leaves) (list : List Gen) → filter_map place_if list ≡ map (λ (file : BootFile). file.at) (entries_of leaves list)
+entries_at leaves [] = refl
+entries_at leaves (gen ∷ list) = by gen.target (entries_at leaves list)
+  where
+    by : (target : Option Name) → filter_map place_if list ≡ map (λ (file : BootFile). file.at) (entries_of leaves list) →
+        cons_option (option_map (λ (system : Name). entry_path gen.number) target) (filter_map place_if list) ≡ map (λ (file : BootFile). file.at) (cons_option (option_map (entry_of leaves gen.number) target) (entries_of leaves list))
+    by None rest = rest
+    by (Some system) rest = ap (λ (places : List Name). entry_path gen.number ∷ places) rest
+
+same_places : (leaves : Leaves) (one other : List Gen) → entries_of leaves one ≡ entries_of leaves other → boot_places one ≡ boot_places other
+same_places leaves one other same =
+    ap (λ (names : List Name). map (written false) (keys (from_entries {R = bytes_cmp} (map (λ (at : Name). (at, true)) names))) ++ written false loader_path ∷ written false stage ∷ [])
+    (entries_at leaves one ∙ ap (map (λ (file : BootFile). file.at)) same ∙ sym (entries_at leaves other))
+
+-- a place that is written unread, and of which the stage is neither above nor below
+abbrev IsPlain : WrittenPlace → Type 0
+IsPlain place = (place.is_read ≡ false) × (is_in_line stage place.at ≡ false)
+
+plain : (list : List Gen) → AllByRecursion IsPlain (boot_places list)
+plain list = by (entry_places list) (menu_apart list)
+  where
+    by : (names : List Name) → AreApartFromStage (map (written false) names ++ written false loader_path ∷ []) → AllByRecursion IsPlain (map (written false) names ++ written false loader_path ∷ written false stage ∷ [])
+    by [] apart = ((refl, apart.0), ((refl, not_in_line stage), tt))
+    by (name ∷ names) apart = ((refl, apart.0), by names apart.1)
+
+-- removals put nothing in the way
+module _ (gone : List Name) (u m : WorldState) (now : seen m ≡ seen (without_places gone u)) where
+  first_still : (places : List WrittenPlace) → AllByRecursion IsPlain places → first_in_the_way places u.leaves ≡ None → first_in_the_way places m.leaves ≡ None
+  first_still [] plain none = refl
+  first_still (place ∷ places) plain none = by (is_in_the_way u.leaves place) refl none (first_still places plain.1)
+    where
+      by : (b : Bool) → is_in_the_way u.leaves place ≡ b → cond b (Some (lesser place.at (first_in_the_way places u.leaves))) (first_in_the_way places u.leaves) ≡ None →
+          (first_in_the_way places u.leaves ≡ None → first_in_the_way places m.leaves ≡ None) → first_in_the_way (place ∷ places) m.leaves ≡ None
+      by true is none rest = absurd cc
+      by false is none rest =
+          let before = clear_of_free u.leaves place.at (or_parts (is_blocked u.leaves place.at) (place.is_read && lacks_content u.leaves place.at) is).0 in
+          let clear = clear_seen m (without_places gone u) place.at plain.0.1 now (removed_clear gone u place.at before) in
+          let free : is_in_the_way m.leaves place ≡ false = or_from (is_blocked m.leaves place.at) (place.is_read && lacks_content m.leaves place.at) (free_of_clear m.leaves place.at clear)
+          (ap (λ b. b && lacks_content m.leaves place.at) plain.0.0) in
+          ap (λ b. cond b (Some (lesser place.at (first_in_the_way places m.leaves))) (first_in_the_way places m.leaves)) free ∙ rest none
+
+-- ---- at a moment
+
+module _ (keep : ℕ) (one : Collection) (w m : WorldState) (is : IsCollectionOf keep w one) (moment : IsCollecting one w m) where
+  entries : AreEntries one.texts.entries
+  entries = are_entries keep w one is
+
+  finished : (places : List Name) → AllByRecursion IsBeside places → stands_at_one places w.leaves ≡ false → stands_at_one places m.leaves ≡ false
+  finished [] beside none = refl
+  finished (p ∷ places) beside none =
+      let parts = or_parts (is_some (get w.leaves p)) (stands_at_one places w.leaves) none in
+      let first : is_some (get m.leaves p) ≡ false = elim (outside keep one w m entries is moment p beside.0.free beside.0.other beside.0.away) [
+        | inl same ↦ ap is_some same ∙ parts.0
+        | inr both ↦ ap is_some both.1
+      ] in
+      or_from (is_some (get m.leaves p)) (stands_at_one places m.leaves) first (finished places beside.1 parts.1)
+
+  module _ (can : CanApplyBoot one.texts w) where
+    abbrev kept : Gens
+    kept = gens_kept keep is.gens
+
+    kept_are : IsBootGens kept
+    kept_are = kept_gens keep w.leaves is.gens is.stand
+
+    free_before : IsFree (boot_part kept) w.leaves
+    free_before = record {
+      way = subst (λ places. in_the_way places w.leaves ≡ None) (same_places w.leaves can.gens.list kept.list (ap (λ (texts : BootTexts). texts.entries) (sym can.planned ∙ is.planned.texts))) can.free.way;
+      refusal = refl;
+    }
+
+    menu_free : (v : WorldState) → IsBootMoment one.texts w v → first_in_the_way (boot_places kept.list) v.leaves ≡ None
+    menu_free v boot =
+        (none_as_listed (boot_places kept.list) v.leaves).1
+        ((part_law kept kept_are).stays_free w v (moment_law kept one.texts w v kept_are entries is.planned.texts boot).keeps free_before).way
+
+    free_now : first_in_the_way (boot_places kept.list) m.leaves ≡ None
+    free_now = by moment
+      where
+        by : IsCollecting one w m → first_in_the_way (boot_places kept.list) m.leaves ≡ None
+        by (IsCollecting.Listing boot) = menu_free m boot
+        by (IsCollecting.Dropping drop) = first_still (take drop.count (removals one)) (with_menu one.texts w) m drop.world (boot_places kept.list) (plain kept.list) (menu_free (with_menu one.texts w) (menu_made one.texts w))
+
+    not_refused : (at : Name) → IsRefusedAt keep m.leaves at → ⊥
+    not_refused at refused = absurd (
+        let no : None ≡ Some at = sym free_now ∙ ap (λ (gens : Gens). first_in_the_way (boot_places gens.list) m.leaves) (sym (kept_now keep one w m is moment refused.gens refused.stand)) ∙ refused.first in cc)
+
+pub allowed_law : AllowedLaw
+allowed_law keep collection w m is none can moment = record {
+  finished = finished keep collection w m is moment unfinished_places all_beside none;
+  free = λ at refused. not_refused keep collection w m is moment can at refused;
+}
