@@ -48,7 +48,6 @@ use Rattle.switch_names.specs.SystemName.{IsSystemPath}
 use Rattle.switch_parts.specs.Part.{IsAtEnd, IsFree, IsMomentOf as IsPartMoment, IsOnly, final_leaf}
 use Rattle.switch_parts.specs.Store.{is_in_store}
 use Rattle.switch_parts.proofs.Parts.{false_by, first_free, first_moment, second_moment}
-use Rattle.unit_defs.specs.declared.unit.Unit.{Unit}
 use Rattle.unit_stage.specs.End.{IsBrought, entries_of}
 use Rattle.unit_stage.specs.Order.{IsOrderedAt}
 use Rattle.unit_stage.specs.Plan.{IsOwedBy}

@@ -206,7 +206,7 @@ module _ {host : HostState} (plan : Plan) (planned : Told host (λ w. IsPlanOf w
             report = more;
             close = [];
             is_report = report;
-            is_close = subst (λ b. IsClosingBy b (switched_to command w.leaves) w []) (sym (query w.leaves)) refl;
+            is_close = subst (λ b. IsClosingBy (row command w.leaves).start_up b (switched_to command w.leaves) w []) (sym (query w.leaves)) refl;
             is_all = sym (append-nil more);
           }
 

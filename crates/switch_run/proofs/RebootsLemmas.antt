@@ -10,7 +10,6 @@ use Rattle.switch_engine.specs.Reboot.{HasBegunToStart, LeadsByStartUps}
 use Rattle.switch_engine.specs.Rows.{refusal}
 use Rattle.switch_engine.proofs.LawLemmas as engine
 use Rattle.switch_engine.proofs.RebootLemmas.{switch_reboot_law}
-use Rattle.switch_names.specs.SystemName.{IsSystemPath}
 use Rattle.switch_parts.specs.declared.refusal.Refusal.{Refusal}
 use Rattle.switch_run.specs.Commands.{command_of}
 use Rattle.switch_run.specs.Moments.{IsMomentBy}

@@ -1,4 +1,4 @@
-use Rattle.std.proofs.Common.{◌≡◌, ◌↔◌, Err, IsTrue, Some, refl, sym, ap, ◌∙◌, false}
+use Rattle.std.proofs.Common.{◌≡◌, ◌↔◌, Err, IsTrue, Some, refl, sym, ap, ◌∙◌}
 use Rattle.std.proofs.lemmas.Result.{err_from_is_err_and}
 use Rattle.host_trait.specs.declared.tree.HostFault.TheVariants.{Device}
 use Rattle.host_trait.proofs.Moments.{told_as}
