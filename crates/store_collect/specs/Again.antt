@@ -27,11 +27,11 @@ abbrev pub CollectsBy : ℕ → List WorldState → WorldState → WorldState �
 CollectsBy keep [] w v = IsCollected keep w v
 CollectsBy keep (m ∷ cuts) w v = IsCut keep w m × CollectsBy keep cuts m v
 
--- a collection of a moment of another that keeps as many ends as that one does
+-- a collection of a moment of another that keeps as many has the end of that one, and no other
 abbrev pub CollectedAgainLaw : Type 0
 CollectedAgainLaw =
-    (keep : ℕ) (one again : Collection) (w m v : WorldState) → IsCollectionOf keep w one → IsCollecting one w m → IsCollectionOf keep m again → IsCollectedBy again m v →
-    IsCollectedBy one w v
+    (keep : ℕ) (one again : Collection) (w m v : WorldState) → IsCollectionOf keep w one → IsCollecting one w m → IsCollectionOf keep m again →
+    IsCollectedBy again m v ↔ IsCollectedBy one w v
 
 -- what is live in a world is so at each moment of its collection, by one of that moment that keeps as many
 abbrev pub LiveStaysLaw : Type 0
