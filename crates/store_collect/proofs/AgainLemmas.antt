@@ -281,11 +281,12 @@ module _ (keep : ℕ) (one : Collection) (w m : WorldState) (is : IsCollectionOf
   same_end = seen_alike (without_places (removals again) (with_menu again.texts m)) (without_places (removals one) (with_menu one.texts w)) end_same (end_manager keep again m also ∙ same_manager keep one w m is moment ∙ sym (end_manager keep one w is))
 
 pub collected_again : CollectedAgainLaw
-collected_again keep one again w m v is moment also ended = ended ∙ same_end keep one w m is moment again also
+collected_again keep one again w m v is moment also =
+    let same = same_end keep one w m is moment again also in (λ ended. ended ∙ same, λ ended. ended ∙ sym same)
 
 pub cut_collections : CutCollectionsLaw
 cut_collections keep [] w v ended = ended
 cut_collections keep (m ∷ cuts) w v runs =
     let cut = runs.0 in
     let last = cut_collections keep cuts m v runs.1 in
-    record { collection = cut.collection; planned = cut.planned; end = collected_again keep cut.collection last.collection w m v cut.planned cut.moment last.planned last.end }
+    record { collection = cut.collection; planned = cut.planned; end = (collected_again keep cut.collection last.collection w m v cut.planned cut.moment last.planned).0 last.end }

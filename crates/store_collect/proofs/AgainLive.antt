@@ -24,6 +24,7 @@ use Rattle.store_live.specs.Live.{IsDead, IsRoot, Live}
 use Rattle.store_live.specs.StorePaths.{IsPlace, IsStored, is_at}
 use Rattle.store_live.proofs.PathLemmas.{inside_begins, is_in_listed, listed_is, no_stage}
 use Rattle.store_collect.specs.declared.collection.Collection.{Collection}
+use Rattle.store_collect.specs.Again.{LiveStaysLaw}
 use Rattle.store_collect.specs.Collection.{IsCollectionOf, loader_places}
 use Rattle.store_collect.specs.Kept.{gens_kept}
 use Rattle.store_collect.specs.Steps.{IsCollecting}
@@ -212,3 +213,6 @@ module _ (keep : ℕ) (one : Collection) (w m : WorldState) (is : IsCollectionOf
 
   pub dead_before : (x : Name) → IsDead (passed again) m x → IsDead (passed one) w x
   dead_before x dead = record { stored = stored_before x dead.stored; unreached = λ live. dead.unreached (live_still x live) }
+
+pub live_stays : LiveStaysLaw
+live_stays keep one again w m x is moment also = (live_still keep one w m is moment again also x, live_before keep one w m is moment again also x)

@@ -1,10 +1,11 @@
 -- Collections that are cut, and run again: nix-collect-garbage(1).
-use Rattle.std.specs.Prelude.{◌≡◌, ◌∷◌, ℕ, false, List, []}
+use Rattle.std.specs.Prelude.{◌≡◌, ◌↔◌, ◌∷◌, ℕ, false, List, []}
 use Rattle.host_trait.specs.World.{Leaves, WorldState}
-use Rattle.switch_names.specs.Names.{Name}
+use Rattle.switch_names.specs.Names.{Name, has}
 use Rattle.boot_entries.specs.Steps.{CanApplyBoot}
+use Rattle.store_live.specs.Live.{Live}
 use Rattle.store_collect.specs.declared.collection.Collection.{Collection}
-use Rattle.store_collect.specs.Collection.{IsCollectionOf, IsRefusedAt}
+use Rattle.store_collect.specs.Collection.{IsCollectionOf, IsRefusedAt, passed_over}
 use Rattle.store_collect.specs.Steps.{IsCollectedBy, IsCollecting}
 use Rattle.store_collect.specs.Unfinished.{is_unfinished}
 
@@ -26,11 +27,17 @@ abbrev pub CollectsBy : ℕ → List WorldState → WorldState → WorldState �
 CollectsBy keep [] w v = IsCollected keep w v
 CollectsBy keep (m ∷ cuts) w v = IsCut keep w m × CollectsBy keep cuts m v
 
--- a collection of a moment of another that keeps as many ends as that one does
+-- a collection of a moment of another that keeps as many has the end of that one, and no other
 abbrev pub CollectedAgainLaw : Type 0
 CollectedAgainLaw =
-    (keep : ℕ) (one again : Collection) (w m v : WorldState) → IsCollectionOf keep w one → IsCollecting one w m → IsCollectionOf keep m again → IsCollectedBy again m v →
-    IsCollectedBy one w v
+    (keep : ℕ) (one again : Collection) (w m v : WorldState) → IsCollectionOf keep w one → IsCollecting one w m → IsCollectionOf keep m again →
+    IsCollectedBy again m v ↔ IsCollectedBy one w v
+
+-- what is live in a world is so at each moment of its collection, by one of that moment that keeps as many
+abbrev pub LiveStaysLaw : Type 0
+LiveStaysLaw =
+    (keep : ℕ) (one again : Collection) (w m : WorldState) (x : Name) → IsCollectionOf keep w one → IsCollecting one w m → IsCollectionOf keep m again →
+    Live (has (passed_over one.links one.texts)) w x ↔ Live (has (passed_over again.links again.texts)) m x
 
 -- however often collections are cut, the last leaves what one leaves that isn't cut
 abbrev pub CutCollectionsLaw : Type 0

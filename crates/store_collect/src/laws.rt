@@ -1,5 +1,5 @@
 //! What holds of a collection.
-ghost use Rattle.store_collect.specs.Again.{AllowedLaw, CollectedAgainLaw, CutCollectionsLaw};
+ghost use Rattle.store_collect.specs.Again.{AllowedLaw, CollectedAgainLaw, CutCollectionsLaw, LiveStaysLaw};
 ghost use Rattle.store_collect.specs.Laws.{EntryLaw, LiveLaw, NamesLaw, OneCollectionLaw, VersionLaw, WholeLaw};
 
 /// There is one collection of a world, and so one end of it.
@@ -50,6 +50,14 @@ pub fn no_entry_outlasts_its_generation()
 /// Source: nix-collect-garbage(1).
 pub fn a_collection_run_again_ends_alike()
     ensures again { CollectedAgainLaw }
+{}
+
+/// What is live in a world is so at each moment of its collection, by one of that moment that keeps as many generations, and
+/// nothing else is. So `nothing_live_is_lost` holds from the first world on, however often a collection is cut.
+///
+/// Source: nix-store(1), "--gc"; Nix manual, "Garbage Collector Roots".
+pub fn what_is_live_stays_so()
+    ensures live { LiveStaysLaw }
 {}
 
 /// However often collections that keep as many generations are cut, each at any of its moments, the last leaves what one

@@ -1,6 +1,7 @@
-//! The cases of names, worlds, hosts in memory and their sinks, texts of leaves and managers, and generations.
+//! The cases of names, worlds, hosts in memory and their sinks, texts of leaves and managers, generations, and collections.
 mod acts;
 mod calls;
+mod collections;
 mod fallen;
 mod found;
 mod leaves;
@@ -34,6 +35,7 @@ fn show_host(
         "act" => acts::show_act(alloc, lines, &mut host, arguments),
         "tops" => calls::show_tops(alloc, lines, &mut host, arguments),
         "reboot" => calls::show_reboot(alloc, lines, &mut host, arguments),
+        "collection" => collections::show_collection(alloc, lines, &mut host, arguments),
         _ => found::show_generations(alloc, lines, &mut host, arguments),
     }
 }
@@ -71,7 +73,7 @@ pub fn show_part_case(
             show_world(alloc, lines, command, fields)
         }
         "act" => show_host(alloc, lines, command, 4, fields),
-        "generations" | "tops" => show_host(alloc, lines, command, 1, fields),
+        "generations" | "tops" | "collection" => show_host(alloc, lines, command, 1, fields),
         "reboot" => show_host(alloc, lines, command, 2, fields),
         "append" => calls::show_append(alloc, lines, fields),
         "number" => found::show_number(alloc, lines, fields),
