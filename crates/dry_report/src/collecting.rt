@@ -42,11 +42,7 @@ fn write_all_gone(out: &mut Vec<u8>, links: &[Path]) -> Result<(), AllocError>
 }
 
 /// Writes a line for each of these store paths.
-fn write_store_paths(
-    out: &mut Vec<u8>,
-    front: &str,
-    names: &[SystemName],
-) -> Result<(), AllocError>
+fn write_store_paths(out: &mut Vec<u8>, front: &str, names: &[SystemName]) -> Result<(), AllocError>
     ensures { OnOk result (out.new.items ≡ out.old.items ++ told_each front.now names.now) }
 {
     for name in names {
