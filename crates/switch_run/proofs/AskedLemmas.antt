@@ -9,7 +9,6 @@ use Rattle.std.specs.Cmp.Lexicographic.{pointwise, same_text}
 use Rattle.std.specs.Fmt.{decimal}
 use Rattle.std.specs.Str.{bytes_eq}
 use Rattle.std.specs.Str.Parse.{ParsesUnsigned}
-use Rattle.generations.specs.Digits.{BearsNumber}
 use Rattle.generations.specs.Places.{system_of}
 use Rattle.host_trait.specs.declared.tree.HostFault.TheVariants as host
 use Rattle.host_trait.specs.Change.{IsSame}
@@ -28,7 +27,7 @@ use Rattle.switch_run.specs.declared.status.Status.{Status}
 use Rattle.switch_run.specs.declared.status.Status.TheVariants.{Done, Usage, Refused, HostFault, SinkFault, NoMemory}
 use Rattle.switch_run.specs.Asked.{AsksNoCollection, AsksNothing, IsRun, IsUntouched}
 use Rattle.switch_run.specs.Asked.IsRun.{Answered, Unread}
-use Rattle.switch_run.specs.Collecting.{AsksCollection, IsCollectionMoment, collected_word}
+use Rattle.switch_run.specs.Collecting.{AsksCollection, IsCollectionMoment}
 use Rattle.switch_run.specs.CollectionEnding.{IsCollectionBroken, IsCollectionRun}
 use Rattle.switch_run.specs.Commands.{command_for, command_of}
 use Rattle.switch_run.specs.Ending.{HasCome, IsEnding, IsSinkCaused}
@@ -113,10 +112,6 @@ no_rehearsal [] number asks of = absurd (both_ways _ refl asks)
 no_rehearsal (verb ∷ []) number asks of = absurd (none-some of.word of.behind)
 no_rehearsal (verb ∷ more ∷ rest) number asks of = absurd (both_ways _ refl asks)
 
--- and so do words without that word
-lacks_word : {X : Type 0} (words : List (List ℕ)) (number : ℕ) → rehearsed_word words ≡ None → AsksRehearsal words number → X
-lacks_word words number none of = absurd (none-some of.word (sym none ∙ of.behind))
-
 some_same : (one other : List ℕ) → Some one ≡ Some other → one ≡ other
 some_same one other is = cc
 
@@ -142,24 +137,6 @@ nothing_behind words word text unlisted behind same none = record {
   list = unlisted;
   rehearsal = λ number asks. none number (subst (λ (t : List ℕ). IsNumber t number) (sym same) (of_word words word number behind asks));
   collection = λ keep asks. collecting.unrehearsed words keep asks word behind;
-}
-
--- and so do words whose word behind `collect` is no number
-pub nothing_kept : (words : List (List ℕ)) (word text : List ℕ) → asks_list words ≡ false → rehearsed_word words ≡ None → collected_word words ≡ Some word → text ≡ word → BearsNumber decimal text None → AsksNothing words
-nothing_kept words word text unlisted none behind same lacks = record {
-  command = collecting.no_command words word behind;
-  list = unlisted;
-  rehearsal = λ number asks. lacks_word words number none asks;
-  collection = collecting.no_collection words word text behind same lacks;
-}
-
--- and words without a command that ask for none of these
-pub nothing_asked : (words : List (List ℕ)) → asks_list words ≡ false → rehearsed_word words ≡ None → collected_word words ≡ None → command_of words ≡ None → AsksNothing words
-nothing_asked words unlisted none no_word no_command = record {
-  command = no_command;
-  list = unlisted;
-  rehearsal = λ number asks. lacks_word words number none asks;
-  collection = collecting.lacks_word words no_word;
 }
 
 -- ---- how a run ends that asks for one of these

@@ -9,7 +9,6 @@ use Rattle.std.specs.Result.{OkIff, result_ok}
 use Rattle.generations.specs.Digits.{BearsNumber}
 use Rattle.generations.specs.Places.{system_of}
 use Rattle.switch_engine.specs.declared.command.Command.{Command}
-use Rattle.switch_run.specs.Asked.{AsksNoCollection}
 use Rattle.switch_run.specs.Collecting.{AsksCollection, collected_word}
 use Rattle.switch_run.specs.Commands.{command_for, command_of}
 use Rattle.switch_run.specs.Listing.{asks_list}
@@ -68,16 +67,3 @@ pub one_keep : (words : List (List ℕ)) (one other : ℕ) → AsksCollection wo
 one_keep words one other asks of =
     decimal_injective one other (omega (arith, asks.below)) (omega (arith, of.below))
     (sym asks.digits ∙ same_Some asks.word of.word (sym asks.behind ∙ of.behind) ∙ of.digits)
-
--- words with a number behind `collect` ask for its collection
-pub collection_of : (words : List (List ℕ)) (word text : List ℕ) (keep : ℕ) → collected_word words ≡ Some word → text ≡ word → BearsNumber decimal text (Some keep) → AsksCollection words keep
-collection_of words word text keep behind same bears = record { word = word; behind = behind; digits = sym same ∙ bears.0; below = bears.1 }
-
--- and without one they ask for none
-pub no_collection : (words : List (List ℕ)) (word text : List ℕ) → collected_word words ≡ Some word → text ≡ word → BearsNumber decimal text None → AsksNoCollection words
-no_collection words word text behind same lacks = λ keep of.
-    lacks keep of.below (same ∙ same_Some word of.word (sym behind ∙ of.behind) ∙ of.digits)
-
--- nor do words without that word
-pub lacks_word : (words : List (List ℕ)) → collected_word words ≡ None → AsksNoCollection words
-lacks_word words none = λ keep of. none-some of.word (sym none ∙ of.behind)
