@@ -29,7 +29,8 @@ use Rattle.switch_names.specs.Names.{Name}
 use Rattle.switch_parts.specs.declared.refusal.Refusal.TheVariants as refusals
 use Rattle.switch_run.specs.declared.run_fault.RunFault.{RunFault}
 use Rattle.switch_run.specs.declared.run_fault.RunFault.TheVariants.{Usage, Refused, Host, Sink}
-use Rattle.switch_run.specs.Collecting.{IsCollected, IsCollectionMoment, IsCollectionReport, IsInCollectionClosing, IsInCollectionReport, IsWholeCollection, RefusesCollection}
+use Rattle.store_collect.specs.Again.{IsCollected}
+use Rattle.switch_run.specs.Collecting.{IsCollectionMoment, IsCollectionReport, IsInCollectionClosing, IsInCollectionReport, IsWholeCollection, RefusesCollection}
 use Rattle.switch_run.specs.CollectionEnding.{HasCollected, HasReportedCollection, IsCollectionBroken, IsCollectionRun, IsCollectionUnput, IsFinished}
 use Rattle.switch_run.specs.Ending.{IsSinkCaused}
 use Rattle.switch_run.specs.Output.{IsIdle}
@@ -125,7 +126,7 @@ module _ {host : HostState} (keep : ℕ) (collection : Collection) (planned : To
 
       module _ (led : Leads host after (IsCollectedBy collection)) (cause : HasCauseOf host after ⊥) where
         led_to : Leads host after (IsCollected keep)
-        led_to = leads_as led (IsCollected keep) (λ w v is end. record { collection = collection; is_collection = planned.has w is; is_end = end })
+        led_to = leads_as led (IsCollected keep) (λ w v is end. record { collection = collection; planned = planned.has w is; end = end })
 
         -- the output has failed within the last line
         pub unclosed : {closed : SinkState} → Puts put closed (IsPrefixOf closing) → (f : SinkFault) → HasSinkCause {T = Unit {0}} put closed (Err f) → IsCollectionRun keep host after sink closed (Err Sink)

@@ -2,6 +2,7 @@ pub mod AskedLemmas
 pub mod CollectedLemmas
 pub mod CollectingLemmas
 pub mod CollectionWordLemmas
+pub mod CutCollectionLemmas
 pub mod EndingLemmas
 pub mod MomentLemmas
 pub mod RebootsLemmas

@@ -10,7 +10,8 @@ use Rattle.host_trait.specs.Sink.{IsPrefixOf}
 use Rattle.host_trait.specs.World.{Leaves, WorldState}
 use Rattle.store_collect.specs.declared.collection.Collection.{Collection}
 use Rattle.store_collect.specs.Collection.{IsCollectionOf, IsRefusedAt}
-use Rattle.store_collect.specs.Steps.{IsCollectedBy, IsCollecting}
+use Rattle.store_collect.specs.Again.{IsCollected}
+use Rattle.store_collect.specs.Steps.{IsCollecting}
 use Rattle.store_collect.specs.Unfinished.{is_unfinished}
 use Rattle.switch_parts.specs.declared.refusal.Refusal.{Refusal}
 use Rattle.switch_parts.specs.declared.refusal.Refusal.TheVariants.{InTheWay, Unfinished}
@@ -44,16 +45,16 @@ AnswersCollection keep leaves (Refused why) = RefusesCollection keep leaves why
 AnswersCollection keep leaves NoMemory = Unit {0}
 AnswersCollection keep leaves status = ⊥
 
--- the collection of a world has come to its end in another
-pub record IsCollected (keep : ℕ) (w v : WorldState) : Type 0 where
-  pub collection : Collection
-  pub is_collection : IsCollectionOf keep w collection
-  pub is_end : IsCollectedBy collection w v
-
 -- what each moment of a collection has: nothing has changed, or the collection of the world is being carried out
 pub data IsCollectionMoment (keep : ℕ) (w m : WorldState) : Type 0 where
   Unchanged : m ≡ w → IsCollectionMoment keep w m
   Collecting : (collection : Collection) → IsCollectionOf keep w collection → AreEntries collection.texts.entries → IsCollecting collection w m → IsCollectionMoment keep w m
+
+-- Runs of a collection lead from one world to another: each but the last is cut, in one of these worlds, and the last comes to its
+-- end.
+abbrev pub CollectionsLead : ℕ → List WorldState → WorldState → WorldState → Type 0
+CollectionsLead keep [] w v = IsCollected keep w v
+CollectionsLead keep (m ∷ cuts) w v = IsCollectionMoment keep w m × CollectionsLead keep cuts m v
 
 -- a text is the report of the collection of a world: the numbers are those of the links that go
 pub record IsCollectionReport (keep : ℕ) (w : WorldState) (text : List ℕ) : Type 0 where

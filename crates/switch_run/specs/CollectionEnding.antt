@@ -11,7 +11,8 @@ use Rattle.store_collect.specs.Unfinished.{is_unfinished}
 use Rattle.switch_parts.specs.declared.refusal.Refusal.{Refusal}
 use Rattle.switch_run.specs.declared.run_fault.RunFault.{RunFault}
 use Rattle.switch_run.specs.declared.run_fault.RunFault.TheVariants.{Usage, Refused, Host, Sink}
-use Rattle.switch_run.specs.Collecting.{IsCollected, IsCollectionMoment, IsCollectionReport, IsInCollectionClosing, IsInCollectionReport, IsWholeCollection, RefusesCollection}
+use Rattle.store_collect.specs.Again.{IsCollected}
+use Rattle.switch_run.specs.Collecting.{IsCollectionMoment, IsCollectionReport, IsInCollectionClosing, IsInCollectionReport, IsWholeCollection, RefusesCollection}
 use Rattle.switch_run.specs.Ending.{IsSinkCaused}
 use Rattle.switch_run.specs.Output.{IsIdle}
 

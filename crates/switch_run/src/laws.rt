@@ -1,9 +1,11 @@
 //! What holds of runs that are cut and made again.
 ghost use Rattle.std.specs.Prelude.{◌≡◌, ◌⊎◌, ℕ, List, [], false};
 ghost use Rattle.host_trait.specs.World.{WorldState};
+ghost use Rattle.store_collect.specs.Again.{IsCollected};
 ghost use Rattle.switch_engine.specs.Commands.{goes_back};
 ghost use Rattle.switch_engine.specs.Moments.{HasComeBackIn};
 ghost use Rattle.switch_engine.specs.Owing.{IsOver};
+ghost use Rattle.switch_run.specs.Collecting.{CollectionsLead};
 ghost use Rattle.switch_run.specs.Reboots.{RebootsLaw};
 ghost use Rattle.switch_run.specs.Runs.{LooksAlike, MayBeCut, RunsLead};
 
@@ -35,4 +37,12 @@ pub fn cut_rollbacks_end_as_one()
 /// That it boots into this system or into the one before is the clause `boots` of `run`. Source: bootup(7).
 pub fn a_reboot_makes_the_switch_whole()
     ensures { RebootsLaw }
+{}
+
+/// At whatever moments runs of a collection are cut, and however often, the one that then comes to its end leaves what a
+/// collection leaves that isn't cut.
+///
+/// Source: nix-collect-garbage(1).
+pub fn cut_collections_end_as_one()
+    ensures { (keep : ℕ) (cuts : List WorldState) (first last : WorldState) → CollectionsLead keep cuts first last → IsCollected keep first last }
 {}

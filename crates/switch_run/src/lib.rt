@@ -13,6 +13,9 @@ mod status;
 mod top_call;
 
 pub use asked::Asked;
-pub use laws::{a_reboot_makes_the_switch_whole, cut_rollbacks_end_as_one, cut_runs_end_as_one};
+pub use laws::{
+    a_reboot_makes_the_switch_whole, cut_collections_end_as_one, cut_rollbacks_end_as_one,
+    cut_runs_end_as_one,
+};
 pub use status::Status;
 pub use top_call::run;
