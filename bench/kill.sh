@@ -5,11 +5,12 @@
 #
 # Needs bash 5, awk, the coreutils, findutils, and strace with leave to trace.
 #
-# An uncut run is traced first, from six roots: a boot without a profile, a boot with three generations whose profile is
+# An uncut run is traced first, from seven roots: a boot without a profile, a boot with three generations whose profile is
 # the second and whose boot menu is of the second and of one that is gone, a test of the example root, which sets its
 # accounts, makes its /etc and switches its units, a switch of it, which makes a generation and its boot menu too, a rollback
-# of it from the third generation to the second, and a switch where a rollback was killed that had recorded its goal. After each kill
-# of the switch the machine is rebooted too, and its start-up killed, rebooted and made again.
+# of it from the third generation to the second, a switch where a rollback was killed that had recorded its goal, and a collection
+# that keeps the third generation, whose entries go before the links. After each kill of the switch the machine is rebooted too, and
+# its start-up killed, rebooted and made again.
 # Then each of its calls that change a file or write to standard output is a place for
 # the kill, twice: at its entry, where the call has no effect, and after it. As strace kills at an entry only, the kill
 # after a call is at the entry of the one that follows. strace counts each kind of call by itself, so a place is named by
@@ -114,6 +115,13 @@ make_recorded() {
     make_rollback
     printf 'F 0644 0 0\n2\n' >"$recorded"
     words=(switch nix/store/web-24.11)
+    goal=/nix/store/web-24.11
+}
+
+# That root, and a collection that keeps the third generation, which is in use, and its system.
+make_collected() {
+    make_rollback
+    words=(collect 1)
     goal=/nix/store/web-24.11
 }
 
@@ -239,7 +247,11 @@ judge_menu() {
     fi
     while read -r file; do
         name=${file##*/nixos-generation-}
-        [ ! -f "$profiles/system-${name%.conf}-link" ] || [ -f "$menu/$file" ] || verdict="the menu has lost $file"
+        if [ "${words[0]}" = collect ]; then
+            [ -f "$profiles/system-${name%.conf}-link" ] || [ ! -f "$menu/$file" ] || verdict="$file has outlasted its generation"
+        else
+            [ ! -f "$profiles/system-${name%.conf}-link" ] || [ -f "$menu/$file" ] || verdict="the menu has lost $file"
+        fi
     done < <(cd "$work/first" && find . -name 'nixos-generation-*.conf')
     [ -f "$menu/loader.conf" ] || return
     [ -f "$menu/entries/$(sed -n 's/^default //p' "$menu/loader.conf")" ] || verdict='the boot loader boots no entry'
@@ -455,6 +467,7 @@ reboot_rows
 keep_third
 root_rows 'a rollback of the example root from its third generation' make_rollback 0
 root_rows 'a switch where a rollback has recorded its goal' make_recorded 4
+root_rows 'a collection that keeps the third generation' make_collected 0
 moment_rows
 echo "$passed passed, $failed failed"
 [ $failed = 0 ]

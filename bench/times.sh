@@ -15,6 +15,7 @@
 #   test      500 4000 16000 (units)      a test of a system of which a tenth is another
 #   etc       1000 16000 131072           a switch of so many entries below /etc
 #   boot      10 1000 10000               a boot with so many generations
+#   collect   1000 4000 10000             a collection of a store of so many paths, half of which go
 #   switch    500,2000,60 and so on       a whole switch of so many units, entries and users, on a disk
 #
 # What a kind makes, which columns it prints and what it judges stands in bench/times/KIND.sh. A row has the milliseconds of the
@@ -25,7 +26,7 @@
 # Needs bash 5, awk, grep and the coreutils, and the toolchain's rt for `units`, `accounts`, `plan`, `order` and `leaves`, which build
 # a small program each. The memory is left out where /usr/bin/time isn't there, and the calls where strace isn't there or may not
 # trace. Where rustc is there, `dry` and `test` are compared with bench/plain_switch.rs, which does the same to the same files.
-kinds='units accounts plan order leaves dry test etc boot switch'
+kinds='units accounts plan order leaves dry test etc boot collect switch'
 if [ $# -eq 0 ]; then
     failed=0
     for kind in $kinds; do
