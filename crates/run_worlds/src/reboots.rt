@@ -89,7 +89,7 @@ impl Counts {
     }
 }
 
-/// The start-up after the reboot of this host is cut at every third of its calls, and made again from there, or from a further
+/// The start-up after the reboot of this host is cut at every ninth of its calls, and made again from there, or from a further
 /// reboot: each comes to the end of the one that isn't cut, in the second case as far as the accounts and `/etc` go.
 fn try_start_ups(
     alloc: Global,
@@ -99,7 +99,7 @@ fn try_start_ups(
 ) -> Result<(), Fail> {
     let whole = seen(alloc, uncut)?;
     let kept = activated(alloc, uncut)?;
-    let mut after = number % 3;
+    let mut after = number % 9;
     loop {
         let (mut again, _was) = cut_host(alloc, words, places, number)?;
         let cut = Cut { after, pick: after };
@@ -116,12 +116,12 @@ fn try_start_ups(
         let _status = status_of(alloc, &mut further, &mut sink, "start-up")?;
         let _rebooting = after_reboot(alloc, &mut further, after, &[])?;
         counts.compare(&activated(alloc, further.world())?, &kept);
-        after += 3;
+        after += 9;
     }
 }
 
 /// A run of some words over the world of these places is cut at each of its changing calls, the machine rebooted, and its
-/// start-up cut at a third of its calls too, at others with each number. Where it boots into this system the accounts and `/etc` end as after the run that
+/// start-up cut at a ninth of its calls too, at others with each number. Where it boots into this system the accounts and `/etc` end as after the run that
 /// isn't cut. Shows how many reboots and cut start-ups there were, and how many of their ends were others.
 pub fn show_all_reboots(
     alloc: Global,
