@@ -17,7 +17,7 @@ const HELP: &str = "\
 nixswitch makes a built NixOS system the one of a root folder.
 
 usage: nixswitch ROOT switch|test|boot|dry-activate SYSTEM
-       nixswitch ROOT rollback|generations
+       nixswitch ROOT rollback|start-up|generations
        nixswitch ROOT collect KEEP
        nixswitch ROOT rehearse|rehearse-jobs NUMBER
        nixswitch --help | --version
@@ -32,6 +32,8 @@ boot SYSTEM          makes a generation for the system, points the profile to it
 dry-activate SYSTEM  says what bringing the system into use would do, and changes nothing
 rollback             points the profile back to the greatest generation below the current one that names a system, makes
                      the boot menu, and brings that system into use; cut and run again, it goes to the same generation
+start-up             does as the machine starts up what a test does of the system that the profile names, and starts
+                     multi-user.target with what that wants
 generations          lists the generations: the number, the system, and a mark at the current one; it changes nothing
 collect KEEP         drops the generations but the KEEP with the highest numbers and the current one, and then what of the store
                      no root reaches; it is refused where a switch is unfinished
@@ -148,7 +150,11 @@ fn run_line(rt: &HostRuntime, line: &[Text]) -> End {
         return End::plain(Status::Usage);
     };
     match Asked::read(rt.alloc(), words) {
-        Ok(Asked::Command(_) | Asked::Generations | Asked::Collection(_)) => run_alone(rt, root.as_str(), words),
+        Ok(Asked::Command(_) | Asked::Generations | Asked::Collection(_)) => run_alone(
+            rt,
+            root.as_str(),
+            words,
+        ),
         Ok(Asked::Rehearsal(_) | Asked::RehearsalWithJobs(_)) => {
             run_on(rt, rt.alloc(), root.as_str(), syncing_of(rt), words)
         }
