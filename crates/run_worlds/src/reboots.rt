@@ -84,7 +84,7 @@ impl Counts {
     /// Counts a world that is shown so and should be shown otherwise.
     fn compare(&mut self, shown: &Lines, wanted: &Lines) {
         if shown.as_str() != wanted.as_str() {
-            self.others += 1;
+            self.others = self.others.saturating_add(1);
         }
     }
 }
@@ -100,7 +100,7 @@ fn try_start_ups(
     let whole = seen(alloc, uncut)?;
     let kept = activated(alloc, uncut)?;
     let mut after = number % 9;
-    loop {
+    for _ in 0..u64::MAX {
         let (mut again, _was) = cut_host(alloc, words, places, number)?;
         let cut = Cut { after, pick: after };
         let rebooting = after_reboot(alloc, &mut again, number, &[cut])?;
@@ -108,7 +108,7 @@ fn try_start_ups(
         if rebooting.summary.runs == 1 {
             return Ok(());
         }
-        counts.cut_start_ups += 1;
+        counts.cut_start_ups = counts.cut_start_ups.saturating_add(1);
         let (mut further, _was) = cut_host(alloc, words, places, number)?;
         further.reboot(alloc, number)?;
         further.arm(after, after);
@@ -116,13 +116,14 @@ fn try_start_ups(
         let _status = status_of(alloc, &mut further, &mut sink, "start-up")?;
         let _rebooting = after_reboot(alloc, &mut further, after, &[])?;
         counts.compare(&activated(alloc, further.world())?, &kept);
-        after += 9;
+        after = after.saturating_add(9);
     }
+    Ok(())
 }
 
 /// A run of some words over the world of these places is cut at each of its changing calls, the machine rebooted, and its
-/// start-up cut at a ninth of its calls too, at others with each number. Where it boots into this system the accounts and `/etc` end as after the run that
-/// isn't cut. Shows how many reboots and cut start-ups there were, and how many of their ends were others.
+/// start-up cut at a ninth of its calls too, at others with each number. Where it boots into this system the accounts and
+/// `/etc` end as after the run that isn't cut. Shows how many reboots and cut start-ups there were, and how many of their ends were others.
 pub fn show_all_reboots(
     alloc: Global,
     lines: &mut Lines,
@@ -142,10 +143,10 @@ pub fn show_all_reboots(
     for number in 0..u64::MAX {
         let (mut host, was_cut) = cut_host(alloc, words, places, number)?;
         let rebooting = after_reboot(alloc, &mut host, number, &[])?;
-        counts.reboots += 1;
+        counts.reboots = counts.reboots.saturating_add(1);
         if let Some(booted) = &rebooting.booted {
             if booted == &system {
-                counts.into_new += 1;
+                counts.into_new = counts.into_new.saturating_add(1);
                 counts.compare(&activated(alloc, host.world())?, &switched);
             }
         }
