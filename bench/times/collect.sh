@@ -19,7 +19,9 @@ make_size() {
     mkdir -p "$profiles"
     seq -f "$store/p-%05.0f" "$1" | xargs mkdir -p
     awk -v store="$store" -v last="$1" 'BEGIN {
-        many = sprintf("%40000s", "")
+        many = "some bytes of a program "
+        while (length(many) < 40000)
+            many = many many
         for (number = 1; number <= last; number++) {
             folder = sprintf("%s/p-%05d", store, number)
             for (part = 0; part < 10; part++) {
@@ -64,7 +66,8 @@ after() {
     [ "$1" -gt 10000 ] || [ "$micros" -le 5000000 ] || wrong "$1" "it takes $micros microseconds"
 }
 
-judge_counts() { [ "${counted[opens]}" = 1 ] || wrong "$1" "a leaf was opened ${counted[opens]} times"; }
+# The file of a version is read for the boot menu too.
+judge_counts() { [ "${counted[opens]}" -le 2 ] || wrong "$1" "a leaf was opened ${counted[opens]} times"; }
 
 after_row() { [ "$peak" = - ] || [ "$peak" -le 200000 ] || wrong "$1" "it takes $peak KiB"; }
 
