@@ -5,5 +5,6 @@ pub mod Entries
 pub mod Laws
 pub mod Menu
 pub mod Places
+pub mod Sources
 pub mod Steps
 pub mod Texts

@@ -1,25 +1,15 @@
 //! The leaves of the store paths that go, in the order in which they do.
-ghost use Rattle.std.specs.Prelude.{◌≡◌, ◌++◌, ◌∷◌, [], not, filter, IfOk, OnOk};
+ghost use Rattle.std.specs.Prelude.{◌≡◌, ◌++◌, ◌∷◌, [], not, filter, OnOk};
 ghost use Rattle.host_trait.specs.Host.{Told};
 ghost use Rattle.host_trait.specs.Reading.{IsReading};
 ghost use Rattle.host_trait.specs.World.{is_path, listed};
 ghost use Rattle.boot_entries.specs.Entries.{version_path};
 ghost use Rattle.store_collect.specs.Collection.{first_of, leaves_of};
 
+use boot_entries::version_path;
 use host_trait::{HostFault, Tree};
 use std::alloc::{AllocError, Global};
-use switch_names::{Listed, NameFault, Path, SystemName};
-
-/// Where a system keeps its version: the file that makes it one.
-#[tactic(auto, unfolding(boot_entries::specs::Entries::version_path))]
-fn version_path(alloc: Global, system: &SystemName) -> Result<Path, AllocError>
-    ensures { IfOk result (λ path. path ≡ version_path system.now) }
-{
-    system
-        .path()
-        .join(alloc, "nixos-version")
-        .map_err(|_fault: NameFault| AllocError)
-}
+use switch_names::{Listed, Path, SystemName};
 
 /// Adds those of some paths that are this one.
 fn add_same(

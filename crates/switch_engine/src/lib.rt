@@ -17,5 +17,5 @@ pub use outcome::{Outcome, is_failed_of};
 pub use plan::Plan;
 pub use planning::plan_all;
 pub use row::{Row, resolve};
-pub use switch_parts::{MapFile, PlanFault, Refusal, TableFile};
+pub use switch_parts::{MapFile, PlanFault, Refusal, TableFile, What};
 pub use system::version_path;

@@ -23,6 +23,13 @@ pub enum MapFile {
     Gid,
 }
 
+/// What there can be too much of.
+#[derive(Clone, Copy, Debug, PartialEq, Eq)]
+pub enum What {
+    /// Bytes of one content: at most 16 MiB.
+    LeafBytes,
+}
+
 /// Why a command is refused. Nothing was put then, and nothing changed.
 #[derive(Debug, Drop, Error)]
 pub enum Refusal {
@@ -32,6 +39,14 @@ pub enum Refusal {
     /// The system has no readable `nixos-version`.
     #[error("no such system")]
     NoSystem,
+    /// There is too much of something that the command would read.
+    #[error("there is too much of something")]
+    TooMany {
+        /// What there is too much of.
+        what: What,
+        /// How much there is.
+        count: u64,
+    },
     /// A leaf stands strictly above or below this place, which the command writes; or one without content stands at it, where
     /// the command reads it first. Of such places the first in byte order is named.
     #[error("a leaf is in the way")]

@@ -4,9 +4,11 @@ use Rattle.std.specs.Fmt.{decimal}
 use Rattle.switch_parts.specs.declared.refusal.MapFile.{MapFile}
 use Rattle.switch_parts.specs.declared.refusal.MapFile.TheVariants.{Gid, Uid}
 use Rattle.switch_parts.specs.declared.refusal.Refusal.{Refusal}
-use Rattle.switch_parts.specs.declared.refusal.Refusal.TheVariants.{EtcEntry, GenerationsFull, IdMap, InTheWay, NoFreeId, NoPrevious, NoProfile, NoSystem, Owner, Reserved, Table, Unfinished, UnitText, UnknownGroup, UsersSpec}
+use Rattle.switch_parts.specs.declared.refusal.Refusal.TheVariants.{EtcEntry, GenerationsFull, IdMap, InTheWay, NoFreeId, NoPrevious, NoProfile, NoSystem, Owner, Reserved, Table, TooMany, Unfinished, UnitText, UnknownGroup, UsersSpec}
 use Rattle.switch_parts.specs.declared.refusal.TableFile.{TableFile}
 use Rattle.switch_parts.specs.declared.refusal.TableFile.TheVariants.{Group, Passwd, Shadow}
+use Rattle.switch_parts.specs.declared.refusal.What.{What}
+use Rattle.switch_parts.specs.declared.refusal.What.TheVariants.{LeafBytes}
 use Rattle.users_spec.specs.declared.place.Place.{Place}
 use Rattle.users_spec.specs.declared.place.Place as places
 use Rattle.users_spec.specs.declared.spec_fault.SpecFault.{SpecFault}
@@ -49,10 +51,15 @@ abbrev pub map_text : MapFile → List ℕ
 map_text Uid = codes "uid-map"
 map_text Gid = codes "gid-map"
 
+-- what there can be too much of
+abbrev pub what_text : What → List ℕ
+what_text LeafBytes = codes "bytes"
+
 -- why a command was refused
 abbrev pub refusal_text : Refusal → List ℕ
 refusal_text NoPrevious = codes "no previous generation"
 refusal_text NoSystem = codes "no such system"
+refusal_text (TooMany what count) = codes "too many: " ++ (what_text what ++ (32 ∷ decimal count))
 refusal_text (InTheWay path) = codes "in the way: " ++ path
 refusal_text (UnitText unit line) = codes "unit " ++ (unit ++ (codes " line " ++ decimal line))
 refusal_text (UsersSpec why) = codes "users specification: " ++ spec_text why

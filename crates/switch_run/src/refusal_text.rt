@@ -1,9 +1,9 @@
 //! Refusals in words.
 ghost use Rattle.std.specs.Prelude.{◌≡◌, ◌++◌, codes, IfOk, string_bytes};
-ghost use Rattle.switch_run.specs.RefusalTexts.{key_text, keyed_text, map_text, place_text, refusal_text, spec_text, table_text};
+ghost use Rattle.switch_run.specs.RefusalTexts.{key_text, keyed_text, map_text, place_text, refusal_text, spec_text, table_text, what_text};
 
 use std::alloc::{AllocError, Global};
-use switch_engine::{MapFile, Refusal, TableFile};
+use switch_engine::{MapFile, Refusal, TableFile, What};
 use users_spec::{Place, SpecFault};
 
 /// A place of an account specification in words.
@@ -77,6 +77,15 @@ fn map_text(file: MapFile) -> &'static str
     }
 }
 
+/// What there can be too much of, in words.
+fn what_text(what: What) -> &'static str
+    ensures { result.now ≡ what_text what }
+{
+    match what {
+        What::LeafBytes => "bytes",
+    }
+}
+
 /// A user and its group, which nothing is known of, in words.
 fn unknown_group_text(alloc: Global, user: &str, group: &str) -> Result<String, AllocError>
     ensures { IfOk result (λ text. string_bytes text ≡ codes "user " ++ (user.now ++ (codes " has unknown group " ++ group.now))) }
@@ -91,6 +100,9 @@ pub fn refusal_text(alloc: Global, refusal: &Refusal) -> Result<String, AllocErr
     match refusal {
         Refusal::NoPrevious => String::from_str(alloc, "no previous generation"),
         Refusal::NoSystem => String::from_str(alloc, "no such system"),
+        Refusal::TooMany { what, count } => {
+            format!(in alloc; "too many: {} {count}", what_text(*what))
+        }
         Refusal::InTheWay(path) => format!(in alloc; "in the way: {}", path.as_str()),
         Refusal::UnitText { unit, line } => format!(in alloc; "unit {} line {line}", unit.as_str()),
         Refusal::UsersSpec(fault) => {
