@@ -390,6 +390,33 @@ generations 2 && printf 'F 0644 0 0\n1\n' >"$recorded"
 run "a test where a goal is recorded" 0
 if [ -e "$recorded" ]; then judge "it leaves the goal" ok; else judge "it leaves the goal" "it doesn't"; fi
 
+# A collection, and what stands where it looks.
+
+# long PATH NUMBER: a file of so many bytes.
+long() {
+    { printf 'F 0644 0 0\n' && head -c "$2" /dev/zero | tr '\0' a; } >"$1"
+}
+
+command=collect
+argument=1
+generations 2
+run "a collection" 0
+if [ -e "$profiles/system-1-link" ] || [ -e "$tree/nix/store/a-sys" ]; then judge "it drops the first generation" "it doesn't"; else judge "it drops the first generation" ok; fi
+generations 2 && long "$tree/nix/store/b-sys/nixos-version" 16777217
+refused "the version of a kept system is longer than 16 MiB" "too many: bytes 16777217"
+generations 2 && long "$tree/nix/store/b-sys/kernel-params" 16777216
+run "parameters of a kept system that are as long as may be" 0
+generations 2 && long "$tree/nix/store/a-sys/nixos-version" 16777217
+run "the version of a system that goes is longer than 16 MiB" 0
+generations 2 && printf 'F 0644 0 0\n' >"$lists/start-list"
+refused "a list of an unfinished switch stands" "a switch is unfinished"
+generations 2 && mkfifo "$tree/nix/store/b-sys/pipe"
+run "a pipe in a kept system" 3 "nix/store/b-sys/pipe: $link"
+generations 2 && mkdir -p "$tree/home" && ln -s "$work/outside/file" "$tree/home/result"
+run "a link of the file system outside the store" 3 "home/result: $link"
+generations 2 && echo junk >"$tree/nix/store/b-sys/sw"
+run "a file of a kept system that is no node" 3 "nix/store/b-sys/sw: not a node file"
+
 # list NAME LINES: lists the generations, which has to put these lines and to change nothing in the root.
 list() {
     local within

@@ -1,13 +1,13 @@
 -- Where a collection isn't refused, none is at a moment of it.
-use Rattle.std.proofs.Common.{◌≡◌, ◌≢◌, ℕ, ◌||◌, ◌&&◌, Bool, true, false, cond, codes, List, [], ◌∷◌, ◌++◌, map, take, Option, None, Some, is_some, option_map, refl, sym, ap, subst, ◌∙◌, inl, inr}
+use Rattle.std.proofs.Common.{◌≡◌, ◌≢◌, ℕ, ◌||◌, ◌&&◌, Bool, true, false, cond, codes, List, [], ◌∷◌, ◌++◌, map, take, Option, None, Some, is_some, refl, sym, ap, subst, ◌∙◌, inl, inr}
 use Rattle.std.proofs.lemmas.Bool.{both_ways, or_from, or_parts}
 use Rattle.std.specs.Cmp.Lexicographic.{nat_list_eq_equiv}
-use Rattle.std.specs.FinMap.{from_entries, get, keys}
-use Rattle.std.specs.List.{AllByRecursion, cons_option, filter_map}
+use Rattle.std.specs.FinMap.{get}
+use Rattle.std.specs.List.{AllByRecursion}
 use Rattle.generations.specs.declared.gens.Gen.{Gen}
 use Rattle.generations.specs.declared.gens.Gens.{Gens}
 use Rattle.generations.specs.Goal.{goal_place}
-use Rattle.host_trait.specs.World.{Leaves, WorldState, bytes_cmp, is_in_line, is_path, seen, stage}
+use Rattle.host_trait.specs.World.{WorldState, is_in_line, is_path, seen, stage}
 use Rattle.host_trait.proofs.Fronts.{begins}
 use Rattle.host_trait.proofs.Seen.{clear_seen}
 use Rattle.host_trait.proofs.Sound.{not_in_line}
@@ -19,22 +19,19 @@ use Rattle.tree_put.specs.declared.written_place.WrittenPlace.{WrittenPlace}
 use Rattle.tree_put.specs.First.{first_in_the_way, lesser}
 use Rattle.tree_put.specs.Put.{is_blocked}
 use Rattle.tree_put.specs.Sequence.{without_places}
-use Rattle.tree_put.specs.WrittenPlace.{AreApartFromStage, in_the_way, is_in_the_way, lacks_content, written}
+use Rattle.tree_put.specs.WrittenPlace.{AreApartFromStage, is_in_the_way, lacks_content, written}
 use Rattle.tree_put.proofs.BlockedLemmas.{clear_of_free, free_of_clear}
 use Rattle.tree_put.proofs.FirstLemmas.{none_as_listed}
 use Rattle.tree_put.proofs.SequenceLemmas.{removed_clear}
-use Rattle.boot_entries.specs.declared.boot_texts.BootFile.{BootFile}
-use Rattle.boot_entries.specs.declared.boot_texts.BootTexts.{BootTexts}
-use Rattle.boot_entries.specs.BootPart.{boot_part, boot_places, entry_places, place_if}
+use Rattle.boot_entries.specs.BootPart.{boot_part, boot_places, entry_places}
 use Rattle.boot_entries.specs.Laws.{IsBootGens}
 use Rattle.boot_entries.specs.Places.{entry_path, loader_path, numbered, owns_boot}
-use Rattle.boot_entries.specs.Steps.{AreEntries, CanApplyBoot, IsBootMoment, with_menu}
-use Rattle.boot_entries.specs.Texts.{entries_of, entry_of}
+use Rattle.boot_entries.specs.Steps.{AreEntries, IsBootMoment, with_menu}
 use Rattle.boot_entries.proofs.MenuPlacesLemmas.{menu_apart}
 use Rattle.boot_entries.proofs.NumberLemmas.{bears_numbered}
 use Rattle.boot_entries.proofs.PartLemmas.{moment_law, part_law}
 use Rattle.store_collect.specs.declared.collection.Collection.{Collection}
-use Rattle.store_collect.specs.Again.{AllowedLaw}
+use Rattle.store_collect.specs.Again.{AllowedLaw, IsAllowed}
 use Rattle.store_collect.specs.Collection.{IsCollectionOf, IsRefusedAt}
 use Rattle.store_collect.specs.Kept.{gens_kept}
 use Rattle.store_collect.specs.Steps.{IsCollecting, removals}
@@ -43,6 +40,7 @@ use Rattle.store_collect.proofs.AgainGens.{kept_now}
 use Rattle.store_collect.proofs.BootSystemLemmas.{outside}
 use Rattle.store_collect.proofs.EntryLemmas.{are_entries, kept_gens}
 use Rattle.store_collect.proofs.LawLemmas.{menu_made}
+use Rattle.store_collect.proofs.LongLemmas.{long_before}
 
 -- ---- where an unfinished switch has its records
 
@@ -70,21 +68,6 @@ all_beside = (
 )
 
 -- ---- what is in the way of places
-
--- the places that a boot menu's entries are put at, by what is put
-entries_at : (leaves : Leaves) (list : List Gen) → filter_map place_if list ≡ map (λ (file : BootFile). file.at) (entries_of leaves list)
-entries_at leaves [] = refl
-entries_at leaves (gen ∷ list) = by gen.target (entries_at leaves list)
-  where
-    by : (target : Option Name) → filter_map place_if list ≡ map (λ (file : BootFile). file.at) (entries_of leaves list) →
-        cons_option (option_map (λ (system : Name). entry_path gen.number) target) (filter_map place_if list) ≡ map (λ (file : BootFile). file.at) (cons_option (option_map (entry_of leaves gen.number) target) (entries_of leaves list))
-    by None rest = rest
-    by (Some system) rest = ap (λ (places : List Name). entry_path gen.number ∷ places) rest
-
-same_places : (leaves : Leaves) (one other : List Gen) → entries_of leaves one ≡ entries_of leaves other → boot_places one ≡ boot_places other
-same_places leaves one other same =
-    ap (λ (names : List Name). map (written false) (keys (from_entries {R = bytes_cmp} (map (λ (at : Name). (at, true)) names))) ++ written false loader_path ∷ written false stage ∷ [])
-    (entries_at leaves one ∙ ap (map (λ (file : BootFile). file.at)) same ∙ sym (entries_at leaves other))
 
 -- a place that is written unread, and of which the stage is neither above nor below
 abbrev IsPlain : WrittenPlace → Type 0
@@ -129,18 +112,19 @@ module _ (keep : ℕ) (one : Collection) (w m : WorldState) (is : IsCollectionOf
       ] in
       or_from (is_some (get m.leaves p)) (stands_at_one places m.leaves) first (finished places beside.1 parts.1)
 
-  module _ (can : CanApplyBoot one.texts w) where
+  module _ (allowed : IsAllowed keep w.leaves) where
     abbrev kept : Gens
     kept = gens_kept keep is.gens
 
     kept_are : IsBootGens kept
     kept_are = kept_gens keep w.leaves is.gens is.stand
 
+    none_before : (first : Option Name) → first_in_the_way (boot_places kept.list) w.leaves ≡ first → first_in_the_way (boot_places kept.list) w.leaves ≡ None
+    none_before None none = none
+    none_before (Some at) some = absurd (allowed.free at record { gens = is.gens; stand = is.stand; first = some })
+
     free_before : IsFree (boot_part kept) w.leaves
-    free_before = record {
-      way = subst (λ places. in_the_way places w.leaves ≡ None) (same_places w.leaves can.gens.list kept.list (ap (λ (texts : BootTexts). texts.entries) (sym can.planned ∙ is.planned.texts))) can.free.way;
-      refusal = refl;
-    }
+    free_before = record { way = (none_as_listed (boot_places kept.list) w.leaves).0 (none_before (first_in_the_way (boot_places kept.list) w.leaves) refl); refusal = refl }
 
     menu_free : (v : WorldState) → IsBootMoment one.texts w v → first_in_the_way (boot_places kept.list) v.leaves ≡ None
     menu_free v boot =
@@ -159,7 +143,8 @@ module _ (keep : ℕ) (one : Collection) (w m : WorldState) (is : IsCollectionOf
         let no : None ≡ Some at = sym free_now ∙ ap (λ (gens : Gens). first_in_the_way (boot_places gens.list) m.leaves) (sym (kept_now keep one w m is moment refused.gens refused.stand)) ∙ refused.first in cc)
 
 pub allowed_law : AllowedLaw
-allowed_law keep collection w m is none can moment = record {
-  finished = finished keep collection w m is moment unfinished_places all_beside none;
-  free = λ at refused. not_refused keep collection w m is moment can at refused;
+allowed_law keep collection w m is allowed moment = record {
+  finished = finished keep collection w m is moment unfinished_places all_beside allowed.finished;
+  short = λ count long. allowed.short count (long_before keep collection w m is moment count long);
+  free = λ at refused. not_refused keep collection w m is moment allowed at refused;
 }

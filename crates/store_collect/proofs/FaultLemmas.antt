@@ -10,7 +10,7 @@ use Rattle.boot_entries.specs.Places.{loader_path}
 use Rattle.store_collect.specs.declared.collection.CollectFault.{CollectFault}
 use Rattle.store_collect.specs.declared.collection.CollectFault.TheVariants.{Host, Refused}
 use Rattle.store_collect.specs.declared.collection.CollectRefusal.{CollectRefusal}
-use Rattle.store_collect.specs.declared.collection.CollectRefusal.TheVariants.{InTheWay}
+use Rattle.store_collect.specs.declared.collection.CollectRefusal.TheVariants.{InTheWay, LeafBytes}
 use Rattle.store_collect.specs.Collection.{loader_places}
 
 -- a fault of the host is no refusal, and is that fault alone
@@ -30,6 +30,9 @@ planned_device x is = absurd cc
 
 pub same_place : {T : Type 0} (at other : Name) → IsErrOf {T = T} (Err (Refused (InTheWay at))) (Refused (InTheWay other)) → at ≡ other
 same_place at other is = cc
+
+pub same_count : {T : Type 0} (count other : ℕ) → IsErrOf {T = T} (Err (Refused (LeafBytes count))) (Refused (LeafBytes other)) → count ≡ other
+same_count count other is = cc
 
 -- readings after which no fault of the device is answered
 pub reads_none : {a b : HostState} {T : Type 0} {r : Result T HostFault} → IsReading a b r → (F : Type 0) → (F → ⊥) → IsReadingOf a b F

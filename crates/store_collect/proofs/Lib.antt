@@ -9,6 +9,7 @@ pub mod FaultLemmas
 pub mod FewerGens
 pub mod GenLists
 pub mod LawLemmas
+pub mod LongLemmas
 pub mod MomentLemmas
 pub mod OneLemmas
 pub mod VersionLemmas

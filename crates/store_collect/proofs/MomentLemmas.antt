@@ -101,7 +101,7 @@ place_named target p is =
       },
     )
 
-params_inside : (x : Name) → is_at x (params_path x) ≡ true
+pub params_inside : (x : Name) → is_at x (params_path x) ≡ true
 unfolding params_path
 params_inside x = or_right (is_path (params_path x) x) _ (below_front x (codes "kernel-params"))
 
@@ -241,7 +241,7 @@ module _ (keep : ℕ) (one : Collection) (w m : WorldState) (is : IsCollectionOf
 
   -- so does what its files and its links to files in the store contain
   module _ (x : Name) (path : is_store_path x ≡ true) (live : IsStored w.leaves x → Live (passed one) w x) where
-    same_content : (at : Name) → is_at x at ≡ true → content_of m.leaves at ≡ content_of w.leaves at
+    pub same_content : (at : Name) → is_at x at ≡ true → content_of m.leaves at ≡ content_of w.leaves at
     same_content at inside = ap (leaf_content m.leaves) (same_inside x path live at inside) ∙ by (get w.leaves at) refl
       where
         to : (target : Name) → get w.leaves at ≡ Some (Link target) → (p : Option Name) → store_place target ≡ p → file_at m.leaves p ≡ file_at w.leaves p

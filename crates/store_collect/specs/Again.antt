@@ -2,10 +2,9 @@
 use Rattle.std.specs.Prelude.{◌≡◌, ◌↔◌, ◌∷◌, ℕ, false, List, []}
 use Rattle.host_trait.specs.World.{Leaves, WorldState}
 use Rattle.switch_names.specs.Names.{Name, has}
-use Rattle.boot_entries.specs.Steps.{CanApplyBoot}
 use Rattle.store_live.specs.Live.{Live}
 use Rattle.store_collect.specs.declared.collection.Collection.{Collection}
-use Rattle.store_collect.specs.Collection.{IsCollectionOf, IsRefusedAt, passed_over}
+use Rattle.store_collect.specs.Collection.{AreShortFor, IsCollectionOf, IsRefusedAt, passed_over}
 use Rattle.store_collect.specs.Steps.{IsCollectedBy, IsCollecting}
 use Rattle.store_collect.specs.Unfinished.{is_unfinished}
 
@@ -43,13 +42,13 @@ LiveStaysLaw =
 abbrev pub CutCollectionsLaw : Type 0
 CutCollectionsLaw = (keep : ℕ) (cuts : List WorldState) (w v : WorldState) → CollectsBy keep cuts w v → IsCollected keep w v
 
--- no collection that keeps so many generations is refused: no switch is unfinished, and nothing is in the way
+-- no collection that keeps so many generations is refused: no switch is unfinished, no file is too long, and nothing is in the way
 pub record IsAllowed (keep : ℕ) (leaves : Leaves) : Type 0 where
   pub finished : is_unfinished leaves ≡ false
+  pub short : AreShortFor keep leaves
   pub free : (at : Name) → IsRefusedAt keep leaves at → ⊥
 
 -- at each moment of a collection that isn't refused none is refused
 abbrev pub AllowedLaw : Type 0
 AllowedLaw =
-    (keep : ℕ) (collection : Collection) (w m : WorldState) → IsCollectionOf keep w collection → is_unfinished w.leaves ≡ false → CanApplyBoot collection.texts w → IsCollecting collection w m →
-    IsAllowed keep m.leaves
+    (keep : ℕ) (collection : Collection) (w m : WorldState) → IsCollectionOf keep w collection → IsAllowed keep w.leaves → IsCollecting collection w m → IsAllowed keep m.leaves

@@ -10,7 +10,10 @@ use Rattle.boot_entries.specs.declared.boot_texts.BootTexts.{BootTexts}
 use Rattle.boot_entries.specs.BootPart.{boot_places}
 use Rattle.boot_entries.specs.Entries.{version_path}
 use Rattle.boot_entries.specs.Places.{loader_path}
+use Rattle.boot_entries.specs.Sources.{taken_of}
 use Rattle.boot_entries.specs.Texts.{menu_of}
+use Rattle.leaf_limits.specs.declared.too_long.TooLong.{TooLong}
+use Rattle.leaf_limits.specs.Limits.{IsFirstTooLong}
 use Rattle.store_live.specs.Live.{IsDead}
 use Rattle.store_collect.specs.declared.collection.Collection.{Collection}
 use Rattle.store_collect.specs.Kept.{gens_kept, links_gone}
@@ -45,6 +48,19 @@ pub record IsCollectionOf (keep : ℕ) (w : WorldState) (collection : Collection
   pub gens : Gens
   pub stand : IsGensOf w.leaves gens
   pub planned : IsPlanned keep gens w collection
+
+-- A file that the boot menu of the generations that are kept is made of is too long, and has so many bytes: of such files the first
+-- in byte order.
+pub record IsTooLongFor (keep : ℕ) (leaves : Leaves) (count : ℕ) : Type 0 where
+  pub gens : Gens
+  pub stand : IsGensOf leaves gens
+  pub long : TooLong
+  pub first : IsFirstTooLong (taken_of (gens_kept keep gens)) leaves long
+  pub is_count : count ≡ long.count
+
+-- none of them is too long
+abbrev pub AreShortFor : ℕ → Leaves → Type 0
+AreShortFor keep leaves = (count : ℕ) → IsTooLongFor keep leaves count → ⊥
 
 -- a leaf stands in the way of this place of the boot menu of the generations that are kept, or of the stage: the first in byte order
 pub record IsRefusedAt (keep : ℕ) (leaves : Leaves) (at : Name) : Type 0 where

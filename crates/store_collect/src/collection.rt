@@ -39,6 +39,10 @@ pub enum CollectRefusal {
     /// A switch is unfinished: a leaf stands where it records what it owes, or its goal.
     #[error("a switch is unfinished")]
     Unfinished,
+    /// A file that the boot menu is made of is longer than 16 MiB: how many bytes it has. Of such files the first in byte order
+    /// is told of.
+    #[error("a file is too long")]
+    LeafBytes(u64),
     /// A leaf stands in the way of this place of the boot menu, or of the stage.
     #[error("a leaf is in the way")]
     InTheWay(Path),

@@ -1,5 +1,5 @@
 //! Plans a collection.
-ghost use Rattle.std.specs.Prelude.{◌≡◌, ◌++◌, map, IfOk, IsErrOf, OnOk, true, false};
+ghost use Rattle.std.specs.Prelude.{◌≡◌, ◌++◌, ℕ, map, IfOk, IsErrOf, OnOk, true, false};
 ghost use Rattle.host_trait.specs.declared.tree.HostFault.TheVariants.{Device};
 ghost use Rattle.host_trait.specs.Host.{Told};
 ghost use Rattle.host_trait.specs.Reading.{IsReading, IsReadingOf};
@@ -9,10 +9,13 @@ ghost use Rattle.tree_put.specs.WrittenPlace.{AreApartFromStage};
 ghost use Rattle.boot_entries.specs.BootPart.{boot_places};
 ghost use Rattle.boot_entries.specs.Places.{loader_path};
 ghost use Rattle.boot_entries.specs.Steps.{AreEntries, CanApplyBoot};
+ghost use Rattle.boot_entries.specs.Sources.{taken_of};
 ghost use Rattle.generations.specs.Gens.{IsGensOf};
+ghost use Rattle.leaf_limits.specs.Limits.{IsFirstOf};
 ghost use Rattle.store_collect.specs.declared.collection.CollectFault.TheVariants.{Host, Refused};
-ghost use Rattle.store_collect.specs.declared.collection.CollectRefusal.TheVariants.{InTheWay, Unfinished};
-ghost use Rattle.store_collect.specs.Collection.{IsCollectionOf, IsPlanned, IsRefusedAt, loader_places, passed_over};
+ghost use Rattle.store_collect.specs.declared.collection.CollectRefusal.TheVariants.{InTheWay, LeafBytes, Unfinished};
+ghost use Rattle.store_collect.specs.Again.{IsAllowed};
+ghost use Rattle.store_collect.specs.Collection.{AreShortFor, IsCollectionOf, IsPlanned, IsRefusedAt, IsTooLongFor, loader_places, passed_over};
 ghost use Rattle.store_collect.specs.Kept.{gens_kept};
 ghost use Rattle.store_collect.specs.Unfinished.{is_unfinished};
 
@@ -20,9 +23,10 @@ use crate::collection::{CollectFault, CollectRefusal, Collection};
 use crate::dropped_leaves::dropped_leaves;
 use crate::keeping::{gone_links, kept};
 use crate::unfinished::is_unfinished;
-use boot_entries::{BootFile, BootTexts, add_places_of, texts};
+use boot_entries::{BootFile, BootTexts, add_places_of, taken, texts};
 use generations::{Gens, all};
 use host_trait::{HostFault, Manager, Tree, fixed_path};
+use leaf_limits::{TooLong, first_too_long};
 use std::alloc::{AllocError, Global};
 use store_live::dead_paths;
 use switch_names::{Bytes, Listed, Path};
@@ -50,6 +54,19 @@ fn blocked_place<T: Tree>(
 {
     let places = written_places(alloc, gens)?;
     first_in_the_way(alloc, host, places.as_slice())
+}
+
+/// The first file that the boot menu of some generations is made of and that is too long.
+fn long_file<T: Tree>(
+    alloc: Global,
+    host: &mut T,
+    gens: &Gens,
+) -> Result<Option<TooLong>, HostFault>
+    ensures first { IfOk result (λ long. Told (T.host host.old) (λ w. IsFirstOf (taken_of gens.now) w.leaves long)) }
+    ensures reads { IsReading (T.host host.old) (T.host host.new) result }
+{
+    let files = taken(alloc, gens)?;
+    first_too_long(alloc, host, files.as_slice())
 }
 
 /// Adds equal paths.
@@ -138,26 +155,31 @@ fn plan_removals<M: Manager>(
 /// Plans a collection that keeps the generations with the highest numbers, so many of them, and the current one. It changes
 /// nothing.
 ///
-/// Faults are sought in this order: `Unfinished`, `InTheWay` (the first place in byte order). It lists the tree
-/// once and each live store path once, and reads each leaf outside the store and each of a live store path
-/// once, the files of the boot menu apart.
+/// Faults are sought in this order: `Unfinished`, `LeafBytes`, `InTheWay` (of files and of places the first in byte order each). It
+/// lists the tree once and each live store path once, and reads each leaf outside the store and each of a live store path once, the
+/// files that the boot menu is made of apart.
 ///
 /// Source: nix-collect-garbage(1), "--delete-generations"; Nix manual, "Garbage Collector Roots".
 pub fn plan<M: Manager>(alloc: Global, host: &mut M, keep: u32) -> Result<Collection, CollectFault>
     ensures collection { IfOk result (λ collection. Told (M.host host.old) (λ w. IsCollectionOf keep w collection)) }
     ensures places { IfOk result (λ collection. AreEntries collection.texts.entries) }
     ensures can { IfOk result (λ collection. Told (M.host host.old) (CanApplyBoot collection.texts)) }
-    ensures finished { OnOk result (Told (M.host host.old) (λ w. is_unfinished w.leaves ≡ false)) }
+    ensures allowed { OnOk result (Told (M.host host.old) (λ w. IsAllowed keep w.leaves)) }
     ensures unfinished { IsErrOf result (Refused Unfinished) → Told (M.host host.old) (λ w. is_unfinished w.leaves ≡ true) }
-    ensures in_order { (at : Name) → IsErrOf result (Refused (InTheWay at)) → Told (M.host host.old) (λ w. is_unfinished w.leaves ≡ false) }
+    ensures too_long { (count : ℕ) → IsErrOf result (Refused (LeafBytes count)) → Told (M.host host.old) (λ w. (is_unfinished w.leaves ≡ false) × IsTooLongFor keep w.leaves count) }
+    ensures in_order { (at : Name) → IsErrOf result (Refused (InTheWay at)) → Told (M.host host.old) (λ w. (is_unfinished w.leaves ≡ false) × AreShortFor keep w.leaves) }
     ensures in_the_way { (at : Name) → IsErrOf result (Refused (InTheWay at)) → Told (M.host host.old) (λ w. IsRefusedAt keep w.leaves at) }
     ensures reads { IsReadingOf (M.host host.old) (M.host host.new) (IsErrOf result (Host Device)) }
 {
-    if is_unfinished(alloc, host)? {
+    let unfinished = is_unfinished(alloc, host)?;
+    if unfinished {
         return Err(CollectFault::Refused(CollectRefusal::Unfinished));
     }
     let gens = all(alloc, host)?;
     let kept = kept(alloc, &gens, keep)?;
+    if let Some(long) = long_file(alloc, host, &kept)? {
+        return Err(CollectFault::Refused(CollectRefusal::LeafBytes(long.count)));
+    }
     if let Some(at) = blocked_place(alloc, host, &kept)? {
         return Err(CollectFault::Refused(CollectRefusal::InTheWay(at)));
     }

@@ -29,13 +29,13 @@ module _ {host_state after : HostState} {sink put : SinkState} (keep : ℕ) (end
   unfinished = record { has = λ w told because. by w told because ending is.come }
     where
       by : (w : WorldState) → host_state.world ≡ Some w → is_unfinished w.leaves ≡ true → (e : Result Bool RunFault) → Come e → IsIdle host_state after sink put
-      by w told because (Ok failed) come = absurd (both_ways _ (come.1.finished.has w told) because)
+      by w told because (Ok failed) come = absurd (both_ways _ (come.1.allowed.has w told).finished because)
       by w told because (Err fault.Usage) come = absurd come
       by w told because (Err (fault.Refused why)) come = come.idle
       by w told because (Err (fault.Host why)) (IsCollectionBroken.BeforeReport idle) = idle
-      by w told because (Err (fault.Host why)) (IsCollectionBroken.AfterReport finished output) = absurd (both_ways _ (finished.has w told) because)
-      by w told because (Err fault.Sink) (IsCollectionUnput.InReport finished same output) = absurd (both_ways _ (finished.has w told) because)
-      by w told because (Err fault.Sink) (IsCollectionUnput.InClosing finished led output) = absurd (both_ways _ (finished.has w told) because)
+      by w told because (Err (fault.Host why)) (IsCollectionBroken.AfterReport allowed output) = absurd (both_ways _ (allowed.has w told).finished because)
+      by w told because (Err fault.Sink) (IsCollectionUnput.InReport allowed same output) = absurd (both_ways _ (allowed.has w told).finished because)
+      by w told because (Err fault.Sink) (IsCollectionUnput.InClosing allowed led output) = absurd (both_ways _ (allowed.has w told).finished because)
 
   module _ (status : Status) (tells : status ≡ status_of ending) where
     by_ending : (P : Status → Type 0) → ((e : Result Bool RunFault) → ending ≡ e → Come e → P (status_of e)) → P status
@@ -105,7 +105,7 @@ module _ {host_state after : HostState} {sink put : SinkState} (keep : ℕ) (end
     }
       where
         each : (w : WorldState) → host_state.world ≡ Some w → (e : Result Bool RunFault) → ending ≡ e → Come e → AnswersCollection keep w.leaves (status_of e)
-        each w told (Ok failed) same come = subst (λ (b : Bool). AnswersCollection keep w.leaves (status_of (Ok b))) (sym come.0) (come.1.finished.has w told)
+        each w told (Ok failed) same come = subst (λ (b : Bool). AnswersCollection keep w.leaves (status_of (Ok b))) (sym come.0) (come.1.allowed.has w told)
         each w told (Err fault.Usage) same come = absurd come
         each w told (Err (fault.Refused why)) same come = come.refused.has w told
         each w told (Err (fault.Host host.Memory)) same come = tt

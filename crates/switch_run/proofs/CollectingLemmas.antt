@@ -21,17 +21,18 @@ use Rattle.store_collect.specs.declared.collection.CollectFault.{CollectFault}
 use Rattle.store_collect.specs.declared.collection.CollectFault.TheVariants as collect
 use Rattle.store_collect.specs.declared.collection.CollectRefusal.TheVariants as why_not
 use Rattle.store_collect.specs.declared.collection.Collection.{Collection}
-use Rattle.store_collect.specs.Collection.{IsCollectionOf, IsRefusedAt}
+use Rattle.store_collect.specs.Collection.{AreShortFor, IsCollectionOf, IsRefusedAt, IsTooLongFor}
 use Rattle.store_collect.specs.Kept.{is_current_of, older}
 use Rattle.store_collect.specs.Steps.{IsCollectedBy, IsCollecting}
 use Rattle.store_collect.specs.Unfinished.{is_unfinished}
 use Rattle.switch_names.specs.Names.{Name}
 use Rattle.switch_parts.specs.declared.refusal.Refusal.TheVariants as refusals
+use Rattle.switch_parts.specs.declared.refusal.What.TheVariants.{LeafBytes}
 use Rattle.switch_run.specs.declared.run_fault.RunFault.{RunFault}
 use Rattle.switch_run.specs.declared.run_fault.RunFault.TheVariants.{Usage, Refused, Host, Sink}
 use Rattle.store_collect.specs.Again.{IsCollected}
 use Rattle.switch_run.specs.Collecting.{IsCollectionMoment, IsCollectionReport, IsInCollectionClosing, IsInCollectionReport, IsWholeCollection, RefusesCollection}
-use Rattle.switch_run.specs.CollectionEnding.{HasCollected, HasReportedCollection, IsCollectionBroken, IsCollectionRun, IsCollectionUnput, IsFinished}
+use Rattle.switch_run.specs.CollectionEnding.{Allows, HasCollected, HasReportedCollection, IsCollectionBroken, IsCollectionRun, IsCollectionUnput}
 use Rattle.switch_run.specs.Ending.{IsSinkCaused}
 use Rattle.switch_run.specs.Output.{IsIdle}
 use Rattle.switch_run.specs.Run.{collect_fault_of}
@@ -67,20 +68,24 @@ module _ {host after : HostState} {sink : SinkState} (keep : ℕ) where
 
   pub unplanned : (f : CollectFault) →
       (IsErrOf {T = Collection} (Err f) (collect.Refused why_not.Unfinished) → Told host (λ w. is_unfinished w.leaves ≡ true)) →
-      ((at : Name) → IsErrOf {T = Collection} (Err f) (collect.Refused (why_not.InTheWay at)) → IsFinished host) →
+      ((count : ℕ) → IsErrOf {T = Collection} (Err f) (collect.Refused (why_not.LeafBytes count)) → Told host (λ w. (is_unfinished w.leaves ≡ false) × IsTooLongFor keep w.leaves count)) →
+      ((at : Name) → IsErrOf {T = Collection} (Err f) (collect.Refused (why_not.InTheWay at)) → Told host (λ w. (is_unfinished w.leaves ≡ false) × AreShortFor keep w.leaves)) →
       ((at : Name) → IsErrOf {T = Collection} (Err f) (collect.Refused (why_not.InTheWay at)) → Told host (λ w. IsRefusedAt keep w.leaves at)) →
       IsReadingOf host after (IsErrOf {T = Collection} (Err f) (collect.Host Device)) → IsCollectionRun keep host after sink sink (Err (collect_fault_of f))
-  unplanned (collect.Refused why_not.Unfinished) unfinished finished in_the_way reads =
+  unplanned (collect.Refused why_not.Unfinished) unfinished too_long in_order in_the_way reads =
       unrun (Refused refusals.Unfinished) (record { refused = unfinished refl; idle = idle reads.moments }) reads.moments
       (causes (started_of ⊥ (λ none. none)) reads.cause (λ is. absurd (refused_no_host refusals.Unfinished is))) (refused_no_sink refusals.Unfinished)
-  unplanned (collect.Refused (why_not.InTheWay at)) unfinished finished in_the_way reads =
+  unplanned (collect.Refused (why_not.LeafBytes count)) unfinished too_long in_order in_the_way reads =
+      unrun (Refused (refusals.TooMany LeafBytes count)) (record { refused = too_long count refl; idle = idle reads.moments }) reads.moments
+      (causes (started_of ⊥ (λ none. none)) reads.cause (λ is. absurd (refused_no_host (refusals.TooMany LeafBytes count) is))) (refused_no_sink (refusals.TooMany LeafBytes count))
+  unplanned (collect.Refused (why_not.InTheWay at)) unfinished too_long in_order in_the_way reads =
       unrun (Refused (refusals.InTheWay at))
       (record {
-        refused = told_as (in_the_way at refl) (λ w. RefusesCollection keep w.leaves (refusals.InTheWay at)) (λ w is there. ((finished at refl).has w is, there));
+        refused = told_as (in_the_way at refl) (λ w. RefusesCollection keep w.leaves (refusals.InTheWay at)) (λ w is there. let before = (in_order at refl).has w is in (before.0, before.1, there));
         idle = idle reads.moments;
       })
       reads.moments (causes (started_of ⊥ (λ none. none)) reads.cause (λ is. absurd (refused_no_host (refusals.InTheWay at) is))) (refused_no_sink (refusals.InTheWay at))
-  unplanned (collect.Host why) unfinished finished in_the_way reads =
+  unplanned (collect.Host why) unfinished too_long in_order in_the_way reads =
       unrun (Host why) (IsCollectionBroken.BeforeReport (idle reads.moments)) reads.moments (causes (started_of ⊥ (λ none. none)) reads.cause (device why)) (host_no_sink why)
     where
       device : (why : HostFault) → IsErrOf {T = Bool} (Err (Host why)) (Host Device) → IsErrOf {T = Collection} (Err (collect.Host why)) (collect.Host Device)
@@ -88,11 +93,11 @@ module _ {host after : HostState} {sink : SinkState} (keep : ℕ) where
 
 -- ---- what a planned collection does
 
-module _ {host : HostState} (keep : ℕ) (collection : Collection) (planned : Told host (λ w. IsCollectionOf keep w collection)) (finished : IsFinished host) {sink put : SinkState} where
+module _ {host : HostState} (keep : ℕ) (collection : Collection) (planned : Told host (λ w. IsCollectionOf keep w collection)) (allowed : Allows keep host) {sink put : SinkState} where
   -- the report isn't put
   pub unreported : (y : RunFault) → HasReportedCollection collection sink put (Err y) → IsSinkCaused sink put (IsErrOf {T = Unit {0}} (Err y) Sink) → IsCollectionRun keep host host sink put (Err y)
   unreported Sink reported cause = record {
-    come = IsCollectionUnput.InReport finished (started IsSame (λ w is. refl)) (told_as planned (λ w. Puts sink put (IsInCollectionReport keep w)) (λ w is planned. reported keep w planned));
+    come = IsCollectionUnput.InReport allowed (started IsSame (λ w is. refl)) (told_as planned (λ w. Puts sink put (IsInCollectionReport keep w)) (λ w is planned. reported keep w planned));
     moments = started (IsCollectionMoment keep) (λ w is. IsCollectionMoment.Unchanged refl);
     cause = started_of (IsErrOf {T = Bool} (Err Sink) (Host Device)) (sink_no_host Device);
     sink_cause = sink_as cause (IsErrOf {T = Bool} (Err Sink) Sink) (λ is. refl);
@@ -118,7 +123,7 @@ module _ {host : HostState} (keep : ℕ) (collection : Collection) (planned : To
       -- the host has failed under the collection
       pub uncarried : {T : Type 0} (f : HostFault) → HasCause {T = T} host after (Err f) → IsCollectionRun keep host after sink put (Err (Host f))
       uncarried f cause = record {
-        come = IsCollectionBroken.AfterReport finished report_put;
+        come = IsCollectionBroken.AfterReport allowed report_put;
         moments = run_moments;
         cause = causes (started_of ⊥ (λ none. none)) (cause_of cause) (λ is. host_is f Device is);
         sink_cause = sink_as put_cause (IsErrOf {T = Bool} (Err (Host f)) Sink) (λ is. absurd (host_no_sink f is));
@@ -131,7 +136,7 @@ module _ {host : HostState} (keep : ℕ) (collection : Collection) (planned : To
         -- the output has failed within the last line
         pub unclosed : {closed : SinkState} → Puts put closed (IsPrefixOf closing) → (f : SinkFault) → HasSinkCause {T = Unit {0}} put closed (Err f) → IsCollectionRun keep host after sink closed (Err Sink)
         unclosed {closed} part f sink_cause = record {
-          come = IsCollectionUnput.InClosing finished led_to (record {
+          come = IsCollectionUnput.InClosing allowed led_to (record {
             has = λ w is. puts_then (report_put.has w is) part (IsInCollectionClosing keep w) (λ first then report begun. record { report = first; rest = then; is_report = report; is_all = refl; begun = begun });
           });
           moments = run_moments;
@@ -145,7 +150,7 @@ module _ {host : HostState} (keep : ℕ) (collection : Collection) (planned : To
           come = (
             refl,
             record {
-              finished = finished;
+              allowed = allowed;
               led = led_to;
               output = record {
                 has = λ w is. puts_then (report_put.has w is) whole (IsWholeCollection keep w)
@@ -182,7 +187,7 @@ module _ {host before : HostState} {F : Type 0} (keep : ℕ) (reads : IsReadingO
 
   module _ (after : HostState) (sink put : SinkState) where
     come_after : (ending : Result Bool RunFault) → HasCollected keep before after sink put ending → HasCollected keep host after sink put ending
-    come_after (Ok failed) come = (come.0, record { finished = told come.1.finished; led = leads come.1.led; output = told come.1.output })
+    come_after (Ok failed) come = (come.0, record { allowed = told come.1.allowed; led = leads come.1.led; output = told come.1.output })
     come_after (Err (Refused why)) come = record { refused = told come.refused; idle = idle_after come.idle }
     come_after (Err (Host why)) come = broken_after come
     come_after (Err Sink) come = unput_after come

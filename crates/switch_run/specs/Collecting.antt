@@ -9,12 +9,13 @@ use Rattle.generations.specs.Places.{link_path}
 use Rattle.host_trait.specs.Sink.{IsPrefixOf}
 use Rattle.host_trait.specs.World.{Leaves, WorldState}
 use Rattle.store_collect.specs.declared.collection.Collection.{Collection}
-use Rattle.store_collect.specs.Collection.{IsCollectionOf, IsRefusedAt}
-use Rattle.store_collect.specs.Again.{IsCollected}
+use Rattle.store_collect.specs.Collection.{AreShortFor, IsCollectionOf, IsRefusedAt, IsTooLongFor}
+use Rattle.store_collect.specs.Again.{IsAllowed, IsCollected}
 use Rattle.store_collect.specs.Steps.{IsCollecting}
 use Rattle.store_collect.specs.Unfinished.{is_unfinished}
 use Rattle.switch_parts.specs.declared.refusal.Refusal.{Refusal}
-use Rattle.switch_parts.specs.declared.refusal.Refusal.TheVariants.{InTheWay, Unfinished}
+use Rattle.switch_parts.specs.declared.refusal.Refusal.TheVariants.{InTheWay, TooMany, Unfinished}
+use Rattle.switch_parts.specs.declared.refusal.What.TheVariants.{LeafBytes}
 use Rattle.switch_run.specs.declared.status.Status.{Status}
 use Rattle.switch_run.specs.declared.status.Status.TheVariants.{Done, NoMemory, Refused}
 
@@ -32,15 +33,16 @@ pub record AsksCollection (words : List (List ℕ)) (keep : ℕ) : Type 0 where
   pub digits : word ≡ decimal keep
   pub below : keep < 2 ^ 32
 
--- why a world refuses a collection: a switch is unfinished, or none is and a leaf is in the way
+-- why a world refuses a collection: a switch is unfinished, or else a file of the boot menu is too long, or else a leaf is in the way
 abbrev pub RefusesCollection : ℕ → Leaves → Refusal → Type 0
 RefusesCollection keep leaves Unfinished = is_unfinished leaves ≡ true
-RefusesCollection keep leaves (InTheWay at) = (is_unfinished leaves ≡ false) × IsRefusedAt keep leaves at
+RefusesCollection keep leaves (TooMany LeafBytes count) = (is_unfinished leaves ≡ false) × IsTooLongFor keep leaves count
+RefusesCollection keep leaves (InTheWay at) = (is_unfinished leaves ≡ false) × AreShortFor keep leaves × IsRefusedAt keep leaves at
 RefusesCollection keep leaves why = ⊥
 
 -- what a collection without a fault answers
 abbrev pub AnswersCollection : ℕ → Leaves → Status → Type 0
-AnswersCollection keep leaves Done = is_unfinished leaves ≡ false
+AnswersCollection keep leaves Done = IsAllowed keep leaves
 AnswersCollection keep leaves (Refused why) = RefusesCollection keep leaves why
 AnswersCollection keep leaves NoMemory = Unit {0}
 AnswersCollection keep leaves status = ⊥

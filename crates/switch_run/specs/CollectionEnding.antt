@@ -7,22 +7,21 @@ use Rattle.host_trait.specs.Sink.{Puts, SinkState}
 use Rattle.host_trait.specs.World.{WorldState}
 use Rattle.store_collect.specs.declared.collection.Collection.{Collection}
 use Rattle.store_collect.specs.Collection.{IsCollectionOf}
-use Rattle.store_collect.specs.Unfinished.{is_unfinished}
 use Rattle.switch_parts.specs.declared.refusal.Refusal.{Refusal}
 use Rattle.switch_run.specs.declared.run_fault.RunFault.{RunFault}
 use Rattle.switch_run.specs.declared.run_fault.RunFault.TheVariants.{Usage, Refused, Host, Sink}
-use Rattle.store_collect.specs.Again.{IsCollected}
+use Rattle.store_collect.specs.Again.{IsAllowed, IsCollected}
 use Rattle.switch_run.specs.Collecting.{IsCollectionMoment, IsCollectionReport, IsInCollectionClosing, IsInCollectionReport, IsWholeCollection, RefusesCollection}
 use Rattle.switch_run.specs.Ending.{IsSinkCaused}
 use Rattle.switch_run.specs.Output.{IsIdle}
 
--- no switch is unfinished in the world of a host
-abbrev pub IsFinished : HostState → Type 0
-IsFinished host = Told host (λ w. is_unfinished w.leaves ≡ false)
+-- the world of a host refuses no collection that keeps so many generations
+abbrev pub Allows : ℕ → HostState → Type 0
+Allows keep host = Told host (λ w. IsAllowed keep w.leaves)
 
 -- a collection has come to its end
 pub record IsCollectionDone (keep : ℕ) (host after : HostState) (sink put : SinkState) : Type 0 where
-  pub finished : IsFinished host
+  pub allowed : Allows keep host
   pub led : Leads host after (IsCollected keep)
   pub output : Told host (λ w. Puts sink put (IsWholeCollection keep w))
 
@@ -35,13 +34,13 @@ pub record IsCollectionRefused (keep : ℕ) (host after : HostState) (sink put :
 -- report
 pub data IsCollectionBroken (keep : ℕ) (host after : HostState) (sink put : SinkState) : Type 0 where
   BeforeReport : IsIdle host after sink put → IsCollectionBroken keep host after sink put
-  AfterReport : IsFinished host → Told host (λ w. Puts sink put (IsCollectionReport keep w)) → IsCollectionBroken keep host after sink put
+  AfterReport : Allows keep host → Told host (λ w. Puts sink put (IsCollectionReport keep w)) → IsCollectionBroken keep host after sink put
 
 -- how a collection breaks off where the output fails: within the report, and nothing has changed at any moment; or within the
 -- last line, and the world is at its end
 pub data IsCollectionUnput (keep : ℕ) (host after : HostState) (sink put : SinkState) : Type 0 where
-  InReport : IsFinished host → Passes host after IsSame → Told host (λ w. Puts sink put (IsInCollectionReport keep w)) → IsCollectionUnput keep host after sink put
-  InClosing : IsFinished host → Leads host after (IsCollected keep) → Told host (λ w. Puts sink put (IsInCollectionClosing keep w)) → IsCollectionUnput keep host after sink put
+  InReport : Allows keep host → Passes host after IsSame → Told host (λ w. Puts sink put (IsInCollectionReport keep w)) → IsCollectionUnput keep host after sink put
+  InClosing : Allows keep host → Leads host after (IsCollected keep) → Told host (λ w. Puts sink put (IsInCollectionClosing keep w)) → IsCollectionUnput keep host after sink put
 
 -- what has come of a collection, by how it ended; no unit has failed
 abbrev pub HasCollected : ℕ → HostState → HostState → SinkState → SinkState → Result Bool RunFault → Type 0

@@ -13,6 +13,7 @@ use Rattle.switch_parts.specs.declared.plan_fault.PlanFault.{PlanFault}
 use Rattle.switch_parts.specs.declared.plan_fault.PlanFault.TheVariants as plan
 use Rattle.switch_parts.specs.declared.refusal.Refusal.{Refusal}
 use Rattle.switch_parts.specs.declared.refusal.Refusal.TheVariants as refusals
+use Rattle.switch_parts.specs.declared.refusal.What.TheVariants.{LeafBytes}
 use Rattle.switch_run.specs.declared.run_fault.RunFault.{RunFault}
 use Rattle.switch_run.specs.declared.run_fault.RunFault.TheVariants as fault
 use Rattle.switch_run.specs.declared.status.Status.{Status}
@@ -53,6 +54,7 @@ fault_of (plan.Host why) = fault.Host why
 -- why a collection is refused, as a refusal of a run
 abbrev pub refusal_of : CollectRefusal → Refusal
 refusal_of collect_refusal.Unfinished = refusals.Unfinished
+refusal_of (collect_refusal.LeafBytes count) = refusals.TooMany LeafBytes count
 refusal_of (collect_refusal.InTheWay at) = refusals.InTheWay at
 
 -- why a run breaks off whose collection isn't planned

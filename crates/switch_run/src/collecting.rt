@@ -1,11 +1,10 @@
 //! Collects: drops old generations and what of the store no root reaches, from the plan to the last line.
-ghost use Rattle.std.specs.Prelude.{◌≡◌, ℕ, false, IsErrOf};
+ghost use Rattle.std.specs.Prelude.{ℕ, IsErrOf};
 ghost use Rattle.host_trait.specs.Host.{Told};
 ghost use Rattle.boot_entries.specs.Steps.{AreEntries, CanApplyBoot};
 ghost use Rattle.store_collect.specs.Collection.{IsCollectionOf};
-ghost use Rattle.store_collect.specs.Unfinished.{is_unfinished};
 ghost use Rattle.switch_run.specs.declared.run_fault.RunFault.TheVariants.{Sink};
-ghost use Rattle.switch_run.specs.CollectionEnding.{HasReportedCollection, IsCollectionRun, IsFinished};
+ghost use Rattle.switch_run.specs.CollectionEnding.{Allows, HasReportedCollection, IsCollectionRun};
 ghost use Rattle.switch_run.specs.Ending.{IsSinkCaused};
 
 use crate::run_fault::RunFault;
@@ -37,8 +36,7 @@ fn run_planned_collection<H: Manager, S: Sink>(
 ) -> Result<bool, RunFault>
     requires places { AreEntries collection.now.texts.entries }
     requires can { Told (H.host host.old) (CanApplyBoot collection.now.texts) }
-    requires finished { IsFinished (H.host host.old) }
-    ensures { (keep : ℕ) → Told (H.host host.old) (λ w. IsCollectionOf keep w collection.now)
+    ensures { (keep : ℕ) → Told (H.host host.old) (λ w. IsCollectionOf keep w collection.now) → Allows keep (H.host host.old)
         → IsCollectionRun keep (H.host host.old) (H.host host.new) (S.sink out.old) (S.sink out.new) result }
 {
     put_collection_report(alloc, out, collection)?;

@@ -7,7 +7,7 @@ ghost use Rattle.switch_run.specs.Run.{collect_fault_of, fault_of};
 use host_trait::{HostFault, SinkFault};
 use std::alloc::AllocError;
 use store_collect::{CollectFault, CollectRefusal};
-use switch_engine::{PlanFault, Refusal};
+use switch_engine::{PlanFault, Refusal, What};
 use thiserror::Error;
 
 /// Why a run breaks off.
@@ -45,6 +45,12 @@ impl From<CollectFault> for RunFault {
         match fault {
             CollectFault::Refused(CollectRefusal::Unfinished) => {
                 RunFault::Refused(Refusal::Unfinished)
+            }
+            CollectFault::Refused(CollectRefusal::LeafBytes(count)) => {
+                RunFault::Refused(Refusal::TooMany {
+                    what: What::LeafBytes,
+                    count,
+                })
             }
             CollectFault::Refused(CollectRefusal::InTheWay(at)) => {
                 RunFault::Refused(Refusal::InTheWay(at))

@@ -72,6 +72,16 @@ fn put_in(alloc: Global, world: &mut World, system: &str, file: (&str, &[u8])) -
     }
 }
 
+/// Puts a file of so many bytes at a path.
+fn put_long(alloc: Global, world: &mut World, at: &str, count: &[u8]) -> Result<(), Fail> {
+    let count = std::str::from_utf8(count)?.parse::<usize>()?;
+    let mut bytes = Vec::new(alloc);
+    bytes.resize(count, b'a')?;
+    let at = Path::parse(alloc, at)?;
+    world.set_leaf(alloc, at, Leaf::file(Bytes::from_vec(bytes), 420, 0, 0))?;
+    Ok(())
+}
+
 /// Gives a world what a word says of its manager.
 fn put_word(alloc: Global, world: &mut World, word: &str, text: &[u8]) -> Result<(), Fail> {
     match word {
@@ -88,6 +98,7 @@ fn put_place(alloc: Global, world: &mut World, place: &str, text: &[u8]) -> Resu
         return put_node(alloc, world, at, text);
     }
     match place.split_once(' ') {
+        Some(("long", at)) => put_long(alloc, world, at, text),
         Some((system, name)) => put_in(alloc, world, system, (name, text)),
         None => put_word(alloc, world, place, text),
     }

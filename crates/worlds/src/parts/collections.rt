@@ -55,6 +55,10 @@ fn show_planned(lines: &mut Lines, collection: &Collection) {
 fn show_refusal(lines: &mut Lines, refusal: &CollectRefusal) {
     match refusal {
         CollectRefusal::Unfinished => lines.add_word("Unfinished"),
+        CollectRefusal::LeafBytes(count) => {
+            lines.add_word("LeafBytes");
+            lines.add_value(count);
+        }
         CollectRefusal::InTheWay(at) => {
             lines.add_word("InTheWay");
             lines.add_word(at.as_str());

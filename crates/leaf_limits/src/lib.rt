@@ -1,0 +1,6 @@
+//! How long a content may be that is read, and which of some is too long.
+#![tactic(auto)]
+
+mod too_long;
+
+pub use too_long::{LEAF_MAX, TooLong, first_too_long};
