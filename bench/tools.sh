@@ -1,5 +1,5 @@
 #!/bin/bash
-# Tries tools/import and tools/export as a user would, the manual page, the completions and the install.
+# Tries tools/import, tools/export and tools/reboot as a user would, the manual page, the completions and the install.
 #
 # bench/tools.sh [PROGRAM]
 #
@@ -14,6 +14,7 @@
 find_program "$@"
 import=$here/tools/import
 export_tree=$here/tools/export
+reboot=$here/tools/reboot
 passed=0
 failed=0
 
@@ -167,6 +168,52 @@ try_options() {
     holds "nothing was made in it" [ -z "$(ls -A "$root")" ]
     exec 8<&-
     rm -rf "$root"
+}
+
+# The example root, rebooted as it is and where it is hostile.
+try_reboot() {
+    local outside=$work/outside
+    mkdir "$outside"
+    cp -r "$here/crates/nixswitch/data/example" "$root"
+    sed -i '/^bad /d' "$root/manager"
+    run "$program" "$root" switch nix/store/web-24.11
+    holds "the example is switched" ended 0
+    state "$root/tree/nix" >"$work/before"
+    ln -s "$outside/file" "$root/manager.rebooted"
+    mkdir -p "$outside/run" "$root/tree/run/nixos"
+    ln -s "$outside/run" "$root/tree/run/nixos/link"
+    printf 'L x\n' >"$root/tree/nix/var/nixswitch.stage"
+    run "$reboot" "$root"
+    holds "a root is rebooted" ended 0
+    holds "what lies in run is gone" no_node run
+    holds "the stage is gone" no_node nix/var/nixswitch.stage
+    holds "no unit is active or has failed" [ -z "$(grep -E '^(active|failed) ' "$root/manager")" ]
+    holds "nothing is loaded" [ "$(head -n 1 "$root/manager")" = 'loaded ' ]
+    holds "the profile and the store stay" diff "$work/before" <(state "$root/tree/nix")
+    holds "nothing outside it is made or removed" [ "$(ls -A "$outside")" = run ]
+    run "$program" "$root" start-up
+    holds "it starts up" ended 0
+    holds "its system runs" node_is run/current-system 'L /nix/store/web-24.11\n'
+    exec 8<"$root"
+    flock 8
+    run "$reboot" "$root"
+    holds "a root in which a run goes on isn't rebooted" ended 1
+    holds "its system runs still" node_is run/current-system 'L /nix/store/web-24.11\n'
+    exec 8<&-
+    run "$reboot"
+    holds "without a root nothing is rebooted" ended 1
+    run "$reboot" "$root" "$root"
+    holds "two roots aren't rebooted" ended 1
+    run "$reboot" --help
+    holds "it tells how it is used" ended 0
+    run "$reboot" "$work/nowhere"
+    holds "a root that isn't there isn't rebooted" ended 1
+    mv "$root/tree" "$outside/tree"
+    ln -s "$outside/tree" "$root/tree"
+    run "$reboot" "$root"
+    holds "a root whose tree is a link isn't rebooted" ended 1
+    holds "what it leads to stays" [ -e "$outside/tree/run/current-system" ]
+    rm -rf "$root" "$outside"
 }
 
 # A system and a machine with odd and hostile entries.
@@ -492,6 +539,7 @@ for one in gawk mawk; do
 done
 try_completions
 try_install
+try_reboot
 time_entries 5000
 time_entries 50000
 echo "$passed cases passed, $failed failed"
