@@ -1,0 +1,99 @@
+-- What is read at the place of the log.
+use Rattle.std.proofs.Common.{◌≡◌, ◌≢◌, ◌++◌, zero, suc, true, false, cond, List, [], ℕ, codes, drop, length, take, Option, None, Some, refl, sym, ap, subst, ◌∙◌}
+use Rattle.std.proofs.lemmas.Bool.{both_ways}
+use Rattle.std.specs.Cmp.Lexicographic.{nat_list_eq_equiv}
+use Rattle.std.specs.FinMap.{get, insert}
+use Rattle.std.specs.List.{list_any}
+use Rattle.host_trait.specs.declared.leaf.LeafKind.{LeafKind}
+use Rattle.host_trait.specs.declared.leaf.LeafKind.TheVariants.{File, Link}
+use Rattle.host_trait.specs.World.{Leaves, WorldState, content_of, file_bytes, is_path, leaf_content, seen, stage, store_place, with_extended, with_leaf, with_more}
+use Rattle.host_trait.proofs.Seen.{seen_at}
+use Rattle.owed_lists.specs.Lists.{reloads_place, restarts_place, starts_place}
+use Rattle.switch_names.specs.Names.{Name, is_name}
+use Rattle.tree_put.specs.Put.{AreApart}
+use Rattle.tree_put.specs.Sequence.{without_places}
+use Rattle.tree_put.proofs.LeftLemmas.{gone_at, leaf_after}
+use Rattle.tree_put.proofs.PutLemmas.{apart_ne}
+use Rattle.tree_put.proofs.StoreLemmas.{content_kept, store_place_begins}
+use Rattle.owed_log.specs.Places.{log_place, old_places}
+
+-- ---- places
+
+pub log_apart : AreApart log_place stage
+unfolding log_place stage
+log_apart = record { other = refl; line = refl }
+
+pub log_other : log_place ≢ stage
+log_other = apart_ne log_place stage log_apart
+
+nothing_taken : (count : ℕ) → take {A = Name} count [] ≡ []
+nothing_taken zero = refl
+nothing_taken (suc count) = refl
+
+-- the log isn't at the first so many places of an older program
+pub log_not_old : (count : ℕ) → list_any (is_name log_place) (take count old_places) ≡ false
+unfolding log_place starts_place restarts_place reloads_place
+log_not_old zero = refl
+log_not_old (suc zero) = refl
+log_not_old (suc (suc zero)) = refl
+log_not_old (suc (suc (suc count))) = ap (list_any (is_name log_place)) (nothing_taken count)
+
+inside_no_stage : (rest : List ℕ) → codes "nix/store/" ++ rest ≢ stage
+unfolding stage
+inside_no_stage rest same =
+    let p = codes "nix/store/" ++ rest in
+    both_ways (is_path p stage) refl (subst (λ x. is_path p x ≡ true) same (nat_list_eq_equiv.refl p))
+
+store_no_stage : (target p : Name) → store_place target ≡ Some p → p ≢ stage
+store_no_stage target p is same = inside_no_stage (drop (length (codes "/nix/store/")) target) (sym (store_place_begins target p is) ∙ same)
+
+inside_not_old : (count : ℕ) (rest : List ℕ) → list_any (is_name (codes "nix/store/" ++ rest)) (take count old_places) ≡ false
+unfolding starts_place restarts_place reloads_place
+inside_not_old zero rest = refl
+inside_not_old (suc zero) rest = refl
+inside_not_old (suc (suc zero)) rest = refl
+inside_not_old (suc (suc (suc count))) rest = ap (list_any (is_name (codes "nix/store/" ++ rest))) (nothing_taken count)
+
+store_not_old : (target p : Name) (count : ℕ) → store_place target ≡ Some p → list_any (is_name p) (take count old_places) ≡ false
+store_not_old target p count is =
+    subst (λ q. list_any (is_name q) (take count old_places) ≡ false) (sym (store_place_begins target p is)) (inside_not_old count (drop (length (codes "/nix/store/")) target))
+
+-- ---- contents
+
+-- worlds that are the same but for the stage have the same contents elsewhere
+pub content_seen : (m w : WorldState) → seen m ≡ seen w → (at : Name) → at ≢ stage → content_of m.leaves at ≡ content_of w.leaves at
+content_seen m w same at other = content_kept w.leaves m.leaves (λ target p is. seen_at m w same p (store_no_stage target p is)) at (seen_at m w same at other)
+
+-- without leaves of an older program's lists other places have the same contents
+pub content_still : (count : ℕ) (u : WorldState) (at : Name) → list_any (is_name at) (take count old_places) ≡ false → content_of (without_places (take count old_places) u).leaves at ≡ content_of u.leaves at
+content_still count u at apart =
+    content_kept u.leaves (without_places (take count old_places) u).leaves
+    (λ target p is. gone_at (take count old_places) u p ∙ ap (λ b. cond b None (get u.leaves p)) (store_not_old target p count is))
+    at (gone_at (take count old_places) u at ∙ ap (λ b. cond b None (get u.leaves at)) apart)
+
+pub content_none : (leaves : Leaves) (at : Name) → get leaves at ≡ None → content_of leaves at ≡ None
+content_none leaves at none = ap (leaf_content leaves) none
+
+pub file_content : (leaves : Leaves) (at text : List ℕ) → file_bytes (get leaves at) ≡ Some text → content_of leaves at ≡ Some text
+file_content leaves at text is = by (get leaves at) is
+  where
+    by : (o : Option LeafKind) → file_bytes o ≡ Some text → leaf_content leaves o ≡ Some text
+    by None is = absurd cc
+    by (Some (File bytes mode uid gid)) is = is
+    by (Some (Link target)) is = absurd cc
+
+-- a file to which bytes were appended
+pub file_longer : (leaves : Leaves) (at text more : List ℕ) → file_bytes (get leaves at) ≡ Some text → file_bytes (get (with_more leaves at more) at) ≡ Some (text ++ more)
+file_longer leaves at text more is = by (get leaves at) is
+  where
+    put : (leaf : LeafKind) → get (insert leaves at leaf) at ≡ Some leaf
+    put leaf = leaf_after leaves at at leaf ∙ ap (λ b. cond b (Some leaf) (get leaves at)) (nat_list_eq_equiv.refl at)
+
+    by : (o : Option LeafKind) → file_bytes o ≡ Some text → file_bytes (get (with_extended leaves at more o) at) ≡ Some (text ++ more)
+    by None is = absurd cc
+    by (Some (File bytes mode uid gid)) is = ap file_bytes (put (File (bytes ++ more) mode uid gid)) ∙ let same : bytes ≡ text = cc in ap (λ b. Some (b ++ more)) same
+    by (Some (Link target)) is = absurd cc
+
+-- a file that was put
+pub file_put : (w : WorldState) (at text : List ℕ) → file_bytes (get (with_leaf at (File text 420 0 0) w).leaves at) ≡ Some text
+file_put w at text = ap file_bytes (leaf_after w.leaves at at (File text 420 0 0) ∙ ap (λ b. cond b (Some (File text 420 0 0)) (get w.leaves at)) (nat_list_eq_equiv.refl at))

@@ -1,0 +1,4 @@
+pub mod ContentLemmas
+pub mod ListLemmas
+pub mod MomentLemmas
+pub mod StandingLemmas

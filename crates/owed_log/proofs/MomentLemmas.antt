@@ -1,0 +1,298 @@
+-- The lists at each moment of a record, and of a list's clearing.
+use Rattle.std.proofs.Common.{◌≡◌, ◌⊎◌, ◌<◌, ◌++◌, ◌||◌, zero, suc, ℕ, Bool, true, false, cond, List, [], ◌∷◌, length, take, Option, None, Some, is_some, length-append, refl, sym, ap, subst, ◌∙◌, inl, inr, arith}
+use Rattle.std.proofs.lemmas.List.{take_all}
+use Rattle.std.specs.FinMap.{get}
+use Rattle.std.specs.List.{list_any}
+use Rattle.std.specs.List.Sorted.{IsStrictlySortedBy}
+use Rattle.host_trait.specs.Change.{Change, IsMoment}
+use Rattle.host_trait.specs.declared.leaf.LeafKind.{LeafKind}
+use Rattle.host_trait.specs.World.{Leaves, WorldState, IsFileAt, content_of, file_bytes, seen, stage, with_more, without_leaf}
+use Rattle.host_trait.proofs.NameOrder.{name_itself}
+use Rattle.host_trait.proofs.Seen.{seen_at}
+use Rattle.log_text.specs.declared.block.Block.{Block}
+use Rattle.log_text.specs.declared.lists.Lists.{Lists}
+use Rattle.log_text.specs.declared.lists.Which.{Which}
+use Rattle.log_text.specs.declared.lists.Which.TheVariants.{Starts, Restarts, Reloads}
+use Rattle.log_text.specs.Lists.{AreInOrder, AreLists, block_of, lists_of, no_lists, with_list}
+use Rattle.log_text.specs.Log.{IsLog, block_text, log_text}
+use Rattle.log_text.proofs.TornLemmas.{block_some, clear_law}
+use Rattle.owed_lists.specs.declared.lists.Which.TheVariants as leaf
+use Rattle.owed_lists.specs.Lists.{AreListsOf, IsListOf, reloads_place, restarts_place, starts_place}
+use Rattle.switch_names.specs.Names.{Name, is_name}
+use Rattle.tree_put.specs.Sequence.{IsRemoving, without_places}
+use Rattle.tree_put.proofs.LeftLemmas.{gone_at}
+use Rattle.tree_put.proofs.PutLemmas.{apart_ne}
+use Rattle.owed_lists.proofs.RecordLemmas.{place_apart}
+use Rattle.owed_log.specs.declared.log_write.LogWrite.{LogWrite}
+use Rattle.owed_log.specs.declared.log_write.LogWrite.TheVariants.{Nothing, Append, Put}
+use Rattle.owed_log.specs.Laws.{ClearLaw, IsTidy, NoneOld, PreparedLaw, RecordLaw, RecordedLaw}
+use Rattle.owed_log.specs.Places.{log_place, old_places}
+use Rattle.owed_log.specs.Standing.{AreListsAt, AreListsBy, Gives, IsWholeLog, as_old}
+use Rattle.owed_log.specs.Writing.{IsPrepared, IsRecordMoment, IsWriting, recorded, text_of, with_write}
+use Rattle.owed_log.proofs.ContentLemmas.{content_none, content_seen, content_still, file_content, file_longer, file_put, log_not_old, log_other}
+use Rattle.owed_log.proofs.ListLemmas.{all_given, all_whole, empty_log, given_lists, lists_given, one_given, one_lists, part_given}
+
+-- ---- the places of an older program's lists
+
+-- a leaf that is gone gives no list
+none_listed : IsListOf None []
+unfolding IsStrictlySortedBy
+none_listed = record { sorted = tt; exact = λ unit. refl }
+
+gone_list : (leaves : Leaves) (at : Name) → get leaves at ≡ None → IsListOf (content_of leaves at) []
+gone_list leaves at none = subst (λ (o : Option (List ℕ)). IsListOf o []) (sym (content_none leaves at none)) none_listed
+
+removed : (count : ℕ) (u : WorldState) (at : Name) → list_any (is_name at) (take count old_places) ≡ true → get (without_places (take count old_places) u).leaves at ≡ None
+removed count u at gone = gone_at (take count old_places) u at ∙ ap (λ b. cond b None (get u.leaves at)) gone
+
+kept_list : (count : ℕ) (u : WorldState) (at : Name) (list : List Name) → list_any (is_name at) (take count old_places) ≡ false → IsListOf (content_of u.leaves at) list →
+    IsListOf (content_of (without_places (take count old_places) u).leaves at) list
+kept_list count u at list apart is = subst (λ (o : Option (List ℕ)). IsListOf o list) (sym (content_still count u at apart)) is
+
+starts_gone : (count : ℕ) → list_any (is_name starts_place) (take (suc count) old_places) ≡ true
+unfolding starts_place
+starts_gone count = refl
+
+restarts_gone : (count : ℕ) → list_any (is_name restarts_place) (take (suc (suc count)) old_places) ≡ true
+unfolding starts_place restarts_place
+restarts_gone count = refl
+
+reloads_gone : (count : ℕ) → list_any (is_name reloads_place) (take (suc (suc (suc count))) old_places) ≡ true
+unfolding starts_place restarts_place reloads_place
+reloads_gone count = refl
+
+restarts_stay : list_any (is_name restarts_place) (take 1 old_places) ≡ false
+unfolding starts_place restarts_place
+restarts_stay = refl
+
+reloads_stay_1 : list_any (is_name reloads_place) (take 1 old_places) ≡ false
+unfolding starts_place reloads_place
+reloads_stay_1 = refl
+
+reloads_stay_2 : list_any (is_name reloads_place) (take 2 old_places) ≡ false
+unfolding starts_place restarts_place reloads_place
+reloads_stay_2 = refl
+
+-- where all of them are removed no list is left
+none_left : (u : WorldState) (count : ℕ) → AreListsOf (without_places (take (suc (suc (suc count))) old_places) u).leaves (as_old no_lists)
+none_left u count = record {
+  starts = gone_list _ starts_place (removed (suc (suc (suc count))) u starts_place (starts_gone (suc (suc count))));
+  restarts = gone_list _ restarts_place (removed (suc (suc (suc count))) u restarts_place (restarts_gone (suc count)));
+  reloads = gone_list _ reloads_place (removed (suc (suc (suc count))) u reloads_place (reloads_gone count));
+}
+
+-- where no log stands, removals empty the lists in order
+module _ (u : WorldState) (old now : Lists) (log : content_of u.leaves log_place ≡ None) (are : AreListsOf u.leaves (as_old old)) where
+  still_none : (count : ℕ) → content_of (without_places (take count old_places) u).leaves log_place ≡ None
+  still_none count = content_still count u log_place (log_not_old count) ∙ log
+
+  same_as : (count : ℕ) (lists : Lists) → AreListsOf (without_places (take count old_places) u).leaves (as_old lists) → AreListsAt (without_places (take count old_places) u).leaves now → now ≡ lists
+  same_as count lists also is =
+      one_lists (without_places (take count old_places) u).leaves now lists is
+      (subst (λ (o : Option (List ℕ)). AreListsBy o (without_places (take count old_places) u).leaves lists) (sym (still_none count)) also)
+
+  emptied : (count : ℕ) → AreListsAt (without_places (take count old_places) u).leaves now → AreInOrder old no_lists now
+  emptied zero is = AreInOrder.AsBefore (same_as 0 old are is)
+  emptied (suc zero) is = AreInOrder.First (same_as 1 (record old { starts = [] }) (record {
+    starts = gone_list _ starts_place (removed 1 u starts_place (starts_gone 0));
+    restarts = kept_list 1 u restarts_place old.restarts restarts_stay are.restarts;
+    reloads = kept_list 1 u reloads_place old.reloads reloads_stay_1 are.reloads;
+  }) is)
+  emptied (suc (suc zero)) is = AreInOrder.Second (same_as 2 (record no_lists { reloads = old.reloads }) (record {
+    starts = gone_list _ starts_place (removed 2 u starts_place (starts_gone 1));
+    restarts = gone_list _ restarts_place (removed 2 u restarts_place (restarts_gone 0));
+    reloads = kept_list 2 u reloads_place old.reloads reloads_stay_2 are.reloads;
+  }) is)
+  emptied (suc (suc (suc count))) is = AreInOrder.Recorded (same_as (suc (suc (suc count))) no_lists (none_left u count) is)
+
+-- ---- worlds that are the same but for the stage
+
+-- have the same lists
+lists_seen : (m w : WorldState) (lists : Lists) → seen m ≡ seen w → AreListsAt m.leaves lists → AreListsAt w.leaves lists
+lists_seen m w lists same are =
+    subst (λ (o : Option (List ℕ)). AreListsBy o w.leaves lists) (content_seen m w same log_place log_other) (by (content_of m.leaves log_place) are)
+  where
+    by : (o : Option (List ℕ)) → AreListsBy o m.leaves lists → AreListsBy o w.leaves lists
+    by (Some text) gives = gives
+    by None are = record {
+      starts = subst (λ (o : Option (List ℕ)). IsListOf o lists.starts) (content_seen m w same starts_place (apart_ne starts_place stage (place_apart leaf.Starts))) are.starts;
+      restarts = subst (λ (o : Option (List ℕ)). IsListOf o lists.restarts) (content_seen m w same restarts_place (apart_ne restarts_place stage (place_apart leaf.Restarts))) are.restarts;
+      reloads = subst (λ (o : Option (List ℕ)). IsListOf o lists.reloads) (content_seen m w same reloads_place (apart_ne reloads_place stage (place_apart leaf.Reloads))) are.reloads;
+    }
+
+-- ---- a record
+
+-- a whole log that gives these lists
+record HasLog (leaves : Leaves) (lists : Lists) : Type 0 where
+  text : List ℕ
+  file : file_bytes (get leaves log_place) ≡ Some text
+  blocks : List Block
+  is_log : IsLog text blocks []
+  gives : Gives text lists
+
+module _ (lists : Lists) (w : WorldState) (are : AreLists lists) where
+  appended : (text : List ℕ) → IsPrepared w.leaves lists (Append text) → HasLog (with_write (Append text) w).leaves lists
+  appended text is =
+      let whole = is.1.whole in
+      let all = all_whole whole.text whole.blocks whole.is_log lists are in
+      subst (λ t. HasLog (with_write (Append t) w).leaves lists) (sym is.0) record {
+        text = whole.text ++ text_of lists;
+        file = file_longer w.leaves log_place whole.text (text_of lists) whole.file;
+        blocks = all.0;
+        is_log = all.1;
+        gives = all_given whole.text whole.blocks whole.is_log lists are;
+      }
+
+  put : (text : List ℕ) → IsPrepared w.leaves lists (Put text) → HasLog (with_write (Put text) w).leaves lists
+  put text is =
+      let all = all_whole [] [] empty_log lists are in
+      subst (λ t. HasLog (with_write (Put t) w).leaves lists) (sym is.0)
+      record { text = text_of lists; file = file_put w log_place (text_of lists); blocks = all.0; is_log = all.1; gives = all_given [] [] empty_log lists are }
+
+  module _ (old now : Lists) (before : AreListsAt w.leaves old) where
+    unchanged : (m : WorldState) → seen m ≡ seen w → AreListsAt m.leaves now → AreInOrder old lists now
+    unchanged m same also = AreInOrder.AsBefore (one_lists w.leaves now old (lists_seen m w now same also) before)
+
+    -- a part of what is appended
+    part : (text : List ℕ) → IsPrepared w.leaves lists (Append text) → (n : ℕ) (m : WorldState) → m.leaves ≡ with_more w.leaves log_place (take n (text_of lists)) → AreListsAt m.leaves now → AreInOrder old lists now
+    part text is n m leaves also =
+        let whole = is.1.whole in
+        let was = one_given whole.text old (lists_of whole.blocks) (lists_given w.leaves old whole.text (file_content w.leaves log_place whole.text whole.file) before)
+        record { blocks = whole.blocks; tail = []; is_log = whole.is_log; are = refl } in
+        let file = file_longer w.leaves log_place whole.text (take n (text_of lists)) whole.file in
+        let content = ap (λ (l : Leaves). content_of l log_place) leaves
+        ∙ file_content (with_more w.leaves log_place (take n (text_of lists))) log_place (whole.text ++ take n (text_of lists)) file in
+        subst (λ (o : Lists). AreInOrder o lists now) (sym was)
+        (part_given whole.text whole.blocks whole.is_log lists are n now (lists_given m.leaves now (whole.text ++ take n (text_of lists)) content also))
+
+    -- a moment of the log's write
+    writing : (write : LogWrite) → IsPrepared w.leaves lists write → (m : WorldState) → IsWriting write w m → AreListsAt m.leaves now → AreInOrder old lists now
+    writing Nothing is m same also = unchanged m (ap seen same) also
+    writing (Append text) is m (inl same) also = unchanged m (ap seen same) also
+    writing (Append text) is m (inr (inl done)) also =
+        part text is (length (text_of lists)) m
+        (ap (λ (x : WorldState). x.leaves) done ∙ ap (with_more w.leaves log_place) (is.0 ∙ sym (take_all (length (text_of lists)) (text_of lists) (omega arith)))) also
+    writing (Append text) is m (inr (inr middle)) also =
+        part text is middle.0 m (ap (λ (x : WorldState). x.leaves) middle.1 ∙ ap (λ t. with_more w.leaves log_place (take middle.0 t)) is.0) also
+    writing (Put text) is m (inl same) also = unchanged m same also
+    writing (Put text) is m (inr new) also =
+        let log = put text is in
+        AreInOrder.Recorded (one_given log.text now lists
+        (lists_given m.leaves now log.text (content_seen m (with_write (Put text) w) new log_place log_other ∙ file_content (with_write (Put text) w).leaves log_place log.text log.file) also) log.gives)
+
+    -- a moment at which the leaves of an older program are removed
+    module _ (write : LogWrite) (u m : WorldState) (came : seen u ≡ seen (with_write write w)) (removing : IsRemoving old_places u m) (also : AreListsAt m.leaves now) where
+      also_then : AreListsAt (without_places (take removing.count old_places) u).leaves now
+      also_then = subst (λ (x : WorldState). AreListsAt x.leaves now) removing.world also
+
+      beside : HasLog (with_write write w).leaves lists → AreInOrder old lists now
+      beside log = AreInOrder.Recorded (one_given log.text now lists
+          (lists_given (without_places (take removing.count old_places) u).leaves now log.text
+          (content_still removing.count u log_place (log_not_old removing.count) ∙ content_seen u (with_write write w) came log_place log_other
+          ∙ file_content (with_write write w).leaves log_place log.text log.file) also_then) log.gives)
+
+    none_at : (u : WorldState) → seen u ≡ seen w → IsPrepared w.leaves lists Nothing → content_of u.leaves log_place ≡ None
+    none_at u came is = content_seen u w came log_place log_other ∙ content_none w.leaves log_place is.1
+
+    moment : (write : LogWrite) → IsPrepared w.leaves lists write → (m : WorldState) → IsRecordMoment write w m → AreListsAt m.leaves now → AreInOrder old lists now
+    moment write is m (IsRecordMoment.Writing cut) also = writing write is m cut also
+    moment Nothing is m (IsRecordMoment.Removing u came removing) also =
+        subst (λ (l : Lists). AreInOrder old l now) (sym is.0)
+        (emptied u old now (none_at u came is) (subst (λ (o : Option (List ℕ)). AreListsBy o u.leaves old) (none_at u came is) (lists_seen w u old (sym came) before)) removing.count
+        (also_then Nothing u m came removing also))
+    moment (Append text) is m (IsRecordMoment.Removing u came removing) also = beside (Append text) u m came removing also (appended text is)
+    moment (Put text) is m (IsRecordMoment.Removing u came removing) also = beside (Put text) u m came removing also (put text is)
+
+pub record_law : RecordLaw
+record_law lists write w m old now are is cut before also = moment lists w are old now before write is m cut also
+
+-- ---- what is prepared
+
+some_text : (lists : Lists) → 0 < length (text_of lists)
+some_text lists =
+    let first = block_text (block_of Starts lists.starts) in
+    let rest = log_text (block_of Restarts lists.restarts ∷ block_of Reloads lists.reloads ∷ []) in
+    omega (arith, block_some (block_of Starts lists.starts), length-append first rest)
+
+file_stands : (leaves : Leaves) (text : List ℕ) → file_bytes (get leaves log_place) ≡ Some text → IsFileAt leaves log_place
+file_stands leaves text is = ap is_some is
+
+pub prepared_law : PreparedLaw
+prepared_law leaves lists text is = (file_stands leaves is.1.whole.text is.1.whole.file, subst (λ t. 0 < length t) (sym is.0) (some_text lists))
+
+-- ---- what was recorded
+
+module _ (lists : Lists) (w v : WorldState) (are : AreLists lists) (write : LogWrite) (same : seen v ≡ seen (recorded write w)) where
+  log_now : get v.leaves log_place ≡ get (with_write write w).leaves log_place
+  log_now = seen_at v (recorded write w) same log_place log_other ∙ gone_at old_places (with_write write w) log_place ∙ ap (λ b. cond b None (get (with_write write w).leaves log_place)) (log_not_old 3)
+
+  with_log : HasLog (with_write write w).leaves lists → AreListsAt v.leaves lists × IsTidy v.leaves
+  with_log log =
+      let file = ap file_bytes log_now ∙ log.file in (
+        given_lists v.leaves lists log.text (file_content v.leaves log_place log.text file) log.gives,
+        inr (length log.text, record { text = log.text; file = file; blocks = log.blocks; is_log = log.is_log; is_count = refl }),
+      )
+
+pub recorded_law : RecordedLaw
+recorded_law lists Nothing w v are is same =
+    let none = log_now lists w v are Nothing same ∙ is.1 in
+    let then = without_places old_places w in
+    let gone : AreListsAt then.leaves no_lists = subst (λ (o : Option (List ℕ)). AreListsBy o then.leaves no_lists) (sym (content_still 3 w log_place (log_not_old 3) ∙ content_none w.leaves log_place is.1)) (none_left w 0) in
+    (subst (AreListsAt v.leaves) (sym is.0) (lists_seen then v no_lists (sym same) gone), inl none)
+recorded_law lists (Append text) w v are is same = with_log lists w v are (Append text) same (appended lists w are text is)
+recorded_law lists (Put text) w v are is same = with_log lists w v are (Put text) same (put lists w are text is)
+
+-- ---- a list is cleared
+
+module _ (which : Which) (w m : WorldState) (old now : Lists) (before : AreListsAt w.leaves old) (also : AreListsAt m.leaves now) where
+  stays : m ≡ w → (now ≡ old) ⊎ (now ≡ with_list old which [])
+  stays same = inl (one_lists w.leaves now old (subst (λ (x : WorldState). AreListsAt x.leaves now) same also) before)
+
+  module _ (count : ℕ) (whole : IsWholeLog w.leaves count) where
+    abbrev block : List ℕ
+    block = block_text (block_of which [])
+
+    was : old ≡ lists_of whole.blocks
+    was = one_given whole.text old (lists_of whole.blocks) (lists_given w.leaves old whole.text (file_content w.leaves log_place whole.text whole.file) before)
+        record { blocks = whole.blocks; tail = []; is_log = whole.is_log; are = refl }
+
+    shortened : (n : ℕ) → m.leaves ≡ with_more w.leaves log_place (take n block) → (now ≡ old) ⊎ (now ≡ with_list old which [])
+    shortened n leaves =
+        let r = clear_law whole.text whole.blocks which n whole.is_log in
+        let file = file_longer w.leaves log_place whole.text (take n block) whole.file in
+        let content = ap (λ (l : Leaves). content_of l log_place) leaves ∙ file_content (with_more w.leaves log_place (take n block)) log_place (whole.text ++ take n block) file in
+        let is = one_given (whole.text ++ take n block) now (lists_of r.blocks) (lists_given m.leaves now (whole.text ++ take n block) content also)
+        record { blocks = r.blocks; tail = r.tail; is_log = r.log; are = refl } in
+        elim r.lists [
+          | inl same ↦ inl (is ∙ same ∙ sym was)
+          | inr cleared ↦ inr (is ∙ cleared ∙ ap (λ (l : Lists). with_list l which []) (sym was))
+        ]
+
+    cut : IsMoment (Change.Append log_place block) w m → (now ≡ old) ⊎ (now ≡ with_list old which [])
+    cut (inl same) = stays same
+    cut (inr (inl done)) = shortened (length block) (ap (λ (x : WorldState). x.leaves) done ∙ ap (with_more w.leaves log_place) (sym (take_all (length block) block (omega arith))))
+    cut (inr (inr middle)) = shortened middle.0 (ap (λ (x : WorldState). x.leaves) middle.1)
+
+-- the log goes, and with it the units to start
+log_gone : (w m : WorldState) (now : Lists) → NoneOld w.leaves → m ≡ without_leaf log_place w → AreListsAt m.leaves now → now ≡ no_lists
+log_gone w m now none same also =
+    let then = without_leaf log_place w in
+    let gone : get then.leaves log_place ≡ None = gone_at (log_place ∷ []) w log_place ∙ ap (λ b. cond (b || false) None (get w.leaves log_place)) (name_itself log_place) in
+    let still = λ (at : Name) (none : get w.leaves at ≡ None). gone_at (log_place ∷ []) w at ∙ ap (λ o. cond (is_name at log_place || false) None o) none ∙ either (is_name at log_place || false) in
+    one_lists then.leaves now no_lists (subst (λ (x : WorldState). AreListsAt x.leaves now) same also)
+    (subst (λ (o : Option (List ℕ)). AreListsBy o then.leaves no_lists) (sym (content_none then.leaves log_place gone)) record {
+      starts = gone_list then.leaves starts_place (still starts_place none.starts);
+      restarts = gone_list then.leaves restarts_place (still restarts_place none.restarts);
+      reloads = gone_list then.leaves reloads_place (still reloads_place none.reloads);
+    })
+  where
+    either : (b : Bool) → cond {A = Option LeafKind} b None None ≡ None
+    either true = refl
+    either false = refl
+
+pub clear_law_of : ClearLaw
+clear_law_of Starts w m count old now whole last (inl same) before also = stays Starts w m old now before also same
+clear_law_of Starts w m count old now whole last (inr (inl done)) before also = let ends = last refl in inr (log_gone w m now ends.0 done also ∙ sym ends.1)
+clear_law_of Starts w m count old now whole last (inr (inr middle)) before also = absurd middle
+clear_law_of Restarts w m count old now whole last moment before also = cut Restarts w m old now before also count whole moment
+clear_law_of Reloads w m count old now whole last moment before also = cut Reloads w m old now before also count whole moment

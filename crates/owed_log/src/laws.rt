@@ -1,0 +1,33 @@
+//! What holds of the lists of a tree.
+ghost use Rattle.owed_log.specs.Laws.{ClearLaw, OneListsLaw, PreparedLaw, RecordLaw, RecordedLaw, SomeListsLaw};
+
+/// Each world has its lists, whatever stands in their places.
+pub fn each_world_has_lists()
+    ensures { SomeListsLaw }
+{}
+
+/// A world has one set of lists.
+pub fn one_set_of_lists()
+    ensures { OneListsLaw }
+{}
+
+/// What is prepared to be appended can be: it has bytes, and a file stands at the place of the log.
+pub fn what_is_prepared_can_be_appended()
+    ensures { PreparedLaw }
+{}
+
+/// At whatever moment a record is cut, each list is its old or its recorded one: first the units to start, then those to restart,
+/// then those to reload.
+pub fn lists_are_recorded_in_order()
+    ensures { RecordLaw }
+{}
+
+/// What was recorded is read, and the log is absent or whole.
+pub fn lists_are_read_as_recorded()
+    ensures { RecordedLaw }
+{}
+
+/// At whatever moment a list is cleared, the lists are as they were, or that one is empty.
+pub fn a_list_is_cleared_alone()
+    ensures { ClearLaw }
+{}
