@@ -401,7 +401,7 @@ command=collect
 argument=1
 generations 2
 run "a collection" 0
-if [ -e "$profiles/system-1-link" ] || [ -e "$tree/nix/store/a-sys" ]; then judge "it drops the first generation" "it doesn't"; else judge "it drops the first generation" ok; fi
+if [ -e "$profiles/system-1-link" ] || [ -e "$tree/nix/store/a-sys/nixos-version" ]; then judge "it drops the first generation" "it doesn't"; else judge "it drops the first generation" ok; fi
 generations 2 && long "$tree/nix/store/b-sys/nixos-version" 16777217
 refused "the version of a kept system is longer than 16 MiB" "too many: bytes 16777217"
 generations 2 && long "$tree/nix/store/b-sys/kernel-params" 16777216
