@@ -1,5 +1,5 @@
 //! What stands at a place of the file system.
-ghost use Rattle.std.specs.Prelude.{◌≡◌, ◌↔◌, ◌++◌, ◌∷◌, IfOk};
+ghost use Rattle.std.specs.Prelude.{◌≡◌, ◌↔◌, ◌++◌, ◌∷◌, IfOk, IsTrue};
 ghost use Rattle.std.specs.IoError.{error_kind};
 ghost use Rattle.switch_names.specs.Path.{slash};
 
@@ -20,6 +20,16 @@ const NAME_MAX: usize = 255;
 pub struct FolderId {
     device: u64,
     number: u64,
+}
+
+impl FolderId {
+    /// Whether another folder is on the same device. A file can't be moved from one device to another: rename(2),
+    /// `EXDEV`.
+    pub fn is_beside(&self, other: &FolderId) -> bool
+        ensures { IsTrue result ↔ (self.now.device ≡ other.now.device) }
+    {
+        self.device == other.device
+    }
 }
 
 /// What stands at a place, where it is neither a symbolic link nor a special file.
