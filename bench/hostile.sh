@@ -1,13 +1,13 @@
 #!/bin/bash
 # Runs the program on roots that no host wrote: symbolic links, special files, bad nodes and names, very long files,
-# and folders that are swapped for links while it runs.
+# folders on other file systems, and folders that are swapped for links while it runs.
 #
 # bench/hostile.sh [PROGRAM]
 #
-# Needs bash, the coreutils and findutils. The rows on permissions need a user other than root, and those on two runs
-# at once need flock. Where strace is there and may trace, it also looks at what is opened, swaps folders while the
-# program waits in a call, and has calls fail: interrupted ones, a move to another file system, and want of memory
-# from some call on.
+# Needs bash, the coreutils and findutils. The rows on permissions need a user other than root, those on two runs at once
+# need flock, and those on other file systems need unshare and leave to mount some. Where strace is there and may trace,
+# it also looks at what is opened, swaps folders while the program waits in a call, and has calls fail: interrupted
+# ones, a move to another file system, and want of memory from some call on.
 #
 # For each root it prints whether the status is the wanted one, whether a fault of the host names its place and its cause,
 # whether the run ended within ten seconds, and whether all that lies outside the root stayed as it was and unopened. It
@@ -44,6 +44,7 @@ outside() {
 
 command=boot
 argument=nix/store/a-sys
+within=()
 inject=
 place=$work/root
 output=$work/stdout
@@ -62,7 +63,7 @@ run() {
     before=$(outside)
     : >"$work/opened"
     # shellcheck disable=SC2086
-    timeout 10 $trace $inject "$program" "$place" "$command" ${argument:+"$argument"} >"$output" 2>"$work/stderr"
+    "${within[@]}" timeout 10 $trace $inject "$program" "$place" "$command" ${argument:+"$argument"} >"$output" 2>"$work/stderr"
     status=$?
     verdict=ok
     [ "$status" = "$2" ] || verdict="status $status, not $2"
@@ -281,13 +282,13 @@ stopping() {
     printf 'F 0644 0 0\n{"mutableUsers":true,"groups":[],"users":[]}' >"$system/users-groups.json"
 }
 
-# untouched PLACE WHAT: makes the switch with a node of the file system at this place of the tree, which has to end with a fault
-# there and change nothing.
+# untouched PLACE WHAT [CAUSE]: makes the switch with a node of the file system at this place of the tree, which has to end with
+# a fault there, by default that of a link, and change nothing.
 untouched() {
-    local within
-    within=$(holding "$work/root")
-    run "$2: a fault" 3 "$1: $link" || return
-    if [ ! -s "$output" ] && [ "$(holding "$work/root")" = "$within" ]; then
+    local held
+    held=$(holding "$work/root")
+    run "$2: a fault" 3 "$1: ${3-$link}" || return
+    if [ ! -s "$output" ] && [ "$(holding "$work/root")" = "$held" ]; then
         judge "and nothing is stopped" ok
     else
         judge "and nothing is stopped" "something is"
@@ -305,6 +306,67 @@ for at in etc/a etc/static etc/.clean etc/passwd etc/group etc/shadow var/lib/ni
     stopping && mkdir -p "$tree/$(dirname "$at")" && mkfifo "$tree/$at"
     untouched "$at" "a pipe at $at"
 done
+
+# mounted FOLDER WORDS..: makes a command where a folder lies on another file system, with all that it held. It ends with 99
+# where something there has changed.
+mounted() {
+    mount -t tmpfs tmpfs "$work/other" && cp -a "$1/." "$work/other" && mount --bind "$work/other" "$1" || exit
+    held=$(holding "$1")
+    "${@:2}"
+    status=$?
+    [ "$(holding "$1")" = "$held" ] || exit 99
+    exit $status
+}
+
+# elsewhere PLACE CALL WORDS..: makes a call of these functions while the folder at this place of the tree lies on another file
+# system for the program alone.
+elsewhere() {
+    within=(unshare -m bash -c 'mounted "$@"' mounted "$tree/$1")
+    mkdir -p "$tree/$1" "$work/other"
+    "${@:2}"
+    within=()
+}
+
+# apart PLACE: the command finds that this folder of the tree lies on another file system, and changes nothing.
+apart() {
+    elsewhere "$1" untouched "$1" "$command, another file system at $1" "on another file system"
+}
+
+if unshare -m mount -t tmpfs tmpfs "$work" 2>"$work/stderr"; then
+    export -f mounted holding
+    export work
+    for at in etc etc/app etc/gone etc/static run run/nixos var var/lib/nixos nix nix/var nix/var/nixswitch.stage; do
+        stopping && mkdir -p "$system/etc/app" "$tree/etc/gone"
+        printf 'F 0644 0 0\n' >"$system/etc/app/a"
+        printf 'L /etc/static/gone/a\n' >"$tree/etc/gone/a"
+        apart "$at"
+    done
+    for command in boot switch; do
+        for at in nix/var/nix nix/var/nix/profiles boot boot/loader/entries; do
+            stopping
+            apart "$at"
+        done
+    done
+    # A collection looks at each folder but those of the store.
+    command=collect
+    argument=1
+    stopping
+    apart home
+    command=test
+    argument=nix/store/a-sys
+    for at in nix/store nix/store/a-sys nix/store/a-sys/etc nix/var/nix/profiles home; do
+        stopping
+        elsewhere "$at" run "$command, another file system at $at: no fault" 0
+    done
+    # The same file system has the same number, so the move alone tells.
+    stopping
+    within=(unshare -m sh -c 'mount --bind "$1" "$1" && shift && exec "$@"' mounted "$tree/etc")
+    run "the same file system once more at etc" 3 "etc/*: on another file system"
+    within=()
+    run "the same root when it is mounted once" 0
+else
+    echo "nothing may be mounted here: the rows on other file systems are left out"
+fi
 
 # A rollback, and what stands where its goal is recorded.
 recorded=$lists/rollback-goal
@@ -332,12 +394,12 @@ run_back() {
 
 # refused NAME LINE: makes a command that has to be refused by this line, and to change nothing in the root.
 refused() {
-    local within
-    within=$(holding "$work/root")
+    local held
+    held=$(holding "$work/root")
     run "$1" 2 || return
     if [ "$(cat "$work/stderr")" != "refused: $2" ]; then
         judge "it says why" "said: $(cat "$work/stderr")"
-    elif [ -s "$output" ] || [ "$(holding "$work/root")" != "$within" ]; then
+    elif [ -s "$output" ] || [ "$(holding "$work/root")" != "$held" ]; then
         judge "it puts nothing and changes nothing" "it does"
     fi
 }
@@ -419,12 +481,12 @@ run "a file of a kept system that is no node" 3 "nix/store/b-sys/sw: not a node 
 
 # list NAME LINES: lists the generations, which has to put these lines and to change nothing in the root.
 list() {
-    local within
-    within=$(holding "$work/root")
+    local held
+    held=$(holding "$work/root")
     run "$1" 0 || return
     if [ "$(cat "$output")" != "$2" ]; then
         judge "it puts these lines" "it puts: $(cat "$output")"
-    elif [ "$(holding "$work/root")" != "$within" ]; then
+    elif [ "$(holding "$work/root")" != "$held" ]; then
         judge "it changes nothing" "it does"
     fi
 }

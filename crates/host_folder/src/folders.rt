@@ -267,6 +267,30 @@ impl Folders {
         clear_folder(rt, alloc, place)
     }
 
+    /// Whether a folder is the store or lies below it.
+    fn is_in_store(&self, folder: &str) -> bool {
+        let Some(path) = folder.strip_prefix(self.tree.as_str()) else {
+            return false;
+        };
+        match path.strip_prefix("/nix/store") {
+            Some(rest) => rest.is_empty() || rest.starts_with('/'),
+            None => false,
+        }
+    }
+
+    /// It is a fault where a folder that was looked at is on another file system than the tree's own: the stage can't
+    /// be moved there. It may be in the store, where no leaf is put.
+    fn check_file_system<R: Files>(&self, rt: &R, folder: &str, id: FolderId) -> io::Result<()> {
+        match self.known.get(self.tree.as_str()) {
+            Some(tree) if !tree.is_beside(&id) && !self.is_in_store(folder) => {
+                // The fault has the place of the last call on files, which may have been another one.
+                look(rt, folder)?;
+                Err(foreign("on another file system"))
+            }
+            _ => Ok(()),
+        }
+    }
+
     /// Notes which folder it is that was looked at, where the one that it is in is still the same.
     pub fn remember<R: Files>(
         &mut self,
@@ -275,6 +299,7 @@ impl Folders {
         folder: &str,
         id: FolderId,
     ) -> io::Result<()> {
+        self.check_file_system(rt, folder, id)?;
         self.check_above(rt, folder)?;
         self.known.insert(String::from_str(alloc, folder)?, id)?;
         Ok(())
