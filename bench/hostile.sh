@@ -347,11 +347,15 @@ if unshare -m mount -t tmpfs tmpfs "$work" 2>"$work/stderr"; then
             apart "$at"
         done
     done
-    # A collection looks at each folder but those of the store.
+    # A collection looks at each folder but those of the store, and puts nothing in most of them.
     command=collect
     argument=1
+    for at in home run/user var/lib/other; do
+        stopping
+        elsewhere "$at" run "$command, another file system at $at: no fault" 0
+    done
     stopping
-    apart home
+    apart boot
     command=test
     argument=nix/store/a-sys
     for at in nix/store nix/store/a-sys nix/store/a-sys/etc nix/var/nix/profiles home; do

@@ -48,6 +48,17 @@ impl Drop for Folders {
     }
 }
 
+/// The folders at or below which leaves are put, by their paths in the tree.
+const WRITTEN: [&str; 5] = ["/boot", "/etc", "/nix/var", "/run/nixos", "/var/lib/nixos"];
+
+/// Whether a path is another one or lies below it.
+fn is_within(path: &str, other: &str) -> bool {
+    match path.strip_prefix(other) {
+        Some(rest) => rest.is_empty() || rest.starts_with('/'),
+        None => false,
+    }
+}
+
 impl Folders {
     /// The folders of the tree below this root.
     pub fn new(alloc: Global, root: &str) -> Result<Folders, AllocError>
@@ -267,22 +278,24 @@ impl Folders {
         clear_folder(rt, alloc, place)
     }
 
-    /// Whether a folder is the store or lies below it.
-    fn is_in_store(&self, folder: &str) -> bool {
+    /// Whether the stage may be moved to a place in a folder, or in one that lies above or below it.
+    fn is_written(&self, folder: &str) -> bool {
         let Some(path) = folder.strip_prefix(self.tree.as_str()) else {
             return false;
         };
-        match path.strip_prefix("/nix/store") {
-            Some(rest) => rest.is_empty() || rest.starts_with('/'),
-            None => false,
+        for written in WRITTEN {
+            if is_within(path, written) || is_within(written, path) {
+                return true;
+            }
         }
+        false
     }
 
-    /// It is a fault where a folder that was looked at is on another file system than the tree's own: the stage can't
-    /// be moved there. It may be in the store, where no leaf is put.
+    /// It is a fault where a folder that was looked at, and in or below which a leaf may be put, is on another file system
+    /// than the tree's own: the stage can't be moved there.
     fn check_file_system<R: Files>(&self, rt: &R, folder: &str, id: FolderId) -> io::Result<()> {
         match self.known.get(self.tree.as_str()) {
-            Some(tree) if !tree.is_beside(&id) && !self.is_in_store(folder) => {
+            Some(tree) if !tree.is_beside(&id) && self.is_written(folder) => {
                 // The fault has the place of the last call on files, which may have been another one.
                 look(rt, folder)?;
                 Err(foreign("on another file system"))

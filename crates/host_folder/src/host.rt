@@ -21,8 +21,8 @@ use switch_names::{Listed, Path, Text, UnitName};
 /// A node or a manager's state that can't be read, a name that is none of a path or isn't UTF-8, a symbolic link or a
 /// special file below the tree or at the manager's file, and whatever the file system refuses, is a fault that is
 /// counted. So is a folder of the tree on another file system than the tree's own, by the call that first looks at it:
-/// the stage can't be moved there (rename(2), `EXDEV`). The store may be on another one. Where the same file system is
-/// mounted once more below the tree, the move itself is the fault.
+/// the stage can't be moved there (rename(2), `EXDEV`). Folders in which nothing is put may be on others,
+/// as the store. Where the same file system is mounted once more below the tree, the move itself is the fault.
 pub struct FolderHost<R: Files + AllocGlobal + Clone + Drop> {
     rt: R,
     tree: Folders,
