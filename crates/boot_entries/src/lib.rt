@@ -21,5 +21,5 @@ pub use laws::{
     making_a_boot_default_is_a_part,
 };
 pub use menu_places::add_places_of;
-pub use planning::texts;
+pub use planning::{texts, texts_noted};
 pub use sources::taken;

@@ -1,5 +1,5 @@
 -- The first content that is too long, with one place more.
-use Rattle.std.proofs.Common.{◌≡◌, ◌⊎◌, ◌≤◌, ◌<◌, ◌||◌, ◌++◌, ℕ, Bool, true, false, List, [], ◌∷◌, length, Option, None, Some, unwrap_or, refl, sym, ap, subst, ◌∙◌, inl, inr, arith}
+use Rattle.std.proofs.Common.{◌≡◌, ◌⊎◌, ◌≤◌, ◌<◌, ◌++◌, ℕ, true, false, List, [], ◌∷◌, length, Option, None, Some, unwrap_or, refl, sym, ap, subst, ◌∙◌, inl, inr}
 use Rattle.std.proofs.lemmas.Bool.{or_cases, or_left, or_right}
 use Rattle.std.proofs.lemmas.List.Folds.{list_any-append}
 use Rattle.std.specs.Ordering.{ordering_reverse}
@@ -8,7 +8,7 @@ use Rattle.host_trait.specs.World.{Leaves, bytes_cmp, content_of}
 use Rattle.host_trait.proofs.NameOrder.{name_exact, name_itself}
 use Rattle.host_trait.proofs.Places.{bytes_total}
 use Rattle.leaf_limits.specs.declared.too_long.TooLong.{TooLong}
-use Rattle.leaf_limits.specs.Limits.{AreWithin, IsBefore, IsFirstOf, IsFirstTooLong, leaf_max, length_at}
+use Rattle.leaf_limits.specs.Limits.{IsBefore, IsFirstOf, IsFirstTooLong, leaf_max, length_at}
 use Rattle.switch_names.specs.Names.{Name, has, is_name}
 
 not_before : (p : Name) → bytes_cmp p p ≡ Less → ⊥

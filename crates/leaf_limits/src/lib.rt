@@ -3,4 +3,4 @@
 
 mod too_long;
 
-pub use too_long::{LEAF_MAX, TooLong, first_too_long};
+pub use too_long::{LEAF_MAX, TooLong, content_noted};

@@ -1,14 +1,14 @@
 //! Contents that are too long.
-ghost use Rattle.std.specs.Prelude.{◌≡◌, ◌<◌, ◌↔◌, ◌++◌, ◌∷◌, [], List, IsTrue, IfOk, OnOk};
+ghost use Rattle.std.specs.Prelude.{◌≡◌, ◌<◌, ◌↔◌, ◌++◌, ◌∷◌, [], List, length, unwrap_or, IsTrue, IfOk, OnOk};
 ghost use Rattle.host_trait.specs.Host.{Told};
 ghost use Rattle.host_trait.specs.Reading.{IsReading};
-ghost use Rattle.host_trait.specs.World.{Leaves};
+ghost use Rattle.host_trait.specs.World.{Leaves, content_of};
 ghost use Rattle.switch_names.specs.Names.{Name};
 ghost use Rattle.leaf_limits.specs.Limits.{IsBefore, IsFirstOf, leaf_max, length_at};
 
 use host_trait::{HostFault, Tree, content};
 use std::alloc::{AllocError, Global};
-use switch_names::Path;
+use switch_names::{Bytes, Path};
 
 /// The greatest length of a content that is read, in bytes: 16 MiB.
 pub const LEAF_MAX: u64 = 16_777_216;
@@ -28,14 +28,13 @@ impl Drop for TooLong {
     }
 }
 
-/// How many bytes the content at a place has: none where there is none.
-fn length_at<T: Tree>(alloc: Global, host: &mut T, at: &Path) -> Result<u64, HostFault>
-    ensures length { IfOk result (λ count. Told (T.host host.old) (λ w. count ≡ length_at w.leaves at.now)) }
-    ensures reads { IsReading (T.host host.old) (T.host host.new) result }
+/// How many bytes a content has: none where there is none.
+fn length_of(content: &Option<Bytes>) -> u64
+    ensures { result ≡ length (unwrap_or content.now []) }
 {
-    match content(alloc, host, at)? {
-        Some(bytes) => Ok(bytes.as_slice().len() as u64),
-        None => Ok(0),
+    match content {
+        Some(bytes) => bytes.as_slice().len() as u64,
+        None => 0,
     }
 }
 
@@ -49,7 +48,7 @@ fn is_before(place: &Path, found: &Option<TooLong>) -> bool
     }
 }
 
-/// Takes down a place whose content is too long, where it stands before the one that was found.
+/// Notes a place whose content is too long, where it stands before the one that was found.
 fn keep_first(
     alloc: Global,
     found: &mut Option<TooLong>,
@@ -67,21 +66,22 @@ fn keep_first(
     Ok(())
 }
 
-/// Of some places the first in byte order whose content has more than 16 MiB, and its length. It reads each place once.
-pub fn first_too_long<T: Tree>(
+/// The content at a place, as `host_trait::content` gives it. Where it has more than 16 MiB and the place stands before the one that
+/// was noted, in byte order, the place is noted with its length. It reads the place once.
+pub fn content_noted<T: Tree>(
     alloc: Global,
     host: &mut T,
-    places: &[Path],
-) -> Result<Option<TooLong>, HostFault>
-    ensures first { IfOk result (λ found. Told (T.host host.old) (λ w. IsFirstOf places.now w.leaves found)) }
+    at: &Path,
+    long: &mut Option<TooLong>,
+) -> Result<Option<Bytes>, HostFault>
+    ensures content { IfOk result (λ bytes. Told (T.host host.old) (λ w. bytes ≡ content_of w.leaves at.now)) }
+    ensures noted { (done : List Name) → Told (T.host host.old) (λ w. IsFirstOf done w.leaves long.old → OnOk result (IsFirstOf (done ++ at.now ∷ []) w.leaves long.new)) }
     ensures reads { IsReading (T.host host.old) (T.host host.new) result }
 {
-    let mut found = None;
-    for place in places {
-        let count = length_at(alloc, host, place)?;
-        if count > LEAF_MAX {
-            keep_first(alloc, &mut found, place, count)?;
-        }
+    let content = content(alloc, host, at)?;
+    let count = length_of(&content);
+    if count > LEAF_MAX {
+        keep_first(alloc, long, at, count)?;
     }
-    Ok(found)
+    Ok(content)
 }

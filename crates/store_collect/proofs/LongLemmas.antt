@@ -36,6 +36,10 @@ use Rattle.store_collect.proofs.VersionLemmas.{version_inside}
 
 -- ---- why no collection is refused
 
+-- of no places none is too long
+pub none_before : (leaves : Leaves) → AreWithin [] leaves
+none_before leaves q there = absurd cc
+
 module _ (keep : ℕ) (leaves : Leaves) (gens : Gens) (stand : IsGensOf leaves gens) where
   pub none_long : AreWithin (taken_of (gens_kept keep gens)) leaves → AreShortFor keep leaves
   none_long within count long =

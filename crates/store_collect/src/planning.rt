@@ -9,9 +9,8 @@ ghost use Rattle.tree_put.specs.WrittenPlace.{AreApartFromStage};
 ghost use Rattle.boot_entries.specs.BootPart.{boot_places};
 ghost use Rattle.boot_entries.specs.Places.{loader_path};
 ghost use Rattle.boot_entries.specs.Steps.{AreEntries, CanApplyBoot};
-ghost use Rattle.boot_entries.specs.Sources.{taken_of};
+ghost use Rattle.boot_entries.specs.Texts.{menu_of};
 ghost use Rattle.generations.specs.Gens.{IsGensOf};
-ghost use Rattle.leaf_limits.specs.Limits.{IsFirstOf};
 ghost use Rattle.store_collect.specs.declared.collection.CollectFault.TheVariants.{Host, Refused};
 ghost use Rattle.store_collect.specs.declared.collection.CollectRefusal.TheVariants.{InTheWay, LeafBytes, Unfinished};
 ghost use Rattle.store_collect.specs.Again.{IsAllowed};
@@ -23,10 +22,9 @@ use crate::collection::{CollectFault, CollectRefusal, Collection};
 use crate::dropped_leaves::dropped_leaves;
 use crate::keeping::{gone_links, kept};
 use crate::unfinished::is_unfinished;
-use boot_entries::{BootFile, BootTexts, add_places_of, taken, texts};
+use boot_entries::{BootFile, BootTexts, add_places_of, texts_noted};
 use generations::{Gens, all};
 use host_trait::{HostFault, Manager, Tree, fixed_path};
-use leaf_limits::{TooLong, first_too_long};
 use std::alloc::{AllocError, Global};
 use store_live::dead_paths;
 use switch_names::{Bytes, Listed, Path};
@@ -54,19 +52,6 @@ fn blocked_place<T: Tree>(
 {
     let places = written_places(alloc, gens)?;
     first_in_the_way(alloc, host, places.as_slice())
-}
-
-/// The first file that the boot menu of some generations is made of and that is too long.
-fn long_file<T: Tree>(
-    alloc: Global,
-    host: &mut T,
-    gens: &Gens,
-) -> Result<Option<TooLong>, HostFault>
-    ensures first { IfOk result (λ long. Told (T.host host.old) (λ w. IsFirstOf (taken_of gens.now) w.leaves long)) }
-    ensures reads { IsReading (T.host host.old) (T.host host.new) result }
-{
-    let files = taken(alloc, gens)?;
-    first_too_long(alloc, host, files.as_slice())
 }
 
 /// Adds equal paths.
@@ -127,20 +112,19 @@ fn passed_over(alloc: Global, links: &[Path], texts: &BootTexts) -> Result<Liste
     Ok(places)
 }
 
-/// Plans a collection that isn't refused, given the generations that stand and those that are kept.
+/// Plans a collection that isn't refused, given the generations that stand and the boot menu of those that are kept.
 fn plan_removals<M: Manager>(
     alloc: Global,
     host: &mut M,
     gens: &Gens,
-    kept: &Gens,
+    texts: BootTexts,
     keep: u32,
 ) -> Result<Collection, HostFault>
-    ensures planned { IfOk result (λ collection. Told (M.host host.old) (λ w. kept.now ≡ gens_kept keep gens.now → IsPlanned keep gens.now w collection)) }
-    ensures places { IfOk result (λ collection. AreEntries collection.texts.entries) }
+    ensures planned { IfOk result (λ collection. Told (M.host host.old) (λ w. texts ≡ menu_of (gens_kept keep gens.now) w.leaves → IsPlanned keep gens.now w collection)) }
+    ensures places { AreEntries texts.entries → IfOk result (λ collection. AreEntries collection.texts.entries) }
     ensures reads { IsReading (M.host host.old) (M.host host.new) result }
 {
     let links = gone_links(alloc, gens, keep)?;
-    let texts = texts(alloc, host, kept)?;
     let skipped = passed_over(alloc, links.as_slice(), &texts)?;
     let names = dead_paths(alloc, host, skipped.as_slice())?;
     let leaves = dropped_leaves(alloc, host, names.as_slice())?;
@@ -157,7 +141,7 @@ fn plan_removals<M: Manager>(
 ///
 /// Faults are sought in this order: `Unfinished`, `LeafBytes`, `InTheWay` (of files and of places the first in byte order each). It
 /// lists the tree once and each live store path once, and reads each leaf outside the store and each of a live store path once, the
-/// files that the boot menu is made of apart.
+/// files that the boot menu is made of once more, for the menu.
 ///
 /// Source: nix-collect-garbage(1), "--delete-generations"; Nix manual, "Garbage Collector Roots".
 pub fn plan<M: Manager>(alloc: Global, host: &mut M, keep: u32) -> Result<Collection, CollectFault>
@@ -177,12 +161,14 @@ pub fn plan<M: Manager>(alloc: Global, host: &mut M, keep: u32) -> Result<Collec
     }
     let gens = all(alloc, host)?;
     let kept = kept(alloc, &gens, keep)?;
-    if let Some(long) = long_file(alloc, host, &kept)? {
+    let mut long = None;
+    let texts = texts_noted(alloc, host, &kept, &mut long)?;
+    if let Some(long) = &long {
         return Err(CollectFault::Refused(CollectRefusal::LeafBytes(long.count)));
     }
     if let Some(at) = blocked_place(alloc, host, &kept)? {
         return Err(CollectFault::Refused(CollectRefusal::InTheWay(at)));
     }
-    let collection = plan_removals(alloc, host, &gens, &kept, keep)?;
+    let collection = plan_removals(alloc, host, &gens, texts, keep)?;
     Ok(collection)
 }

@@ -1,5 +1,10 @@
-use Rattle.std.proofs.Common.{◌++◌, ap, ◌∙◌}
+use Rattle.std.proofs.Common.{◌++◌, [], Option, ap, subst, sym, ◌∙◌}
+use Rattle.std.specs.Option.{option_map_or}
+use Rattle.host_trait.proofs.Moments.{told_as}
 use Rattle.host_trait.proofs.Readings.{nothing_read_ok, read_handed, read_ok, read_starved}
+use Rattle.leaf_limits.specs.Limits.{IsFirstOf}
+use Rattle.switch_names.specs.Names.{Name}
+use Rattle.boot_entries.specs.Sources.{files_of}
 use Rattle.boot_entries.proofs.PlanLemmas.{one_entry}
 use Rattle.boot_entries.proofs.planning.add_entry.Goals as goal
 
@@ -21,3 +26,9 @@ returns-clause-entries g c = record {
       c.in_ok-push.ensures.ok
       ∙ ap (λ files. c.args.entries.now ++ files) (one_entry w.leaves c.args.generation.now c.in-Some.system c.in_ok-entry.entry c.in-Some.is (c.in_ok-entry.ensures.entry.has w is));
 }
+
+-- what its entry is made of, where it names a system
+pub returns-clause-noted : goal.returns-clause-noted
+returns-clause-noted g c done =
+    told_as (c.in_ok-entry.ensures.noted done) _ (λ w world more before.
+    subst (λ (target : Option Name). IsFirstOf (done ++ option_map_or files_of target []) w.leaves c.read_entry.new.long) (sym c.in-Some.is) (more before))
