@@ -29,6 +29,10 @@
 # the uncut run leaves them, no second kill is tried, and the next run has to end as a further rollback does. So it has to after
 # one that ended before the place of its second kill (`ended`). At any other place it has to go to the same generation.
 #
+# In every third row of the collection, by turns of one with one kill and of one with two, a switch to the system in use comes after
+# the kills and before the next run. Both have to end as after an uncut collection, and the files have to be as they are there: a
+# generation that still stands gets its entry back, and goes with the next collection.
+#
 # Then a switch of a root of 500 units, 2,000 entries below /etc and 60 users is killed after a time taken at random, below
 # that of the uncut run, at least as often as MOMENTS says (60), up to three times in a row on one root. Then a run comes
 # to its end, and what it leaves is judged in the same way.
@@ -272,6 +276,21 @@ is_back() {
     [ "${words[0]}" = rollback ] && [ ! -e "$recorded" ] && [ "$(files)" = "$final" ]
 }
 
+# A switch to the system in use, after a collection that was killed or has come to its end.
+cross() {
+    "$program" "$root" switch "${goal#/}" >"$work/stdout" 2>"$work/stderr"
+}
+
+# Sets `crossed` and `cross_ends` to what is left and how the switch ends where a switch and a collection follow an uncut one.
+go_across() {
+    cross
+    cross_ends=$?
+    carry
+    [ $? = "$ends" ] || note 'a collection after a switch' "went wrong: $(cat "$work/stderr")"
+    crossed=$(files)
+    collections=0
+}
+
 # row NAME KIND NUMBER CALLS TRIES: tries to kill that many runs at a place, ends the next one, and
 # judges. The first must be killed, at the call with this number among all: where it isn't, as may be on a machine that is
 # busy, the row begins anew, twice at most.
@@ -298,6 +317,13 @@ row() {
             break
         fi
     done
+    if [ "${words[0]}" = collect ] && [ $((++collections % 3)) = 0 ]; then
+        cross
+        status=$?
+        [ $status = "$cross_ends" ] || verdict="a switch ends with $status: $(cat "$work/stderr")"
+        judge_menu
+        left=$crossed note=', a switch'
+    fi
     carry
     status=$?
     [ "${words[0]}" != boot ] || cmp -s "$work/stdout" "$work/output" || verdict='the next run has another output'
@@ -324,6 +350,7 @@ root_rows() {
     cp "$work/stdout" "$work/output"
     places >"$work/places"
     [ "${words[0]}" != rollback ] || go_further
+    [ "${words[0]}" != collect ] || go_across
     echo "$1: the profile names $was, $(wc -l <"$work/places") places"
     backs=0
     while read -r kind number calls place; do
