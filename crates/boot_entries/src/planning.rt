@@ -1,6 +1,6 @@
 //! Plans the boot menu of generations.
-ghost use Rattle.std.specs.List.{flat_map};
 ghost use Rattle.std.specs.Prelude.{◌≡◌, ◌++◌, ◌∷◌, [], List, IfOk, OnOk, option_map, option_to_list, unwrap_or};
+ghost use Rattle.std.specs.List.{flat_map};
 ghost use Rattle.host_trait.specs.Host.{Told};
 ghost use Rattle.host_trait.specs.Reading.{IsReading};
 ghost use Rattle.leaf_limits.specs.Limits.{IsFirstOf};
