@@ -91,6 +91,7 @@ show_cut() {
         failed=1
     fi
     look cat cut/tree/nix/var/nixswitch.stage
+    look cat cut/tree/run/nixos/owed-log
     show 9-again 4 cut switch nix/store/web-24.11
     if look diff -r example cut; then
         echo "no difference"

@@ -228,7 +228,7 @@ run "the same switch again" 0
 fresh && ln -s "$work/outside/var" "$tree/etc"
 run "a folder on the way to the definitions is a link" 3 "etc: $link"
 fresh && ln -s "$work/outside/var" "$tree/run"
-run "a folder on the way to the lists is a link" 3 "run: $link"
+run "a folder on the way to the log is a link" 3 "run: $link"
 fresh && mkdir -p "$tree/etc" && ln -s "$work/outside/file" "$tree/etc/static"
 run "the definitions are a link of the file system" 3 "etc/static: $link"
 fresh && mkdir -p "$lists" && mkfifo "$lists/start-list"
@@ -300,12 +300,70 @@ run "a switch that stops a unit" 0
 grep -q '^stop a.service$' "$output"
 judge "it does" "$([ $? = 0 ] && echo ok || echo "it doesn't")"
 for at in etc/a etc/static etc/.clean etc/passwd etc/group etc/shadow var/lib/nixos/uid-map var/lib/nixos/gid-map \
-    var/lib/nixos/declarative-users var/lib/nixos/declarative-groups run/nixos/start-list; do
+    var/lib/nixos/declarative-users var/lib/nixos/declarative-groups run/nixos/owed-log run/nixos/start-list; do
     stopping && mkdir -p "$tree/$(dirname "$at")" && ln -s "$work/outside/file" "$tree/$at"
     untouched "$at" "a link of the file system at $at"
     stopping && mkdir -p "$tree/$(dirname "$at")" && mkfifo "$tree/$at"
     untouched "$at" "a pipe at $at"
 done
+
+# refused NAME LINE: makes a command that has to be refused by this line, and to change nothing in the root.
+refused() {
+    local held
+    held=$(holding "$work/root")
+    run "$1" 2 || return
+    if [ "$(cat "$work/stderr")" != "refused: $2" ]; then
+        judge "it says why" "said: $(cat "$work/stderr")"
+    elif [ -s "$output" ] || [ "$(holding "$work/root")" != "$held" ]; then
+        judge "it puts nothing and changes nothing" "it does"
+    fi
+}
+
+# owing: the same root, on which the unit is started again. What is owed to it is in the log from before the stop until after the start.
+owing() {
+    stopping
+    mkdir -p "$units" "$lists"
+    printf 'F 0644 0 0\n[Service]\nExecStart=/bin/a\n' >"$units/a.service"
+}
+
+# run_owing NAME: makes the switch, which has to start the unit, and to leave neither a log nor a list.
+run_owing() {
+    run "$1" 0 || return
+    if [ "$(tail -n 1 "$work/root/manager")" != "start a.service /nix/store/a-sys/etc" ]; then
+        judge "it starts the unit" "$(tail -n 1 "$work/root/manager")"
+    elif [ -n "$(find "$lists" -type f)" ]; then
+        judge "it leaves neither a log nor a list" "$(find "$lists" -type f)"
+    else
+        judge "it starts the unit, and leaves neither a log nor a list" ok
+    fi
+}
+
+owing
+run_owing "a switch that starts a unit again"
+for at in owed-log start-list; do
+    owing && mkdir -p "$lists/$at/a/b"
+    run_owing "empty folders at run/nixos/$at"
+    owing && mkdir -p "$lists/$at" && printf 'L x\n' >"$lists/$at/leaf"
+    refused "a folder with a leaf at run/nixos/$at" "in the way: run/nixos/$at"
+    owing && printf 'L ../../outside/file\n' >"$lists/$at"
+    refused "a link out of the tree at run/nixos/$at" "in the way: run/nixos/$at"
+    owing && echo junk >"$lists/$at"
+    untouched "run/nixos/$at" "a text that is no node at run/nixos/$at" "not a node file"
+    owing && truncate -s 20G "$lists/$at"
+    run "twenty gigabytes that are no node at run/nixos/$at" 3 "run/nixos/$at: not a node file"
+    owing && printf 'F 0644 0 0\nstart 1\nno unit\n\377\nend\n' >"$lists/$at"
+    run_owing "a text that names no unit at run/nixos/$at"
+done
+owing && printf 'F 0644 0 0\n' >"$lists/owed-log"
+run_owing "an empty log"
+owing && printf 'F 0644 0 0\nstart 0\nend\nstart 18446744073709551616\n' >"$lists/owed-log"
+run_owing "a log that ends within a block of very many names"
+owing && { printf 'F 0644 0 0\n' && yes $'start 0\nend' | head -c 65532; } >"$lists/owed-log"
+run_owing "a log to which nothing more can be appended"
+owing && mkdir -p "$tree/nix/store/log" && printf 'F 0644 0 0\nstart 0\nend\n' >"$tree/nix/store/log/file" && printf 'L /nix/store/log/file\n' >"$lists/owed-log"
+run_owing "a log that is a link into the store"
+[ "$(cat "$tree/nix/store/log/file")" = $'F 0644 0 0\nstart 0\nend' ]
+judge "nothing is appended there" "$([ $? = 0 ] && echo ok || echo "something is")"
 
 # mounted FOLDER WORDS..: makes a command where a folder lies on another file system, with all that it held. It ends with 99
 # where something there has changed.
@@ -396,18 +454,6 @@ run_back() {
     fi
 }
 
-# refused NAME LINE: makes a command that has to be refused by this line, and to change nothing in the root.
-refused() {
-    local held
-    held=$(holding "$work/root")
-    run "$1" 2 || return
-    if [ "$(cat "$work/stderr")" != "refused: $2" ]; then
-        judge "it says why" "said: $(cat "$work/stderr")"
-    elif [ -s "$output" ] || [ "$(holding "$work/root")" != "$held" ]; then
-        judge "it puts nothing and changes nothing" "it does"
-    fi
-}
-
 command=rollback
 generations 2
 run "a rollback with a word too many" 1
@@ -474,8 +520,12 @@ generations 2 && long "$tree/nix/store/b-sys/kernel-params" 16777216
 run "parameters of a kept system that are as long as may be" 0
 generations 2 && long "$tree/nix/store/a-sys/nixos-version" 16777217
 run "the version of a system that goes is longer than 16 MiB" 0
-generations 2 && printf 'F 0644 0 0\n' >"$lists/start-list"
-refused "a list of an unfinished switch stands" "a switch is unfinished"
+for at in owed-log start-list restart-list reload-list; do
+    generations 2 && printf 'F 0644 0 0\n' >"$lists/$at"
+    refused "what an unfinished switch has left stands at $at" "a switch is unfinished"
+done
+generations 2 && ln -s "$work/outside/file" "$lists/owed-log"
+run "the log is a link of the file system" 3 "run/nixos/owed-log: $link"
 generations 2 && mkfifo "$tree/nix/store/b-sys/pipe"
 run "a pipe in a kept system" 3 "nix/store/b-sys/pipe: $link"
 generations 2 && mkdir -p "$tree/home" && ln -s "$work/outside/file" "$tree/home/result"
@@ -534,6 +584,8 @@ run "a manager's state of seventy megabytes" 0
 run "the same state again" 0
 fresh && mkdir -p "$lists" && { printf 'F 0644 0 0\n' && long x; } >"$lists/start-list"
 run "a list of seventy megabytes" 0
+fresh && mkdir -p "$lists" && { printf 'F 0644 0 0\n' && long x; } >"$lists/owed-log"
+run "a log of seventy megabytes" 0
 fresh && { printf 'loaded \n' && long x; } >"$work/root/manager"
 run "seventy megabytes that are no manager's state" 3 "manager: not a manager's state"
 # How much address space a program may take, in KiB.
@@ -615,6 +667,20 @@ if [ -n "$trace" ]; then
     fi
     run "the same root when there is space" 0
     grep -q '^[0-9 ]*fdatasync' "$work/opened" || judge "what it syncs" "nothing"
+
+    # What comes is appended to a log that stands: `number` is the write that does.
+    command=test
+    owing && printf 'F 0644 0 0\nstart 0\nend\n' >"$lists/owed-log"
+    run "a log that is appended to" 0
+    number=$(grep '^[0-9 ]*write(' "$work/opened" | grep -n -m 1 'owed-log>' | cut -d : -f 1)
+    for call in write fdatasync; do
+        owing && printf 'F 0644 0 0\nstart 0\nend\n' >"$lists/owed-log"
+        [ $call = write ] || number=1
+        run_with $call:error=ENOSPC:when="$number" "no space for what is appended to the log, by $call" 3 "run/nixos/owed-log: no space left"
+        ! grep -q '^stop' "$work/root/manager" || judge "nothing is stopped then" "something is"
+        run_owing "the same root when there is space"
+    done
+    command=boot
     fresh
     NIXOS_NO_SYNC=1 run "a plain root without syncs" 0
     ! grep 'sync(' "$work/opened" || judge "what it syncs then" "something"

@@ -5,10 +5,11 @@
 #
 # Needs bash 5, awk, the coreutils, findutils, and strace with leave to trace.
 #
-# An uncut run is traced first, from seven roots: a boot without a profile, a boot with three generations whose profile is
+# An uncut run is traced first, from nine roots: a boot without a profile, a boot with three generations whose profile is
 # the second and whose boot menu is of the second and of one that is gone, a test of the example root, which sets its
 # accounts, makes its /etc and switches its units, a switch of it, which makes a generation and its boot menu too, a rollback
-# of it from the third generation to the second, a switch where a rollback was killed that had recorded its goal, and a collection
+# of it from the third generation to the second, a switch where a rollback was killed that had recorded its goal, a test where a
+# switch that was cut has left a log of what is owed, a test where an older program has left its lists, and a collection
 # that keeps the third generation, whose entries go before the links. After each kill of the switch the machine is rebooted too, and
 # its start-up killed, rebooted and made again.
 # Then each of its calls that change a file or write to standard output is a place for
@@ -33,6 +34,11 @@
 # the kills and before the next run. Both have to end as after an uncut collection, and the files have to be as they are there: a
 # generation that still stands gets its entry back, and goes with the next collection.
 #
+# Then a switch of the example root appends to a log that stands, in a file that may not grow past a limit (`ulimit -f`), once for each
+# number of bytes that are left: what comes first no longer fits is cut short at each of its bytes, be it what is owed or the block by
+# which reloads or restarts are taken away. A row passes where that run ended with its fault, the log ends at the limit, and the
+# moment and the next run, without a limit, are as they have to be after a kill.
+#
 # Then a switch of a root of 500 units, 2,000 entries below /etc and 60 users is killed after a time taken at random, below
 # that of the uncut run, at least as often as MOMENTS says (60), up to three times in a row on one root. Then a run comes
 # to its end, and what it leaves is judged in the same way.
@@ -49,6 +55,7 @@ tree=$root/tree
 profiles=$tree/nix/var/nix/profiles
 menu=$tree/boot/loader
 recorded=$tree/run/nixos/rollback-goal
+log=$tree/run/nixos/owed-log
 passed=0
 failed=0
 
@@ -91,6 +98,40 @@ make_switch() {
     make_example
     words=(switch nix/store/web-24.11)
     goal=/nix/store/web-24.11
+}
+
+# The example root with a log that a switch which was cut has left, and a test. By the log alone a unit waits for a restart.
+make_logged() {
+    make_example
+    mkdir -p "$tree/run/nixos"
+    printf 'F 0644 0 0\nstart 1\nweb.socket\nend\nrestart 1\nsshd.service\nend\nreload 0\nend\n' >"$log"
+}
+
+# The same with the lists of an older program in place of a log.
+make_listed() {
+    make_example
+    mkdir -p "$tree/run/nixos"
+    printf 'F 0644 0 0\nweb.socket\n' >"$tree/run/nixos/start-list"
+    printf 'F 0644 0 0\nsshd.service\n' >"$tree/run/nixos/restart-list"
+}
+
+# How long a file may become in the runs of `make_full`, in KiB. No other file of theirs becomes so long.
+limit=8
+
+# The example root, and a switch, where a log stands that has so many bytes less than the limit: make_full BYTES. By its last block a unit
+# waits for a restart. Before it stand blocks without names, of 12 and of 13 bytes.
+make_full() {
+    local last=$'restart 1\nsshd.service\nend\n'
+    make_switch
+    mkdir -p "$tree/run/nixos"
+    {
+        printf 'F 0644 0 0\n'
+        awk -v size=$((limit * 1024 - $1 - 11 - ${#last})) 'BEGIN {
+            for (number = 0; number < size % 12; number++) print "reload 0\nend"
+            for (number = 0; number < int(size / 12) - size % 12; number++) print "start 0\nend"
+        }'
+        printf '%s' "$last"
+    } >"$log"
 }
 
 # Keeps the example root with three generations, of which the first and the third are of the new system and the second of the
@@ -422,6 +463,54 @@ judge_backs() {
     fi
 }
 
+# Runs the command where no file grows past the limit: a write that would is a fault, and no signal ends the program.
+carry_limited() {
+    (trap '' XFSZ && ulimit -f $limit && carry)
+}
+
+# short_row BYTES: the log may grow by so many bytes, which are too few, and the next run ends the switch.
+short_row() {
+    local verdict=ok status
+    [ "$limited" = 3 ] || verdict="it ends with $limited"
+    [ "$(cat "$work/stderr")" = $'fault: host\nrun/nixos/owed-log: a file that is too large' ] || verdict="said: $(cat "$work/stderr")"
+    [ "$(stat -c %s "$log")" = $((limit * 1024)) ] || verdict="the log has $(stat -c %s "$log") bytes"
+    judge_moment
+    carry
+    status=$?
+    [ "$(files)" = "$final" ] || verdict='the next run leaves other files'
+    [ $status = $ends ] || verdict="the next run ends with $status: $(cat "$work/stderr")"
+    note "the log is full after $1 bytes of what comes" "$verdict"
+}
+
+# The rows in which an append is cut short.
+short_rows() {
+    local bytes limited
+    make_full 2048
+    was=$(profile_system)
+    keep_menu first
+    carry
+    ends=$?
+    keep_menu last
+    final=$(files)
+    if [ $ends != 4 ] || [ "$(profile_system)" != "$goal" ] || [ -e "$log" ]; then
+        note 'a switch where a long log stands: the uncut run' "went wrong: $(cat "$work/stderr")"
+        return
+    fi
+    echo "a switch where a long log stands: the profile names $was"
+    for ((bytes = 0; bytes < 1024; bytes++)); do
+        make_full $bytes
+        carry_limited
+        limited=$?
+        [ $limited != $ends ] || break
+        short_row $bytes
+    done
+    if [ $bytes -gt 50 ] && [ $bytes -lt 1024 ] && [ "$(files)" = "$final" ]; then
+        note "what comes has $bytes bytes" ok
+    else
+        note "what comes has $bytes bytes" 'some are wanted, with which the end is that of a run without a limit'
+    fi
+}
+
 # The root of many units, as it was before its switch.
 make_many() {
     words=(switch nix/store/new-sys)
@@ -494,7 +583,10 @@ reboot_rows
 keep_third
 root_rows 'a rollback of the example root from its third generation' make_rollback 0
 root_rows 'a switch where a rollback has recorded its goal' make_recorded 4
+root_rows 'a test where a log of what is owed stands' make_logged 4
+root_rows 'a test where lists of an older program stand' make_listed 4
 root_rows 'a collection that keeps the third generation' make_collected 0
+short_rows
 moment_rows
 echo "$passed passed, $failed failed"
 [ $failed = 0 ]

@@ -6,9 +6,9 @@
 # Needs bash 5, the coreutils, diffutils and cc.
 #
 # A small library that is loaded before the C library counts the calls of malloc, calloc and realloc that make room or more
-# room, and refuses the one with a number, or that and all after it. First an uncut run is counted, from three roots: a boot
-# without a profile, a test that stops and starts a unit, and a switch of the example root, of which each STEP-th growth is
-# refused (1). Then each is refused in turn, in both ways.
+# room, and refuses the one with a number, or that and all after it. First an uncut run is counted, from four roots: a boot
+# without a profile, a test that stops and starts a unit, the same where a log of what is owed stands, to which it appends, and a
+# switch of the example root, of which each STEP-th growth is refused (1). Then each is refused in turn, in both ways.
 #
 # A row is `wanted` where the run ended with 5 and its line, and `spared` where it ended as the uncut run does: what was
 # refused wasn't needed. In both cases the same run is made again with memory, and has to end with the status of the
@@ -142,5 +142,9 @@ try_root() {
 
 try_root "a boot" "$here/crates/nixswitch/data/root" 1 boot nix/store/a-sys
 try_root "a test that stops and starts a unit" "$here/crates/run_worlds/data/done-root" 1 test nix/store/b-sys
+cp -r "$here/crates/run_worlds/data/done-root" "$work/logged"
+mkdir -p "$work/logged/tree/run/nixos"
+printf 'F 0644 0 0\nstart 0\nend\n' >"$work/logged/tree/run/nixos/owed-log"
+try_root "the same where a log stands" "$work/logged" 1 test nix/store/b-sys
 try_root "a switch of the example" "$here/crates/nixswitch/data/example" "$step" switch nix/store/web-24.11
 exit $failed

@@ -5,9 +5,9 @@
 //!
 //! It reads the units of both systems of a root of `make_machine`, looks for a link before each open as the program does,
 //! compares them key by key, lists what stands below etc and what the new system wants there, and prints the same
-//! report. A test then does what the program does: the lists, the stops, the farm's link, the link to the system, and the
+//! report. A test then does what the program does: the log, the stops, the farm's link, the link to the system, and the
 //! starts, each leaf by a stage and each act by a draft of the manager's file. It knows no drop-ins, templates, masks,
-//! fstab, accounts, copies below etc or lists of a cut switch.
+//! fstab, accounts, copies below etc or logs of a cut switch.
 use std::collections::{BTreeMap, BTreeSet};
 use std::fs::{self, OpenOptions};
 use std::io::{Error, ErrorKind, Result, Write};
@@ -167,7 +167,7 @@ impl<'a> Manager<'a> {
 fn carry_out(root: &Path, system: &str, state: &str, stopped: &[&str], started: &BTreeSet<&str>) -> Result<()> {
     let tree = root.join("tree");
     let stage = tree.join("nix/var/nixswitch.stage");
-    let list = tree.join("run/nixos/start-list");
+    let log = tree.join("run/nixos/owed-log");
     let put = |place: &Path, text: &str| replace(&stage, place, text);
     fs::create_dir_all(tree.join("nix/var"))?;
     let mut lines = state.lines();
@@ -175,7 +175,7 @@ fn carry_out(root: &Path, system: &str, state: &str, stopped: &[&str], started: 
     let states = lines.filter_map(|line| Some((line.strip_prefix("active ")?, format!("{line}\n")))).collect();
     let mut manager = Manager { root, states, loaded, journal: String::new() };
     let names: String = started.iter().map(|name| format!("{name}\n")).collect();
-    put(&list, &format!("F 0644 0 0\n{names}"))?;
+    put(&log, &format!("F 0644 0 0\nstart {}\n{names}end\nrestart 0\nend\nreload 0\nend\n", started.len()))?;
     for unit in stopped {
         manager.act("stop", unit)?;
     }
@@ -186,7 +186,7 @@ fn carry_out(root: &Path, system: &str, state: &str, stopped: &[&str], started: 
     for unit in started {
         manager.act("start", unit)?;
     }
-    fs::remove_file(&list)
+    fs::remove_file(&log)
 }
 
 fn main() -> Result<()> {

@@ -6,8 +6,8 @@
 # Needs bash 5, awk, the coreutils, findutils, Python 3, and strace with leave to trace. JOBS says how many runs are made
 # at once, by default one a processor.
 #
-# An uncut run is traced first, from six roots: a boot without a profile, a boot in whose menu an entry goes, a switch of
-# the example root, a switch with a copied entry in a folder that stands below /etc, the switch back from that, and a rollback
+# An uncut run is traced first, from seven roots: a boot without a profile, a boot in whose menu an entry goes, a switch of
+# the example root, one where a log of what is owed stands, to which it appends, a switch with a copied entry in a folder that stands below /etc, the switch back from that, and a rollback
 # from a third generation to the second. From the calls it is told what stood in which folder after each, and which
 # bytes and which folders were synced by then. From that the states are made (bench/power.py), in two models:
 #
@@ -89,6 +89,13 @@ make_menu() {
     rm "$root/tree/nix/var/nix/profiles/system-1-link"
 }
 
+# The example root, where a switch that was cut has left a log, by which a unit waits for a restart.
+make_logged() {
+    fresh "$example"
+    mkdir -p "$root/tree/run/nixos"
+    printf 'F 0644 0 0\nstart 1\nweb.socket\nend\nrestart 1\nsshd.service\nend\nreload 0\nend\n' >"$root/tree/run/nixos/owed-log"
+}
+
 # The example root, whose new system has a copied entry in a folder that stands already too.
 make_copied() {
     local entry
@@ -149,6 +156,8 @@ make_menu
 try_root 'a boot in whose menu an entry goes' boot nix/store/c-sys
 fresh "$example"
 try_root 'a switch of the example' switch nix/store/web-24.11
+make_logged
+try_root 'a switch where a log stands' switch nix/store/web-24.11
 make_copied
 try_root 'a switch with a copy in a folder' switch nix/store/web-24.11
 carry switch nix/store/web-24.11

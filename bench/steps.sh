@@ -6,7 +6,7 @@
 # Needs bash, awk, the coreutils, and strace with leave to trace. It runs the switch on a copy of
 # crates/nixswitch/data/example under strace, and draws a line for each rename and each removal below the root, and for
 # what is put on standard output. A rename of the manager's file is drawn as the act that its journal has gained, or as the
-# load of definitions. With `rollback` the system in use is made a generation and the switch is made, and then the way back is
+# load of definitions, and a write to the log of what is owed as what is appended to it. With `rollback` the system in use is made a generation and the switch is made, and then the way back is
 # drawn. It ends with 1 where a run doesn't end with its status: 4 to the system that has a failed unit, and 0 to the other.
 . "$(dirname "$0")/common.sh"
 find_program "$@"
@@ -32,6 +32,8 @@ function group_of(place) {
         return "boot"
     if (place == "run/nixos/rollback-goal")
         return "goal"
+    if (place == "run/nixos/owed-log")
+        return "log"
     if (place ~ /^run\/nixos\//)
         return "lists"
     if (place ~ /^var\/lib\/nixos\// || place ~ /^etc\/(group|passwd|shadow)$/)
@@ -72,6 +74,7 @@ function draw_act(    count, lines, at, acts, act) {
     sub(/^[^"]*"/, "", state)
     sub(/"[^"]*$/, "", state)
 }
+/^write\([0-9]+<[^>]*\/run\/nixos\/owed-log>/ { draw("log", "append run/nixos/owed-log") }
 /^rename/ {
     place = place_of($0)
     if (place == "manager")

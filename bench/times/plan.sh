@@ -1,6 +1,6 @@
 # Planning what a switch owes the units of two systems of so many: services that each want six others, so that 16,000 have 96,000
-# wants, one in ten with another program in the new system, half of them active, a target that wants the first, and a start
-# list of a hundred. A small program reads all that a plan needs and plans nothing.
+# wants, one in ten with another program in the new system, half of them active, a target that wants the first, and a log
+# by which a hundred wait for a start. A small program reads all that a plan needs and plans nothing.
 #
 # Of each root stands the least processor time, in milliseconds and without the system's share, of ten runs that read and of ten
 # dry runs, the difference, and what that is for each unit in microseconds. A dry run also plans accounts, of which there are
@@ -36,7 +36,7 @@ make_size() {
     make_wanting new-sys "$1" /bin/new
     mkdir -p "$root/tree/run/nixos"
     printf 'L /nix/store/old-sys\n' >"$root/tree/run/current-system"
-    awk 'BEGIN { print "F 0644 0 0"; for (number = 1; number <= 100; number++) print "unit-" number ".service" }' >"$root/tree/run/nixos/start-list"
+    { printf 'F 0644 0 0\nstart 100\n' && services 101 1 && echo end; } >"$root/tree/run/nixos/owed-log"
     {
         echo "loaded /nix/store/old-sys/etc"
         {
@@ -79,13 +79,13 @@ rows() {
     }' || failed=1
 }
 
-build_small read_systems host_folder owed_lists unit_defs host_trait switch_names <<'RATTLE'
+build_small read_systems host_folder owed_log log_text unit_defs host_trait switch_names <<'RATTLE'
 //! Reads the units of two systems, the states and the lists of a root, and prints how many units it found.
 #![tactic(auto)]
 
 use host_folder::FolderHost;
 use host_trait::{HostFault, Manager};
-use owed_lists::load;
+use owed_log::StandingLists;
 use std::alloc::Global;
 use std::process::ExitCode;
 use std::env;
@@ -106,14 +106,14 @@ fn read<H: Manager>(alloc: Global, host: &mut H) -> Result<usize, HostFault> {
         Err(DefsFault::Host(fault)) => return Err(fault),
     };
     let states = host.units(alloc)?;
-    let lists = load(alloc, host)?;
+    let standing = StandingLists::read(alloc, host)?;
     let _names = old.names().as_slice().len();
     Ok(new
         .names()
         .as_slice()
         .len()
         .saturating_add(states.list().as_slice().len())
-        .saturating_add(lists.starts.as_slice().len()))
+        .saturating_add(standing.lists.starts.as_slice().len()))
 }
 
 fn main(rt: HostRuntime) -> ExitCode {
