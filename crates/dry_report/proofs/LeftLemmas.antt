@@ -16,7 +16,7 @@ use Rattle.host_trait.specs.States.{UnitStates, listed_states, state_of}
 use Rattle.host_trait.specs.declared.unit_state.State.{State}
 use Rattle.host_trait.specs.declared.unit_state.State.TheVariants.{Inactive}
 use Rattle.host_trait.specs.declared.unit_state.UnitState.{UnitState}
-use Rattle.owed_lists.specs.declared.lists.Lists.{Lists}
+use Rattle.log_text.specs.declared.lists.Lists.{Lists}
 use Rattle.owed_plan.specs.declared.owed.Owed.{Owed}
 use Rattle.owed_plan.specs.Owed.{IsOwed, Reloads, Restarts, Starts, Stops}
 use Rattle.owed_plan.specs.Systems.{systems_at}

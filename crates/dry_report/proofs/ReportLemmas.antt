@@ -6,7 +6,7 @@ use Rattle.boot_entries.specs.declared.boot_default.BootDefaultPlan.{BootDefault
 use Rattle.generations.specs.declared.moving.Move.{Move}
 use Rattle.host_trait.specs.States.{state_of}
 use Rattle.host_trait.specs.World.{Leaves, WorldState}
-use Rattle.owed_lists.specs.declared.lists.Lists.{Lists}
+use Rattle.log_text.specs.declared.lists.Lists.{Lists}
 use Rattle.owed_plan.specs.declared.owed.Owed.{Owed}
 use Rattle.owed_plan.specs.Calls.{calls_of}
 use Rattle.owed_plan.specs.Owed.{IsPlan}

@@ -7,7 +7,7 @@ use Rattle.generations.specs.Move.{number_moved}
 use Rattle.host_trait.specs.States.{state_of}
 use Rattle.host_trait.specs.World.{Leaves, WorldState}
 use Rattle.host_trait.specs.Words.{act_word}
-use Rattle.owed_lists.specs.declared.lists.Lists.{Lists}
+use Rattle.log_text.specs.declared.lists.Lists.{Lists}
 use Rattle.owed_plan.specs.declared.duty.Duty.{Duty}
 use Rattle.owed_plan.specs.declared.owed.Owed.{Owed}
 use Rattle.owed_plan.specs.Calls.{calls_of}

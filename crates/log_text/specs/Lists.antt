@@ -1,5 +1,5 @@
 -- The lists that a log gives: NixOS manual, "Unit handling".
-use Rattle.std.specs.Prelude.{◌≡◌, ◌↔◌, ◌∷◌, ℕ, IsTrue, List, []}
+use Rattle.std.specs.Prelude.{◌≡◌, ◌↔◌, ◌∷◌, ◌<◌, ◌^◌, ℕ, IsTrue, List, [], length}
 use Rattle.log_text.specs.declared.block.Block.{Block}
 use Rattle.log_text.specs.declared.lists.Lists.{Lists}
 use Rattle.log_text.specs.declared.lists.Which.{Which}
@@ -36,6 +36,12 @@ block_of which names = record { which = which; names = names }
 -- the blocks of lists, in the order in which they are recorded
 abbrev pub blocks_of : Lists → List Block
 blocks_of lists = block_of Starts lists.starts ∷ block_of Restarts lists.restarts ∷ block_of Reloads lists.reloads ∷ []
+
+-- the names of each list can be counted
+pub record AreCounted (lists : Lists) : Type 0 where
+  pub starts : length lists.starts < 2 ^ 64
+  pub restarts : length lists.restarts < 2 ^ 64
+  pub reloads : length lists.reloads < 2 ^ 64
 
 -- each list can be written
 pub record AreLists (lists : Lists) : Type 0 where

@@ -1,6 +1,6 @@
 //! Writes blocks.
-ghost use Rattle.std.specs.Prelude.{◌≡◌, ◌++◌, ◌∷◌, [], IfOk, OnOk};
-ghost use Rattle.log_text.specs.Lists.{block_of, blocks_of};
+ghost use Rattle.std.specs.Prelude.{◌≡◌, ◌++◌, ◌∷◌, ◌<◌, ◌^◌, [], length, IfOk, OnOk};
+ghost use Rattle.log_text.specs.Lists.{AreCounted, block_of, blocks_of};
 ghost use Rattle.log_text.specs.Log.{block_text, list_text, log_text};
 
 use crate::lists::{Lists, Which};
@@ -33,7 +33,8 @@ fn add_block(
     which: Which,
     names: &[UnitName],
 ) -> Result<(), AllocError>
-    ensures { OnOk result (out.new.items ≡ out.old.items ++ block_text (block_of which names.now)) }
+    ensures added { OnOk result (out.new.items ≡ out.old.items ++ block_text (block_of which names.now)) }
+    ensures counted { OnOk result (length names.now < 2 ^ 64) }
 {
     let header = which.header(alloc, names.len())?;
     out.extend_from_slice(header.as_str().as_bytes())?;
@@ -45,7 +46,8 @@ fn add_block(
 
 /// The text that records lists: a block for the units to start, one for those to restart, and one for those to reload.
 pub fn lists_text(alloc: Global, lists: &Lists) -> Result<Bytes, AllocError>
-    ensures { IfOk result (λ text. text ≡ log_text (blocks_of lists.now)) }
+    ensures text { IfOk result (λ text. text ≡ log_text (blocks_of lists.now)) }
+    ensures counted { OnOk result (AreCounted lists.now) }
 {
     let mut out = Vec::new(alloc);
     add_block(alloc, &mut out, Which::Starts, lists.starts.as_slice())?;

@@ -1,5 +1,4 @@
 pub mod ListLemmas
 pub mod NameLemmas
 pub mod OrderLemmas
-pub mod RecordLemmas
-pub mod RecordedLemmas
+pub mod PlaceLemmas

@@ -4,8 +4,8 @@ use Rattle.std.specs.Cmp.{both_ways}
 use Rattle.std.proofs.lemmas.Map.Lookups.{btree_set_from_contains, exact_bytes}
 use Rattle.host_trait.specs.World.{Leaves, content_of}
 use Rattle.host_trait.proofs.Places.{bytes_total}
-use Rattle.owed_lists.specs.declared.lists.Lists.{Lists}
-use Rattle.owed_lists.specs.declared.lists.Which.TheVariants.{Starts, Restarts, Reloads}
+use Rattle.log_text.specs.declared.lists.Lists.{Lists}
+use Rattle.log_text.specs.declared.lists.Which.TheVariants.{Starts, Restarts, Reloads}
 use Rattle.owed_lists.specs.Lists.{AreListsOf, IsListOf, names_in, place_of}
 use Rattle.owed_lists.proofs.OrderLemmas.{has_ordered, ordered, ordered_sorted}
 use Rattle.switch_names.specs.Names as names

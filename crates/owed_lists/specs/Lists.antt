@@ -1,13 +1,13 @@
--- The lists of units that a switch which was cut has left: NixOS manual, "Unit handling".
+-- The lists of units that a switch of an older program which was cut has left: NixOS manual, "Unit handling".
 use Rattle.std.specs.Prelude.{◌≡◌, ◌==◌, ℕ, List, [], codes, filter, Option, None, Some}
 use Rattle.std.specs.List.{slice_split}
 use Rattle.std.specs.List.Sorted.{IsStrictlySortedBy}
 use Rattle.switch_names.specs.Names.{has}
 use Rattle.switch_names.specs.UnitName.{is_unit}
 use Rattle.host_trait.specs.World.{Leaves, bytes_cmp, content_of}
-use Rattle.owed_lists.specs.declared.lists.Lists.{Lists}
-use Rattle.owed_lists.specs.declared.lists.Which.{Which}
-use Rattle.owed_lists.specs.declared.lists.Which.TheVariants.{Starts, Restarts, Reloads}
+use Rattle.log_text.specs.declared.lists.Lists.{Lists}
+use Rattle.log_text.specs.declared.lists.Which.{Which}
+use Rattle.log_text.specs.declared.lists.Which.TheVariants.{Starts, Restarts, Reloads}
 
 -- where the units to start stand
 unfoldable pub starts_place : List ℕ

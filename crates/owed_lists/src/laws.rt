@@ -1,16 +1,8 @@
 //! What holds of the lists of every world.
 ghost use Rattle.std.specs.Prelude.{◌≡◌};
 ghost use Rattle.host_trait.specs.World.{Leaves};
-ghost use Rattle.owed_lists.specs.declared.lists.Lists.{Lists};
+ghost use Rattle.log_text.specs.declared.lists.Lists.{Lists};
 ghost use Rattle.owed_lists.specs.Lists.{AreListsOf};
-ghost use Rattle.owed_lists.specs.Record.{RecordedLaw};
-
-/// A list that is recorded is read as it was.
-///
-/// Source: NixOS manual, "Unit handling".
-pub fn lists_are_read_as_recorded()
-    ensures { RecordedLaw }
-{}
 
 /// Each world has its lists, whatever stands in their places.
 pub fn each_world_has_lists()

@@ -7,8 +7,9 @@ ghost use Rattle.host_trait.specs.World.{content_of};
 ghost use Rattle.switch_names.specs.UnitName.{is_unit};
 ghost use Rattle.owed_lists.specs.Lists.{AreListsOf, IsListOf, place_of};
 
-use crate::lists::{Lists, Which, list_path};
+use crate::lists::list_path;
 use host_trait::{HostFault, Tree, UnitSet, content};
+use log_text::{Lists, Which};
 use std::alloc::{AllocError, Global};
 use switch_names::{Bytes, Listed, NameFault, UnitName};
 

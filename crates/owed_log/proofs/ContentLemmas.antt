@@ -1,14 +1,17 @@
 -- What is read at the place of the log.
-use Rattle.std.proofs.Common.{◌≡◌, ◌≢◌, ◌++◌, zero, suc, true, false, cond, List, [], ℕ, codes, drop, length, take, Option, None, Some, refl, sym, ap, subst, ◌∙◌}
+use Rattle.std.proofs.Common.{◌≡◌, ◌≢◌, ◌++◌, ◌||◌, zero, suc, true, false, cond, List, [], ℕ, codes, drop, length, take, Option, None, Some, refl, sym, ap, subst, ◌∙◌}
 use Rattle.std.proofs.lemmas.Bool.{both_ways}
 use Rattle.std.specs.Cmp.Lexicographic.{nat_list_eq_equiv}
 use Rattle.std.specs.FinMap.{get, insert}
 use Rattle.std.specs.List.{list_any}
 use Rattle.host_trait.specs.declared.leaf.LeafKind.{LeafKind}
 use Rattle.host_trait.specs.declared.leaf.LeafKind.TheVariants.{File, Link}
-use Rattle.host_trait.specs.World.{Leaves, WorldState, content_of, file_bytes, is_path, leaf_content, seen, stage, store_place, with_extended, with_leaf, with_more}
-use Rattle.host_trait.proofs.Seen.{seen_at}
-use Rattle.owed_lists.specs.Lists.{reloads_place, restarts_place, starts_place}
+use Rattle.host_trait.specs.World.{Leaves, WorldState, content_of, extended, file_bytes, is_path, leaf_content, seen, stage, store_place, with_extended, with_leaf, with_more}
+use Rattle.host_trait.proofs.Seen.{other_of, seen_at}
+use Rattle.host_trait.proofs.Sound.{get_other}
+use Rattle.log_text.specs.declared.lists.Which.{Which}
+use Rattle.log_text.specs.declared.lists.Which.TheVariants.{Starts, Restarts, Reloads}
+use Rattle.owed_lists.specs.Lists.{place_of, reloads_place, restarts_place, starts_place}
 use Rattle.switch_names.specs.Names.{Name, is_name}
 use Rattle.tree_put.specs.Put.{AreApart}
 use Rattle.tree_put.specs.Sequence.{without_places}
@@ -37,6 +40,23 @@ log_not_old zero = refl
 log_not_old (suc zero) = refl
 log_not_old (suc (suc zero)) = refl
 log_not_old (suc (suc (suc count))) = ap (list_any (is_name log_place)) (nothing_taken count)
+
+-- a leaf of an older program's lists isn't at the place of the log
+is_other : (which : Which) → is_path (place_of which) log_place ≡ false
+unfolding log_place starts_place restarts_place reloads_place
+is_other Starts = refl
+is_other Restarts = refl
+is_other Reloads = refl
+
+pub old_not_log : (which : Which) → place_of which ≢ log_place
+old_not_log which same = both_ways (is_path (place_of which) log_place) (is_other which) (subst (λ x. is_path (place_of which) x ≡ true) same (nat_list_eq_equiv.refl (place_of which)))
+
+-- a place that is none of theirs isn't at the first so many of them
+pub apart_from : (q : Name) → ((which : Which) → is_name q (place_of which) ≡ false) → (count : ℕ) → list_any (is_name q) (take count old_places) ≡ false
+apart_from q other zero = refl
+apart_from q other (suc zero) = λ i. other Starts i || false
+apart_from q other (suc (suc zero)) = λ i. other Starts i || (other Restarts i || false)
+apart_from q other (suc (suc (suc count))) = (λ i. other Starts i || (other Restarts i || (other Reloads i || list_any (is_name q) (take count [])))) ∙ ap (list_any (is_name q)) (nothing_taken count)
 
 inside_no_stage : (rest : List ℕ) → codes "nix/store/" ++ rest ≢ stage
 unfolding stage
@@ -93,6 +113,14 @@ file_longer leaves at text more is = by (get leaves at) is
     by None is = absurd cc
     by (Some (File bytes mode uid gid)) is = ap file_bytes (put (File (bytes ++ more) mode uid gid)) ∙ let same : bytes ≡ text = cc in ap (λ b. Some (b ++ more)) same
     by (Some (Link target)) is = absurd cc
+
+-- to append to a file changes nothing elsewhere
+pub more_elsewhere : (leaves : Leaves) (at more q : List ℕ) → q ≢ at → get (with_more leaves at more) q ≡ get leaves q
+more_elsewhere leaves at more q other = by (get leaves at)
+  where
+    by : (o : Option LeafKind) → get (with_extended leaves at more o) q ≡ get leaves q
+    by None = refl
+    by (Some leaf) = get_other leaves at q (extended leaf more) (other_of q at other)
 
 -- a file that was put
 pub file_put : (w : WorldState) (at text : List ℕ) → file_bytes (get (with_leaf at (File text 420 0 0) w).leaves at) ≡ Some text

@@ -1,3 +1,4 @@
+pub mod BesideLemmas
 pub mod ContentLemmas
 pub mod ListLemmas
 pub mod MomentLemmas

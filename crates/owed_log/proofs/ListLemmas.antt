@@ -1,25 +1,26 @@
 -- Each world has one set of lists.
-use Rattle.std.proofs.Common.{◌≡◌, ◌++◌, ℕ, List, [], length, take, Option, None, Some, refl, sym, ap, subst, ◌∙◌, arith}
+use Rattle.std.proofs.Common.{◌≡◌, ◌++◌, ◌∷◌, ℕ, List, [], length, take, Option, None, Some, refl, sym, ap, subst, ◌∙◌, arith}
 use Rattle.std.proofs.lemmas.List.{take_all}
-use Rattle.host_trait.specs.World.{Leaves, content_of}
+use Rattle.std.specs.List.{AllByRecursion}
+use Rattle.std.specs.List.Sorted.{IsStrictlySortedBy}
+use Rattle.host_trait.specs.World.{Leaves, bytes_cmp, content_of}
+use Rattle.host_trait.proofs.Orders.{none_sorted}
+use Rattle.switch_names.specs.Names.{Name}
 use Rattle.log_text.specs.declared.block.Block.{Block}
 use Rattle.log_text.specs.declared.lists.Lists.{Lists}
 use Rattle.log_text.specs.Laws.{IsRecording}
-use Rattle.log_text.specs.Lists.{AreInOrder, AreLists, lists_of}
-use Rattle.log_text.specs.Log.{IsLog}
+use Rattle.log_text.specs.declared.lists.Which.{Which}
+use Rattle.log_text.specs.declared.lists.Which.TheVariants.{Starts, Restarts, Reloads}
+use Rattle.log_text.specs.Lists.{AreInOrder, AreLists, lists_after, lists_of, no_lists, with_block, with_list}
+use Rattle.log_text.specs.Log.{IsBlock, IsLog}
 use Rattle.log_text.proofs.BlockLemmas.{one_log}
 use Rattle.log_text.proofs.SomeLemmas.{some_log}
 use Rattle.log_text.proofs.TornLemmas.{nothing_torn, record_law}
-use Rattle.owed_lists.specs.declared.lists.Lists as old
 use Rattle.owed_lists.proofs.ListLemmas.{lists_in, same_lists}
 use Rattle.owed_log.specs.Laws.{OneListsLaw, SomeListsLaw}
 use Rattle.owed_log.specs.Places.{log_place}
-use Rattle.owed_log.specs.Standing.{AreListsAt, AreListsBy, Gives, as_old}
+use Rattle.owed_log.specs.Standing.{AreListsAt, AreListsBy, Gives}
 use Rattle.owed_log.specs.Writing.{text_of}
-
--- an older program's lists as those of a log
-abbrev from_old : old.Lists → Lists
-from_old lists = record { starts = lists.starts; restarts = lists.restarts; reloads = lists.reloads }
 
 -- a text gives one set of lists
 pub one_given : (text : List ℕ) (one other : Lists) → Gives text one → Gives text other → one ≡ other
@@ -30,14 +31,14 @@ one_lists leaves one other is also = by (content_of leaves log_place) is also
   where
     by : (content : Option (List ℕ)) → AreListsBy content leaves one → AreListsBy content leaves other → one ≡ other
     by (Some text) is also = one_given text one other is also
-    by None is also = ap from_old (same_lists leaves (as_old one) (as_old other) is also)
+    by None is also = same_lists leaves one other is also
 
 pub some_lists : SomeListsLaw
 some_lists leaves = by (content_of leaves log_place)
   where
     by : (content : Option (List ℕ)) → (lists : Lists) × AreListsBy content leaves lists
     by (Some text) = let log = some_log text in (lists_of log.0, record { blocks = log.0; tail = log.1; is_log = log.2; are = refl })
-    by None = let lists = lists_in leaves in (from_old lists.0, lists.1)
+    by None = lists_in leaves
 
 -- where the log has content, it gives the lists
 pub lists_given : (leaves : Leaves) (lists : Lists) (text : List ℕ) → content_of leaves log_place ≡ Some text → AreListsAt leaves lists → Gives text lists
@@ -45,6 +46,24 @@ lists_given leaves lists text is are = subst (λ (content : Option (List ℕ)). 
 
 pub given_lists : (leaves : Leaves) (lists : Lists) (text : List ℕ) → content_of leaves log_place ≡ Some text → Gives text lists → AreListsAt leaves lists
 given_lists leaves lists text is gives = subst (λ (content : Option (List ℕ)). AreListsBy content leaves lists) (sym is) gives
+
+-- ---- lists are in byte order
+
+one_sorted : (lists : Lists) (which : Which) (names : List Name) → IsStrictlySortedBy bytes_cmp lists.starts → IsStrictlySortedBy bytes_cmp names → IsStrictlySortedBy bytes_cmp (with_list lists which names).starts
+one_sorted lists Starts names is also = also
+one_sorted lists Restarts names is also = is
+one_sorted lists Reloads names is also = is
+
+all_sorted : (lists : Lists) (blocks : List Block) → IsStrictlySortedBy bytes_cmp lists.starts → AllByRecursion IsBlock blocks → IsStrictlySortedBy bytes_cmp (lists_after lists blocks).starts
+all_sorted lists [] is all = is
+all_sorted lists (block ∷ blocks) is all = all_sorted (with_block lists block) blocks (one_sorted lists block.which block.names is all.0.sorted) all.1
+
+pub starts_sorted : (leaves : Leaves) (lists : Lists) → AreListsAt leaves lists → IsStrictlySortedBy bytes_cmp lists.starts
+starts_sorted leaves lists are = by (content_of leaves log_place) are
+  where
+    by : (content : Option (List ℕ)) → AreListsBy content leaves lists → IsStrictlySortedBy bytes_cmp lists.starts
+    by (Some text) gives = subst (λ (l : Lists). IsStrictlySortedBy bytes_cmp l.starts) (sym gives.are) (all_sorted no_lists gives.blocks none_sorted gives.is_log.are_blocks)
+    by None old = old.starts.sorted
 
 -- ---- what a record gives
 

@@ -1,5 +1,6 @@
 -- The lists at each moment of a record, and of a list's clearing.
-use Rattle.std.proofs.Common.{◌≡◌, ◌⊎◌, ◌<◌, ◌++◌, ◌||◌, zero, suc, ℕ, Bool, true, false, cond, List, [], ◌∷◌, length, take, Option, None, Some, is_some, length-append, refl, sym, ap, subst, ◌∙◌, inl, inr, arith}
+use Rattle.std.proofs.Common.{◌≡◌, ◌≢◌, ◌⊎◌, ◌<◌, ◌++◌, ◌||◌, zero, suc, ℕ, Bool, true, false, cond, List, [], ◌∷◌, length, take, Option, None, Some, is_some, length-append, refl, sym, ap, subst, ◌∙◌, inl, inr, arith}
+use Rattle.std.proofs.lemmas.Bool.{both_ways}
 use Rattle.std.proofs.lemmas.List.{take_all}
 use Rattle.std.specs.FinMap.{get}
 use Rattle.std.specs.List.{list_any}
@@ -16,20 +17,19 @@ use Rattle.log_text.specs.declared.lists.Which.TheVariants.{Starts, Restarts, Re
 use Rattle.log_text.specs.Lists.{AreInOrder, AreLists, block_of, lists_of, no_lists, with_list}
 use Rattle.log_text.specs.Log.{IsLog, block_text, log_text}
 use Rattle.log_text.proofs.TornLemmas.{block_some, clear_law}
-use Rattle.owed_lists.specs.declared.lists.Which.TheVariants as leaf
 use Rattle.owed_lists.specs.Lists.{AreListsOf, IsListOf, reloads_place, restarts_place, starts_place}
 use Rattle.switch_names.specs.Names.{Name, is_name}
 use Rattle.tree_put.specs.Sequence.{IsRemoving, without_places}
 use Rattle.tree_put.proofs.LeftLemmas.{gone_at}
 use Rattle.tree_put.proofs.PutLemmas.{apart_ne}
-use Rattle.owed_lists.proofs.RecordLemmas.{place_apart}
+use Rattle.owed_lists.proofs.PlaceLemmas.{place_apart}
 use Rattle.owed_log.specs.declared.log_write.LogWrite.{LogWrite}
 use Rattle.owed_log.specs.declared.log_write.LogWrite.TheVariants.{Nothing, Append, Put}
-use Rattle.owed_log.specs.Laws.{ClearLaw, IsTidy, NoneOld, PreparedLaw, RecordLaw, RecordedLaw}
+use Rattle.owed_log.specs.Laws.{AreAlone, ClearLaw, ClearedLaw, FileLaw, IsTidy, NoneOld, PreparedLaw, RecordLaw, RecordedLaw}
 use Rattle.owed_log.specs.Places.{log_place, old_places}
-use Rattle.owed_log.specs.Standing.{AreListsAt, AreListsBy, Gives, IsWholeLog, as_old}
+use Rattle.owed_log.specs.Standing.{AreListsAt, AreListsBy, Gives, IsWholeLog}
 use Rattle.owed_log.specs.Writing.{IsPrepared, IsRecordMoment, IsWriting, recorded, text_of, with_write}
-use Rattle.owed_log.proofs.ContentLemmas.{content_none, content_seen, content_still, file_content, file_longer, file_put, log_not_old, log_other}
+use Rattle.owed_log.proofs.ContentLemmas.{content_none, content_seen, content_still, file_content, file_longer, file_put, log_not_old, log_other, more_elsewhere, old_not_log}
 use Rattle.owed_log.proofs.ListLemmas.{all_given, all_whole, empty_log, given_lists, lists_given, one_given, one_lists, part_given}
 
 -- ---- the places of an older program's lists
@@ -74,7 +74,7 @@ unfolding starts_place restarts_place reloads_place
 reloads_stay_2 = refl
 
 -- where all of them are removed no list is left
-none_left : (u : WorldState) (count : ℕ) → AreListsOf (without_places (take (suc (suc (suc count))) old_places) u).leaves (as_old no_lists)
+none_left : (u : WorldState) (count : ℕ) → AreListsOf (without_places (take (suc (suc (suc count))) old_places) u).leaves no_lists
 none_left u count = record {
   starts = gone_list _ starts_place (removed (suc (suc (suc count))) u starts_place (starts_gone (suc (suc count))));
   restarts = gone_list _ restarts_place (removed (suc (suc (suc count))) u restarts_place (restarts_gone (suc count)));
@@ -82,11 +82,11 @@ none_left u count = record {
 }
 
 -- where no log stands, removals empty the lists in order
-module _ (u : WorldState) (old now : Lists) (log : content_of u.leaves log_place ≡ None) (are : AreListsOf u.leaves (as_old old)) where
+module _ (u : WorldState) (old now : Lists) (log : content_of u.leaves log_place ≡ None) (are : AreListsOf u.leaves old) where
   still_none : (count : ℕ) → content_of (without_places (take count old_places) u).leaves log_place ≡ None
   still_none count = content_still count u log_place (log_not_old count) ∙ log
 
-  same_as : (count : ℕ) (lists : Lists) → AreListsOf (without_places (take count old_places) u).leaves (as_old lists) → AreListsAt (without_places (take count old_places) u).leaves now → now ≡ lists
+  same_as : (count : ℕ) (lists : Lists) → AreListsOf (without_places (take count old_places) u).leaves lists → AreListsAt (without_places (take count old_places) u).leaves now → now ≡ lists
   same_as count lists also is =
       one_lists (without_places (take count old_places) u).leaves now lists is
       (subst (λ (o : Option (List ℕ)). AreListsBy o (without_places (take count old_places) u).leaves lists) (sym (still_none count)) also)
@@ -115,9 +115,9 @@ lists_seen m w lists same are =
     by : (o : Option (List ℕ)) → AreListsBy o m.leaves lists → AreListsBy o w.leaves lists
     by (Some text) gives = gives
     by None are = record {
-      starts = subst (λ (o : Option (List ℕ)). IsListOf o lists.starts) (content_seen m w same starts_place (apart_ne starts_place stage (place_apart leaf.Starts))) are.starts;
-      restarts = subst (λ (o : Option (List ℕ)). IsListOf o lists.restarts) (content_seen m w same restarts_place (apart_ne restarts_place stage (place_apart leaf.Restarts))) are.restarts;
-      reloads = subst (λ (o : Option (List ℕ)). IsListOf o lists.reloads) (content_seen m w same reloads_place (apart_ne reloads_place stage (place_apart leaf.Reloads))) are.reloads;
+      starts = subst (λ (o : Option (List ℕ)). IsListOf o lists.starts) (content_seen m w same starts_place (apart_ne starts_place stage (place_apart Starts))) are.starts;
+      restarts = subst (λ (o : Option (List ℕ)). IsListOf o lists.restarts) (content_seen m w same restarts_place (apart_ne restarts_place stage (place_apart Restarts))) are.restarts;
+      reloads = subst (λ (o : Option (List ℕ)). IsListOf o lists.reloads) (content_seen m w same reloads_place (apart_ne reloads_place stage (place_apart Reloads))) are.reloads;
     }
 
 -- ---- a record
@@ -208,7 +208,7 @@ record_law lists write w m old now are is cut before also = moment lists w are o
 
 -- ---- what is prepared
 
-some_text : (lists : Lists) → 0 < length (text_of lists)
+pub some_text : (lists : Lists) → 0 < length (text_of lists)
 some_text lists =
     let first = block_text (block_of Starts lists.starts) in
     let rest = log_text (block_of Restarts lists.restarts ∷ block_of Reloads lists.reloads ∷ []) in
@@ -233,16 +233,59 @@ module _ (lists : Lists) (w v : WorldState) (are : AreLists lists) (write : LogW
         inr (length log.text, record { text = log.text; file = file; blocks = log.blocks; is_log = log.is_log; is_count = refl }),
       )
 
+module _ (write : LogWrite) (w v : WorldState) (same : seen v ≡ seen (recorded write w)) where
+  gone_then : (at : Name) → at ≢ stage → list_any (is_name at) (take 3 old_places) ≡ true → get v.leaves at ≡ None
+  gone_then at other listed = seen_at v (recorded write w) same at other ∙ removed 3 (with_write write w) at listed
+
+  none_then : NoneOld v.leaves
+  none_then = record {
+    starts = gone_then starts_place (apart_ne starts_place stage (place_apart Starts)) (starts_gone 2);
+    restarts = gone_then restarts_place (apart_ne restarts_place stage (place_apart Restarts)) (restarts_gone 1);
+    reloads = gone_then reloads_place (apart_ne reloads_place stage (place_apart Reloads)) (reloads_gone 0);
+  }
+
+  alone_then : (lists : Lists) → AreListsAt v.leaves lists × IsTidy v.leaves → AreAlone v.leaves lists
+  alone_then lists both = record { are = both.0; tidy = both.1; none_old = none_then }
+
 pub recorded_law : RecordedLaw
 recorded_law lists Nothing w v are is same =
     let none = log_now lists w v are Nothing same ∙ is.1 in
     let then = without_places old_places w in
     let gone : AreListsAt then.leaves no_lists = subst (λ (o : Option (List ℕ)). AreListsBy o then.leaves no_lists) (sym (content_still 3 w log_place (log_not_old 3) ∙ content_none w.leaves log_place is.1)) (none_left w 0) in
-    (subst (AreListsAt v.leaves) (sym is.0) (lists_seen then v no_lists (sym same) gone), inl none)
-recorded_law lists (Append text) w v are is same = with_log lists w v are (Append text) same (appended lists w are text is)
-recorded_law lists (Put text) w v are is same = with_log lists w v are (Put text) same (put lists w are text is)
+    alone_then Nothing w v same lists (subst (AreListsAt v.leaves) (sym is.0) (lists_seen then v no_lists (sym same) gone), inl none)
+recorded_law lists (Append text) w v are is same = alone_then (Append text) w v same lists (with_log lists w v are (Append text) same (appended lists w are text is))
+recorded_law lists (Put text) w v are is same = alone_then (Put text) w v same lists (with_log lists w v are (Put text) same (put lists w are text is))
+
+-- ---- lists that stand alone
+
+no_file : (leaves : Leaves) → get leaves log_place ≡ None → IsFileAt leaves log_place → ⊥
+no_file leaves none file = both_ways _ (ap (λ (o : Option LeafKind). is_some (file_bytes o)) none) file
+
+pub filed : (leaves : Leaves) → IsTidy leaves → IsFileAt leaves log_place → (count : ℕ) × IsWholeLog leaves count
+filed leaves (inl none) file = absurd (no_file leaves none file)
+filed leaves (inr whole) file = whole
+
+-- where nothing stands there are no lists
+none_at_all : (leaves : Leaves) → get leaves log_place ≡ None → NoneOld leaves → AreListsAt leaves no_lists
+none_at_all leaves none old = subst (λ (o : Option (List ℕ)). AreListsBy o leaves no_lists) (sym (content_none leaves log_place none)) record {
+  starts = gone_list leaves starts_place old.starts;
+  restarts = gone_list leaves restarts_place old.restarts;
+  reloads = gone_list leaves reloads_place old.reloads;
+}
+
+pub file_law : FileLaw
+file_law leaves lists alone some = by alone.tidy
+  where
+    by : IsTidy leaves → IsFileAt leaves log_place
+    by (inl none) = absurd (some (one_lists leaves lists no_lists alone.are (none_at_all leaves none alone.none_old)))
+    by (inr whole) = file_stands leaves whole.1.text whole.1.file
 
 -- ---- a list is cleared
+
+-- the lists of a whole log are those of its blocks
+was : (w : WorldState) (old : Lists) (before : AreListsAt w.leaves old) (count : ℕ) (whole : IsWholeLog w.leaves count) → old ≡ lists_of whole.blocks
+was w old before count whole = one_given whole.text old (lists_of whole.blocks) (lists_given w.leaves old whole.text (file_content w.leaves log_place whole.text whole.file) before)
+    record { blocks = whole.blocks; tail = []; is_log = whole.is_log; are = refl }
 
 module _ (which : Which) (w m : WorldState) (old now : Lists) (before : AreListsAt w.leaves old) (also : AreListsAt m.leaves now) where
   stays : m ≡ w → (now ≡ old) ⊎ (now ≡ with_list old which [])
@@ -252,10 +295,6 @@ module _ (which : Which) (w m : WorldState) (old now : Lists) (before : AreLists
     abbrev block : List ℕ
     block = block_text (block_of which [])
 
-    was : old ≡ lists_of whole.blocks
-    was = one_given whole.text old (lists_of whole.blocks) (lists_given w.leaves old whole.text (file_content w.leaves log_place whole.text whole.file) before)
-        record { blocks = whole.blocks; tail = []; is_log = whole.is_log; are = refl }
-
     shortened : (n : ℕ) → m.leaves ≡ with_more w.leaves log_place (take n block) → (now ≡ old) ⊎ (now ≡ with_list old which [])
     shortened n leaves =
         let r = clear_law whole.text whole.blocks which n whole.is_log in
@@ -264,8 +303,8 @@ module _ (which : Which) (w m : WorldState) (old now : Lists) (before : AreLists
         let is = one_given (whole.text ++ take n block) now (lists_of r.blocks) (lists_given m.leaves now (whole.text ++ take n block) content also)
         record { blocks = r.blocks; tail = r.tail; is_log = r.log; are = refl } in
         elim r.lists [
-          | inl same ↦ inl (is ∙ same ∙ sym was)
-          | inr cleared ↦ inr (is ∙ cleared ∙ ap (λ (l : Lists). with_list l which []) (sym was))
+          | inl same ↦ inl (is ∙ same ∙ sym (was w old before count whole))
+          | inr cleared ↦ inr (is ∙ cleared ∙ ap (λ (l : Lists). with_list l which []) (sym (was w old before count whole)))
         ]
 
     cut : IsMoment (Change.Append log_place block) w m → (now ≡ old) ⊎ (now ≡ with_list old which [])
@@ -274,25 +313,73 @@ module _ (which : Which) (w m : WorldState) (old now : Lists) (before : AreLists
     cut (inr (inr middle)) = shortened middle.0 (ap (λ (x : WorldState). x.leaves) middle.1)
 
 -- the log goes, and with it the units to start
-log_gone : (w m : WorldState) (now : Lists) → NoneOld w.leaves → m ≡ without_leaf log_place w → AreListsAt m.leaves now → now ≡ no_lists
-log_gone w m now none same also =
-    let then = without_leaf log_place w in
-    let gone : get then.leaves log_place ≡ None = gone_at (log_place ∷ []) w log_place ∙ ap (λ b. cond (b || false) None (get w.leaves log_place)) (name_itself log_place) in
-    let still = λ (at : Name) (none : get w.leaves at ≡ None). gone_at (log_place ∷ []) w at ∙ ap (λ o. cond (is_name at log_place || false) None o) none ∙ either (is_name at log_place || false) in
-    one_lists then.leaves now no_lists (subst (λ (x : WorldState). AreListsAt x.leaves now) same also)
-    (subst (λ (o : Option (List ℕ)). AreListsBy o then.leaves no_lists) (sym (content_none then.leaves log_place gone)) record {
-      starts = gone_list then.leaves starts_place (still starts_place none.starts);
-      restarts = gone_list then.leaves restarts_place (still restarts_place none.restarts);
-      reloads = gone_list then.leaves reloads_place (still reloads_place none.reloads);
-    })
-  where
-    either : (b : Bool) → cond {A = Option LeafKind} b None None ≡ None
-    either true = refl
-    either false = refl
+module _ (w : WorldState) (none : NoneOld w.leaves) where
+  abbrev without : WorldState
+  without = without_leaf log_place w
+
+  log_goes : get without.leaves log_place ≡ None
+  log_goes = gone_at (log_place ∷ []) w log_place ∙ ap (λ b. cond (b || false) None (get w.leaves log_place)) (name_itself log_place)
+
+  none_still : NoneOld without.leaves
+  none_still = record { starts = still starts_place none.starts; restarts = still restarts_place none.restarts; reloads = still reloads_place none.reloads }
+    where
+      either : (b : Bool) → cond {A = Option LeafKind} b None None ≡ None
+      either true = refl
+      either false = refl
+
+      still : (at : Name) → get w.leaves at ≡ None → get without.leaves at ≡ None
+      still at gone = gone_at (log_place ∷ []) w at ∙ ap (λ o. cond (is_name at log_place || false) None o) gone ∙ either (is_name at log_place || false)
+
+  without_lists : AreListsAt without.leaves no_lists
+  without_lists = none_at_all without.leaves log_goes none_still
 
 pub clear_law_of : ClearLaw
-clear_law_of Starts w m count old now whole last (inl same) before also = stays Starts w m old now before also same
-clear_law_of Starts w m count old now whole last (inr (inl done)) before also = let ends = last refl in inr (log_gone w m now ends.0 done also ∙ sym ends.1)
-clear_law_of Starts w m count old now whole last (inr (inr middle)) before also = absurd middle
-clear_law_of Restarts w m count old now whole last moment before also = cut Restarts w m old now before also count whole moment
-clear_law_of Reloads w m count old now whole last moment before also = cut Reloads w m old now before also count whole moment
+clear_law_of Starts w m old now alone last (inl same) also = stays Starts w m old now alone.are also same
+clear_law_of Starts w m old now alone last (inr (inl done)) also =
+    inr (one_lists (without_leaf log_place w).leaves now no_lists (subst (λ (x : WorldState). AreListsAt x.leaves now) done also) (without_lists w alone.none_old) ∙ sym last)
+clear_law_of Starts w m old now alone last (inr (inr middle)) also = absurd middle
+clear_law_of Restarts w m old now alone file moment also = let whole = filed w.leaves alone.tidy file in cut Restarts w m old now alone.are also whole.0 whole.1 moment
+clear_law_of Reloads w m old now alone file moment also = let whole = filed w.leaves alone.tidy file in cut Reloads w m old now alone.are also whole.0 whole.1 moment
+
+-- ---- and what stands then
+
+module _ (which : Which) (w : WorldState) (old : Lists) (alone : AreAlone w.leaves old) (file : IsFileAt w.leaves log_place) where
+  abbrev empty : List ℕ
+  empty = block_text (block_of which [])
+
+  abbrev longer : Leaves
+  longer = with_more w.leaves log_place empty
+
+  appended_alone : AreAlone longer (with_list old which [])
+  appended_alone =
+      let whole = (filed w.leaves alone.tidy file).1 in
+      let r = clear_law whole.text whole.blocks which (length empty) whole.is_log in
+      let done = r.whole (omega arith) in
+      let text = whole.text ++ empty in
+      let log : IsLog text r.blocks [] =
+      subst (λ t. IsLog (whole.text ++ t) r.blocks []) (take_all (length empty) empty (omega arith)) (subst (λ tail. IsLog (whole.text ++ take (length empty) empty) r.blocks tail) done.0 r.log) in
+      let there = file_longer w.leaves log_place whole.text empty whole.file in
+      record {
+        are = given_lists longer (with_list old which []) text (file_content longer log_place text there) record {
+          blocks = r.blocks;
+          tail = [];
+          is_log = log;
+          are = ap (λ (l : Lists). with_list l which []) (was w old alone.are (length whole.text) record { text = whole.text; file = whole.file; blocks = whole.blocks; is_log = whole.is_log; is_count = refl })
+              ∙ sym done.1;
+        };
+        tidy = inr (length text, record { text = text; file = there; blocks = r.blocks; is_log = log; is_count = refl });
+        none_old = record {
+          starts = more_elsewhere w.leaves log_place empty starts_place (old_not_log Starts) ∙ alone.none_old.starts;
+          restarts = more_elsewhere w.leaves log_place empty restarts_place (old_not_log Restarts) ∙ alone.none_old.restarts;
+          reloads = more_elsewhere w.leaves log_place empty reloads_place (old_not_log Reloads) ∙ alone.none_old.reloads;
+        };
+      }
+
+pub cleared_law : ClearedLaw
+cleared_law Starts w old alone last = record {
+  are = subst (AreListsAt (without_leaf log_place w).leaves) (sym last) (without_lists w alone.none_old);
+  tidy = inl (log_goes w alone.none_old);
+  none_old = none_still w alone.none_old;
+}
+cleared_law Restarts w old alone file = appended_alone Restarts w old alone file
+cleared_law Reloads w old alone file = appended_alone Reloads w old alone file

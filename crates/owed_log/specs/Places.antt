@@ -1,6 +1,6 @@
 -- Where a switch that was cut has left what it owes: NixOS manual, "Unit handling".
 use Rattle.std.specs.Prelude.{◌∷◌, List, [], codes}
-use Rattle.owed_lists.specs.declared.lists.Which.TheVariants.{Starts, Restarts, Reloads}
+use Rattle.log_text.specs.declared.lists.Which.TheVariants.{Starts, Restarts, Reloads}
 use Rattle.owed_lists.specs.Lists.{place_of}
 use Rattle.switch_names.specs.Names.{Name}
 

@@ -6,7 +6,6 @@ use Rattle.log_text.specs.declared.block.Block.{Block}
 use Rattle.log_text.specs.declared.lists.Lists.{Lists}
 use Rattle.log_text.specs.Lists.{lists_of}
 use Rattle.log_text.specs.Log.{IsLog}
-use Rattle.owed_lists.specs.declared.lists.Lists as old
 use Rattle.owed_lists.specs.Lists.{AreListsOf}
 use Rattle.owed_log.specs.declared.standing.Found.{Found}
 use Rattle.owed_log.specs.declared.standing.Found.TheVariants as found
@@ -14,10 +13,6 @@ use Rattle.owed_log.specs.declared.standing.LogState.{LogState}
 use Rattle.owed_log.specs.declared.standing.LogState.TheVariants.{Absent, Whole, Other}
 use Rattle.owed_log.specs.declared.standing.StandingLists.{StandingLists}
 use Rattle.owed_log.specs.Places.{log_place}
-
--- the same lists, as an older program has them
-abbrev pub as_old : Lists → old.Lists
-as_old lists = record { starts = lists.starts; restarts = lists.restarts; reloads = lists.reloads }
 
 -- a text gives these lists
 pub record Gives (text : List ℕ) (lists : Lists) : Type 0 where
@@ -29,7 +24,7 @@ pub record Gives (text : List ℕ) (lists : Lists) : Type 0 where
 -- where the log has this content, its blocks give the lists; where it has none, the three leaves of an older program do
 abbrev pub AreListsBy : Option (List ℕ) → Leaves → Lists → Type 0
 AreListsBy (Some text) leaves lists = Gives text lists
-AreListsBy None leaves lists = AreListsOf leaves (as_old lists)
+AreListsBy None leaves lists = AreListsOf leaves lists
 
 -- the lists of a world
 abbrev pub AreListsAt : Leaves → Lists → Type 0

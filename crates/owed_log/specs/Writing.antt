@@ -8,7 +8,7 @@ use Rattle.host_trait.specs.World.{Leaves, WorldState, IsFileAt, seen, with_leaf
 use Rattle.log_text.specs.declared.lists.Lists.{Lists}
 use Rattle.log_text.specs.declared.lists.Which.{Which}
 use Rattle.log_text.specs.declared.lists.Which.TheVariants.{Starts, Restarts, Reloads}
-use Rattle.log_text.specs.Lists.{block_of, blocks_of, no_lists}
+use Rattle.log_text.specs.Lists.{AreCounted, block_of, blocks_of, no_lists}
 use Rattle.log_text.specs.Log.{block_text, log_text}
 use Rattle.tree_put.specs.Put.{CanPut, IsOldOrNew}
 use Rattle.tree_put.specs.Sequence.{IsRemoving, without_places}
@@ -41,6 +41,11 @@ abbrev pub IsPrepared : Leaves → Lists → LogWrite → Type 0
 IsPrepared leaves lists Nothing = NeedsNothing leaves lists
 IsPrepared leaves lists (Append text) = (text ≡ text_of lists) × CanAppend leaves lists
 IsPrepared leaves lists (Put text) = (text ≡ text_of lists) × (NeedsNothing leaves lists → ⊥) × (CanAppend leaves lists → ⊥)
+
+-- this has to be written to record lists, whose names can be counted
+pub record IsWriteFor (leaves : Leaves) (lists : Lists) (write : LogWrite) : Type 0 where
+  pub prepared : IsPrepared leaves lists write
+  pub counted : AreCounted lists
 
 -- the leaf of a log: a file of mode 0644 that root owns
 abbrev pub log_leaf : List ℕ → LeafKind

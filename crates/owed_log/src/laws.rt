@@ -1,5 +1,5 @@
 //! What holds of the lists of a tree.
-ghost use Rattle.owed_log.specs.Laws.{ClearLaw, OneListsLaw, PreparedLaw, RecordLaw, RecordedLaw, SomeListsLaw};
+ghost use Rattle.owed_log.specs.Laws.{ClearLaw, ClearedLaw, FileLaw, OneListsLaw, PreparedLaw, RecordLaw, RecordedLaw, SomeListsLaw};
 
 /// Each world has its lists, whatever stands in their places.
 pub fn each_world_has_lists()
@@ -22,7 +22,7 @@ pub fn lists_are_recorded_in_order()
     ensures { RecordLaw }
 {}
 
-/// What was recorded is read, and the log is absent or whole.
+/// What was recorded is read, from a log that is absent or whole, and no leaf of an older program's lists stands.
 pub fn lists_are_read_as_recorded()
     ensures { RecordedLaw }
 {}
@@ -30,4 +30,14 @@ pub fn lists_are_read_as_recorded()
 /// At whatever moment a list is cleared, the lists are as they were, or that one is empty.
 pub fn a_list_is_cleared_alone()
     ensures { ClearLaw }
+{}
+
+/// Once a list is cleared it is empty, and the others are read as they were.
+pub fn the_others_stay()
+    ensures { ClearedLaw }
+{}
+
+/// Where something is recorded, the log is a file.
+pub fn what_is_recorded_has_a_file()
+    ensures { FileLaw }
 {}

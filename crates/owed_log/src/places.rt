@@ -3,7 +3,8 @@ ghost use Rattle.std.specs.Prelude.{◌≡◌, IfOk};
 ghost use Rattle.owed_log.specs.Places.{log_place, old_places};
 
 use host_trait::fixed_path;
-use owed_lists::{Which, list_path};
+use log_text::Which;
+use owed_lists::list_path;
 use std::alloc::{AllocError, Global};
 use switch_names::{Listed, Path};
 

@@ -1,21 +1,21 @@
 //! The lists that stand in a tree.
-ghost use Rattle.std.specs.Prelude.{◌≡◌, ◌↔◌, ◌≤◌, ◌+◌, IsTrue, IfOk};
+ghost use Rattle.std.specs.Prelude.{◌≡◌, ◌↔◌, ◌≤◌, ◌+◌, IsTrue, IfOk, OnOk};
 ghost use Rattle.host_trait.specs.Host.{Told};
 ghost use Rattle.host_trait.specs.Reading.{IsReading};
 ghost use Rattle.host_trait.specs.World.{Leaves};
-ghost use Rattle.log_text.specs.Lists.{no_lists};
-ghost use Rattle.owed_lists.specs.Lists.{AreListsOf};
+ghost use Rattle.log_text.specs.Lists.{AreCounted, no_lists};
 ghost use Rattle.owed_log.specs.declared.standing.Found.TheVariants.{File};
-ghost use Rattle.owed_log.specs.Standing.{AreStanding, IsFound, IsLogState, as_old};
-ghost use Rattle.owed_log.specs.Writing.{IsPrepared, log_max};
+ghost use Rattle.owed_log.specs.Standing.{AreStanding, IsFound, IsLogState};
+ghost use Rattle.owed_log.specs.Writing.{IsFilled, IsPrepared, log_max};
 
 use crate::log_write::{LOG_MAX, LogWrite};
 use crate::places::log_path;
 use host_trait::{HostFault, LeafKind, Tree, content};
 use log_text::{Lists, Log, lists_text, read_log};
+use owed_lists::load;
 use std::alloc::{AllocError, Global};
 use std::mem;
-use switch_names::{Bytes, Listed};
+use switch_names::Bytes;
 
 /// What stands at the place of the log.
 #[derive(Clone, Copy, Debug, PartialEq, Eq)]
@@ -72,19 +72,6 @@ fn find<T: Tree>(alloc: Global, host: &mut T) -> Result<Found, HostFault>
     }
 }
 
-/// The lists of an older program.
-fn old_lists<T: Tree>(alloc: Global, host: &mut T) -> Result<Lists, HostFault>
-    ensures lists { IfOk result (λ lists. Told (T.host host.old) (λ w. AreListsOf w.leaves (as_old lists))) }
-    ensures reads { IsReading (T.host host.old) (T.host host.new) result }
-{
-    let mut old = owed_lists::load(alloc, host)?;
-    Ok(Lists {
-        starts: mem::replace(&mut old.starts, Listed::new(alloc)),
-        restarts: mem::replace(&mut old.restarts, Listed::new(alloc)),
-        reloads: mem::replace(&mut old.reloads, Listed::new(alloc)),
-    })
-}
-
 /// The lists that a log gives.
 fn lists_in(alloc: Global, log: Log) -> Lists
     ensures { result ≡ log.lists }
@@ -129,14 +116,14 @@ impl StandingLists {
                 })
             }
             Found::Link(None) => {
-                let lists = old_lists(alloc, host)?;
+                let lists = load(alloc, host)?;
                 Ok(StandingLists {
                     lists,
                     log: LogState::Other,
                 })
             }
             Found::Nothing => {
-                let lists = old_lists(alloc, host)?;
+                let lists = load(alloc, host)?;
                 Ok(StandingLists {
                     lists,
                     log: LogState::Absent,
@@ -144,14 +131,18 @@ impl StandingLists {
             }
         }
     }
+}
 
+impl LogState {
     /// What has to be written to record lists: nothing where they are empty and no log stands; else their text, which is appended
     /// to a whole log that stays within 64 KiB, and put in the place of what stands otherwise.
-    pub fn prepare(&self, alloc: Global, lists: &Lists) -> Result<LogWrite, AllocError>
-        ensures prepared { (leaves : Leaves) → IsLogState leaves self.now.log → IfOk result (IsPrepared leaves lists.now) }
+    pub fn prepare(self, alloc: Global, lists: &Lists) -> Result<LogWrite, AllocError>
+        ensures prepared { (leaves : Leaves) → IsLogState leaves self → IfOk result (IsPrepared leaves lists.now) }
+        ensures counted { OnOk result (AreCounted lists.now) }
+        ensures filled { IfOk result IsFilled }
     {
         let text = lists_text(alloc, lists)?;
-        match self.log {
+        match self {
             LogState::Absent => Ok(if are_empty(lists) {
                 LogWrite::Nothing
             } else {

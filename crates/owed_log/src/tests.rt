@@ -1,5 +1,5 @@
 //! What is prepared to record lists, by hand.
-use crate::{LOG_MAX, LogState, LogWrite, StandingLists};
+use crate::{LOG_MAX, LogState, LogWrite};
 use log_text::{Lists, lists_text};
 use std::alloc::Global;
 use switch_names::UnitName;
@@ -24,11 +24,7 @@ fn word_of(write: &LogWrite) -> &'static str {
 
 /// What is prepared where this stands at the place of the log.
 fn prepared(alloc: Global, log: LogState, lists: &Lists) -> Option<&'static str> {
-    let standing = StandingLists {
-        lists: Lists::new(alloc),
-        log,
-    };
-    let write = standing.prepare(alloc, lists).ok()?;
+    let write = log.prepare(alloc, lists).ok()?;
     Some(word_of(&write))
 }
 

@@ -8,7 +8,7 @@ use Rattle.host_trait.specs.Manager.{is_active}
 use Rattle.host_trait.proofs.NameOrder.{passes_among}
 use Rattle.host_trait.proofs.StateMaps.{active_from_test}
 use Rattle.owed_plan.specs.Lists.{is_live, pending}
-use Rattle.owed_lists.specs.declared.lists.Lists.{Lists}
+use Rattle.log_text.specs.declared.lists.Lists.{Lists}
 use Rattle.owed_plan.specs.Owed.{Activates, Decides, Reloads, Restarts, Starts, Stops, has_live}
 use Rattle.owed_plan.specs.Pull.{IsRoot, Running, Pending, Pulled}
 use Rattle.unit_defs.specs.Pull.{FromRoot, FromWant}

@@ -8,9 +8,7 @@ use Rattle.host_trait.specs.States.{UnitStates, listed_states, state_of}
 use Rattle.host_trait.specs.World.{Leaves, bytes_cmp}
 use Rattle.host_trait.proofs.NameOrder.{has_filter}
 use Rattle.host_trait.proofs.StateMaps.{active_from_test}
-use Rattle.owed_lists.specs.declared.lists.Lists.{Lists}
-use Rattle.owed_lists.specs.Lists.{AreListsOf}
-use Rattle.owed_lists.proofs.ListLemmas.{lists_in}
+use Rattle.log_text.specs.declared.lists.Lists.{Lists}
 use Rattle.owed_lists.proofs.OrderLemmas.{has_ordered, ordered, ordered_sorted}
 use Rattle.owed_plan.specs.declared.deciding.UnitDecision.{UnitDecision}
 use Rattle.owed_plan.specs.declared.owed.Owed.{Owed}
@@ -205,11 +203,3 @@ pub plan_at : (leaves : Leaves) (old : Option Name) (new : Name) (states : UnitS
 plan_at leaves old new states lists =
     some_owed (systems_at leaves old new) states lists (all_wanted leaves new)
     (λ by unit found. wanted_among leaves new by unit (guarded (is_unit by) (wanted_of leaves new by) unit found))
-
--- each world has lists and what is owed by them
-pub plan_in : (leaves : Leaves) (old : Option Name) (new : Name) (states : UnitStates) →
-    (lists : Lists) × (owed : Owed) × AreListsOf leaves lists × IsPlan (systems_at leaves old new) (state_of states) lists owed
-plan_in leaves old new states =
-    let listed = lists_in leaves in
-    let plan = plan_at leaves old new states listed.0 in
-    (listed.0, plan.0, listed.1, plan.1)

@@ -5,7 +5,7 @@ use Rattle.std.proofs.lemmas.Bool.{cases_Bool}
 use Rattle.host_trait.specs.declared.entry.Bad.{Bad}
 use Rattle.host_trait.specs.declared.unit_state.State.{State}
 use Rattle.host_trait.specs.declared.unit_state.State.TheVariants.{Active, Inactive}
-use Rattle.owed_lists.specs.declared.lists.Lists.{Lists}
+use Rattle.log_text.specs.declared.lists.Lists.{Lists}
 use Rattle.owed_plan.specs.declared.owed.Owed.{Owed}
 use Rattle.owed_plan.specs.Law.{AreStopped, IsRecorded, IsSound, lists_of, stopped}
 use Rattle.owed_plan.specs.Owed.{Decides, IsOwed, Reloads, Restarts, Starts, Stops, has_live, stop_order}

@@ -9,7 +9,7 @@ use Rattle.owed_plan.specs.Law.{ListLaw, SameOwed, rest_of}
 use Rattle.host_trait.specs.Manager.{is_active}
 use Rattle.host_trait.proofs.NameOrder.{has_filter}
 use Rattle.host_trait.proofs.StateMaps.{active_from_test}
-use Rattle.owed_lists.specs.declared.lists.Lists.{Lists}
+use Rattle.log_text.specs.declared.lists.Lists.{Lists}
 use Rattle.owed_lists.proofs.ListLemmas.{one_list}
 use Rattle.owed_plan.specs.Owed.{IsOwed, IsPlan, Stops}
 use Rattle.owed_plan.specs.declared.owed.Owed.{Owed}

@@ -4,7 +4,7 @@ use Rattle.std.specs.List.{list_any}
 use Rattle.std.proofs.lemmas.Bool.{and_from, and_parts, false_from_ne_true, both_ways, not-true, not_from_false, or_cases, or_left, or_right}
 use Rattle.host_trait.specs.States.{UnitStates, state_of}
 use Rattle.host_trait.specs.declared.unit_state.State.TheVariants.{Active}
-use Rattle.owed_lists.specs.declared.lists.Lists.{Lists}
+use Rattle.log_text.specs.declared.lists.Lists.{Lists}
 use Rattle.owed_plan.specs.Collected.{IsCollected, IsListBy, comes_up, defined, is_socketed}
 use Rattle.host_trait.specs.Manager.{is_active}
 use Rattle.owed_plan.specs.Lists.{is_live}

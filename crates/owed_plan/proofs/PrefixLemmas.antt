@@ -5,7 +5,7 @@ use Rattle.host_trait.specs.declared.unit_state.State.{State}
 use Rattle.host_trait.specs.declared.unit_state.State.TheVariants.{Active, Inactive}
 use Rattle.host_trait.proofs.NameOrder.{has_filter}
 use Rattle.owed_plan.specs.Law.{AreStopped, IsRecorded, Law}
-use Rattle.owed_lists.specs.declared.lists.Lists.{Lists}
+use Rattle.log_text.specs.declared.lists.Lists.{Lists}
 use Rattle.owed_plan.specs.declared.owed.Owed.{Owed}
 use Rattle.owed_plan.specs.Owed.{IsOwed, Reloads, Restarts, Stops, stop_order}
 use Rattle.owed_plan.specs.Systems.{Systems}

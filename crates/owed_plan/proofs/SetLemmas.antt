@@ -4,7 +4,7 @@ use Rattle.std.specs.List.{list_any}
 use Rattle.std.proofs.lemmas.List.{take_all, take_more}
 use Rattle.std.proofs.lemmas.List.Folds.{list_any-append}
 use Rattle.std.proofs.Math.Bool.{or-false, or_assoc}
-use Rattle.owed_lists.specs.declared.lists.Lists.{Lists}
+use Rattle.log_text.specs.declared.lists.Lists.{Lists}
 use Rattle.owed_plan.specs.Collected.{AddsDecided, AddsListed, AddsPulled, AreListed, IsCollected, comes_up, defined, no_sets}
 use Rattle.owed_plan.specs.Decisions.{Situation, leaves, reloads, restarts, starts, stops}
 use Rattle.owed_plan.specs.declared.deciding.UnitDecision.{UnitDecision}

@@ -3,7 +3,7 @@ use Rattle.std.proofs.Common.{◌≡◌, IsTrue, inl, inr}
 use Rattle.host_trait.specs.declared.unit_state.State.{State}
 use Rattle.owed_plan.specs.Law.{IsSound}
 use Rattle.owed_plan.specs.Lists.{pending}
-use Rattle.owed_lists.specs.declared.lists.Lists.{Lists}
+use Rattle.log_text.specs.declared.lists.Lists.{Lists}
 use Rattle.owed_plan.specs.Owed.{Reloads, Restarts, has_live}
 use Rattle.owed_plan.specs.Steady.{IsSteady, IsStoppedForGood, SteadyLaw}
 use Rattle.owed_plan.specs.Systems.{Systems}

@@ -4,7 +4,7 @@ use Rattle.std.specs.List.{list_any}
 use Rattle.std.proofs.lemmas.Bool.{and_from, and_parts, both_ways, false_from_ne_true, not-true, not_from_false}
 use Rattle.host_trait.specs.declared.unit_state.State.{State}
 use Rattle.host_trait.proofs.NameOrder.{passes_among}
-use Rattle.owed_lists.specs.declared.lists.Lists.{Lists}
+use Rattle.log_text.specs.declared.lists.Lists.{Lists}
 use Rattle.owed_plan.specs.Pull.{Pulled}
 use Rattle.owed_plan.specs.Steady.{IsSteady, IsStoppedForGood, has_for_good, is_steady, is_target}
 use Rattle.owed_plan.specs.Systems.{systems_in}

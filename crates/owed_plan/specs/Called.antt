@@ -3,7 +3,7 @@ use Rattle.std.specs.Prelude.{◌≡◌, ◌≢◌, ◌⊎◌, ℕ, Bool, IsTrue
 use Rattle.host_trait.specs.declared.entry.Bad.{Bad}
 use Rattle.host_trait.specs.declared.unit_state.State.{State}
 use Rattle.host_trait.specs.declared.unit_state.State.TheVariants.{Active, Inactive}
-use Rattle.owed_lists.specs.declared.lists.Lists.{Lists}
+use Rattle.log_text.specs.declared.lists.Lists.{Lists}
 use Rattle.owed_plan.specs.declared.owed.Owed.{Owed}
 use Rattle.owed_plan.specs.FinalStates.{brought_by, final_state, is_brought}
 use Rattle.owed_plan.specs.Law.{IsSound, stopped}

@@ -3,7 +3,7 @@ use Rattle.std.specs.Prelude.{◌≡◌, ◌&&◌, ◌||◌, [], Bool, List, fil
 use Rattle.std.specs.List.{list_any}
 use Rattle.std.specs.List.Sorted.{IsStrictlySortedBy}
 use Rattle.host_trait.specs.World.{bytes_cmp}
-use Rattle.owed_lists.specs.declared.lists.Lists.{Lists}
+use Rattle.log_text.specs.declared.lists.Lists.{Lists}
 use Rattle.host_trait.specs.Manager.{is_active}
 use Rattle.owed_plan.specs.Decisions.{Situation, leaves, reloads, restarts, starts, stops}
 use Rattle.owed_plan.specs.Systems.{Systems}

@@ -4,7 +4,7 @@ use Rattle.std.specs.List.{list_any}
 use Rattle.host_trait.specs.declared.unit_state.State.{State}
 use Rattle.host_trait.specs.declared.unit_state.State.TheVariants.{Active}
 use Rattle.owed_plan.specs.Lists.{is_live, pending}
-use Rattle.owed_lists.specs.declared.lists.Lists.{Lists}
+use Rattle.log_text.specs.declared.lists.Lists.{Lists}
 use Rattle.owed_plan.specs.Pull.{Pulled}
 use Rattle.owed_plan.specs.Systems.{Systems, Counts, IsDefined, IsSocketed}
 use Rattle.owed_plan.specs.declared.owed.Owed.{Owed}

@@ -4,7 +4,7 @@ use Rattle.std.specs.List.{list_any}
 use Rattle.host_trait.specs.declared.unit_state.State.{State}
 use Rattle.owed_plan.specs.Law.{AfterStops}
 use Rattle.owed_plan.specs.Lists.{pending}
-use Rattle.owed_lists.specs.declared.lists.Lists.{Lists}
+use Rattle.log_text.specs.declared.lists.Lists.{Lists}
 use Rattle.owed_plan.specs.Pull.{Pulled}
 use Rattle.owed_plan.specs.Systems.{Systems, IsDefined}
 use Rattle.switch_names.specs.declared.unit_kind.UnitKind.TheVariants.{Target}

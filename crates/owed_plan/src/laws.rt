@@ -6,8 +6,7 @@ ghost use Rattle.host_trait.specs.World.{Leaves};
 ghost use Rattle.owed_plan.specs.Called.{AfterLinkLaw};
 ghost use Rattle.owed_plan.specs.Law.{IsSound, Law, ListLaw};
 ghost use Rattle.owed_plan.specs.Linked.{LinkLaw, StopsFinalLaw};
-ghost use Rattle.owed_lists.specs.declared.lists.Lists.{Lists};
-ghost use Rattle.owed_lists.specs.Lists.{AreListsOf};
+ghost use Rattle.log_text.specs.declared.lists.Lists.{Lists};
 ghost use Rattle.owed_plan.specs.declared.owed.Owed.{Owed};
 ghost use Rattle.owed_plan.specs.Owed.{IsPlan};
 ghost use Rattle.owed_plan.specs.Steady.{SteadyLaw};
@@ -25,10 +24,8 @@ pub fn one_is_owed()
 
 /// Something is owed, whatever the units and the lists are.
 pub fn something_is_owed()
-    ensures listed { (leaves : Leaves) (old : Option Name) (new : Name) (states : UnitStates) (lists : Lists)
+    ensures { (leaves : Leaves) (old : Option Name) (new : Name) (states : UnitStates) (lists : Lists)
         → (owed : Owed) × IsPlan (systems_at leaves old new) (state_of states) lists owed }
-    ensures standing { (leaves : Leaves) (old : Option Name) (new : Name) (states : UnitStates)
-        → (lists : Lists) × (owed : Owed) × AreListsOf leaves lists × IsPlan (systems_at leaves old new) (state_of states) lists owed }
 {}
 
 /// After a prefix of the stops, and with the lists recorded, the same is owed, but for what is

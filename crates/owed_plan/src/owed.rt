@@ -2,7 +2,7 @@
 ghost use Rattle.std.specs.Prelude.{◌≡◌};
 ghost use Rattle.owed_plan.specs.Law.{lists_of};
 
-use owed_lists::Lists;
+use log_text::Lists;
 use switch_names::{Listed, UnitName};
 
 /// What a switch owes the units, each list in byte order.

@@ -13,7 +13,7 @@ use crate::known::Known;
 use crate::owed::Owed;
 use crate::sets::OwedSets;
 use host_trait::{States, UnitSet};
-use owed_lists::Lists;
+use log_text::Lists;
 use std::alloc::{AllocError, Global};
 use switch_names::{Listed, UnitName};
 use unit_defs::Defs;

@@ -9,7 +9,7 @@ use crate::known::Known;
 use crate::owed::Owed;
 use crate::touched::{Touched, add_pulled};
 use host_trait::UnitSet;
-use owed_lists::Lists;
+use log_text::Lists;
 use std::alloc::{AllocError, Global};
 use switch_names::UnitName;
 

@@ -8,7 +8,7 @@ ghost use Rattle.owed_plan.specs.Systems.{systems_in};
 ghost use Rattle.switch_names.specs.Names.{IsListOf, Name};
 ghost use Rattle.unit_defs.specs.declared.unit.Unit.{Unit};
 
-use owed_lists::Lists;
+use log_text::Lists;
 use switch_names::{Listed, UnitName};
 use unit_decide::Facts;
 use unit_defs::Defs;

@@ -12,6 +12,7 @@ use Rattle.host_trait.proofs.Fronts.{begins}
 use Rattle.host_trait.proofs.Seen.{clear_seen}
 use Rattle.host_trait.proofs.Sound.{not_in_line}
 use Rattle.owed_lists.specs.Lists.{reloads_place, restarts_place, starts_place}
+use Rattle.owed_log.specs.Places.{log_place}
 use Rattle.switch_names.specs.Names.{Name}
 use Rattle.switch_names.specs.SystemName.{store_folder}
 use Rattle.switch_parts.specs.Part.{IsFree}
@@ -35,7 +36,7 @@ use Rattle.store_collect.specs.Again.{AllowedLaw, IsAllowed}
 use Rattle.store_collect.specs.Collection.{IsCollectionOf, IsRefusedAt}
 use Rattle.store_collect.specs.Kept.{gens_kept}
 use Rattle.store_collect.specs.Steps.{IsCollecting, removals}
-use Rattle.store_collect.specs.Unfinished.{owed_log_place, stands_at_one, unfinished_places}
+use Rattle.store_collect.specs.Unfinished.{stands_at_one, unfinished_places}
 use Rattle.store_collect.proofs.AgainGens.{kept_now}
 use Rattle.store_collect.proofs.BootSystemLemmas.{outside}
 use Rattle.store_collect.proofs.EntryLemmas.{are_entries, kept_gens}
@@ -61,7 +62,7 @@ run_beside rest apart = record {
 }
 
 all_beside : AllByRecursion IsBeside unfinished_places
-unfolding owed_log_place starts_place restarts_place reloads_place goal_place loader_path
+unfolding log_place starts_place restarts_place reloads_place goal_place loader_path
 all_beside = (
   run_beside (codes "owed-log") refl,
   (run_beside (codes "start-list") refl, (run_beside (codes "restart-list") refl, (run_beside (codes "reload-list") refl, (run_beside (codes "rollback-goal") refl, tt)))),

@@ -2,28 +2,22 @@
 ghost use Rattle.std.specs.Prelude.{◌≡◌, IfOk};
 ghost use Rattle.host_trait.specs.Host.{Told};
 ghost use Rattle.host_trait.specs.Reading.{IsReading};
-ghost use Rattle.store_collect.specs.Unfinished.{is_unfinished, owed_log_place, stands_at_one, unfinished_places};
+ghost use Rattle.store_collect.specs.Unfinished.{is_unfinished, stands_at_one, unfinished_places};
 
 use generations::goal_path;
-use host_trait::{HostFault, Tree, fixed_path};
-use owed_lists::{Which, list_path};
+use host_trait::{HostFault, Tree};
+use log_text::Which;
+use owed_lists::list_path;
+use owed_log::log_path;
 use std::alloc::{AllocError, Global};
 use switch_names::{Listed, Path};
-
-/// Where the log of what is owed stands.
-#[tactic(auto, unfolding(crate::specs::Unfinished::owed_log_place))]
-fn owed_log_path(alloc: Global) -> Result<Path, AllocError>
-    ensures { IfOk result (λ path. path ≡ owed_log_place) }
-{
-    fixed_path(alloc, "run/nixos/owed-log")
-}
 
 /// The places at which a leaf stands while a switch is unfinished.
 fn unfinished_paths(alloc: Global) -> Result<Listed<Path>, AllocError>
     ensures { IfOk result (λ paths. paths ≡ unfinished_places) }
 {
     let mut paths = Listed::new(alloc);
-    paths.push(owed_log_path(alloc)?)?;
+    paths.push(log_path(alloc)?)?;
     paths.push(list_path(alloc, Which::Starts)?)?;
     paths.push(list_path(alloc, Which::Restarts)?)?;
     paths.push(list_path(alloc, Which::Reloads)?)?;

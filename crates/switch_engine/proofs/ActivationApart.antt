@@ -19,6 +19,7 @@ use Rattle.host_trait.specs.Change.{definitions_place}
 use Rattle.host_trait.specs.declared.leaf.LeafKind.TheVariants.{Link}
 use Rattle.host_trait.specs.World.{Leaves, stage}
 use Rattle.owed_lists.specs.Lists.{reloads_place, restarts_place, starts_place}
+use Rattle.owed_log.specs.Places.{log_place}
 use Rattle.owed_plan.specs.Store.{IsInStore}
 use Rattle.switch_names.specs.Names.{Name}
 use Rattle.switch_names.specs.Path.{is_below}
@@ -45,15 +46,15 @@ fails test failed q own = elim (cases_Bool (owns_accounts q)) [
 ]
 
 unread_accounts : AllByRecursion (λ q. reads_units q ≡ false) account_names
-unfolding account_names group_place passwd_place shadow_place groups_place users_place gids_place uids_place stage current_place reloads_place restarts_place starts_place
+unfolding account_names group_place passwd_place shadow_place groups_place users_place gids_place uids_place stage current_place log_place reloads_place restarts_place starts_place
 unread_accounts = (refl, (refl, (refl, (refl, (refl, (refl, (refl, tt)))))))
 
 unread_etc : (q : Name) → reads_units (place q) ≡ false
-unfolding place stage current_place reloads_place restarts_place starts_place
+unfolding place stage current_place log_place reloads_place restarts_place starts_place
 unread_etc q =
     or_from _ _
     (or_from _ _ refl (none_near (codes "etc/" ++ q) unit_places
-    (record { first = refl; second = refl }, (record { first = refl; second = refl }, (record { first = refl; second = refl }, (record { first = refl; second = refl }, (record { first = refl; second = refl }, tt)))))))
+    (record { first = refl; second = refl }, (record { first = refl; second = refl }, (record { first = refl; second = refl }, (record { first = refl; second = refl }, (record { first = refl; second = refl }, (record { first = refl; second = refl }, tt))))))))
     (not_below (codes "etc/" ++ q) (codes "nix/store") refl)
 
 units_unread : (q : Name) → owns_accounts q || owns_farm q ≡ true → reads_units q ≡ false
@@ -88,12 +89,12 @@ not_owns_store q inside = elim (cases_Bool (owns_accounts q || owns_farm q)) [
 -- ---- what an activation looks at
 
 units_accounts : AllByRecursion (λ q. reads_accounts q ≡ false) owned_places
-unfolding current_place reloads_place restarts_place starts_place stage account_names table_places memory_places group_place passwd_place shadow_place groups_place users_place gids_place uids_place is_in_store
-units_accounts = (refl, (refl, (refl, (refl, tt))))
+unfolding current_place log_place reloads_place restarts_place starts_place stage account_names table_places memory_places group_place passwd_place shadow_place groups_place users_place gids_place uids_place is_in_store
+units_accounts = (refl, (refl, (refl, (refl, (refl, tt)))))
 
 units_farm : AllByRecursion (λ q. reads_farm q ≡ false) owned_places
-unfolding current_place reloads_place restarts_place starts_place stage is_in_etc name_of place clean_name static_name is_in_store
-units_farm = (refl, (refl, (refl, (refl, tt))))
+unfolding current_place log_place reloads_place restarts_place starts_place stage is_in_etc name_of place clean_name static_name is_in_store
+units_farm = (refl, (refl, (refl, (refl, (refl, tt)))))
 
 activation_unread : (q : Name) → owns_units q ≡ true → reads_accounts q || reads_farm q ≡ false
 activation_unread q own =

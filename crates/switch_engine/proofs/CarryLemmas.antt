@@ -31,6 +31,9 @@ use Rattle.host_trait.specs.declared.unit_state.State.TheVariants.{Failed, Inact
 use Rattle.host_trait.specs.States.{state_of}
 use Rattle.host_trait.specs.World.{WorldState, bytes_cmp, seen, stage}
 use Rattle.host_trait.proofs.Seen.{get_removed_here}
+use Rattle.log_text.specs.declared.lists.Lists.{Lists}
+use Rattle.owed_log.specs.declared.log_write.LogWrite.{LogWrite}
+use Rattle.owed_log.specs.Writing.{IsWriteFor}
 use Rattle.owed_plan.specs.declared.owed.Owed.{Owed}
 use Rattle.owed_plan.specs.Calls.{calls_of}
 use Rattle.switch_engine.specs.declared.command.Command.{Command}
@@ -72,7 +75,7 @@ use Rattle.unit_stage.proofs.EndLemmas.{one_end}
 use Rattle.unit_stage.proofs.OwnedLemmas.{not_reads_stage}
 use Rattle.unit_stage.proofs.SystemsLemmas.{is_system}
 use Rattle.unit_stage.specs.Units.{units_part}
-use Rattle.unit_stage.proofs.UnitsPartLemmas.{order_same, owed_same}
+use Rattle.unit_stage.proofs.UnitsPartLemmas.{order_same, owed_same, write_there}
 
 -- ---- a command
 
@@ -143,14 +146,16 @@ switches_same switches system w (Some activation) planned = sym planned.0
 
 -- a planned switch of the units can be made where the profile has been set
 pub can_switch : (start_up switches : Bool) (system : Name) → IsSystemPath system → (w u : WorldState) (plan : UnitPlan) (o : Option ActivationPlan) → AreUnitsPlanned start_up switches system w plan → IsActivationPlanned switches system w o →
-    u.manager ≡ w.manager → (switches ≡ true → IsOwedBy start_up u system (owed_of plan)) → (switches ≡ true → IsOrderedAt u.leaves system (owed_of plan) plan.ordered.units) → IsSameFor (activation_in system w.leaves) w u → IsFree (part_if switches (switch_in start_up system u.leaves)) u.leaves → CanSwitchBy system plan o u
-can_switch start_up switches system named w u plan None units planned manager is_owed is_ordered same free = tt
-can_switch start_up switches system named w u plan (Some activation) units planned manager is_owed is_ordered same free =
+    u.manager ≡ w.manager → (switches ≡ true → IsOwedBy start_up u system (owed_of plan)) → (switches ≡ true → IsOrderedAt u.leaves system (owed_of plan) plan.ordered.units) →
+    (switches ≡ true → (lists : Lists) (write : LogWrite) → IsWriteFor w.leaves lists write → IsWriteFor u.leaves lists write) → IsSameFor (activation_in system w.leaves) w u → IsFree (part_if switches (switch_in start_up system u.leaves)) u.leaves → CanSwitchBy system plan o u
+can_switch start_up switches system named w u plan None units planned manager is_owed is_ordered written same free = tt
+can_switch start_up switches system named w u plan (Some activation) units planned manager is_owed is_ordered written same free =
     let of_units : IsUnitPlanOf start_up system w plan = subst (λ b. AreUnitsPlanned start_up b system w plan) planned.0 units in
     record {
       named = named;
       start_up = start_up;
       is_owed = is_owed planned.0;
+      write = written planned.0 plan.recorded plan.write of_units.write;
       in_order = is_ordered planned.0;
       duties = of_units.duties ∙ ap (λ (k : ManagerState). calls_of (owed_of plan) plan.ordered.units (state_of k.states)) (sym manager);
       planned = activation_plan_law system w u activation named same planned.1;
@@ -444,6 +449,10 @@ module _ (command : Command) (owed : Owed) (order : List Name) (w : WorldState) 
       -- and so the same is owed, and the starts are in the same order
       pub owed_still : switches ≡ true → IsOwedBy start_up u system owed
       owed_still switched = owed_same start_up system w u (is_system system carried.named) (units_same switched) owed (carried.is_owed switched)
+
+      -- and the same has to be written to record it
+      pub written_still : switches ≡ true → (lists : Lists) (write : LogWrite) → IsWriteFor w.leaves lists write → IsWriteFor u.leaves lists write
+      written_still switched = write_there start_up system w u (is_system system carried.named) (units_same switched)
 
       pub ordered_still : switches ≡ true → IsOrderedAt u.leaves system owed order
       ordered_still switched = order_same start_up system w u (is_system system carried.named) (units_same switched) owed order (carried.is_ordered switched)

@@ -20,6 +20,7 @@ use Rattle.generations.specs.ProfilePart.{owns_profile, reads_profile}
 use Rattle.generations.proofs.ProfileApart.{owned_fails}
 use Rattle.host_trait.specs.World.{is_in_line, is_path, stage}
 use Rattle.owed_lists.specs.Lists.{reloads_place, restarts_place, starts_place}
+use Rattle.owed_log.specs.Places.{log_place}
 use Rattle.owed_plan.specs.Store.{IsInStore}
 use Rattle.switch_engine.proofs.ActivationApart.{fails}
 use Rattle.switch_engine.proofs.MenuApart.{menu_fails}
@@ -36,8 +37,8 @@ unread : (q : Name) → is_path q goal_place ≡ false → BeginApart q goal_pla
 unread q other apart = or_from _ _ other (or_from _ _ (not_line q goal_place apart) refl)
 
 units_unread : AllByRecursion (λ q. reads_goal q ≡ false) owned_places
-unfolding current_place reloads_place restarts_place starts_place goal_place
-units_unread = (refl, (refl, (refl, (refl, tt))))
+unfolding current_place log_place reloads_place restarts_place starts_place goal_place
+units_unread = (refl, (refl, (refl, (refl, (refl, tt)))))
 
 accounts_unread : AllByRecursion (λ q. reads_goal q ≡ false) account_names
 unfolding account_names group_place passwd_place shadow_place groups_place users_place gids_place uids_place goal_place
@@ -76,7 +77,7 @@ at_goal : (test : Name → Bool) → test goal_place ≡ false → (q : Name) �
 at_goal test is q own = ap test (same_text q goal_place (sym own)) ∙ is
 
 units_apart : reads_units goal_place ≡ false
-unfolding goal_place stage current_place reloads_place restarts_place starts_place
+unfolding goal_place stage current_place log_place reloads_place restarts_place starts_place
 units_apart = refl
 
 accounts_apart : reads_accounts goal_place ≡ false

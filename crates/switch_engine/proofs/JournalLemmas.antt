@@ -1,5 +1,5 @@
 -- At each moment of a command the journal has grown by a beginning of what it enters.
-use Rattle.std.proofs.Common.{◌≡◌, Bool, true, false, List, [], ◌++◌, map, take, drop, append-nil, append_assoc, refl, sym, ap, subst, ◌∙◌, ⊎_elim}
+use Rattle.std.proofs.Common.{◌≡◌, Bool, true, false, List, [], ◌++◌, map, take, drop, append-nil, append_assoc, ◌∷◌, refl, sym, ap, subst, ◌∙◌, inl, inr}
 use Rattle.std.proofs.lemmas.List.{map-append, take-append-drop}
 use Rattle.activation_stage.specs.ActivationPart.{IsActivating}
 use Rattle.activation_stage.specs.ActivationPart.IsActivating.{Making, Setting}
@@ -9,9 +9,11 @@ use Rattle.host_trait.specs.declared.manager_state.ManagerState.{ManagerState}
 use Rattle.host_trait.specs.Manager.{loading}
 use Rattle.host_trait.specs.States.{state_of}
 use Rattle.host_trait.specs.World.{WorldState}
-use Rattle.owed_lists.specs.declared.lists.Lists.{Lists}
-use Rattle.owed_lists.specs.declared.lists.Which.TheVariants.{Reloads, Restarts}
-use Rattle.owed_lists.specs.Record.{IsRecordMoment, with_lists, with_restarts, with_starts}
+use Rattle.log_text.specs.declared.lists.Which.{Which}
+use Rattle.log_text.specs.declared.lists.Which.TheVariants.{Reloads, Restarts, Starts}
+use Rattle.owed_log.specs.declared.log_write.LogWrite.{LogWrite}
+use Rattle.owed_log.specs.Writing.{recorded}
+use Rattle.owed_log.proofs.BesideLemmas.{clearing_manager, record_manager, recorded_manager}
 use Rattle.owed_plan.specs.Calls.{reload_calls, restart_calls, start_calls, stop_calls}
 use Rattle.owed_plan.specs.declared.duty.Duty.{Duty}
 use Rattle.owed_plan.specs.declared.owed.Owed.{Owed}
@@ -24,16 +26,16 @@ use Rattle.switch_engine.specs.Moments.{AreStopped, IsSwitchMoment}
 use Rattle.switch_names.specs.Names.{Name}
 use Rattle.tree_put.specs.Sequence.{with_puts}
 use Rattle.tree_put.proofs.SequenceLemmas.{puts_manager}
-use Rattle.unit_stage.specs.Acts.{IsPerforming, entry_of, performed}
+use Rattle.unit_stage.specs.Acts.{IsPerforming, entry_of, performed, with_calls}
 use Rattle.unit_stage.specs.Acts.IsPerforming.{After, Within}
 use Rattle.unit_stage.specs.End.{entries_of}
 use Rattle.unit_stage.specs.Order.{IsOrderedAt}
 use Rattle.unit_stage.specs.Plan.{IsOwedBy}
-use Rattle.unit_stage.specs.Steps.{IsBringStep, IsGiveMoment, IsStopStep, with_given, with_loaded, with_stops}
+use Rattle.unit_stage.specs.Steps.{IsBringStep, IsClearingMoment, IsGiveMoment, IsListMoment, IsStopStep, with_given, with_loaded, with_stops}
 use Rattle.unit_stage.specs.Steps.IsBringStep.{Giving, Linked, Waiting}
 use Rattle.unit_stage.specs.System.{definitions_of}
 use Rattle.unit_stage.proofs.CallLemmas.{entered, performed-append}
-use Rattle.unit_stage.proofs.StandLemmas.{all_manager, first_manager, second_manager}
+use Rattle.unit_stage.proofs.StandLemmas.{given_manager}
 use Rattle.unit_stage.proofs.StepLemmas.{manager_seen}
 
 -- ---- calls
@@ -81,29 +83,31 @@ made_then calls more before after some = record {
   journal = some.journal ∙ ap (λ (k : ManagerState). k.journal) (sym (performed-append calls some.made before));
 }
 
+made_clearing : (which : Which) (calls : List Duty) (w m : WorldState) → IsClearingMoment which calls w m → HasMade calls w.manager m.manager
+made_clearing which calls w m (inl part) = made_some calls w m part
+made_clearing which calls w m (inr moment) = made_all calls w.manager m.manager (clearing_manager which (with_calls calls w) m moment)
+
+made_listed : (which : Which) (calls : List Duty) (w m : WorldState) → IsListMoment which calls w m → HasMade calls w.manager m.manager
+made_listed which [] w m is = made_none [] w.manager m.manager (ap (λ (x : WorldState). x.manager.journal) is)
+made_listed which (call ∷ calls) w m moment = made_clearing which (call ∷ calls) w m moment
+
 made_grouped : (reloads restarts starts : List Duty) (w m : WorldState) → IsGiveMoment reloads restarts starts w m → HasMade (reloads ++ (restarts ++ starts)) w.manager m.manager
-made_grouped reloads restarts starts w m (IsGiveMoment.Reloading step) = made_more reloads (restarts ++ starts) w.manager m.manager (made_some reloads w m step)
-made_grouped reloads restarts starts w m (IsGiveMoment.Restarting step) =
+made_grouped reloads restarts starts w m (IsGiveMoment.Reloading moment) = made_more reloads (restarts ++ starts) w.manager m.manager (made_listed Reloads reloads w m moment)
+made_grouped reloads restarts starts w m (IsGiveMoment.Restarting moment) =
     made_then reloads (restarts ++ starts) w.manager m.manager
-    (made_more restarts starts (performed reloads w.manager) m.manager (made_some restarts (with_given Reloads reloads w) m step))
-made_grouped reloads restarts starts w m (IsGiveMoment.Starting step) =
-    made_then reloads (restarts ++ starts) w.manager m.manager
-    (made_then restarts starts (performed reloads w.manager) m.manager (made_some starts (with_given Restarts restarts (with_given Reloads reloads w)) m step))
-made_grouped reloads restarts starts w m (IsGiveMoment.Given is) =
+    (made_more restarts starts (performed reloads w.manager) m.manager
+    (subst (λ (k : ManagerState). HasMade restarts k m.manager) (given_manager Reloads reloads w) (made_listed Restarts restarts (with_given Reloads reloads w) m moment)))
+made_grouped reloads restarts starts w m (IsGiveMoment.Starting moment) =
     made_then reloads (restarts ++ starts) w.manager m.manager
     (made_then restarts starts (performed reloads w.manager) m.manager
-    (made_all starts (performed restarts (performed reloads w.manager)) m.manager (ap (λ (x : WorldState). x.manager) is)))
+    (subst (λ (k : ManagerState). HasMade starts k m.manager) (given_manager Restarts restarts (with_given Reloads reloads w) ∙ ap (performed restarts) (given_manager Reloads reloads w))
+    (made_clearing Starts starts (with_given Restarts restarts (with_given Reloads reloads w)) m moment)))
 
 made_giving : (reloads restarts starts : List Duty) (w m : WorldState) → IsGiveMoment reloads restarts starts w m → HasMade (reloads ++ restarts ++ starts) w.manager m.manager
 made_giving reloads restarts starts w m step =
     subst (λ (calls : List Duty). HasMade calls w.manager m.manager) (sym (append_assoc reloads restarts starts)) (made_grouped reloads restarts starts w m step)
 
 -- ---- what changes leaves alone
-
-record_manager : (lists : Lists) (w m : WorldState) → IsRecordMoment lists w m → m.manager ≡ w.manager
-record_manager lists w m step = ⊎_elim (λ none. manager_seen m w none) (λ some. ⊎_elim (λ one. manager_seen m (with_starts lists w) one ∙ first_manager lists w) (λ more. ⊎_elim
-    (λ two. manager_seen m (with_restarts lists w) two ∙ second_manager lists w)
-    (λ all. manager_seen m (with_lists lists w) all ∙ all_manager lists w) more) some) step
 
 activating_manager : (system : Name) (w m : WorldState) → IsActivating system w m → m.manager ≡ w.manager
 activating_manager system w m (Setting step) =
@@ -157,15 +161,14 @@ module _ (system : Name) (owed : Owed) (order : List Name) (w : WorldState) wher
   }
 
   stopped_manager : (u : WorldState) → AreStopped owed w u → u.manager ≡ stopped
-  stopped_manager u is = manager_seen u (with_stops (lists_of owed) stops w) is ∙ ap (performed stops) (all_manager (lists_of owed) w)
+  stopped_manager u is = manager_seen u (with_stops is.0 stops w) is.2 ∙ ap (performed stops) (recorded_manager is.0 w)
 
   grown_stopped : (m : WorldState) → m.manager ≡ stopped → HasGrown (entries_of system owed order w) w.manager m.manager
   grown_stopped m is = grown_stops m.manager (made_all stops w.manager m.manager is)
 
-  stopping : (u : WorldState) → IsStopStep (lists_of owed) stops w u → HasMade stops w.manager u.manager
-  stopping u (IsStopStep.Recording step) = made_none stops w.manager u.manager (ap (λ (k : ManagerState). k.journal) (record_manager (lists_of owed) w u step))
-  stopping u (IsStopStep.Stopping step) =
-      subst (λ (k : ManagerState). HasMade stops k u.manager) (all_manager (lists_of owed) w) (made_some stops (with_lists (lists_of owed) w) u step)
+  stopping : (write : LogWrite) (u : WorldState) → IsStopStep write stops w u → HasMade stops w.manager u.manager
+  stopping write u (IsStopStep.Recording step) = made_none stops w.manager u.manager (ap (λ (k : ManagerState). k.journal) (record_manager write w u step))
+  stopping write u (IsStopStep.Stopping step) = subst (λ (k : ManagerState). HasMade stops k u.manager) (recorded_manager write w) (made_some stops (recorded write w) u step)
 
   bringing : (v u : WorldState) → v.manager ≡ stopped → IsBringStep system (reload_calls owed (state_of w.manager.states)) (restart_calls owed) (start_calls order) v u →
       HasGrown (entries_of system owed order w) w.manager u.manager
@@ -177,8 +180,8 @@ module _ (system : Name) (owed : Owed) (order : List Name) (w : WorldState) wher
       (made_giving (reload_calls owed (state_of w.manager.states)) (restart_calls owed) (start_calls order) (with_loaded system v) u step))
 
   grown : (m : WorldState) → IsSwitchMoment system owed order w m → HasGrown (entries_of system owed order w) w.manager m.manager
-  grown m (IsSwitchMoment.Stopping moment) =
-      subst (λ (k : ManagerState). HasGrown (entries_of system owed order w) w.manager k) (sym (manager_seen m moment.0 moment.2)) (grown_stops moment.0.manager (stopping moment.0 moment.1))
+  grown m (IsSwitchMoment.Stopping write is_write moment) =
+      subst (λ (k : ManagerState). HasGrown (entries_of system owed order w) w.manager k) (sym (manager_seen m moment.0 moment.2)) (grown_stops moment.0.manager (stopping write moment.0 moment.1))
   grown m (IsSwitchMoment.Activating u is step) = grown_stopped m (activating_manager system u m step ∙ stopped_manager u is)
   grown m (IsSwitchMoment.Bringing u v is activated moment) =
       subst (λ (k : ManagerState). HasGrown (entries_of system owed order w) w.manager k) (sym (manager_seen m moment.0 moment.2))

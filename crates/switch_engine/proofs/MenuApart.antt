@@ -16,6 +16,7 @@ use Rattle.etc_clean.specs.Names.{is_in_etc, place}
 use Rattle.etc_farm.specs.FarmPart.{fixed_places, owns_farm, reads_farm}
 use Rattle.host_trait.specs.World.{is_in_line, is_path, stage}
 use Rattle.owed_lists.specs.Lists.{reloads_place, restarts_place, starts_place}
+use Rattle.owed_log.specs.Places.{log_place}
 use Rattle.owed_plan.specs.Store.{IsInStore}
 use Rattle.switch_engine.proofs.ActivationApart.{fails}
 use Rattle.switch_names.specs.Names.{Name}
@@ -50,8 +51,8 @@ away q apart other =
 -- ---- it doesn't look at what a switch owns
 
 units_away : AllByRecursion (λ q. reads_boot q ≡ false) owned_places
-unfolding current_place reloads_place restarts_place starts_place stage loader_path entries_folder is_in_store
-units_away = (away current_place refl refl, (away reloads_place refl refl, (away restarts_place refl refl, (away starts_place refl refl, tt))))
+unfolding current_place log_place reloads_place restarts_place starts_place stage loader_path entries_folder is_in_store
+units_away = (away current_place refl refl, (away log_place refl refl, (away reloads_place refl refl, (away restarts_place refl refl, (away starts_place refl refl, tt)))))
 
 accounts_away : AllByRecursion (λ q. reads_boot q ≡ false) account_names
 unfolding account_names group_place passwd_place shadow_place groups_place users_place gids_place uids_place stage loader_path entries_folder is_in_store
@@ -105,11 +106,11 @@ pub menu_fails : (test : Name → Bool) → ((rest : Name) → test (menu_path r
 menu_fails test each q own = subst (λ x. test x ≡ false) (sym (owned_begins q own)) (each (drop 12 q))
 
 units_apart : (rest : Name) → reads_units (menu_path rest) ≡ false
-unfolding stage current_place reloads_place restarts_place starts_place
+unfolding stage current_place log_place reloads_place restarts_place starts_place
 units_apart rest =
     or_from _ _
     (or_from _ _ refl (none_near (menu_path rest) unit_places
-    (record { first = refl; second = refl }, (record { first = refl; second = refl }, (record { first = refl; second = refl }, (record { first = refl; second = refl }, (record { first = refl; second = refl }, tt)))))))
+    (record { first = refl; second = refl }, (record { first = refl; second = refl }, (record { first = refl; second = refl }, (record { first = refl; second = refl }, (record { first = refl; second = refl }, (record { first = refl; second = refl }, tt))))))))
     (not_below (menu_path rest) (codes "nix/store") refl)
 
 accounts_apart : (rest : Name) → reads_accounts (menu_path rest) ≡ false

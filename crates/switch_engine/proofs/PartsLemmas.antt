@@ -20,6 +20,7 @@ use Rattle.generations.specs.ProfilePart.{owns_profile, reads_profile}
 use Rattle.generations.proofs.ProfileApart.{owned_fails}
 use Rattle.host_trait.specs.World.{Leaves, stage}
 use Rattle.owed_lists.specs.Lists.{reloads_place, restarts_place, starts_place}
+use Rattle.owed_log.specs.Places.{log_place}
 use Rattle.owed_plan.specs.Store.{IsInStore}
 use Rattle.switch_engine.specs.Rows.{default_if, default_part, gens_to, part_if, parts, switch_part}
 use Rattle.switch_engine.proofs.ActivationApart.{activation_apart, not_owns_store, profile_unread, profile_path}
@@ -64,6 +65,10 @@ current_unread : reads_profile current_place ≡ false
 unfolding current_place profiles stage
 current_unread = refl
 
+log_unread : reads_profile log_place ≡ false
+unfolding log_place profiles stage
+log_unread = refl
+
 reloads_unread : reads_profile reloads_place ≡ false
 unfolding reloads_place profiles stage
 reloads_unread = refl
@@ -77,7 +82,7 @@ unfolding starts_place profiles stage
 starts_unread = refl
 
 units_unread : (q : Name) → owns_units q ≡ true → reads_profile q ≡ false
-units_unread q own = each_among (λ x. reads_profile x ≡ false) owned_places (current_unread, (reloads_unread, (restarts_unread, (starts_unread, tt)))) q own
+units_unread q own = each_among (λ x. reads_profile x ≡ false) owned_places (current_unread, (log_unread, (reloads_unread, (restarts_unread, (starts_unread, tt))))) q own
 
 switch_unread : (q : Name) → owns_units q || (owns_accounts q || owns_farm q) ≡ true → reads_profile q ≡ false
 switch_unread q own = elim (cases_Bool (owns_units q)) [
@@ -86,11 +91,11 @@ switch_unread q own = elim (cases_Bool (owns_units q)) [
 ]
 
 units_apart : (rest : Name) → reads_units (profile_path rest) ≡ false
-unfolding stage current_place reloads_place restarts_place starts_place
+unfolding stage current_place log_place reloads_place restarts_place starts_place
 units_apart rest =
     or_from _ _
     (or_from _ _ refl (none_near (profile_path rest) unit_places
-    (record { first = refl; second = refl }, (record { first = refl; second = refl }, (record { first = refl; second = refl }, (record { first = refl; second = refl }, (record { first = refl; second = refl }, tt)))))))
+    (record { first = refl; second = refl }, (record { first = refl; second = refl }, (record { first = refl; second = refl }, (record { first = refl; second = refl }, (record { first = refl; second = refl }, (record { first = refl; second = refl }, tt))))))))
     (not_below (profile_path rest) (codes "nix/store") refl)
 
 profile_apart : (q : Name) → owns_profile q ≡ true → reads_units q || (reads_accounts q || reads_farm q) ≡ false

@@ -1,5 +1,5 @@
 -- All steps of a switch of the units, one after the other: each is a moment of its parts, and the last leaves them at their ends.
-use Rattle.std.proofs.Common.{◌≡◌, Bool, true, false, cond, ◌||◌, List, length, ◌++◌, None, Some, refl, sym, ap, subst, ◌∙◌, inl, inr}
+use Rattle.std.proofs.Common.{◌≡◌, Bool, true, false, cond, ◌||◌, List, [], length, ◌++◌, None, Some, refl, sym, ap, subst, ◌∙◌, inl, inr}
 use Rattle.std.proofs.lemmas.Bool.{both_ways, cases_Bool, or_from}
 use Rattle.std.specs.Cmp.Lexicographic.{same_text}
 use Rattle.std.specs.FinMap.{get}
@@ -10,15 +10,22 @@ use Rattle.etc_manifest.specs.Owners.{OwnerIds}
 use Rattle.host_trait.specs.Change.{definitions_place}
 use Rattle.host_trait.specs.declared.leaf.LeafKind.TheVariants.{Link}
 use Rattle.host_trait.specs.declared.manager_state.ManagerState.{ManagerState}
+use Rattle.host_trait.specs.declared.entry.Act.TheVariants.{Restart}
 use Rattle.host_trait.specs.declared.unit_state.State.{State}
 use Rattle.host_trait.specs.Manager.{loading}
 use Rattle.host_trait.specs.States.{state_of}
 use Rattle.host_trait.specs.World.{WorldState, is_path, seen}
 use Rattle.host_trait.proofs.Seen.{seen_at}
-use Rattle.owed_lists.specs.declared.lists.Which.TheVariants.{Restarts, Reloads}
+use Rattle.log_text.specs.declared.lists.Which.TheVariants.{Restarts, Reloads}
 use Rattle.owed_lists.specs.Lists.{reloads_place, restarts_place, starts_place}
-use Rattle.owed_lists.specs.Record.{with_lists}
-use Rattle.owed_plan.specs.Calls.{reload_calls, restart_calls, start_calls, stop_calls}
+use Rattle.log_text.specs.declared.lists.Lists.{Lists}
+use Rattle.log_text.specs.Lists.{with_list}
+use Rattle.owed_log.specs.declared.log_write.LogWrite.{LogWrite}
+use Rattle.owed_log.specs.Laws.{AreAlone}
+use Rattle.owed_log.specs.Places.{log_place}
+use Rattle.owed_log.specs.Writing.{IsWriteFor, recorded}
+use Rattle.owed_log.proofs.BesideLemmas.{recorded_manager}
+use Rattle.owed_plan.specs.Calls.{reload_act, reload_calls, restart_calls, start_calls, stop_calls}
 use Rattle.owed_plan.specs.declared.duty.Duty.{Duty}
 use Rattle.owed_plan.specs.declared.owed.Owed.{Owed}
 use Rattle.owed_plan.specs.Law.{lists_of}
@@ -37,15 +44,19 @@ use Rattle.unit_stage.specs.Laws.{AreSameBeside}
 use Rattle.unit_stage.specs.Order.{ArrangesStarts}
 use Rattle.unit_stage.specs.Owned.{owns_units}
 use Rattle.unit_stage.specs.Plan.{IsOwedBy}
-use Rattle.unit_stage.specs.Steps.{AreSameUnits, CanBring, IsBringMoment, IsBringStep, IsGiveMoment, IsStopMoment, IsStopStep, IsUnitMoment, with_brought, with_given, with_loaded, with_stops}
+use Rattle.unit_stage.specs.Steps.{AreSameUnits, CanBring, HasLogFor, IsBringMoment, IsBringStep, IsGiveMoment, IsStopMoment, IsStopStep, IsUnitMoment, with_brought, with_loaded, with_stops}
 use Rattle.unit_stage.specs.System.{IsSystem, current_place, definitions_of, system_leaf}
 use Rattle.unit_stage.specs.Units.{AreUnitsKept, units_part}
 use Rattle.unit_stage.proofs.CallLemmas.{same_bad, same_loaded}
-use Rattle.unit_stage.proofs.ElsewhereLemmas.{bring_elsewhere, stop_elsewhere}
-use Rattle.unit_stage.proofs.MomentLemmas.{free_law, underway_law}
-use Rattle.unit_stage.proofs.OwnedLemmas.{not_reads_stage, owned_not_stage}
+use Rattle.unit_stage.proofs.ElsewhereLemmas.{bring_elsewhere, lists_elsewhere, stop_elsewhere}
+use Rattle.unit_stage.proofs.MomentLemmas.{are_named, free_law, underway_law}
+use Rattle.unit_stage.proofs.OwnedLemmas.{not_owns_store, not_reads_stage, owned_not_stage, reads_store}
 use Rattle.unit_stage.proofs.SameLemmas.{same_bringing, units_seen, units_then}
-use Rattle.unit_stage.proofs.StandLemmas.{Stand, all_manager, current_stands, seen_stands, stands, without_reloads, without_restarts, without_starts}
+use Rattle.unit_stage.proofs.CallingLemmas.{lists_left}
+use Rattle.unit_stage.proofs.ComeLemmas.{recorded_alone}
+use Rattle.unit_stage.proofs.GivenLemmas.{Ended, ended, given_all_manager, log_for, none_to_give}
+use Rattle.unit_stage.proofs.ListsLemmas.{alone_same}
+use Rattle.unit_stage.proofs.StandLemmas.{same_lists_of, stored_not_stage}
 use Rattle.unit_stage.proofs.StepLemmas.{all_taken, manager_seen}
 use Rattle.unit_stage.proofs.SystemsLemmas.{is_system}
 use Rattle.unit_stage.proofs.TableLemmas.{all_entered, can_rest, final_states, in_one, ready, started_all}
@@ -67,10 +78,6 @@ module _ (start_up : Bool) (system : Name) (named : IsSystemPath system) (owed :
 
   abbrev states : Name → State
   states = state_of w.manager.states
-
-  -- the world after the stops
-  abbrev stopped_world : WorldState
-  stopped_world = with_stops (lists_of owed) (stop_calls owed) w
 
   system_is : IsSystem system
   system_is = is_system system named
@@ -97,27 +104,34 @@ module _ (start_up : Bool) (system : Name) (named : IsSystemPath system) (owed :
 
   -- ---- the stops
 
-  stop_units : (m : WorldState) → IsStopMoment (lists_of owed) (stop_calls owed) w m → IsMomentOf units w m
-  stop_units m moment =
+  stop_units : (write : LogWrite) → IsWriteFor w.leaves (lists_of owed) write → (m : WorldState) → IsStopMoment write (stop_calls owed) w m → IsMomentOf units w m
+  stop_units write is_write m moment =
       let u = moment.0 in
-      unit_moment_law start_up system owed order w m system_is is_owed arranges (IsUnitMoment.Stopping u moment.1 (units_seen u m moment.2)) (record {
-        leaves = λ q none ne. seen_at m u moment.2 q ne ∙ stop_elsewhere (lists_of owed) (stop_calls owed) w u q none ne moment.1;
+      unit_moment_law start_up system owed order w m system_is is_owed arranges (IsUnitMoment.Stopping write is_write u moment.1 (units_seen u m moment.2)) (record {
+        leaves = λ q none ne. seen_at m u moment.2 q ne ∙ stop_elsewhere write (stop_calls owed) w u q none ne moment.1;
         manager = λ never. absurd (both_ways true never refl);
       })
 
-  stop_moment : (m : WorldState) → IsStopMoment (lists_of owed) (stop_calls owed) w m → IsMomentOf whole w m
-  stop_moment m moment = first_moment units activation units_is activation_is (units_parted start_up system owners) w m (stop_units m moment)
+  stop_moment : (write : LogWrite) → IsWriteFor w.leaves (lists_of owed) write → (m : WorldState) → IsStopMoment write (stop_calls owed) w m → IsMomentOf whole w m
+  stop_moment write is_write m moment = first_moment units activation units_is activation_is (units_parted start_up system owners) w m (stop_units write is_write m moment)
 
   module _ (u : WorldState) (stopped : AreStopped owed w u) where
-    last_stop : IsStopMoment (lists_of owed) (stop_calls owed) w u
+    abbrev write : LogWrite
+    write = stopped.0
+
+    -- the world after the stops
+    abbrev stopped_world : WorldState
+    stopped_world = with_stops write (stop_calls owed) w
+
+    last_stop : IsStopMoment write (stop_calls owed) w u
     last_stop = (
       stopped_world,
-      IsStopStep.Stopping (IsPerforming.After (length (stop_calls owed)) (ap (λ calls. with_calls calls (with_lists (lists_of owed) w)) (sym (all_taken (stop_calls owed))))),
-      stopped,
+      IsStopStep.Stopping (IsPerforming.After (length (stop_calls owed)) (ap (λ calls. with_calls calls (recorded write w)) (sym (all_taken (stop_calls owed))))),
+      stopped.2,
     )
 
     at_stop : IsMomentOf whole w u
-    at_stop = stop_moment u last_stop
+    at_stop = stop_moment write stopped.1 u last_stop
 
     -- ---- the activation
 
@@ -131,7 +145,7 @@ module _ (start_up : Bool) (system : Name) (named : IsSystemPath system) (owed :
 
     pub can_activate : (plan : ActivationPlan) → IsActivationPlanOf system w.leaves plan → CanActivate system plan u
     can_activate plan planned = record {
-      planned = activation_plan_law system w u plan named (only_beside units activation activation_is (units_parted start_up system owners).first refl w u (stop_units u last_stop).only) planned;
+      planned = activation_plan_law system w u plan named (only_beside units activation activation_is (units_parted start_up system owners).first refl w u (stop_units write stopped.1 u last_stop).only) planned;
       free = still_free;
     }
 
@@ -147,14 +161,24 @@ module _ (start_up : Bool) (system : Name) (named : IsSystemPath system) (owed :
 
       -- the units are as they were after the stops
       units_ready : AreSameUnits stopped_world v
-      units_ready = units_then stopped_world u v (units_seen stopped_world u stopped) (record {
+      units_ready = units_then stopped_world u v (units_seen stopped_world u stopped.2) (record {
         leaves = λ q own. activated.end.only.leaves q (not_activated q (units_is.reads_own q own)) (owned_not_stage q own);
         manager = activated.end.only.manager refl;
       })
 
       -- and so is their manager
       ready_manager : v.manager ≡ performed (stop_calls owed) w.manager
-      ready_manager = units_ready.manager ∙ ap (performed (stop_calls owed)) (all_manager (lists_of owed) w)
+      ready_manager = units_ready.manager ∙ ap (performed (stop_calls owed)) (recorded_manager write w)
+
+      -- what is owed stands as it was recorded
+      alone_ready : AreAlone v.leaves (lists_of owed)
+      alone_ready =
+          alone_same stopped_world.leaves v.leaves
+          (λ q inside.
+          at_ready.only.leaves q (or_from _ _ (not_owns_store q inside) (not_activated q (reads_store q inside))) (stored_not_stage q inside)
+          ∙ sym (lists_elsewhere write w q (not_owns_store q inside) (stored_not_stage q inside)))
+          (same_lists_of stopped_world v units_ready) (lists_of owed)
+          (recorded_alone system owed order w write stopped.1 (are_named start_up system is_owed.0 owed w is_owed.1 stopped.1.counted))
 
       -- ---- the system comes into use
 
@@ -175,7 +199,7 @@ module _ (start_up : Bool) (system : Name) (named : IsSystemPath system) (owed :
       bring_units : (m : WorldState) → IsBringing m → AreUnitsKept start_up system w m
       bring_units m moment =
           let there = same_bringing (reload_calls owed states) (restart_calls owed) (start_calls order) system stopped_world v moment.0 units_ready moment.1 in
-          let step : IsUnitMoment system owed order w m = IsUnitMoment.Bringing there.0 there.1 (units_then there.0 moment.0 m there.2 (units_seen moment.0 m moment.2)) in
+          let step : IsUnitMoment system owed order w m = IsUnitMoment.Bringing write stopped.1 there.0 there.1 (units_then there.0 moment.0 m there.2 (units_seen moment.0 m moment.2)) in
           let beside : AreSameBeside w m =
           λ q read none. (all_only m moment).leaves q (or_from _ _ none (not_activated q read)) (λ same. both_ways _ not_reads_stage (subst (λ x. units.reads x ≡ true) same read)) in
           record {
@@ -198,6 +222,8 @@ module _ (start_up : Bool) (system : Name) (named : IsSystemPath system) (owed :
             let clear = all_clear v.leaves (first_free units activation v.leaves (whole_is.stays_free w v at_ready.keeps free)).way in
             record {
               load = record { stage = clear.stage; current = clear.current; defined = defined };
+              reload_log = subst (λ calls. HasLogFor calls v.leaves) (sym reload) (log_for v.leaves (lists_of owed) alone_ready (reload_act states owed.stops) owed.reloads (λ none. ap (λ (l : Lists). l.reloads) none));
+              restart_log = subst (λ calls. HasLogFor calls v.leaves) (sym restart) (log_for v.leaves (lists_of owed) alone_ready (λ unit. Restart) owed.restarts (λ none. ap (λ (l : Lists). l.restarts) none));
               calls =
                   subst (λ (manager : ManagerState). CanPerform (reloads ++ restarts ++ starts) (loading (definitions_of system) manager)) (sym ready_manager)
                   (subst (λ calls. CanPerform calls (ready owed (definitions_of system) w.manager)) (λ i. sym reload i ++ sym restart i ++ sym start i)
@@ -218,20 +244,15 @@ module _ (start_up : Bool) (system : Name) (named : IsSystemPath system) (owed :
           last_step : IsBringing d
           last_step = (
             with_brought system (reload_calls owed states) (restart_calls owed) (start_calls order) v,
-            IsBringStep.Giving (IsGiveMoment.Given refl),
+            IsBringStep.Giving (IsGiveMoment.Starting (inr (inr (inl refl)))),
             brought ∙ (λ i. seen (with_brought system (reload i) (restart i) (start i) v)),
           )
 
-          at_end : Stand d.leaves (Some (system_leaf system)) None None None
-          at_end =
-              let loaded = with_loaded system v in
-              let one = with_given Reloads reloads loaded in
-              let two = with_given Restarts restarts one in
-              let first = stands v.leaves in
-              let linked = current_stands v _ _ _ _ first system in
-              let without = without_reloads loaded.leaves _ _ _ _ linked in
-              let without_two = without_restarts one.leaves _ _ _ _ without in
-              seen_stands (with_brought system reloads restarts starts v) _ _ _ _ (without_starts two.leaves _ _ _ _ without_two) d brought
+          at_end : Ended system d.leaves
+          at_end = ended system reloads restarts starts v d (lists_of owed)
+              (subst (λ calls. calls ≡ [] → with_list (lists_of owed) Reloads [] ≡ lists_of owed) (sym reload) (none_to_give (reload_act states owed.stops) owed.reloads (λ names. lists_left owed.starts owed.restarts names)))
+              (subst (λ calls. calls ≡ [] → with_list (lists_left owed.starts owed.restarts []) Restarts [] ≡ lists_left owed.starts owed.restarts []) (sym restart) (none_to_give (λ unit. Restart) owed.restarts (λ names. lists_left owed.starts names [])))
+              alone_ready can_bring brought
 
           -- an owned place is at its end
           owned_end : (q : Name) → owns_units q ≡ true → get d.leaves q ≡ cond (is_path q current_place) (Some (system_leaf system)) None
@@ -239,21 +260,18 @@ module _ (start_up : Bool) (system : Name) (named : IsSystemPath system) (owed :
             | inl is_current ↦
                 ap (get d.leaves) (same_text q current_place (sym is_current)) ∙ at_end.current
                 ∙ sym (ap (λ b. cond b (Some (system_leaf system)) None) is_current)
-            | inr other ↦ lists_gone (sym (ap (λ b. b || (is_path q reloads_place || (is_path q restarts_place || (is_path q starts_place || false)))) other) ∙ own)
+            | inr other ↦ lists_gone (sym (ap (λ b. b || (is_path q log_place || (is_path q reloads_place || (is_path q restarts_place || (is_path q starts_place || false))))) other) ∙ own)
                 ∙ sym (ap (λ b. cond b (Some (system_leaf system)) None) other)
           ]
             where
-              lists_gone : is_path q reloads_place || (is_path q restarts_place || (is_path q starts_place || false)) ≡ true → get d.leaves q ≡ None
-              lists_gone one = elim (cases_Bool (is_path q reloads_place)) [
-                | inl is_reloads ↦ ap (get d.leaves) (same_text q reloads_place (sym is_reloads)) ∙ at_end.reloads
-                | inr no_reloads ↦ elim (cases_Bool (is_path q restarts_place)) [
-                  | inl is_restarts ↦ ap (get d.leaves) (same_text q restarts_place (sym is_restarts)) ∙ at_end.restarts
-                  | inr no_restarts ↦ elim (cases_Bool (is_path q starts_place)) [
-                    | inl is_starts ↦ ap (get d.leaves) (same_text q starts_place (sym is_starts)) ∙ at_end.starts
-                    | inr no_starts ↦ absurd (both_ways _ (λ i. no_reloads i || (no_restarts i || (no_starts i || false))) one)
-                  ]
-                ]
+              gone_at_place : (p : Name) (rest : Bool) → get d.leaves p ≡ None → (rest ≡ true → get d.leaves q ≡ None) → is_path q p || rest ≡ true → get d.leaves q ≡ None
+              gone_at_place p rest none others one = elim (cases_Bool (is_path q p)) [
+                | inl is ↦ ap (get d.leaves) (same_text q p (sym is)) ∙ none
+                | inr other ↦ others (sym (ap (λ b. b || rest) other) ∙ one)
               ]
+
+              lists_gone : is_path q log_place || (is_path q reloads_place || (is_path q restarts_place || (is_path q starts_place || false))) ≡ true → get d.leaves q ≡ None
+              lists_gone = gone_at_place log_place _ at_end.log (gone_at_place reloads_place _ at_end.old.reloads (gone_at_place restarts_place _ at_end.old.restarts (gone_at_place starts_place _ at_end.old.starts (λ never. absurd (both_ways false refl never)))))
 
           -- a place of the activation is at the end that it had from the beginning
           activated_end : (q : Name) → owns_units q ≡ false → activation.owns q ≡ true → get d.leaves q ≡ activation.end w.leaves q
@@ -276,7 +294,7 @@ module _ (start_up : Bool) (system : Name) (named : IsSystemPath system) (owed :
               let text = definitions_of system in
               let rest = reload_calls owed states ++ restart_calls owed ++ start_calls order in
               let manager : d.manager ≡ started_all owed text w.manager order =
-              manager_seen d (with_brought system reloads restarts starts v) brought
+              manager_seen d (with_brought system reloads restarts starts v) brought ∙ given_all_manager reloads restarts starts (with_loaded system v)
               ∙ (λ i. performed (start i) (performed (restart i) (performed (reload i) (loading text (ready_manager i))))) in
               let all = manager ∙ in_one owed text w.manager order in
               record {
@@ -292,6 +310,6 @@ module _ (start_up : Bool) (system : Name) (named : IsSystemPath system) (owed :
   -- ---- each moment of a switch of the units is one of its parts
 
   pub switch_part_moment : (m : WorldState) → IsSwitchMoment system owed order w m → IsMomentOf whole w m
-  switch_part_moment m (IsSwitchMoment.Stopping moment) = stop_moment m moment
+  switch_part_moment m (IsSwitchMoment.Stopping write is_write moment) = stop_moment write is_write m moment
   switch_part_moment m (IsSwitchMoment.Activating u stopped moment) = activate_moment u stopped m moment
   switch_part_moment m (IsSwitchMoment.Bringing u v stopped activated moment) = bring_moment u stopped v activated m moment

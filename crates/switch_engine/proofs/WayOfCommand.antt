@@ -17,7 +17,7 @@ use Rattle.switch_engine.specs.Moments.{IsClearStep, IsMomentOf, record_world}
 use Rattle.switch_engine.specs.Plan.{ArePlanned, IsPlanOf}
 use Rattle.switch_engine.specs.Rows.{gens_to}
 use Rattle.generations.specs.declared.moving.Move.{Move}
-use Rattle.switch_engine.proofs.CarryLemmas.{IsCarriedFrom, activation_same, can_record, can_set, can_switch, carried_from, clear_moment, ends, moves_same, none_failed, only_goal, ordered_still, owed_still, planned_parts, record_free, record_moment, same_manager, set_free, set_moment, switch_free, switch_moment, switches_same, verdict}
+use Rattle.switch_engine.proofs.CarryLemmas.{IsCarriedFrom, activation_same, can_record, can_set, can_switch, carried_from, clear_moment, ends, moves_same, none_failed, only_goal, ordered_still, written_still, owed_still, planned_parts, record_free, record_moment, same_manager, set_free, set_moment, switch_free, switch_moment, switches_same, verdict}
 use Rattle.switch_engine.proofs.FlagLemmas.{changes_on, switches_on}
 use Rattle.switch_engine.proofs.LawLemmas.{begins_moment}
 use Rattle.switch_engine.proofs.WayOfSwitch.{leads_both}
@@ -128,6 +128,7 @@ module _ (plan : Plan) (changes : IsQuery plan.command → ⊥) {a : HostState} 
               (can_switch (starts w) (switches w) (named w) from_w.named w u plan.units plan.activation (parts w is).units (parts w is).activation
               (same_manager plan.command owed order w from_w at.recorded at.is_recorded u at.is_set) (owed_still plan.command owed order w from_w at.recorded at.is_recorded u at.is_set)
               (ordered_still plan.command owed order w from_w at.recorded at.is_recorded u at.is_set)
+              (written_still plan.command owed order w from_w at.recorded at.is_recorded u at.is_set)
               (activation_same plan.command owed order w from_w at.recorded at.is_recorded u at.is_set) (switch_free plan.command owed order w from_w at.recorded at.is_recorded u at.is_set)))
 
           moment_as : (w u m : WorldState) → a.world ≡ Some w → IsSwitchMomentIf by last owed order u m → IsSwitchMomentIf (switches w) (named w) owed order u m

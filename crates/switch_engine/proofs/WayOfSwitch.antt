@@ -7,8 +7,13 @@ use Rattle.host_trait.specs.Host.{HostState, Told, Comes, Leads, Passes}
 use Rattle.host_trait.specs.States.{state_of}
 use Rattle.host_trait.specs.World.{WorldState, seen}
 use Rattle.host_trait.proofs.Moments.{goes_on, leads_as, leads_then, one_world, passes_as, told_after, told_as}
-use Rattle.owed_lists.specs.declared.lists.Lists.{Lists}
-use Rattle.owed_lists.specs.Record.{CanRecord}
+use Rattle.owed_log.specs.declared.log_write.LogWrite.{LogWrite}
+use Rattle.log_text.specs.declared.lists.Lists.{Lists}
+use Rattle.owed_log.specs.declared.log_write.LogWrite.TheVariants.{Nothing, Append, Put}
+use Rattle.owed_log.specs.Places.{log_place}
+use Rattle.owed_log.specs.Writing.{CanWrite, IsPrepared, IsWriteFor}
+use Rattle.tree_put.specs.Put.{CanPut}
+use Rattle.owed_log.proofs.MomentLemmas.{prepared_law}
 use Rattle.owed_plan.specs.Calls.{calls_of}
 use Rattle.owed_plan.specs.declared.duty.Duty.{Duty}
 use Rattle.owed_plan.specs.declared.owed.Owed.{Owed}
@@ -36,13 +41,19 @@ leads_both {b = b} {P = P} first second R both = record {
       (two.0, two.1, both w two.0 (subst (λ v. P w v) (one_world b.world one.0 two.0 one.1 two.1) one.2) two.2);
 }
 
+-- what has to be written can be, where nothing is in the way of the log
+can_write : (w : WorldState) (lists : Lists) (write : LogWrite) → CanPut log_place w → IsPrepared w.leaves lists write → CanWrite write w
+can_write w lists Nothing free prepared = tt
+can_write w lists (Append text) free prepared = (prepared_law w.leaves lists text prepared).0
+can_write w lists (Put text) free prepared = free
+
 -- the world in which the system can come into use
 record IsReady (system : Name) (owed : Owed) (w v : WorldState) : Type 0 where
   stopped : WorldState
   came : AreStopped owed w stopped
   activated : HasActivated system stopped v
 
-module _ (system : Name) (plan : UnitPlan) (activation : ActivationPlan) (lists : Lists) (stops reloads restarts starts : List Duty) (recorded : lists ≡ lists_of (owed_of plan))
+module _ (system : Name) (plan : UnitPlan) (activation : ActivationPlan) (write : LogWrite) (stops reloads restarts starts : List Duty) (is_write : write ≡ plan.write)
     (calls : (states : Name → State) → plan.duties ≡ calls_of (owed_of plan) plan.ordered.units states → AreCallsOf (owed_of plan) plan.ordered.units states stops reloads restarts starts)
     {a : HostState} (can : Told a (CanSwitch system plan activation)) where
   abbrev owed : Owed
@@ -57,24 +68,27 @@ module _ (system : Name) (plan : UnitPlan) (activation : ActivationPlan) (lists 
   calls_at : (w : WorldState) → a.world ≡ Some w → AreCallsOf owed order (state_of w.manager.states) stops reloads restarts starts
   calls_at w is = calls (state_of w.manager.states) (can.has w is).duties
 
-  pub lists_can : Told a CanRecord
-  lists_can = told_as can CanRecord (λ w is known.
+  write_at : (w : WorldState) → a.world ≡ Some w → IsWriteFor w.leaves (lists_of owed) write
+  write_at w is = subst (IsWriteFor w.leaves (lists_of owed)) (sym is_write) (can.has w is).write
+
+  pub write_can : Told a (CanWrite write)
+  write_can = told_as can (CanWrite write) (λ w is known.
       let clear = all_clear w.leaves (first_free (units_part known.start_up system) (activation_in system w.leaves) w.leaves known.free).way in
-      record { stage = clear.stage; starts = clear.starts; restarts = clear.restarts; reloads = clear.reloads })
+      can_write w (lists_of owed) write (record { stage = clear.stage; place = clear.log }) (write_at w is).prepared)
 
   pub stops_can : Told a (λ w. CanPerform stops w.manager)
   stops_can = told_as can (λ w. CanPerform stops w.manager) (λ w is known. subst (λ calls. CanPerform calls w.manager) (sym (calls_at w is).are_stops) (can_stops owed w.manager))
 
-  module _ {b : HostState} (stop_way : Passes a b (IsStopMoment lists stops)) where
-    stop_as : (w m : WorldState) → a.world ≡ Some w → IsStopMoment lists stops w m → IsSwitchMoment system owed order w m
-    stop_as w m is moment = IsSwitchMoment.Stopping (subst (λ calls. IsStopMoment (lists_of owed) calls w m) (calls_at w is).are_stops (subst (λ l. IsStopMoment l stops w m) recorded moment))
+  module _ {b : HostState} (stop_way : Passes a b (IsStopMoment write stops)) where
+    stop_as : (w m : WorldState) → a.world ≡ Some w → IsStopMoment write stops w m → IsSwitchMoment system owed order w m
+    stop_as w m is moment = IsSwitchMoment.Stopping write (write_at w is) (subst (λ calls. IsStopMoment write calls w m) (calls_at w is).are_stops moment)
 
     pub first_way : Passes a b (IsSwitchMoment system owed order)
     first_way = passes_as stop_way (IsSwitchMoment system owed order) stop_as
 
-    module _ (stopped : Comes a b (with_stops lists stops)) where
+    module _ (stopped : Comes a b (with_stops write stops)) where
       came : Leads a b (AreStopped owed)
-      came = leads_as stopped (AreStopped owed) (λ w u is is_u. is_u ∙ (λ i. seen (with_stops (recorded i) ((calls_at w is).are_stops i) w)))
+      came = leads_as stopped (AreStopped owed) (λ w u is is_u. (write, write_at w is, is_u ∙ (λ i. seen (with_stops write ((calls_at w is).are_stops i) w))))
 
       pub activation_can : Told b (CanActivate system activation)
       activation_can =

@@ -9,6 +9,7 @@ use Rattle.generations.specs.declared.moving.Move.TheVariants.{Point, Set}
 use Rattle.generations.specs.Goal.{goal_place}
 use Rattle.host_trait.specs.States.{state_of}
 use Rattle.host_trait.specs.World.{WorldState, seen, without_leaf}
+use Rattle.owed_log.specs.Writing.{IsWriteFor}
 use Rattle.owed_plan.specs.declared.owed.Owed.{Owed}
 use Rattle.owed_plan.specs.Calls.{calls_of}
 use Rattle.switch_engine.specs.Moments.{IsRecordStep, IsSetStep, IsSwitchMoment, IsSwitched, record_world, set_world}
@@ -36,12 +37,13 @@ abbrev pub CanSetBy : Name → Option BootDefaultPlan → WorldState → Type 0
 CanSetBy system None w = Unit {0}
 CanSetBy system (Some plan) w = CanMakeDefault system plan w
 
--- what is owed, as the machine starts up or later, the starts in order and the calls of a plan are those of this world, and so is the
--- activation, and nothing is in the way
+-- what is owed, as the machine starts up or later, what has to be written to record it, the starts in order and the calls of a plan are
+-- those of this world, and so is the activation, and nothing is in the way
 pub record CanSwitch (system : Name) (plan : UnitPlan) (activation : ActivationPlan) (w : WorldState) : Type 0 where
   pub named : IsSystemPath system
   pub start_up : Bool
   pub is_owed : IsOwedBy start_up w system (owed_of plan)
+  pub write : IsWriteFor w.leaves plan.recorded plan.write
   pub in_order : IsOrderedAt w.leaves system (owed_of plan) plan.ordered.units
   pub duties : plan.duties ≡ calls_of (owed_of plan) plan.ordered.units (state_of w.manager.states)
   pub planned : IsActivationPlanOf system w.leaves activation

@@ -11,6 +11,8 @@ use Rattle.generations.specs.Places.{Names}
 use Rattle.generations.specs.Set.{NamesOldOrNew}
 use Rattle.host_trait.specs.States.{state_of}
 use Rattle.host_trait.specs.World.{WorldState, seen, stage, with_leaf}
+use Rattle.owed_log.specs.declared.log_write.LogWrite.{LogWrite}
+use Rattle.owed_log.specs.Writing.{IsWriteFor}
 use Rattle.owed_plan.specs.Calls.{reload_calls, restart_calls, start_calls, stop_calls}
 use Rattle.owed_plan.specs.declared.owed.Owed.{Owed}
 use Rattle.owed_plan.specs.Law.{lists_of}
@@ -26,19 +28,19 @@ use Rattle.unit_stage.specs.Order.{IsOrderedAt}
 use Rattle.unit_stage.specs.Plan.{IsOwedBy}
 use Rattle.unit_stage.specs.Steps.{IsBringMoment, IsStopMoment, with_stops}
 
--- but for the stage, the world in which what is owed is on the lists, and units have been stopped
+-- but for the stage, the world in which what is owed is recorded, and units have been stopped
 abbrev pub AreStopped : Owed → WorldState → WorldState → Type 0
-AreStopped owed w u = seen u ≡ seen (with_stops (lists_of owed) (stop_calls owed) w)
+AreStopped owed w u = (write : LogWrite) × IsWriteFor w.leaves (lists_of owed) write × (seen u ≡ seen (with_stops write (stop_calls owed) w))
 
 -- an activation has come to its end, which is its last moment
 pub record HasActivated (system : Name) (u v : WorldState) : Type 0 where
   pub moment : IsActivating system u v
   pub end : IsActivated system u v
 
--- A moment of a switch of the units is one of three: the lists are being recorded and units stopped, the accounts are being
+-- A moment of a switch of the units is one of three: what is owed is being recorded and units stopped, the accounts are being
 -- set and /etc is being made, or the system comes into use and units are reloaded, restarted and, in this order, started.
 pub data IsSwitchMoment (system : Name) (owed : Owed) (order : List Name) (w m : WorldState) : Type 0 where
-  Stopping : IsStopMoment (lists_of owed) (stop_calls owed) w m → IsSwitchMoment system owed order w m
+  Stopping : (write : LogWrite) → IsWriteFor w.leaves (lists_of owed) write → IsStopMoment write (stop_calls owed) w m → IsSwitchMoment system owed order w m
   Activating : (u : WorldState) → AreStopped owed w u → IsActivating system u m → IsSwitchMoment system owed order w m
   Bringing : (u v : WorldState) → AreStopped owed w u → HasActivated system u v →
       IsBringMoment system (reload_calls owed (state_of w.manager.states)) (restart_calls owed) (start_calls order) v m → IsSwitchMoment system owed order w m

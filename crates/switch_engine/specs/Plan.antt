@@ -8,6 +8,7 @@ use Rattle.generations.specs.declared.gens.Gens.{Gens}
 use Rattle.generations.specs.declared.moving.Move.{Move}
 use Rattle.generations.specs.Gens.{IsGensOf}
 use Rattle.host_trait.specs.World.{Leaves, WorldState}
+use Rattle.owed_log.specs.Writing.{IsFilled}
 use Rattle.switch_engine.specs.declared.plan.Plan.{Plan}
 use Rattle.switch_engine.specs.declared.row.Row.{Row}
 use Rattle.switch_engine.specs.Commands.{row}
@@ -48,9 +49,10 @@ pub record ArePlanned (its : Row) (w : WorldState) (plan : Plan) : Type 0 where
   pub profile : IsProfilePlanned its.moves its.system w plan.profile
 
 -- where the profile is moved, the number is the one that its generations give the system, and the entries of the boot menu
--- are put at places of entries
-abbrev pub IsSound : Plan → Type 0
-IsSound plan = (profile : BootDefaultPlan) → plan.profile ≡ Some profile → IsDefaultFor plan.row.system profile
+-- are put at places of entries; and what is appended to record what is owed has bytes
+pub record IsSound (plan : Plan) : Type 0 where
+  pub default : (profile : BootDefaultPlan) → plan.profile ≡ Some profile → IsDefaultFor plan.row.system profile
+  pub filled : IsFilled plan.units.write
 
 -- the plan of a command that isn't refused
 pub record IsPlanOf (w : WorldState) (plan : Plan) : Type 0 where

@@ -7,6 +7,7 @@ ghost use Rattle.boot_entries.specs.declared.boot_default.BootDefaultPlan.{BootD
 ghost use Rattle.generations.specs.Goal.{goal_leaf, goal_place};
 ghost use Rattle.host_trait.specs.World.{WorldState, seen, with_leaf};
 ghost use Rattle.host_trait.specs.Host.{Told, Leads, Comes, Passes, HasCause};
+ghost use Rattle.owed_log.specs.Writing.{IsFilled};
 ghost use Rattle.switch_engine.specs.Carried.{CanRecordBy, CanSetBy, CanSwitch, CanSwitchBy, IsPrepared, IsPreparing, IsSwitchMomentIf, IsSwitchedIf, cleared_by, moves_of};
 ghost use Rattle.switch_engine.specs.Commands.{IsBoot, IsQuery};
 ghost use Rattle.switch_engine.specs.Final.{HasFailed, IsEndOf, LeavesFailed};
@@ -87,13 +88,14 @@ fn switch_units<H: Manager>(
     current: &Leaf,
 ) -> Result<(), HostFault>
     requires can { Told (H.host host.old) (CanSwitch system.now plan.now activation.now) }
+    requires filled { IsFilled plan.now.write }
     requires current { current.now ≡ system_leaf system.now }
     ensures ok { OnOk result (Leads (H.host host.old) (H.host host.new) (IsSwitched system.now (owed_of plan.now) plan.now.ordered.units)) }
     ensures moments { Passes (H.host host.old) (H.host host.new) (IsSwitchMoment system.now (owed_of plan.now) plan.now.ordered.units) }
     ensures cause { HasCause (H.host host.old) (H.host host.new) result }
 {
     let calls = calls_of(plan);
-    stop_units(alloc, host, plan.recorded(), calls.stops)?;
+    stop_units(alloc, host, plan.write(), calls.stops)?;
     activate(alloc, host, system, activation)?;
     bring_units(alloc, host, system, current, calls)?;
     Ok(())
@@ -109,6 +111,7 @@ fn carry_switch<H: Manager>(
     current: &Leaf,
 ) -> Result<Outcome, HostFault>
     requires can { Told (H.host host.old) (CanSwitch system.now plan.now activation.now) }
+    requires filled { IsFilled plan.now.write }
     requires current { current.now ≡ system_leaf system.now }
     ensures ok { OnOk result (Leads (H.host host.old) (H.host host.new) (IsSwitched system.now (owed_of plan.now) plan.now.ordered.units)) }
     ensures states { IfOk result (λ outcome. Told (H.host host.new) (λ v. outcome.states ≡ v.manager.states)) }
@@ -133,6 +136,7 @@ fn carry_units<H: Manager>(
     current: &Leaf,
 ) -> Result<Outcome, HostFault>
     requires can { Told (H.host host.old) (CanSwitchBy system.now plan.now (option_copied activation)) }
+    requires filled { IsFilled plan.now.write }
     requires current { current.now ≡ system_leaf system.now }
     ensures ok { OnOk result (Leads (H.host host.old) (H.host host.new) (IsSwitchedIf (is_some (option_copied activation.entry)) system.now (owed_of plan.now) plan.now.ordered.units)) }
     ensures states { IfOk result (λ outcome. IsTrue (is_some (option_copied activation.entry)) → Told (H.host host.new) (λ v. outcome.states ≡ v.manager.states)) }
@@ -204,9 +208,9 @@ fn prepare<T: Tree>(
 /// A rollback records its goal first. A set of the profile makes the generation where it is new, and then points
 /// the profile to it, as a rollback does to one that stands; both then make the boot menu: it puts the entries of
 /// the generations that name systems, then what the boot loader reads first, and removes the entries of
-/// generations that don't stand. A switch of the units records the lists, stops units, sets the accounts, makes
+/// generations that don't stand. A switch of the units records what it owes, stops units, sets the accounts, makes
 /// `/etc`, puts the link to the new system, loads its definitions, and reloads, restarts and starts units. Each
-/// list goes after the last of its calls. A command that does both moves the profile and makes the boot menu
+/// list is cleared after the last of its calls. A command that does both moves the profile and makes the boot menu
 /// first. One that moves the profile removes the goal of a rollback last. What each leaves is kept beyond a loss of
 /// power before it answers `Ok`.
 /// Source: NixOS manual, "What happens during a system switch?"; Boot Loader Specification, "Type #1 Boot

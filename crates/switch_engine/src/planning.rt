@@ -8,6 +8,7 @@ ghost use Rattle.generations.specs.Gens.{IsGensOf};
 ghost use Rattle.host_trait.specs.declared.tree.HostFault.TheVariants.{Device};
 ghost use Rattle.host_trait.specs.Host.{Told};
 ghost use Rattle.host_trait.specs.Reading.{IsReading, IsReadingOf};
+ghost use Rattle.owed_log.specs.Writing.{IsFilled};
 ghost use Rattle.switch_engine.specs.Commands.{switched_by};
 ghost use Rattle.switch_engine.specs.Owing.{IsSteadyFor, IsSteadyTo};
 ghost use Rattle.switch_engine.specs.Plan.{AreGensBy, ArePlanned, AreUnitsPlanned, IsActivationPlanned, IsPlanOf, IsProfilePlanned, IsSound};
@@ -75,6 +76,7 @@ fn check_places<T: Tree>(
 /// Plans what a command does to the units, or nothing where it doesn't switch them.
 fn plan_switch<H: Manager>(alloc: Global, host: &mut H, row: &Row) -> Result<UnitPlan, PlanFault>
     ensures plan { IfOk result (λ plan. Told (H.host host.old) (λ w. AreUnitsPlanned row.now.start_up row.now.switches row.now.system w plan)) }
+    ensures filled { IfOk result (λ plan. IsFilled plan.write) }
     ensures steady { IfOk result (λ plan. Told (H.host host.old) (λ w. IsTrue plan.steady ↔ IsSteadyTo row.now.start_up (switched_by row.now) w)) }
     ensures not_refused { OnOk result (Told (H.host host.old) (λ w. (part_if row.now.switches (units_part row.now.start_up row.now.system)).refusal w.leaves ≡ None)) }
     ensures refused { (why : Refusal) → IsErrOf result (Refused why)

@@ -2,7 +2,7 @@
 use Rattle.std.proofs.Common.{◌≡◌, ◌⊎◌, ℕ, Bool, false, List, [], ◌∷◌, Option, None, Some, sym, ap, subst, ◌∙◌, inl, inr, ⊎_elim}
 use Rattle.host_trait.specs.States.{UnitStates, state_of}
 use Rattle.host_trait.specs.World.{WorldState}
-use Rattle.owed_lists.specs.declared.lists.Lists.{Lists}
+use Rattle.log_text.specs.declared.lists.Lists.{Lists}
 use Rattle.owed_lists.proofs.ListLemmas.{one_list}
 use Rattle.owed_plan.specs.declared.owed.Owed.{Owed}
 use Rattle.owed_plan.specs.FinalStates.{final_state}

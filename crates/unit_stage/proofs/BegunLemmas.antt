@@ -6,10 +6,9 @@ use Rattle.host_trait.specs.declared.entry.Act.{Act}
 use Rattle.host_trait.specs.declared.manager_state.ManagerState.{ManagerState}
 use Rattle.host_trait.specs.declared.unit_state.State.{State}
 use Rattle.host_trait.specs.States.{state_of}
-use Rattle.host_trait.specs.World.{WorldState, content_of}
-use Rattle.owed_lists.specs.declared.lists.Lists.{Lists}
-use Rattle.owed_lists.specs.Lists.{names_in, reloads_place, restarts_place, starts_place}
-use Rattle.owed_lists.specs.Lists as stand_as
+use Rattle.host_trait.specs.World.{WorldState}
+use Rattle.log_text.specs.declared.lists.Lists.{Lists}
+use Rattle.owed_log.specs.Standing.{AreListsAt}
 use Rattle.owed_plan.specs.declared.owed.Owed.{Owed}
 use Rattle.owed_plan.specs.FinalStates.{final_state}
 use Rattle.owed_plan.specs.Owed.{IsOwed}
@@ -24,12 +23,12 @@ use Rattle.unit_stage.specs.System.{IsSystem, current_place, current_system, def
 use Rattle.unit_stage.specs.Units.{AreUnitsFree, AreUnitsUnderway}
 use Rattle.unit_stage.specs.Waiting.{AreListsFor, waits_besides}
 use Rattle.unit_stage.proofs.EndLemmas.{ends_same, one_end, owed_in}
-use Rattle.unit_stage.proofs.StandLemmas.{Stand}
-use Rattle.unit_stage.proofs.SystemsLemmas.{same_content, systems_before}
+use Rattle.unit_stage.proofs.ListsLemmas.{lists_back}
+use Rattle.unit_stage.proofs.SystemsLemmas.{systems_before}
 use Rattle.unit_stage.proofs.WaitingLemmas.{besides_same}
 
-module _ (start_up : Bool) (system : Name) (is_system : IsSystem system) (w m : WorldState) (same : AreSameBeside w m)
-    (stand : Stand m.leaves (get w.leaves current_place) (get w.leaves starts_place) (get w.leaves restarts_place) (get w.leaves reloads_place)) (manager : m.manager ≡ w.manager) where
+module _ (start_up : Bool) (system : Name) (is_system : IsSystem system) (w m : WorldState) (same : AreSameBeside w m) (current : get m.leaves current_place ≡ get w.leaves current_place)
+    (forth : (lists : Lists) → AreListsAt w.leaves lists → AreListsAt m.leaves lists) (manager : m.manager ≡ w.manager) where
   abbrev before : Systems
   before = systems_at w.leaves (current_system w.leaves) system
 
@@ -37,38 +36,29 @@ module _ (start_up : Bool) (system : Name) (is_system : IsSystem system) (w m : 
   after = systems_at m.leaves (current_system m.leaves) system
 
   systems : after ≡ before
-  systems = systems_before system is_system w m same stand.current
+  systems = systems_before system is_system w m same current
 
   -- ---- the same lists stand
 
-  abbrev Lists_at : Option (List ℕ) → List Name → Type 0
-  Lists_at content names = stand_as.IsListOf content names
-
-  starts : content_of m.leaves starts_place ≡ content_of w.leaves starts_place
-  starts = same_content w m same starts_place stand.starts
-
-  restarts : content_of m.leaves restarts_place ≡ content_of w.leaves restarts_place
-  restarts = same_content w m same restarts_place stand.restarts
-
-  reloads : content_of m.leaves reloads_place ≡ content_of w.leaves reloads_place
-  reloads = same_content w m same reloads_place stand.reloads
-
-  waits_same : (unit : Name) →
-      (waits_besides start_up m.leaves system unit || has (names_in (content_of m.leaves starts_place)) unit) ≡ (waits_besides start_up w.leaves system unit || has (names_in (content_of w.leaves starts_place)) unit)
-  waits_same unit = λ i. besides_same start_up m.leaves w.leaves (current_system m.leaves) (current_system w.leaves) system systems unit i || has (names_in (starts i)) unit
+  waits_same : (unit : Name) → waits_besides start_up m.leaves system unit ≡ waits_besides start_up w.leaves system unit
+  waits_same unit = besides_same start_up m.leaves w.leaves (current_system m.leaves) (current_system w.leaves) system systems unit
 
   listed_before : (lists : Lists) → AreListsFor start_up m.leaves system lists → AreListsFor start_up w.leaves system lists
   listed_before lists listed = record {
-    starts = record { sorted = listed.starts.sorted; exact = λ unit. listed.starts.exact unit ∙ waits_same unit };
-    restarts = subst (λ content. Lists_at content lists.restarts) restarts listed.restarts;
-    reloads = subst (λ content. Lists_at content lists.reloads) reloads listed.reloads;
+    stored = listed.stored;
+    standing = lists_back w.leaves m.leaves forth listed.stored listed.standing;
+    starts = record { sorted = listed.starts.sorted; exact = λ unit. listed.starts.exact unit ∙ ap (λ b. b || has listed.stored.starts unit) (waits_same unit) };
+    restarts = listed.restarts;
+    reloads = listed.reloads;
   }
 
   listed_after : (lists : Lists) → AreListsFor start_up w.leaves system lists → AreListsFor start_up m.leaves system lists
   listed_after lists listed = record {
-    starts = record { sorted = listed.starts.sorted; exact = λ unit. listed.starts.exact unit ∙ sym (waits_same unit) };
-    restarts = subst (λ content. Lists_at content lists.restarts) (sym restarts) listed.restarts;
-    reloads = subst (λ content. Lists_at content lists.reloads) (sym reloads) listed.reloads;
+    stored = listed.stored;
+    standing = forth listed.stored listed.standing;
+    starts = record { sorted = listed.starts.sorted; exact = λ unit. listed.starts.exact unit ∙ ap (λ b. b || has listed.stored.starts unit) (sym (waits_same unit)) };
+    restarts = listed.restarts;
+    reloads = listed.reloads;
   }
 
   -- ---- what holds of systems and states holds of the others

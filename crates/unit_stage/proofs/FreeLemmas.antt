@@ -4,9 +4,10 @@ use Rattle.std.proofs.lemmas.Bool.{or_parts}
 use Rattle.std.specs.FinMap.{get}
 use Rattle.std.specs.List.{AllByRecursion, find}
 use Rattle.host_trait.specs.declared.leaf.LeafKind.{LeafKind}
-use Rattle.host_trait.specs.World.{Leaves, WorldState, is_in_line, leaf_content, stage}
+use Rattle.host_trait.specs.declared.leaf.LeafKind.TheVariants.{File, Link}
+use Rattle.host_trait.specs.World.{Leaves, WorldState, file_bytes, is_in_line, leaf_content, stage}
 use Rattle.owed_lists.specs.Lists.{reloads_place, restarts_place, starts_place}
-use Rattle.owed_lists.specs.Record.{leaf_of_list}
+use Rattle.owed_log.specs.Places.{log_place}
 use Rattle.owed_plan.proofs.StoreLemmas.{first_fault_same, leaf_same}
 use Rattle.switch_names.specs.Names.{Name}
 use Rattle.switch_names.proofs.Outcomes.{none_mapped}
@@ -19,17 +20,8 @@ use Rattle.unit_stage.specs.Laws.{AreSameBeside}
 use Rattle.unit_stage.specs.Owned.{unit_places}
 use Rattle.unit_stage.specs.System.{IsSystem, current_place}
 use Rattle.unit_stage.specs.Units.{AreUnitsFree}
-use Rattle.unit_stage.proofs.OwnedLemmas.{IsWritten, current_written, reloads_written, restarts_written, same_line, same_store, stage_written, starts_written}
-use Rattle.unit_stage.proofs.StandLemmas.{Stand}
-
--- the leaf of a list is the old one or one that was recorded
-pub data IsListLeaf (leaves : Leaves) (at : Name) (leaf : Option LeafKind) : Type 0 where
-  Old : leaf ≡ get leaves at → IsListLeaf leaves at leaf
-  Recorded : (names : List Name) → leaf ≡ leaf_of_list names → IsListLeaf leaves at leaf
-
-has_content : (leaves : Leaves) (names : List Name) → (is_some (leaf_of_list names) && is_none (leaf_content leaves (leaf_of_list names))) ≡ false
-has_content leaves [] = refl
-has_content leaves (name ∷ names) = refl
+use Rattle.unit_stage.proofs.OwnedLemmas.{IsWritten, current_written, log_written, reloads_written, restarts_written, same_line, same_store, stage_written, starts_written}
+use Rattle.unit_stage.proofs.ListsLemmas.{AreListLeaves, IsListLeaf}
 
 -- a test that fails at each place finds none, and the other way round
 none_found : (test : WrittenPlace → Bool) (places : List WrittenPlace) → AllByRecursion (λ place. test place ≡ false) places → find test places ≡ None
@@ -44,6 +36,12 @@ all_free test (place ∷ places) none =
       | false ↦ λ is found. (is, all_free test places found)
     ] refl none
 
+-- a file has content
+file_has : (leaves : Leaves) (o : Option LeafKind) → is_some (file_bytes o) ≡ true → (is_some o && is_none (leaf_content leaves o)) ≡ false
+file_has leaves None is = absurd cc
+file_has leaves (Some (File bytes mode uid gid)) is = refl
+file_has leaves (Some (Link target)) is = absurd cc
+
 module _ (system : Name) (w m : WorldState) (same : AreSameBeside w m) where
   unblocked : (at : Name) → IsWritten at → is_blocked w.leaves at ≡ false → is_blocked m.leaves at ≡ false
   unblocked at is none =
@@ -53,23 +51,22 @@ module _ (system : Name) (w m : WorldState) (same : AreSameBeside w m) where
   place_free : (at : Name) → IsWritten at → is_in_the_way w.leaves (written false at) ≡ false → is_in_the_way m.leaves (written false at) ≡ false
   place_free at is free = ap (λ b. b || false) (unblocked at is (or_parts (is_blocked w.leaves at) false free).0)
 
-  lists_have : (at : Name) (leaf : Option LeafKind) → get m.leaves at ≡ leaf → IsListLeaf w.leaves at leaf → lacks_content w.leaves at ≡ false → lacks_content m.leaves at ≡ false
-  lists_have at leaf there (IsListLeaf.Old is) had =
-      ap (λ (o : Option LeafKind). is_some o && is_none (leaf_content m.leaves o)) (there ∙ is)
+  -- what stands at a list's place has content, as it had
+  lists_have : (at : Name) → IsListLeaf w.leaves at (get m.leaves at) → lacks_content w.leaves at ≡ false → lacks_content m.leaves at ≡ false
+  lists_have at (IsListLeaf.Old is) had =
+      ap (λ (o : Option LeafKind). is_some o && is_none (leaf_content m.leaves o)) is
       ∙ ap (λ (content : Option (List ℕ)). is_some (get w.leaves at) && is_none content) (leaf_same m.leaves w.leaves (same_store w m same) (get w.leaves at))
       ∙ had
-  lists_have at leaf there (IsListLeaf.Recorded names is) had =
-      ap (λ (o : Option LeafKind). is_some o && is_none (leaf_content m.leaves o)) (there ∙ is) ∙ has_content m.leaves names
+  lists_have at (IsListLeaf.Gone is) had = ap (λ (o : Option LeafKind). is_some o && is_none (leaf_content m.leaves o)) is
+  lists_have at (IsListLeaf.Written is) had = file_has m.leaves (get m.leaves at) is
 
-  -- a list that is read has content
-  list_free : (at : Name) (leaf : Option LeafKind) → IsWritten at → get m.leaves at ≡ leaf → IsListLeaf w.leaves at leaf →
-      is_in_the_way w.leaves (written true at) ≡ false → is_in_the_way m.leaves (written true at) ≡ false
-  list_free at leaf is there of free =
+  -- a place that is read is free as it was
+  list_free : (at : Name) → IsWritten at → IsListLeaf w.leaves at (get m.leaves at) → is_in_the_way w.leaves (written true at) ≡ false → is_in_the_way m.leaves (written true at) ≡ false
+  list_free at is leaf free =
       let parts = or_parts (is_blocked w.leaves at) (lacks_content w.leaves at) free in
-      ap (λ b. b || lacks_content m.leaves at) (unblocked at is parts.0) ∙ lists_have at leaf there of parts.1
+      ap (λ b. b || lacks_content m.leaves at) (unblocked at is parts.0) ∙ lists_have at leaf parts.1
 
-  module _ (link to_start to_restart to_reload : Option LeafKind) (stand : Stand m.leaves link to_start to_restart to_reload)
-      (starts : IsListLeaf w.leaves starts_place to_start) (restarts : IsListLeaf w.leaves restarts_place to_restart) (reloads : IsListLeaf w.leaves reloads_place to_reload) where
+  module _ (are : AreListLeaves w.leaves m.leaves) where
     way_free : find (is_in_the_way w.leaves) unit_places ≡ None → find (is_in_the_way m.leaves) unit_places ≡ None
     way_free none =
         let was = all_free (is_in_the_way w.leaves) unit_places none in
@@ -78,10 +75,13 @@ module _ (system : Name) (w m : WorldState) (same : AreSameBeside w m) where
           (
             place_free current_place current_written was.1.0,
             (
-              list_free reloads_place to_reload reloads_written stand.reloads reloads was.1.1.0,
+              list_free log_place log_written are.log was.1.1.0,
               (
-                list_free restarts_place to_restart restarts_written stand.restarts restarts was.1.1.1.0,
-                (list_free starts_place to_start starts_written stand.starts starts was.1.1.1.1.0, tt),
+                list_free reloads_place reloads_written are.reloads was.1.1.1.0,
+                (
+                  list_free restarts_place restarts_written are.restarts was.1.1.1.1.0,
+                  (list_free starts_place starts_written are.starts was.1.1.1.1.1.0, tt),
+                ),
               ),
             ),
           ),

@@ -2,7 +2,7 @@
 use Rattle.std.proofs.Common.{◌≡◌, ◌↔◌, List, ℕ, IsTrue, Err, IsErrOf, sym, ap, subst, ◌∙◌, Bool}
 use Rattle.host_trait.specs.States.{UnitStates, state_of}
 use Rattle.host_trait.specs.World.{WorldState}
-use Rattle.owed_lists.specs.declared.lists.Lists.{Lists}
+use Rattle.log_text.specs.declared.lists.Lists.{Lists}
 use Rattle.owed_plan.specs.Calls.{calls_of}
 use Rattle.owed_plan.specs.Owed.{IsPlan}
 use Rattle.owed_plan.specs.Steady.{IsSteady}
@@ -37,6 +37,7 @@ plan_is start_up system w known plan is by =
         planned = subst (λ (systems : Systems). IsPlan systems (state_of w.manager.states) known.units.lists (owed_of plan))
             (systems_same w.leaves (current_system w.leaves) system known.old.defs known.new is.old.defs is.new) states;
       };
+      write = by.write w.leaves is.units.log;
       in_order = defs_in_order w.leaves system known.new (owed_of plan) plan.ordered is.new by.in_order;
       duties = by.duties ∙ ap (λ (states : UnitStates). calls_of (owed_of plan) plan.ordered.units (state_of states)) is.units.states;
     }

@@ -8,13 +8,16 @@ pub mod ComeLemmas
 pub mod ElsewhereLemmas
 pub mod EndLemmas
 pub mod FreeLemmas
+pub mod GivenLemmas
 pub mod KnownLemmas
+pub mod ListsLemmas
 pub mod MomentLemmas
 pub mod OrderLemmas
 pub mod OwnedLemmas
 pub mod PartLemmas
 pub mod PayLemmas
 pub mod PullLemmas
+pub mod RecordLemmas
 pub mod SameLemmas
 pub mod StandLemmas
 pub mod StepLemmas

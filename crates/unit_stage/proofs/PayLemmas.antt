@@ -6,7 +6,7 @@ use Rattle.host_trait.specs.declared.entry.Act.{Act}
 use Rattle.host_trait.specs.declared.entry.Act.TheVariants.{Stop, Reload, Restart, Start}
 use Rattle.host_trait.specs.declared.entry.Entry.{Entry}
 use Rattle.host_trait.specs.declared.unit_state.State.{State}
-use Rattle.owed_lists.specs.declared.lists.Lists.{Lists}
+use Rattle.log_text.specs.declared.lists.Lists.{Lists}
 use Rattle.owed_plan.specs.Called.{OwesUnit}
 use Rattle.owed_plan.specs.declared.duty.Duty.{Duty}
 use Rattle.owed_plan.specs.Calls.{duty}

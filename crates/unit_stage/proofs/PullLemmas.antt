@@ -2,7 +2,7 @@
 use Rattle.std.proofs.Common.{◌≡◌, Bool, true, false, IsTrue, List, [], Option, None, Some, is_some, option_and_then, unwrap_or, if◌then◌else◌, refl, sym, ap, ◌∙◌}
 use Rattle.std.specs.Option.{option_or}
 use Rattle.host_trait.specs.declared.unit_state.State.{State}
-use Rattle.owed_lists.specs.declared.lists.Lists.{Lists}
+use Rattle.log_text.specs.declared.lists.Lists.{Lists}
 use Rattle.owed_plan.specs.Pull as both
 use Rattle.owed_plan.specs.Systems.{IsDefined, systems_in}
 use Rattle.owed_plan.proofs.SystemLemmas.{sound_in, guarded}

@@ -1,22 +1,27 @@
 -- The steps of a switch of the units look at the units alone: in worlds with the same units they lead to worlds with the same units.
-use Rattle.std.proofs.Common.{◌≡◌, Bool, cond, ℕ, List, take, Option, None, Some, refl, sym, ap, ◌∙◌}
+use Rattle.std.proofs.Common.{◌≡◌, ◌∷◌, Bool, true, cond, ℕ, List, [], take, Option, None, Some, refl, sym, ap, ◌∙◌, inl, inr}
 use Rattle.std.specs.FinMap.{get, get-insert, get-remove, insert, remove}
 use Rattle.std.specs.Ordering.{eq_by_cmp}
 use Rattle.host_trait.specs.declared.leaf.LeafKind.{LeafKind}
 use Rattle.host_trait.specs.declared.manager_state.ManagerState.{ManagerState}
+use Rattle.host_trait.specs.Change.{IsMoment, finished}
 use Rattle.host_trait.specs.Manager.{halted, loading}
-use Rattle.host_trait.specs.World.{Leaves, WorldState, bytes_cmp, seen, stage, with_manager}
+use Rattle.host_trait.specs.World.{Leaves, WorldState, bytes_cmp, extended, seen, stage, with_extended, with_manager, with_more}
 use Rattle.host_trait.proofs.Places.{bytes_total}
 use Rattle.host_trait.proofs.Seen.{seen_at}
-use Rattle.owed_lists.specs.declared.lists.Which.{Which}
-use Rattle.owed_lists.specs.declared.lists.Which.TheVariants.{Starts, Restarts, Reloads}
-use Rattle.owed_lists.specs.Lists.{place_of}
+use Rattle.log_text.specs.declared.lists.Which.{Which}
+use Rattle.log_text.specs.declared.lists.Which.TheVariants.{Starts, Restarts, Reloads}
+use Rattle.log_text.specs.Lists.{block_of}
+use Rattle.log_text.specs.Log.{block_text}
+use Rattle.owed_log.specs.Places.{log_place}
+use Rattle.owed_log.specs.Writing.{clearing}
 use Rattle.owed_plan.specs.declared.duty.Duty.{Duty}
 use Rattle.switch_names.specs.Names.{Name}
 use Rattle.unit_stage.specs.Acts.{IsPerforming, performed, with_calls}
 use Rattle.unit_stage.specs.Owned.{owns_units}
-use Rattle.unit_stage.specs.Steps.{AreSameUnits, IsBringStep, IsGiveMoment, with_all_given, with_current, with_given, with_loaded}
+use Rattle.unit_stage.specs.Steps.{AreSameUnits, IsBringStep, IsClearingMoment, IsGiveMoment, IsListMoment, with_current, with_given, with_loaded}
 use Rattle.unit_stage.specs.System.{current_place, definitions_of, system_leaf}
+use Rattle.unit_stage.proofs.ElsewhereLemmas.{own_log}
 use Rattle.unit_stage.proofs.OwnedLemmas.{owned_not_stage}
 use Rattle.unit_stage.proofs.StepLemmas.{manager_seen}
 
@@ -33,12 +38,25 @@ units_seen w m is = record {
   manager = manager_seen m w is;
 }
 
+units_as : (v m : WorldState) → m ≡ v → AreSameUnits v m
+units_as v m is = record { leaves = λ q own. ap (λ (x : WorldState). get x.leaves q) is; manager = ap (λ (x : WorldState). x.manager) is }
+
 put_same : (m n : Leaves) (k q : Name) (leaf : LeafKind) → get m q ≡ get n q → get (insert m k leaf) q ≡ get (insert n k leaf) q
 put_same m n k q leaf same =
     get-insert bytes_total m k leaf q ∙ ap (cond (eq_by_cmp bytes_cmp q k) (Some leaf)) same ∙ sym (get-insert bytes_total n k leaf q)
 
 gone_same : (m n : Leaves) (k q : Name) → get m q ≡ get n q → get (remove m k) q ≡ get (remove n k) q
 gone_same m n k q same = get-remove bytes_total m k q ∙ ap (cond (eq_by_cmp bytes_cmp q k) None) same ∙ sym (get-remove bytes_total n k q)
+
+longer_same : (m n : Leaves) (k q more : Name) (one other : Option LeafKind) → one ≡ other → get m q ≡ get n q → get (with_extended m k more one) q ≡ get (with_extended n k more other) q
+longer_same m n k q more None None is same = same
+longer_same m n k q more None (Some other) is same = absurd cc
+longer_same m n k q more (Some one) None is same = absurd cc
+longer_same m n k q more (Some one) (Some other) is same =
+    let leaf : one ≡ other = cc in put_same m n k q (extended one more) same ∙ ap (λ (l : LeafKind). get (insert n k (extended l more)) q) leaf
+
+more_same : (m n : Leaves) (k q more : Name) → get m k ≡ get n k → get m q ≡ get n q → get (with_more m k more) q ≡ get (with_more n k more) q
+more_same m n k q more here same = longer_same m n k q more (get m k) (get n k) here same
 
 module _ (w v : WorldState) (same : AreSameUnits w v) where
   pub same_calls : (calls : List Duty) → AreSameUnits (with_calls calls w) (with_calls calls v)
@@ -53,8 +71,28 @@ module _ (w v : WorldState) (same : AreSameUnits w v) where
     manager = ap (loading (definitions_of system)) same.manager;
   }
 
-  pub same_given : (which : Which) (calls : List Duty) → AreSameUnits (with_given which calls w) (with_given which calls v)
-  same_given which calls = record { leaves = λ q own. gone_same v.leaves w.leaves (place_of which) q (same.leaves q own); manager = ap (performed calls) same.manager }
+  longer : (more : List ℕ) → (q : Name) → owns_units q ≡ true → get (with_more v.leaves log_place more) q ≡ get (with_more w.leaves log_place more) q
+  longer more q own = more_same v.leaves w.leaves log_place q more (same.leaves log_place own_log) (same.leaves q own)
+
+  same_finished : (which : Which) → AreSameUnits (finished (clearing which) w) (finished (clearing which) v)
+  same_finished Starts = record { leaves = λ q own. gone_same v.leaves w.leaves log_place q (same.leaves q own); manager = same.manager }
+  same_finished Restarts = record { leaves = longer (block_text (block_of Restarts [])); manager = same.manager }
+  same_finished Reloads = record { leaves = longer (block_text (block_of Reloads [])); manager = same.manager }
+
+  same_middle : (more : List ℕ) (m : WorldState) → m ≡ record v { leaves = with_more v.leaves log_place more } → AreSameUnits (record w { leaves = with_more w.leaves log_place more }) m
+  same_middle more m is = record {
+    leaves = λ q own. ap (λ (x : WorldState). get x.leaves q) is ∙ longer more q own;
+    manager = ap (λ (x : WorldState). x.manager) is ∙ same.manager;
+  }
+
+  same_moment : (which : Which) (m : WorldState) → IsMoment (clearing which) v m → (u : WorldState) × IsMoment (clearing which) w u × AreSameUnits u m
+  same_moment which m (inl is) = (w, inl refl, units_then w v m same (units_as v m is))
+  same_moment which m (inr (inl is)) = (finished (clearing which) w, inr (inl refl), units_then (finished (clearing which) w) (finished (clearing which) v) m (same_finished which) (units_as (finished (clearing which) v) m is))
+  same_moment Starts m (inr (inr middle)) = absurd middle
+  same_moment Restarts m (inr (inr middle)) =
+      let part = take middle.0 (block_text (block_of Restarts [])) in (record w { leaves = with_more w.leaves log_place part }, inr (inr (middle.0, refl)), same_middle part m middle.1)
+  same_moment Reloads m (inr (inr middle)) =
+      let part = take middle.0 (block_text (block_of Reloads [])) in (record w { leaves = with_more w.leaves log_place part }, inr (inr (middle.0, refl)), same_middle part m middle.1)
 
   pub same_performing : (calls : List Duty) (m : WorldState) → IsPerforming calls v m → (u : WorldState) × IsPerforming calls w u × AreSameUnits u m
   same_performing calls m (IsPerforming.After count is) =
@@ -76,25 +114,31 @@ module _ (w v : WorldState) (same : AreSameUnits w v) where
         },
       )
 
+module _ (which : Which) (w v : WorldState) (same : AreSameUnits w v) where
+  same_clearing : (calls : List Duty) (m : WorldState) → IsClearingMoment which calls v m → (u : WorldState) × IsClearingMoment which calls w u × AreSameUnits u m
+  same_clearing calls m (inl part) = let there = same_performing w v same calls m part in (there.0, inl there.1, there.2)
+  same_clearing calls m (inr moment) =
+      let there = same_moment (with_calls calls w) (with_calls calls v) (same_calls w v same calls) which m moment in (there.0, inr there.1, there.2)
+
+  same_listing : (calls : List Duty) (m : WorldState) → IsListMoment which calls v m → (u : WorldState) × IsListMoment which calls w u × AreSameUnits u m
+  same_listing [] m is = (w, refl, units_then w v m same (units_as v m is))
+  same_listing (call ∷ calls) m moment = same_clearing (call ∷ calls) m moment
+
+  same_given : (calls : List Duty) → AreSameUnits (with_given which calls w) (with_given which calls v)
+  same_given [] = same
+  same_given (call ∷ calls) = same_finished (with_calls (call ∷ calls) w) (with_calls (call ∷ calls) v) (same_calls w v same (call ∷ calls)) which
+
 module _ (reloads restarts starts : List Duty) where
   pub same_giving : (w v m : WorldState) → AreSameUnits w v → IsGiveMoment reloads restarts starts v m → (u : WorldState) × IsGiveMoment reloads restarts starts w u × AreSameUnits u m
   same_giving w v m same (IsGiveMoment.Reloading part) =
-      let there = same_performing w v same reloads m part in (there.0, IsGiveMoment.Reloading there.1, there.2)
+      let there = same_listing Reloads w v same reloads m part in (there.0, IsGiveMoment.Reloading there.1, there.2)
   same_giving w v m same (IsGiveMoment.Restarting part) =
-      let there = same_performing (with_given Reloads reloads w) (with_given Reloads reloads v) (same_given w v same Reloads reloads) restarts m part in
+      let there = same_listing Restarts (with_given Reloads reloads w) (with_given Reloads reloads v) (same_given Reloads w v same reloads) restarts m part in
       (there.0, IsGiveMoment.Restarting there.1, there.2)
   same_giving w v m same (IsGiveMoment.Starting part) =
-      let there = same_performing (with_given Restarts restarts (with_given Reloads reloads w)) (with_given Restarts restarts (with_given Reloads reloads v))
-      (same_given (with_given Reloads reloads w) (with_given Reloads reloads v) (same_given w v same Reloads reloads) Restarts restarts) starts m part in
+      let there = same_clearing Starts (with_given Restarts restarts (with_given Reloads reloads w)) (with_given Restarts restarts (with_given Reloads reloads v))
+      (same_given Restarts (with_given Reloads reloads w) (with_given Reloads reloads v) (same_given Reloads w v same reloads) restarts) starts m part in
       (there.0, IsGiveMoment.Starting there.1, there.2)
-  same_giving w v m same (IsGiveMoment.Given all) = (
-    with_all_given reloads restarts starts w,
-    IsGiveMoment.Given refl,
-    units_then (with_all_given reloads restarts starts w) (with_all_given reloads restarts starts v) m
-        (same_given (with_given Restarts restarts (with_given Reloads reloads w)) (with_given Restarts restarts (with_given Reloads reloads v))
-        (same_given (with_given Reloads reloads w) (with_given Reloads reloads v) (same_given w v same Reloads reloads) Restarts restarts) Starts starts)
-        (record { leaves = λ q own. ap (λ (x : WorldState). get x.leaves q) all; manager = ap (λ (x : WorldState). x.manager) all }),
-  )
 
   pub same_bringing : (system : Name) (w v m : WorldState) → AreSameUnits w v → IsBringStep system reloads restarts starts v m → (u : WorldState) × IsBringStep system reloads restarts starts w u × AreSameUnits u m
   same_bringing system w v m same (IsBringStep.Waiting is) =

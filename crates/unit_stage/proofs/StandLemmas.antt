@@ -1,203 +1,156 @@
 -- What stands at the places of the units' part, step by step.
-use Rattle.std.proofs.Common.{◌≡◌, ◌∷◌, ℕ, Bool, false, List, [], Option, None, Some, refl, ◌∙◌, rules}
-use Rattle.std.specs.FinMap.{get, gets, remove}
+use Rattle.std.proofs.Common.{◌≡◌, ◌≢◌, ◌∷◌, ℕ, true, false, List, [], take, Option, Some, codes, refl, sym, ap, subst, ◌∙◌, inl, inr}
+use Rattle.std.proofs.lemmas.Bool.{both_ways}
+use Rattle.std.specs.FinMap.{get}
+use Rattle.std.specs.List.{list_any}
 use Rattle.std.specs.Ordering.{eq_by_cmp}
+use Rattle.host_trait.specs.Change.{IsMoment}
 use Rattle.host_trait.specs.declared.leaf.LeafKind.{LeafKind}
-use Rattle.host_trait.specs.World.{Leaves, WorldState, bytes_cmp, seen}
+use Rattle.host_trait.specs.World.{Leaves, WorldState, bytes_cmp, seen, stage}
+use Rattle.host_trait.proofs.NameOrder.{name_itself}
 use Rattle.host_trait.proofs.Places.{at_same}
-use Rattle.host_trait.proofs.Seen.{seen_at, get_removed_here}
+use Rattle.host_trait.proofs.Seen.{other_of, seen_at}
 use Rattle.host_trait.proofs.Sound.{get_other}
-use Rattle.owed_lists.specs.declared.lists.Lists.{Lists}
-use Rattle.owed_lists.specs.declared.lists.Which.TheVariants.{Starts, Restarts, Reloads}
-use Rattle.owed_lists.specs.Lists.{reloads_place, restarts_place, starts_place}
-use Rattle.owed_lists.specs.Record.{leaf_of_list, list_leaf, with_list, with_lists, with_restarts, with_starts}
-use Rattle.switch_names.specs.Names.{Name}
-use Rattle.unit_stage.specs.Steps.{AreSameUnits, with_current}
+use Rattle.log_text.specs.declared.lists.Lists.{Lists}
+use Rattle.log_text.specs.declared.lists.Which.{Which}
+use Rattle.log_text.specs.declared.lists.Which.TheVariants.{Starts, Restarts, Reloads}
+use Rattle.log_text.specs.Lists.{with_list}
+use Rattle.owed_lists.specs.Lists.{place_of, reloads_place, restarts_place, starts_place}
+use Rattle.owed_log.specs.declared.log_write.LogWrite.{LogWrite}
+use Rattle.owed_log.specs.Laws.{AreAlone, CanClear}
+use Rattle.owed_log.specs.Places.{log_place, old_places}
+use Rattle.owed_log.specs.Standing.{AreListsAt}
+use Rattle.owed_log.specs.Writing.{IsRecordMoment, clearing, recorded}
+use Rattle.owed_log.proofs.BesideLemmas.{clearing_beside, clearing_manager, record_beside, recorded_beside}
+use Rattle.owed_log.proofs.ContentLemmas.{apart_from, log_other}
+use Rattle.owed_log.proofs.MomentLemmas.{cleared_law}
+use Rattle.owed_plan.specs.declared.duty.Duty.{Duty}
+use Rattle.owed_plan.specs.Store.{AreSameInStore, IsInStore}
+use Rattle.switch_names.specs.Names.{Name, is_name}
+use Rattle.switch_names.specs.Path.{is_below}
+use Rattle.unit_stage.specs.Acts.{performed, with_calls}
+use Rattle.unit_stage.specs.Steps.{AreSameUnits, with_cleared, with_current, with_given, with_loaded}
 use Rattle.unit_stage.specs.System.{current_place, system_leaf}
-use Rattle.unit_stage.proofs.ElsewhereLemmas.{own_current, own_list}
-use Rattle.unit_stage.proofs.OwnedLemmas.{owned_not_stage}
+use Rattle.unit_stage.proofs.ElsewhereLemmas.{own_current, own_list, own_log}
+use Rattle.unit_stage.proofs.ListsLemmas.{AreListLeaves, AreSameLists, alone_leaves, alone_same, leaves_same, lists_same}
+use Rattle.unit_stage.proofs.OwnedLemmas.{not_owns_store, owned_not_stage}
 
-abbrev is_at : List ℕ → List ℕ → Bool
-is_at q place = eq_by_cmp bytes_cmp q place
-
--- these leaves stand at the owned places
-pub record Stand (leaves : Leaves) (link to_start to_restart to_reload : Option LeafKind) : Type 0 where
+-- the link and the lists are these, and at the lists' places stands what stood at first, or nothing, or a file
+pub record Stand (first leaves : Leaves) (link : Option LeafKind) (lists : Lists) : Type 0 where
   pub current : get leaves current_place ≡ link
-  pub starts : get leaves starts_place ≡ to_start
-  pub restarts : get leaves restarts_place ≡ to_restart
-  pub reloads : get leaves reloads_place ≡ to_reload
+  pub listed : AreListsAt leaves lists
+  pub written : AreListLeaves first leaves
 
--- what stands stands
-pub stands : (leaves : Leaves) → Stand leaves (get leaves current_place) (get leaves starts_place) (get leaves restarts_place) (get leaves reloads_place)
-stands leaves = record { current = refl; starts = refl; restarts = refl; reloads = refl }
+pub alone_stands : (first leaves : Leaves) (link : Option LeafKind) (lists : Lists) → get leaves current_place ≡ link → AreAlone leaves lists → Stand first leaves link lists
+alone_stands first leaves link lists current alone = record { current = current; listed = alone.are; written = alone_leaves first leaves lists alone }
 
-kept : (leaves : Leaves) (k q : List ℕ) → is_at q k ≡ false → get (remove leaves k) q ≡ get leaves q
-kept leaves k q other = grind (gets, rules)
+-- ---- places
 
-list_here : (at : List ℕ) (names : List Name) (w : WorldState) → get (with_list at names w).leaves at ≡ leaf_of_list names
-list_here at [] w = get_removed_here w.leaves at
-list_here at (name ∷ names) w = at_same w.leaves at (list_leaf (name ∷ names))
+current_log : is_name current_place log_place ≡ false
+unfolding current_place log_place
+current_log = refl
 
-list_elsewhere : (at : List ℕ) (names : List Name) (w : WorldState) (q : List ℕ) → is_at q at ≡ false → get (with_list at names w).leaves q ≡ get w.leaves q
-list_elsewhere at [] w q other = kept w.leaves at q other
-list_elsewhere at (name ∷ names) w q other = get_other w.leaves at q (list_leaf (name ∷ names)) other
+pub current_not_log : current_place ≢ log_place
+current_not_log same = both_ways _ current_log (subst (λ x. is_name current_place x ≡ true) same (name_itself current_place))
 
--- a list leaves the manager as it is
-pub list_manager : (at : List ℕ) (names : List Name) (w : WorldState) → (with_list at names w).manager ≡ w.manager
-list_manager at [] w = refl
-list_manager at (name ∷ names) w = refl
+current_list : (which : Which) → is_name current_place (place_of which) ≡ false
+unfolding current_place starts_place restarts_place reloads_place
+current_list Starts = refl
+current_list Restarts = refl
+current_list Reloads = refl
 
--- ---- places are different
+current_not_old : (count : ℕ) → list_any (is_name current_place) (take count old_places) ≡ false
+current_not_old = apart_from current_place current_list
 
-starts_restarts : is_at starts_place restarts_place ≡ false
-unfolding starts_place restarts_place
-starts_restarts = refl
+log_current : eq_by_cmp bytes_cmp log_place current_place ≡ false
+unfolding current_place log_place
+log_current = refl
 
-starts_reloads : is_at starts_place reloads_place ≡ false
-unfolding starts_place reloads_place
-starts_reloads = refl
+list_current : (which : Which) → eq_by_cmp bytes_cmp (place_of which) current_place ≡ false
+unfolding current_place starts_place restarts_place reloads_place
+list_current Starts = refl
+list_current Restarts = refl
+list_current Reloads = refl
 
-starts_current : is_at starts_place current_place ≡ false
-unfolding starts_place current_place
-starts_current = refl
+stage_not_stored : is_below stage (codes "nix/store") ≡ false
+unfolding stage
+stage_not_stored = refl
 
-restarts_starts : is_at restarts_place starts_place ≡ false
-unfolding restarts_place starts_place
-restarts_starts = refl
+pub stored_not_stage : (q : Name) → IsInStore q → q ≢ stage
+stored_not_stage q inside same = both_ways _ stage_not_stored (subst (λ x. is_below x (codes "nix/store") ≡ true) same inside)
 
-restarts_reloads : is_at restarts_place reloads_place ≡ false
-unfolding restarts_place reloads_place
-restarts_reloads = refl
+current_not_stored : is_below current_place (codes "nix/store") ≡ false
+unfolding current_place
+current_not_stored = refl
 
-restarts_current : is_at restarts_place current_place ≡ false
-unfolding restarts_place current_place
-restarts_current = refl
+-- ---- the link
 
-reloads_starts : is_at reloads_place starts_place ≡ false
-unfolding reloads_place starts_place
-reloads_starts = refl
+pub record_current : (write : LogWrite) (w m : WorldState) → IsRecordMoment write w m → get m.leaves current_place ≡ get w.leaves current_place
+record_current write w m moment = record_beside current_place (owned_not_stage current_place own_current) current_not_log current_not_old write w m moment
 
-reloads_restarts : is_at reloads_place restarts_place ≡ false
-unfolding reloads_place restarts_place
-reloads_restarts = refl
+pub recorded_current : (write : LogWrite) (w : WorldState) → get (recorded write w).leaves current_place ≡ get w.leaves current_place
+recorded_current write w = recorded_beside current_place (owned_not_stage current_place own_current) current_not_log current_not_old write w
 
-reloads_current : is_at reloads_place current_place ≡ false
-unfolding reloads_place current_place
-reloads_current = refl
+pub cleared_current : (which : Which) (w m : WorldState) → IsMoment (clearing which) w m → get m.leaves current_place ≡ get w.leaves current_place
+cleared_current which w m moment = clearing_beside which w m current_place current_not_log moment
 
-current_starts : is_at current_place starts_place ≡ false
-unfolding current_place starts_place
-current_starts = refl
+-- the link is put, and the lists stay
+module _ (system : Name) (v : WorldState) where
+  pub current_here : get (with_current system v).leaves current_place ≡ Some (system_leaf system)
+  current_here = at_same v.leaves current_place (system_leaf system)
 
-current_restarts : is_at current_place restarts_place ≡ false
-unfolding current_place restarts_place
-current_restarts = refl
-
-current_reloads : is_at current_place reloads_place ≡ false
-unfolding current_place reloads_place
-current_reloads = refl
-
-module _ (v : WorldState) (link to_start to_restart to_reload : Option LeafKind) (are : Stand v.leaves link to_start to_restart to_reload) where
-  -- ---- a list is recorded
-
-  pub starts_stand : (names : List Name) → Stand (with_list starts_place names v).leaves link (leaf_of_list names) to_restart to_reload
-  starts_stand names = record {
-    current = list_elsewhere starts_place names v current_place current_starts ∙ are.current;
-    starts = list_here starts_place names v;
-    restarts = list_elsewhere starts_place names v restarts_place restarts_starts ∙ are.restarts;
-    reloads = list_elsewhere starts_place names v reloads_place reloads_starts ∙ are.reloads;
+  lists_beside : AreSameLists v.leaves (with_current system v).leaves
+  lists_beside = record {
+    log = get_other v.leaves current_place log_place (system_leaf system) log_current;
+    starts = get_other v.leaves current_place starts_place (system_leaf system) (list_current Starts);
+    restarts = get_other v.leaves current_place restarts_place (system_leaf system) (list_current Restarts);
+    reloads = get_other v.leaves current_place reloads_place (system_leaf system) (list_current Reloads);
   }
 
-  pub restarts_stand : (names : List Name) → Stand (with_list restarts_place names v).leaves link to_start (leaf_of_list names) to_reload
-  restarts_stand names = record {
-    current = list_elsewhere restarts_place names v current_place current_restarts ∙ are.current;
-    starts = list_elsewhere restarts_place names v starts_place starts_restarts ∙ are.starts;
-    restarts = list_here restarts_place names v;
-    reloads = list_elsewhere restarts_place names v reloads_place reloads_restarts ∙ are.reloads;
+  not_current : (q : Name) → IsInStore q → eq_by_cmp bytes_cmp q current_place ≡ false
+  not_current q inside = other_of q current_place (λ same. both_ways _ current_not_stored (subst (λ x. is_below x (codes "nix/store") ≡ true) same inside))
+
+  store_beside : AreSameInStore (with_current system v).leaves v.leaves
+  store_beside q inside = get_other v.leaves current_place q (system_leaf system) (not_current q inside)
+
+  -- also where the definitions are loaded
+  pub loaded_log : (u : WorldState) → seen u ≡ seen (with_loaded system v) → get u.leaves log_place ≡ get v.leaves log_place
+  loaded_log u came = seen_at u (with_loaded system v) came log_place log_other ∙ lists_beside.log
+
+  pub current_alone : (lists : Lists) → AreAlone v.leaves lists → AreAlone (with_current system v).leaves lists
+  current_alone lists alone = alone_same v.leaves (with_current system v).leaves store_beside lists_beside lists alone
+
+-- ---- a list is cleared
+
+module _ (which : Which) (x : WorldState) (lists : Lists) (alone : AreAlone x.leaves lists) where
+  -- where it has calls, or its names are none
+  pub given_alone : (calls : List Duty) → (calls ≡ [] → with_list lists which [] ≡ lists) → ((call : Duty) (rest : List Duty) → calls ≡ call ∷ rest → CanClear which x.leaves lists) →
+      AreAlone (with_given which calls x).leaves (with_list lists which [])
+  given_alone [] none can = subst (AreAlone x.leaves) (sym (none refl)) alone
+  given_alone (call ∷ rest) none can = cleared_law which (with_calls (call ∷ rest) x) lists alone (can call rest refl)
+
+pub given_manager : (which : Which) (calls : List Duty) (x : WorldState) → (with_given which calls x).manager ≡ performed calls x.manager
+given_manager which [] x = refl
+given_manager which (call ∷ rest) x = clearing_manager which (with_calls (call ∷ rest) x) (with_cleared which (call ∷ rest) x) (inr (inl refl))
+
+pub given_current : (which : Which) (calls : List Duty) (x : WorldState) → get (with_given which calls x).leaves current_place ≡ get x.leaves current_place
+given_current which [] x = refl
+given_current which (call ∷ rest) x = cleared_current which (with_calls (call ∷ rest) x) (with_cleared which (call ∷ rest) x) (inr (inl refl))
+
+-- ---- worlds with the same units
+
+pub same_lists_of : (u m : WorldState) → AreSameUnits u m → AreSameLists u.leaves m.leaves
+same_lists_of u m same = record {
+  log = same.leaves log_place own_log;
+  starts = same.leaves starts_place (own_list Starts);
+  restarts = same.leaves restarts_place (own_list Restarts);
+  reloads = same.leaves reloads_place (own_list Reloads);
+}
+
+module _ (first : Leaves) (u m : WorldState) (same : AreSameUnits u m) (store : AreSameInStore m.leaves u.leaves) where
+  pub same_stands : (link : Option LeafKind) (lists : Lists) → Stand first u.leaves link lists → Stand first m.leaves link lists
+  same_stands link lists stand = record {
+    current = same.leaves current_place own_current ∙ stand.current;
+    listed = lists_same u.leaves m.leaves store (same_lists_of u m same) lists stand.listed;
+    written = leaves_same first u.leaves m.leaves (same_lists_of u m same) stand.written;
   }
-
-  pub reloads_stand : (names : List Name) → Stand (with_list reloads_place names v).leaves link to_start to_restart (leaf_of_list names)
-  reloads_stand names = record {
-    current = list_elsewhere reloads_place names v current_place current_reloads ∙ are.current;
-    starts = list_elsewhere reloads_place names v starts_place starts_reloads ∙ are.starts;
-    restarts = list_elsewhere reloads_place names v restarts_place restarts_reloads ∙ are.restarts;
-    reloads = list_here reloads_place names v;
-  }
-
-  -- ---- the link is put
-
-  pub current_stands : (system : Name) → Stand (with_current system v).leaves (Some (system_leaf system)) to_start to_restart to_reload
-  current_stands system = record {
-    current = at_same v.leaves current_place (system_leaf system);
-    starts = get_other v.leaves current_place starts_place (system_leaf system) starts_current ∙ are.starts;
-    restarts = get_other v.leaves current_place restarts_place (system_leaf system) restarts_current ∙ are.restarts;
-    reloads = get_other v.leaves current_place reloads_place (system_leaf system) reloads_current ∙ are.reloads;
-  }
-
-  -- ---- nothing of it has changed
-
-  pub seen_stands : (u : WorldState) → seen u ≡ seen v → Stand u.leaves link to_start to_restart to_reload
-  seen_stands u is = record {
-    current = seen_at u v is current_place (owned_not_stage current_place own_current) ∙ are.current;
-    starts = seen_at u v is starts_place (owned_not_stage starts_place (own_list Starts)) ∙ are.starts;
-    restarts = seen_at u v is restarts_place (owned_not_stage restarts_place (own_list Restarts)) ∙ are.restarts;
-    reloads = seen_at u v is reloads_place (owned_not_stage reloads_place (own_list Reloads)) ∙ are.reloads;
-  }
-
-  pub same_stands : (m : WorldState) → AreSameUnits v m → Stand m.leaves link to_start to_restart to_reload
-  same_stands m same = record {
-    current = same.leaves current_place own_current ∙ are.current;
-    starts = same.leaves starts_place (own_list Starts) ∙ are.starts;
-    restarts = same.leaves restarts_place (own_list Restarts) ∙ are.restarts;
-    reloads = same.leaves reloads_place (own_list Reloads) ∙ are.reloads;
-  }
-
--- ---- a list is removed
-
-module _ (leaves : Leaves) (link to_start to_restart to_reload : Option LeafKind) (are : Stand leaves link to_start to_restart to_reload) where
-  pub without_reloads : Stand (remove leaves reloads_place) link to_start to_restart None
-  without_reloads = record {
-    current = kept leaves reloads_place current_place current_reloads ∙ are.current;
-    starts = kept leaves reloads_place starts_place starts_reloads ∙ are.starts;
-    restarts = kept leaves reloads_place restarts_place restarts_reloads ∙ are.restarts;
-    reloads = get_removed_here leaves reloads_place;
-  }
-
-  pub without_restarts : Stand (remove leaves restarts_place) link to_start None to_reload
-  without_restarts = record {
-    current = kept leaves restarts_place current_place current_restarts ∙ are.current;
-    starts = kept leaves restarts_place starts_place starts_restarts ∙ are.starts;
-    restarts = get_removed_here leaves restarts_place;
-    reloads = kept leaves restarts_place reloads_place reloads_restarts ∙ are.reloads;
-  }
-
-  pub without_starts : Stand (remove leaves starts_place) link None to_restart to_reload
-  without_starts = record {
-    current = kept leaves starts_place current_place current_starts ∙ are.current;
-    starts = get_removed_here leaves starts_place;
-    restarts = kept leaves starts_place restarts_place restarts_starts ∙ are.restarts;
-    reloads = kept leaves starts_place reloads_place reloads_starts ∙ are.reloads;
-  }
-
--- ---- the lists are recorded
-
-module _ (lists : Lists) (w : WorldState) (link to_start to_restart to_reload : Option LeafKind) (are : Stand w.leaves link to_start to_restart to_reload) where
-  pub first_stands : Stand (with_starts lists w).leaves link (leaf_of_list lists.starts) to_restart to_reload
-  first_stands = starts_stand w link to_start to_restart to_reload are lists.starts
-
-  pub second_stands : Stand (with_restarts lists w).leaves link (leaf_of_list lists.starts) (leaf_of_list lists.restarts) to_reload
-  second_stands = restarts_stand (with_starts lists w) link (leaf_of_list lists.starts) to_restart to_reload first_stands lists.restarts
-
-  pub all_stand : Stand (with_lists lists w).leaves link (leaf_of_list lists.starts) (leaf_of_list lists.restarts) (leaf_of_list lists.reloads)
-  all_stand = reloads_stand (with_restarts lists w) link (leaf_of_list lists.starts) (leaf_of_list lists.restarts) to_reload second_stands lists.reloads
-
--- and the manager stays as it is
-module _ (lists : Lists) (w : WorldState) where
-  pub first_manager : (with_starts lists w).manager ≡ w.manager
-  first_manager = list_manager starts_place lists.starts w
-
-  pub second_manager : (with_restarts lists w).manager ≡ w.manager
-  second_manager = list_manager restarts_place lists.restarts (with_starts lists w) ∙ first_manager
-
-  pub all_manager : (with_lists lists w).manager ≡ w.manager
-  all_manager = list_manager reloads_place lists.reloads (with_restarts lists w) ∙ second_manager

@@ -10,7 +10,7 @@ use Rattle.host_trait.specs.declared.unit_state.State.{State}
 use Rattle.host_trait.specs.Manager.{is_active}
 use Rattle.host_trait.specs.States.{state_of}
 use Rattle.host_trait.specs.World.{WorldState}
-use Rattle.owed_lists.specs.declared.lists.Lists.{Lists}
+use Rattle.log_text.specs.declared.lists.Lists.{Lists}
 use Rattle.owed_plan.specs.Called.{AreCalled, IsOnTheWay}
 use Rattle.owed_plan.specs.Called as kinds
 use Rattle.owed_plan.specs.declared.duty.Duty.{Duty}

@@ -8,8 +8,13 @@ use Rattle.std.specs.List.{list_any}
 use Rattle.host_trait.specs.declared.entry.Act.{Act}
 use Rattle.host_trait.specs.declared.entry.Entry.{Entry}
 use Rattle.host_trait.specs.World.{WorldState}
-use Rattle.owed_lists.specs.declared.lists.Which.TheVariants.{Starts, Restarts, Reloads}
+use Rattle.log_text.specs.declared.lists.Which.TheVariants.{Starts, Restarts, Reloads}
+use Rattle.log_text.specs.declared.lists.Lists.{Lists}
 use Rattle.owed_lists.specs.Lists.{reloads_place, restarts_place, starts_place}
+use Rattle.owed_log.specs.declared.log_write.LogWrite.{LogWrite}
+use Rattle.owed_log.specs.Places.{log_place}
+use Rattle.owed_log.specs.Standing.{AreListsAt}
+use Rattle.owed_log.specs.Writing.{IsWriteFor}
 use Rattle.switch_names.specs.Names.{Name}
 use Rattle.switch_names.specs.Path.{is_below}
 use Rattle.switch_parts.specs.Leaves.{is_near}
@@ -21,15 +26,15 @@ use Rattle.unit_stage.specs.Plan.{IsOwedBy}
 use Rattle.unit_stage.specs.Owned.{owns_units, reads_units, unit_places}
 use Rattle.unit_stage.specs.Owes.{IsPaid, Owes, OwesUnit, pays}
 use Rattle.unit_stage.specs.System.{IsSystem, current_place}
-use Rattle.unit_stage.specs.Units.{AreUnitsKept, AreUnitsUnderway, units_part}
+use Rattle.unit_stage.specs.Units.{AreUnitsFree, AreUnitsKept, AreUnitsUnderway, units_part}
 use Rattle.unit_stage.proofs.BegunLemmas.{begun_underway, owed_after}
-use Rattle.unit_stage.proofs.FreeLemmas.{IsListLeaf, stays_free}
+use Rattle.unit_stage.proofs.FreeLemmas.{stays_free}
+use Rattle.unit_stage.proofs.ListsLemmas.{AreSameLists, lists_same, old_leaves, write_same}
 use Rattle.unit_stage.proofs.MomentLemmas.{free_law, underway_law}
 use Rattle.unit_stage.proofs.OrderLemmas.{ordered_there}
 use Rattle.unit_stage.proofs.OwnedLemmas.{not_reads_stage, same_store}
-use Rattle.unit_stage.proofs.ElsewhereLemmas.{own_current, own_list}
+use Rattle.unit_stage.proofs.ElsewhereLemmas.{own_current, own_list, own_log}
 use Rattle.unit_stage.proofs.PayLemmas.{all_implied, all_joined}
-use Rattle.unit_stage.proofs.StandLemmas.{Stand}
 
 -- ---- from moment to moment
 
@@ -88,25 +93,39 @@ module _ (start_up : Bool) (system : Name) (w m : WorldState) (is_system : IsSys
   same_beside : AreSameBeside w m
   same_beside q read none = same.leaves q read
 
-  same_stand : Stand m.leaves (get w.leaves current_place) (get w.leaves starts_place) (get w.leaves restarts_place) (get w.leaves reloads_place)
-  same_stand = record {
-    current = same.leaves current_place (reads_own current_place own_current);
+  same_current : get m.leaves current_place ≡ get w.leaves current_place
+  same_current = same.leaves current_place (reads_own current_place own_current)
+
+  same_log : get m.leaves log_place ≡ get w.leaves log_place
+  same_log = same.leaves log_place (reads_own log_place own_log)
+
+  lists_there : AreSameLists w.leaves m.leaves
+  lists_there = record {
+    log = same_log;
     starts = same.leaves starts_place (reads_own starts_place (own_list Starts));
     restarts = same.leaves restarts_place (reads_own restarts_place (own_list Restarts));
     reloads = same.leaves reloads_place (reads_own reloads_place (own_list Reloads));
   }
 
+  listed_there : (lists : Lists) → AreListsAt w.leaves lists → AreListsAt m.leaves lists
+  listed_there = lists_same w.leaves m.leaves (same_store w m same_beside) lists_there
+
+  still_free : AreUnitsFree system w.leaves → AreUnitsFree system m.leaves
+  still_free = stays_free system w m same_beside (old_leaves w.leaves m.leaves lists_there) is_system
+
   pub kept_same : AreUnitsKept start_up system w m
   kept_same = record {
-    free = stays_free system w m same_beside _ _ _ _ same_stand (IsListLeaf.Old refl) (IsListLeaf.Old refl) (IsListLeaf.Old refl) is_system;
-    underway = λ free steady.
-        begun_underway start_up system is_system w m same_beside same_stand (same.manager refl)
-        (stays_free system w m same_beside _ _ _ _ same_stand (IsListLeaf.Old refl) (IsListLeaf.Old refl) (IsListLeaf.Old refl) is_system free) steady;
+    free = still_free;
+    underway = λ free steady. begun_underway start_up system is_system w m same_beside same_current listed_there (same.manager refl) (still_free free) steady;
   }
 
   -- the same is owed
   pub owed_same : (owed : Owed) → IsOwedBy start_up w system owed → IsOwedBy start_up m system owed
-  owed_same = owed_after start_up system is_system w m same_beside same_stand (same.manager refl)
+  owed_same = owed_after start_up system is_system w m same_beside same_current listed_there (same.manager refl)
+
+  -- and the same has to be written to record it
+  pub write_there : (lists : Lists) (write : LogWrite) → IsWriteFor w.leaves lists write → IsWriteFor m.leaves lists write
+  write_there = write_same w.leaves m.leaves same_log
 
   -- and the starts are in the same order
   pub order_same : (owed : Owed) (order : List Name) → IsOrderedAt w.leaves system owed order → IsOrderedAt m.leaves system owed order

@@ -2,14 +2,13 @@
 use Rattle.std.proofs.Common.{◌≡◌, ◌&&◌, ◌||◌, ◌∷◌, Bool, true, false, cond, IsTrue, List, Option, is_some, refl, sym, ap, subst, ◌∙◌, inl, inr, ⊎_elim}
 use Rattle.std.proofs.lemmas.Bool.{and_parts, both_ways, cases_Bool, or_cases, or_left, or_right}
 use Rattle.std.specs.List.Sorted.{IsStrictlySortedBy}
-use Rattle.host_trait.specs.World.{Leaves, WorldState, bytes_cmp, content_of}
+use Rattle.host_trait.specs.World.{Leaves, WorldState, bytes_cmp}
 use Rattle.host_trait.proofs.NameOrder.{name_exact}
-use Rattle.owed_lists.specs.declared.lists.Lists.{Lists}
-use Rattle.owed_lists.specs.declared.lists.Which.TheVariants.{Reloads, Restarts, Starts}
-use Rattle.owed_lists.specs.Lists as stand_as
-use Rattle.owed_lists.specs.Lists.{names_in, place_of}
-use Rattle.owed_lists.proofs.ListLemmas.{lists_in, one_list}
+use Rattle.log_text.specs.declared.lists.Lists.{Lists}
+use Rattle.owed_lists.proofs.ListLemmas.{one_list}
 use Rattle.owed_lists.proofs.OrderLemmas.{has_ordered, ordered, ordered_sorted}
+use Rattle.owed_log.specs.Standing.{AreListsAt}
+use Rattle.owed_log.proofs.ListLemmas.{one_lists, some_lists, starts_sorted}
 use Rattle.owed_plan.specs.declared.owed.Owed.{Owed}
 use Rattle.owed_plan.specs.Called.{IsLeftOf}
 use Rattle.owed_plan.specs.Collected.{IsListBy}
@@ -36,11 +35,13 @@ same_by : (one other : List Name) (test : Name → Bool) → IsListBy one test �
 same_by one other test is also = one_list one other _ (by_test one test is) (by_test other test also)
 
 pub same_waiting : (start_up : Bool) (leaves : Leaves) (system : Name) (one other : Lists) → AreListsFor start_up leaves system one → AreListsFor start_up leaves system other → one ≡ other
-same_waiting start_up leaves system one other is also = λ i. record {
-  starts = same_by one.starts other.starts _ is.starts also.starts i;
-  restarts = same_by one.restarts other.restarts _ (record { sorted = is.restarts.sorted; exact = is.restarts.exact }) (record { sorted = also.restarts.sorted; exact = also.restarts.exact }) i;
-  reloads = same_by one.reloads other.reloads _ (record { sorted = is.reloads.sorted; exact = is.reloads.exact }) (record { sorted = also.reloads.sorted; exact = also.reloads.exact }) i;
-}
+same_waiting start_up leaves system one other is also =
+    let stored : is.stored ≡ also.stored = one_lists leaves is.stored also.stored is.standing also.standing in
+    let starts : one.starts ≡ other.starts =
+    same_by one.starts other.starts _ is.starts (subst (λ (l : Lists). IsListBy other.starts (λ unit. waits_besides start_up leaves system unit || has l.starts unit)) (sym stored) also.starts) in
+    let restarts : one.restarts ≡ other.restarts = is.restarts ∙ ap (λ (l : Lists). l.restarts) stored ∙ sym also.restarts in
+    let reloads : one.reloads ≡ other.reloads = is.reloads ∙ ap (λ (l : Lists). l.reloads) stored ∙ sym also.reloads in
+    λ i. record { starts = starts i; restarts = restarts i; reloads = reloads i }
 
 -- ---- the target joined to some names
 
@@ -73,16 +74,15 @@ module _ (start_up : Bool) (leaves : Leaves) (system : Name) (list : List Name) 
       has_ordered (cond (start_up && is_some (text_of leaves system start_up_target)) (start_up_target ∷ list) list) unit ∙ has_cond start_up leaves system list unit
 
   -- joined to the list that stands, it is the list that a switch takes
-  pub joined_list : stand_as.IsListOf (content_of leaves (place_of Starts)) list →
-      IsListBy (joined start_up leaves system list) (λ unit. waits_besides start_up leaves system unit || has (names_in (content_of leaves (place_of Starts))) unit)
-  joined_list is = record { sorted = joined_sorted; exact = λ unit. has_joined unit ∙ ap (λ b. waits_besides start_up leaves system unit || b) (is.exact unit) }
+  pub joined_list : IsListBy (joined start_up leaves system list) (λ unit. waits_besides start_up leaves system unit || has list unit)
+  joined_list = record { sorted = joined_sorted; exact = λ unit. has_joined unit }
 
 -- each world has lists
 pub waiting_in : (start_up : Bool) (leaves : Leaves) (system : Name) → (lists : Lists) × AreListsFor start_up leaves system lists
 waiting_in start_up leaves system =
-    let listed = lists_in leaves in (
-      record { starts = joined start_up leaves system listed.0.starts; restarts = listed.0.restarts; reloads = listed.0.reloads },
-      record { starts = joined_list start_up leaves system listed.0.starts listed.1.starts; restarts = listed.1.restarts; reloads = listed.1.reloads },
+    let stored = some_lists leaves in (
+      record { starts = joined start_up leaves system stored.0.starts; restarts = stored.0.restarts; reloads = stored.0.reloads },
+      record { stored = stored.0; standing = stored.1; starts = joined_list start_up leaves system stored.0.starts; restarts = refl; reloads = refl },
     )
 
 -- ---- what waits besides is owed a start
@@ -101,7 +101,7 @@ module _ (start_up : Bool) (system : Name) (lists : Lists) (owed : Owed) (w : Wo
   besides_owed unit is =
       (owes.is_owed.starts.exact unit).1
       (kinds.Starts.ByStartList
-      (owes.listed.starts.exact unit ∙ or_left (waits_besides start_up w.leaves system unit) (has (names_in (content_of w.leaves (place_of Starts))) unit) is)
+      (owes.listed.starts.exact unit ∙ or_left (waits_besides start_up w.leaves system unit) (has owes.listed.stored.starts unit) is)
       (besides_parts start_up w.leaves system unit is))
 
 -- ---- lists that were recorded
@@ -112,11 +112,10 @@ still false listed owed same is = same
 
 module _ (start_up : Bool) (leaves : Leaves) (system : Name) (names : List Name) (owed : (unit : Name) → waits_besides start_up leaves system unit ≡ true → has names unit ≡ true) where
   -- what is owed a start, once it is recorded, is what a switch takes
-  pub recorded_list : IsStrictlySortedBy bytes_cmp names → stand_as.IsListOf (content_of leaves (place_of Starts)) names →
-      IsListBy names (λ unit. waits_besides start_up leaves system unit || has (names_in (content_of leaves (place_of Starts))) unit)
-  recorded_list sorted is = record {
+  pub recorded_list : IsStrictlySortedBy bytes_cmp names → IsListBy names (λ unit. waits_besides start_up leaves system unit || has names unit)
+  recorded_list sorted = record {
     sorted = sorted;
-    exact = λ unit. still (waits_besides start_up leaves system unit) (has (names_in (content_of leaves (place_of Starts))) unit) (has names unit) (is.exact unit) (owed unit);
+    exact = λ unit. still (waits_besides start_up leaves system unit) (has names unit) (has names unit) refl (owed unit);
   }
 
   -- and what is left of it, with what waits besides, is left of it
@@ -148,16 +147,15 @@ module _ (leaves : Leaves) (system : Name) (new : List Unit) (defs : AreDefsOf l
   ]
 
   -- the lists that stand, with the target, are those that a switch takes
-  pub lists_taken : (start_up : Bool) (stored lists : Lists) → stand_as.AreListsOf leaves stored → AreTaken start_up new stored lists → AreListsFor start_up leaves system lists
+  pub lists_taken : (start_up : Bool) (stored lists : Lists) → AreListsAt leaves stored → AreTaken start_up new stored lists → AreListsFor start_up leaves system lists
   lists_taken start_up stored lists are taken =
-      let starts = taken.starts are.starts.sorted in
+      let starts = taken.starts (starts_sorted leaves stored are) in
       record {
-        starts = record {
-          sorted = starts.sorted;
-          exact = λ unit. starts.exact unit ∙ ap (λ b. (start_up && b) || has stored.starts unit) (found_there unit) ∙ ap (λ b. waits_besides start_up leaves system unit || b) (are.starts.exact unit);
-        };
-        restarts = subst (stand_as.IsListOf (content_of leaves (place_of Restarts))) (sym taken.restarts) are.restarts;
-        reloads = subst (stand_as.IsListOf (content_of leaves (place_of Reloads))) (sym taken.reloads) are.reloads;
+        stored = stored;
+        standing = are;
+        starts = record { sorted = starts.sorted; exact = λ unit. starts.exact unit ∙ ap (λ b. (start_up && b) || has stored.starts unit) (found_there unit) };
+        restarts = taken.restarts;
+        reloads = taken.reloads;
       }
 
 -- ---- the target is joined

@@ -3,7 +3,9 @@ use Rattle.std.specs.Prelude.{◌≡◌, ◌&&◌, ◌||◌, ◌↔◌, ℕ, Boo
 use Rattle.std.specs.List.Sorted.{IsStrictlySortedBy}
 use Rattle.host_trait.specs.States.{state_of}
 use Rattle.host_trait.specs.World.{Leaves, WorldState, bytes_cmp}
-use Rattle.owed_lists.specs.declared.lists.Lists.{Lists}
+use Rattle.log_text.specs.declared.lists.Lists.{Lists}
+use Rattle.owed_log.specs.Standing.{IsLogState}
+use Rattle.owed_log.specs.Writing.{IsWriteFor}
 use Rattle.owed_plan.specs.Calls.{calls_of}
 use Rattle.owed_plan.specs.Collected.{IsListBy}
 use Rattle.owed_plan.specs.Owed.{IsPlan}
@@ -27,10 +29,11 @@ pub record IsOldOf (leaves : Leaves) (old : OldSystem) : Type 0 where
   pub name : old.name ≡ current_system leaves
   pub defs : AreOldDefs leaves (current_system leaves) old.defs
 
--- these are the states of the units and the lists of a world
+-- these are the states of the units and the lists of a world, and this stands at the place of the log
 pub record AreStatesOf (start_up : Bool) (system : List ℕ) (w : WorldState) (units : UnitStates) : Type 0 where
   pub states : units.states ≡ w.manager.states
   pub lists : AreListsFor start_up w.leaves system units.lists
+  pub log : IsLogState w.leaves units.log
 
 -- the lists that stand, as a switch to a system with these units takes them: the target of a start-up joined where it is defined
 pub record AreTaken (start_up : Bool) (new : List Unit) (stored lists : Lists) : Type 0 where
@@ -64,3 +67,4 @@ pub record IsPlanBy (known : Known) (plan : UnitPlan) : Type 0 where
   pub steady : IsTrue plan.steady ↔ IsKnownSteady known
   pub in_order : AreInOrder (found_in known.new) (owed_of plan).starts plan.ordered
   pub duties : plan.duties ≡ calls_of (owed_of plan) plan.ordered.units (state_of known.units.states)
+  pub write : (leaves : Leaves) → IsLogState leaves known.units.log → IsWriteFor leaves plan.recorded plan.write

@@ -2,6 +2,7 @@
 use Rattle.std.specs.Prelude.{◌||◌, Bool, true, false, List, [], ◌∷◌, codes}
 use Rattle.host_trait.specs.World.{stage}
 use Rattle.owed_lists.specs.Lists.{reloads_place, restarts_place, starts_place}
+use Rattle.owed_log.specs.Places.{log_place}
 use Rattle.switch_names.specs.Names.{Name}
 use Rattle.switch_names.specs.Path.{is_below}
 use Rattle.switch_parts.specs.Leaves.{is_among, is_near}
@@ -9,17 +10,17 @@ use Rattle.tree_put.specs.declared.written_place.WrittenPlace.{WrittenPlace}
 use Rattle.tree_put.specs.WrittenPlace.{written}
 use Rattle.unit_stage.specs.System.{current_place}
 
--- the link to the system in use, and the three lists
+-- the link to the system in use, the log of what is owed, and the lists of an older program
 abbrev pub owned_places : List Name
-owned_places = current_place ∷ reloads_place ∷ restarts_place ∷ starts_place ∷ []
+owned_places = current_place ∷ log_place ∷ reloads_place ∷ restarts_place ∷ starts_place ∷ []
 
 -- whether a place is one of them
 abbrev pub owns_units : Name → Bool
 owns_units q = is_among owned_places q
 
--- the places of the lists, which are read before
+-- the places of the log and of the lists, which are read before
 abbrev pub list_places : List WrittenPlace
-list_places = written true reloads_place ∷ written true restarts_place ∷ written true starts_place ∷ []
+list_places = written true log_place ∷ written true reloads_place ∷ written true restarts_place ∷ written true starts_place ∷ []
 
 -- the places that are written by way of the stage
 abbrev pub unit_places : List WrittenPlace

@@ -2,7 +2,10 @@
 use Rattle.std.specs.Prelude.{◌≡◌, ℕ, Bool, List, [], None, true}
 use Rattle.host_trait.specs.States.{state_of}
 use Rattle.host_trait.specs.World.{WorldState}
-use Rattle.owed_lists.specs.declared.lists.Lists.{Lists}
+use Rattle.log_text.specs.declared.lists.Lists.{Lists}
+use Rattle.log_text.specs.Lists.{no_lists}
+use Rattle.owed_log.specs.declared.log_write.LogWrite.TheVariants.{Nothing}
+use Rattle.owed_log.specs.Writing.{IsWriteFor}
 use Rattle.owed_plan.specs.declared.owed.Owed.{Owed}
 use Rattle.owed_plan.specs.Calls.{calls_of}
 use Rattle.owed_plan.specs.Owed.{IsOwed, IsPlan}
@@ -31,12 +34,13 @@ pub record IsPlannedIn (start_up : Bool) (w : WorldState) (system : List ℕ) (l
 abbrev pub owed_of : UnitPlan → Owed
 owed_of plan = record { stops = plan.stops; reloads = plan.recorded.reloads; restarts = plan.recorded.restarts; starts = plan.recorded.starts; left = plan.left }
 
--- the plan of a switch to a system: the units that it defines, what is owed, the starts in order, and the calls by which it is given
+-- the plan of a switch to a system: the units that it defines, what is owed, what has to be written to record it, the starts in order, and the calls by which it is given
 pub record IsUnitPlanOf (start_up : Bool) (system : List ℕ) (w : WorldState) (plan : UnitPlan) : Type 0 where
   pub from : plan.from ≡ current_system w.leaves
   pub defs : AreDefsOf w.leaves system plan.defs
   pub lists : Lists
   pub planned : IsPlannedIn start_up w system lists (owed_of plan)
+  pub write : IsWriteFor w.leaves plan.recorded plan.write
   pub in_order : AreOrderedAt w.leaves system (owed_of plan) plan.ordered
   pub duties : plan.duties ≡ calls_of (owed_of plan) plan.ordered.units (state_of w.manager.states)
 
@@ -46,7 +50,8 @@ no_units = record {
   from = None;
   defs = [];
   stops = [];
-  recorded = record { starts = []; restarts = []; reloads = [] };
+  recorded = no_lists;
+  write = Nothing;
   left = [];
   steady = true;
   ordered = record { units = []; edges = []; broken = []; cycles = [] };

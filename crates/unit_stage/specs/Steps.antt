@@ -1,17 +1,17 @@
 -- The steps that a switch takes with the units: NixOS manual, "What happens during a system switch?".
-use Rattle.std.specs.Prelude.{◌≡◌, ◌⊎◌, ◌++◌, true, List, Some}
+use Rattle.std.specs.Prelude.{◌≡◌, ◌⊎◌, ◌++◌, ◌∷◌, true, List, [], Some}
 use Rattle.std.specs.FinMap.{get}
 use Rattle.host_trait.specs.declared.leaf.LeafKind.TheVariants.{Link}
 use Rattle.host_trait.specs.declared.unit_state.State.{State}
-use Rattle.host_trait.specs.Change.{definitions_place}
+use Rattle.host_trait.specs.Change.{IsMoment, definitions_place, finished}
 use Rattle.host_trait.specs.Manager.{loading}
 use Rattle.host_trait.specs.States.{state_of}
-use Rattle.host_trait.specs.World.{IsClear, WorldState, seen, stage, with_leaf, with_manager, without_leaf}
-use Rattle.owed_lists.specs.declared.lists.Lists.{Lists}
-use Rattle.owed_lists.specs.declared.lists.Which.{Which}
-use Rattle.owed_lists.specs.declared.lists.Which.TheVariants.{Starts, Restarts, Reloads}
-use Rattle.owed_lists.specs.Lists.{place_of}
-use Rattle.owed_lists.specs.Record.{IsRecordMoment, with_lists}
+use Rattle.host_trait.specs.World.{IsClear, IsFileAt, Leaves, WorldState, seen, stage, with_leaf, with_manager}
+use Rattle.log_text.specs.declared.lists.Which.{Which}
+use Rattle.log_text.specs.declared.lists.Which.TheVariants.{Starts, Restarts, Reloads}
+use Rattle.owed_log.specs.declared.log_write.LogWrite.{LogWrite}
+use Rattle.owed_log.specs.Places.{log_place}
+use Rattle.owed_log.specs.Writing.{IsRecordMoment, IsWriteFor, clearing, recorded}
 use Rattle.owed_plan.specs.declared.duty.Duty.{Duty}
 use Rattle.owed_plan.specs.declared.owed.Owed.{Owed}
 use Rattle.owed_plan.specs.Law.{lists_of}
@@ -28,9 +28,9 @@ pub record AreCallsOf (owed : Owed) (order : List Name) (states : Name → State
   pub are_restarts : restarts ≡ restart_calls owed
   pub are_starts : starts ≡ start_calls order
 
--- the world with the lists recorded, after the stops
-abbrev pub with_stops : Lists → List Duty → WorldState → WorldState
-with_stops lists stops w = with_calls stops (with_lists lists w)
+-- the world in which what is owed is recorded, after the stops
+abbrev pub with_stops : LogWrite → List Duty → WorldState → WorldState
+with_stops write stops w = with_calls stops (recorded write w)
 
 -- the world in which a system is in use
 abbrev pub with_current : Name → WorldState → WorldState
@@ -40,33 +40,47 @@ with_current system w = with_leaf current_place (system_leaf system) w
 abbrev pub with_loaded : Name → WorldState → WorldState
 with_loaded system w = with_manager (loading (definitions_of system) w.manager) (with_current system w)
 
--- the world after calls, without their list
+-- the world after calls, with their list cleared
+abbrev pub with_cleared : Which → List Duty → WorldState → WorldState
+with_cleared which calls w = finished (clearing which) (with_calls calls w)
+
+-- some of these calls have been made, or all of them and their list is being cleared
+abbrev pub IsClearingMoment : Which → List Duty → WorldState → WorldState → Type 0
+IsClearingMoment which calls w m = IsPerforming calls w m ⊎ IsMoment (clearing which) (with_calls calls w) m
+
+-- the world after calls, with their list cleared: without calls nothing is done, as nothing of the kind was recorded
 abbrev pub with_given : Which → List Duty → WorldState → WorldState
-with_given which calls w = without_leaf (place_of which) (with_calls calls w)
+with_given which [] w = w
+with_given which (call ∷ calls) w = with_cleared which (call ∷ calls) w
 
--- the world after reloads, restarts and starts, without their lists
+-- a moment of these calls, where there are some, and of the clearing of their list
+abbrev pub IsListMoment : Which → List Duty → WorldState → WorldState → Type 0
+IsListMoment which [] w m = m ≡ w
+IsListMoment which (call ∷ calls) w m = IsClearingMoment which (call ∷ calls) w m
+
+-- the log is a file where there are calls whose list is to be cleared
+abbrev pub HasLogFor : List Duty → Leaves → Type 0
+HasLogFor [] leaves = Unit {0}
+HasLogFor (call ∷ calls) leaves = IsFileAt leaves log_place
+
+-- the world after reloads, restarts and starts, with their lists cleared: the log goes with the units to start
 abbrev pub with_all_given : List Duty → List Duty → List Duty → WorldState → WorldState
-with_all_given reloads restarts starts w = with_given Starts starts (with_given Restarts restarts (with_given Reloads reloads w))
+with_all_given reloads restarts starts w = with_cleared Starts starts (with_given Restarts restarts (with_given Reloads reloads w))
 
--- the world in which a system is in use, after reloads, restarts and starts, without their lists
+-- the world in which a system is in use, after reloads, restarts and starts, with their lists cleared
 abbrev pub with_brought : Name → List Duty → List Duty → List Duty → WorldState → WorldState
 with_brought system reloads restarts starts w = with_all_given reloads restarts starts (with_loaded system w)
 
--- some of these calls have been made, or all of them and their list is removed
-abbrev pub IsListMoment : Which → List Duty → WorldState → WorldState → Type 0
-IsListMoment which calls w m = IsPerforming calls w m ⊎ (m ≡ with_given which calls w)
+-- up to the last stop: what is owed is being recorded, or it is and some of the stops are made
+pub data IsStopStep (write : LogWrite) (stops : List Duty) (w m : WorldState) : Type 0 where
+  Recording : IsRecordMoment write w m → IsStopStep write stops w m
+  Stopping : IsPerforming stops (recorded write w) m → IsStopStep write stops w m
 
--- up to the last stop: some of the lists are recorded, or all of them and some of the stops are made
-pub data IsStopStep (lists : Lists) (stops : List Duty) (w m : WorldState) : Type 0 where
-  Recording : IsRecordMoment lists w m → IsStopStep lists stops w m
-  Stopping : IsPerforming stops (with_lists lists w) m → IsStopStep lists stops w m
-
--- some of these calls have been made, in their order, and each list is removed after the last of its calls
+-- some of these calls have been made, in their order, and each list is cleared after the last of its calls
 pub data IsGiveMoment (reloads restarts starts : List Duty) (w m : WorldState) : Type 0 where
-  Reloading : IsPerforming reloads w m → IsGiveMoment reloads restarts starts w m
-  Restarting : IsPerforming restarts (with_given Reloads reloads w) m → IsGiveMoment reloads restarts starts w m
-  Starting : IsPerforming starts (with_given Restarts restarts (with_given Reloads reloads w)) m → IsGiveMoment reloads restarts starts w m
-  Given : m ≡ with_all_given reloads restarts starts w → IsGiveMoment reloads restarts starts w m
+  Reloading : IsListMoment Reloads reloads w m → IsGiveMoment reloads restarts starts w m
+  Restarting : IsListMoment Restarts restarts (with_given Reloads reloads w) m → IsGiveMoment reloads restarts starts w m
+  Starting : IsClearingMoment Starts starts (with_given Restarts restarts (with_given Reloads reloads w)) m → IsGiveMoment reloads restarts starts w m
 
 -- after the stops: the system comes into use, its definitions are loaded, and what is owed is given
 pub data IsBringStep (system : Name) (reloads restarts starts : List Duty) (w m : WorldState) : Type 0 where
@@ -75,23 +89,23 @@ pub data IsBringStep (system : Name) (reloads restarts starts : List Duty) (w m 
   Giving : IsGiveMoment reloads restarts starts (with_loaded system w) m → IsBringStep system reloads restarts starts w m
 
 -- but for the stage, a moment is one of the steps up to the last stop
-abbrev pub IsStopMoment : Lists → List Duty → WorldState → WorldState → Type 0
-IsStopMoment lists stops w m = (u : WorldState) × IsStopStep lists stops w u × (seen m ≡ seen u)
+abbrev pub IsStopMoment : LogWrite → List Duty → WorldState → WorldState → Type 0
+IsStopMoment write stops w m = (u : WorldState) × IsStopStep write stops w u × (seen m ≡ seen u)
 
 -- but for the stage, a moment is one of the steps after the stops
 abbrev pub IsBringMoment : Name → List Duty → List Duty → List Duty → WorldState → WorldState → Type 0
 IsBringMoment system reloads restarts starts w m = (u : WorldState) × IsBringStep system reloads restarts starts w u × (seen m ≡ seen u)
 
--- two worlds have the same manager, the same lists and the same system in use
+-- two worlds have the same manager, the same log and lists, and the same system in use
 pub record AreSameUnits (w m : WorldState) : Type 0 where
   pub leaves : (q : Name) → owns_units q ≡ true → get m.leaves q ≡ get w.leaves q
   pub manager : m.manager ≡ w.manager
 
--- at a moment of a switch the lists, the system in use and the manager are exactly at one of its steps
+-- at a moment of a switch the log, the lists, the system in use and the manager are exactly at one of its steps
 pub data IsUnitMoment (system : Name) (owed : Owed) (order : List Name) (w m : WorldState) : Type 0 where
-  Stopping : (u : WorldState) → IsStopStep (lists_of owed) (stop_calls owed) w u → AreSameUnits u m → IsUnitMoment system owed order w m
-  Bringing : (u : WorldState) → IsBringStep system (reload_calls owed (state_of w.manager.states)) (restart_calls owed) (start_calls order) (with_stops (lists_of owed) (stop_calls owed) w) u →
-      AreSameUnits u m → IsUnitMoment system owed order w m
+  Stopping : (write : LogWrite) → IsWriteFor w.leaves (lists_of owed) write → (u : WorldState) → IsStopStep write (stop_calls owed) w u → AreSameUnits u m → IsUnitMoment system owed order w m
+  Bringing : (write : LogWrite) → IsWriteFor w.leaves (lists_of owed) write → (u : WorldState) →
+      IsBringStep system (reload_calls owed (state_of w.manager.states)) (restart_calls owed) (start_calls order) (with_stops write (stop_calls owed) w) u → AreSameUnits u m → IsUnitMoment system owed order w m
 
 -- a system can be brought into use, and its definitions are what will be loaded
 pub record CanLoad (system : Name) (w : WorldState) : Type 0 where
@@ -102,6 +116,8 @@ pub record CanLoad (system : Name) (w : WorldState) : Type 0 where
 -- and then these calls can be made
 pub record CanBring (system : Name) (reloads restarts starts : List Duty) (w : WorldState) : Type 0 where
   pub load : CanLoad system w
+  pub reload_log : HasLogFor reloads w.leaves
+  pub restart_log : HasLogFor restarts w.leaves
   pub calls : CanPerform (reloads ++ restarts ++ starts) (loading (definitions_of system) w.manager)
 
 -- but for the stage, the system isn't in use yet, or it is, or its definitions are loaded too

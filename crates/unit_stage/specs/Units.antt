@@ -40,11 +40,11 @@ pub record AreUnitsKept (start_up : Bool) (system : Name) (w m : WorldState) : T
   pub free : AreUnitsFree system w.leaves → AreUnitsFree system m.leaves
   pub underway : AreUnitsFree system w.leaves → IsSteadyWorld start_up w system → AreUnitsUnderway start_up system w m
 
--- the link names the system, and no list is left
+-- the link names the system, and neither the log nor a list is left
 abbrev pub units_end : Name → Leaves → Name → Option LeafKind
 units_end system leaves q = if is_path q current_place then Some (system_leaf system) else None
 
--- the part that records the lists, stops units, brings the system into use, and reloads, restarts and starts units
+-- the part that records what is owed, stops units, brings the system into use, and reloads, restarts and starts units
 abbrev pub units_part : Bool → Name → Part
 units_part start_up system = record {
   owns = owns_units;

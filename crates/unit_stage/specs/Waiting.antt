@@ -1,9 +1,8 @@
 -- What waits for a start in a world: NixOS manual, "Unit handling"; bootup(7), "multi-user.target".
-use Rattle.std.specs.Prelude.{◌&&◌, ◌||◌, Bool, codes, is_some}
-use Rattle.host_trait.specs.World.{Leaves, content_of}
-use Rattle.owed_lists.specs.declared.lists.Lists.{Lists}
-use Rattle.owed_lists.specs.declared.lists.Which.TheVariants.{Starts, Restarts, Reloads}
-use Rattle.owed_lists.specs.Lists.{IsListOf, names_in, place_of}
+use Rattle.std.specs.Prelude.{◌≡◌, ◌&&◌, ◌||◌, Bool, codes, is_some}
+use Rattle.host_trait.specs.World.{Leaves}
+use Rattle.log_text.specs.declared.lists.Lists.{Lists}
+use Rattle.owed_log.specs.Standing.{AreListsAt}
 use Rattle.owed_plan.specs.Collected.{IsListBy}
 use Rattle.switch_names.specs.Names.{Name, has, is_name}
 use Rattle.unit_defs.specs.Units.{text_of}
@@ -16,8 +15,10 @@ start_up_target = codes "multi-user.target"
 abbrev pub waits_besides : Bool → Leaves → Name → Name → Bool
 waits_besides start_up leaves system unit = start_up && (is_name unit start_up_target && is_some (text_of leaves system unit))
 
--- the lists of a world, as a switch to a system takes them
+-- the lists of a world, as a switch to a system takes them: those that stand, with what waits besides among the units to start
 pub record AreListsFor (start_up : Bool) (leaves : Leaves) (system : Name) (lists : Lists) : Type 0 where
-  pub starts : IsListBy lists.starts (λ unit. waits_besides start_up leaves system unit || has (names_in (content_of leaves (place_of Starts))) unit)
-  pub restarts : IsListOf (content_of leaves (place_of Restarts)) lists.restarts
-  pub reloads : IsListOf (content_of leaves (place_of Reloads)) lists.reloads
+  pub stored : Lists
+  pub standing : AreListsAt leaves stored
+  pub starts : IsListBy lists.starts (λ unit. waits_besides start_up leaves system unit || has stored.starts unit)
+  pub restarts : lists.restarts ≡ stored.restarts
+  pub reloads : lists.reloads ≡ stored.reloads

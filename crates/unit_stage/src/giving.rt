@@ -1,28 +1,33 @@
 //! Gives the units what they are owed.
-ghost use Rattle.std.specs.Prelude.{◌≡◌, ◌++◌, OnOk};
+ghost use Rattle.std.specs.Prelude.{◌≡◌, ◌≢◌, ◌++◌, OnOk};
 ghost use Rattle.host_trait.specs.Host.{Told, Becomes, Comes, Passes, HasCause};
-ghost use Rattle.owed_lists.specs.Record.{CanRecord, IsRecordMoment, with_lists};
+ghost use Rattle.host_trait.specs.World.{IsFileAt};
+ghost use Rattle.log_text.specs.declared.lists.Which.TheVariants.{Starts};
+ghost use Rattle.owed_log.specs.Places.{log_place};
+ghost use Rattle.owed_log.specs.Writing.{CanWrite, IsFilled, IsRecordMoment, recorded};
 ghost use Rattle.unit_stage.specs.Acts.{CanPerform, IsPerforming, with_calls};
-ghost use Rattle.unit_stage.specs.Steps.{CanBring, IsBringMoment, IsGiveMoment, IsListMoment, IsStopMoment, with_all_given, with_brought, with_given, with_stops};
+ghost use Rattle.unit_stage.specs.Steps.{CanBring, HasLogFor, IsBringMoment, IsClearingMoment, IsGiveMoment, IsListMoment, IsStopMoment, with_all_given, with_brought, with_cleared, with_given, with_stops};
 ghost use Rattle.unit_stage.specs.System.{system_leaf};
 
 use crate::acting::call_units;
 use crate::linking::load_system;
 use crate::plan_calls::PlanCalls;
 use host_trait::{HostFault, Leaf, Manager, Tree};
-use owed_lists::{Lists, Which, clear, record};
+use log_text::Which;
+use owed_log::{LogWrite, clear, record};
 use owed_plan::Duty;
 use std::alloc::Global;
 use switch_names::SystemName;
 
-/// Records the lists, and has them kept beyond a loss of power.
-fn record_kept<T: Tree>(alloc: Global, host: &mut T, lists: &Lists) -> Result<(), HostFault>
-    requires { Told (T.host host.old) CanRecord }
-    ensures ok { OnOk result (Comes (T.host host.old) (T.host host.new) (with_lists lists.now)) }
-    ensures moments { Passes (T.host host.old) (T.host host.new) (IsRecordMoment lists.now) }
+/// Records what is owed, and has that kept beyond a loss of power.
+fn record_kept<T: Tree>(alloc: Global, host: &mut T, write: &LogWrite) -> Result<(), HostFault>
+    requires can { Told (T.host host.old) (CanWrite write.now) }
+    requires filled { IsFilled write.now }
+    ensures ok { OnOk result (Comes (T.host host.old) (T.host host.new) (recorded write.now)) }
+    ensures moments { Passes (T.host host.old) (T.host host.new) (IsRecordMoment write.now) }
     ensures cause { HasCause (T.host host.old) (T.host host.new) result }
 {
-    record(alloc, host, lists)?;
+    record(alloc, host, write)?;
     host.sync(alloc)?;
     Ok(())
 }
@@ -39,37 +44,39 @@ fn call_kept<H: Manager>(alloc: Global, host: &mut H, calls: &[Duty]) -> Result<
     Ok(())
 }
 
-/// Records the lists, and then stops units.
+/// Records what is owed, and then stops units.
 ///
-/// A cut leaves some of the lists recorded, or all of them and some of the stops made. The lists are kept
+/// A cut leaves the log as it stood, with any part of what is appended, or written, and then some of the stops made. It is kept
 /// beyond a loss of power before the first stop.
 pub fn stop_units<H: Manager>(
     alloc: Global,
     host: &mut H,
-    lists: &Lists,
+    write: &LogWrite,
     stops: &[Duty],
 ) -> Result<(), HostFault>
-    requires lists { Told (H.host host.old) CanRecord }
+    requires can { Told (H.host host.old) (CanWrite write.now) }
+    requires filled { IsFilled write.now }
     requires calls { Told (H.host host.old) (λ w. CanPerform stops.now w.manager) }
-    ensures ok { OnOk result (Comes (H.host host.old) (H.host host.new) (with_stops lists.now stops.now)) }
-    ensures moments { Passes (H.host host.old) (H.host host.new) (IsStopMoment lists.now stops.now) }
+    ensures ok { OnOk result (Comes (H.host host.old) (H.host host.new) (with_stops write.now stops.now)) }
+    ensures moments { Passes (H.host host.old) (H.host host.new) (IsStopMoment write.now stops.now) }
     ensures cause { HasCause (H.host host.old) (H.host host.new) result }
 {
-    record_kept(alloc, host, lists)?;
+    record_kept(alloc, host, write)?;
     call_units(alloc, host, stops)?;
     Ok(())
 }
 
-/// Makes calls on units, and then removes their list, once what the calls leave is kept beyond a loss of power.
-fn give<H: Manager>(
+/// Makes calls on units, and then clears their list, once what the calls leave is kept beyond a loss of power.
+fn call_listed<H: Manager>(
     alloc: Global,
     host: &mut H,
     which: Which,
     calls: &[Duty],
 ) -> Result<(), HostFault>
-    requires { Told (H.host host.old) (λ w. CanPerform calls.now w.manager) }
-    ensures ok { OnOk result (Becomes (H.host host.old) (H.host host.new) (with_given which calls.now)) }
-    ensures moments { Passes (H.host host.old) (H.host host.new) (IsListMoment which calls.now) }
+    requires calls { Told (H.host host.old) (λ w. CanPerform calls.now w.manager) }
+    requires file { which ≢ Starts → Told (H.host host.old) (λ w. IsFileAt w.leaves log_place) }
+    ensures ok { OnOk result (Becomes (H.host host.old) (H.host host.new) (with_cleared which calls.now)) }
+    ensures moments { Passes (H.host host.old) (H.host host.new) (IsClearingMoment which calls.now) }
     ensures cause { HasCause (H.host host.old) (H.host host.new) result }
 {
     call_kept(alloc, host, calls)?;
@@ -77,7 +84,26 @@ fn give<H: Manager>(
     Ok(())
 }
 
-/// Reloads units, then restarts units, and then starts units. Each list goes after the last of its calls.
+/// Makes the calls of a list that isn't the last, and clears it. Where there are none, no name was recorded, and nothing is done.
+fn give<H: Manager>(
+    alloc: Global,
+    host: &mut H,
+    which: Which,
+    calls: &[Duty],
+) -> Result<(), HostFault>
+    requires calls { Told (H.host host.old) (λ w. CanPerform calls.now w.manager) }
+    requires log { Told (H.host host.old) (λ w. HasLogFor calls.now w.leaves) }
+    ensures ok { OnOk result (Becomes (H.host host.old) (H.host host.new) (with_given which calls.now)) }
+    ensures moments { Passes (H.host host.old) (H.host host.new) (IsListMoment which calls.now) }
+    ensures cause { HasCause (H.host host.old) (H.host host.new) result }
+{
+    if calls.is_empty() {
+        return Ok(());
+    }
+    call_listed(alloc, host, which, calls)
+}
+
+/// Reloads units, then restarts units, and then starts units. Each list is cleared after the last of its calls.
 fn give_all<H: Manager>(
     alloc: Global,
     host: &mut H,
@@ -85,19 +111,21 @@ fn give_all<H: Manager>(
     restarts: &[Duty],
     starts: &[Duty],
 ) -> Result<(), HostFault>
-    requires { Told (H.host host.old) (λ w. CanPerform (reloads.now ++ restarts.now ++ starts.now) w.manager) }
+    requires calls { Told (H.host host.old) (λ w. CanPerform (reloads.now ++ restarts.now ++ starts.now) w.manager) }
+    requires reload_log { Told (H.host host.old) (λ w. HasLogFor reloads.now w.leaves) }
+    requires restart_log { Told (H.host host.old) (λ w. HasLogFor restarts.now w.leaves) }
     ensures ok { OnOk result (Becomes (H.host host.old) (H.host host.new) (with_all_given reloads.now restarts.now starts.now)) }
     ensures moments { Passes (H.host host.old) (H.host host.new) (IsGiveMoment reloads.now restarts.now starts.now) }
     ensures cause { HasCause (H.host host.old) (H.host host.new) result }
 {
     give(alloc, host, Which::Reloads, reloads)?;
     give(alloc, host, Which::Restarts, restarts)?;
-    give(alloc, host, Which::Starts, starts)?;
+    call_listed(alloc, host, Which::Starts, starts)?;
     Ok(())
 }
 
 /// Brings a system into use, loads its definitions, and reloads, restarts and starts units. Each list
-/// goes after the last of its calls.
+/// is cleared after the last of its calls: the reloads and the restarts by a block without names, the starts with the log.
 ///
 /// Source: NixOS manual, "What happens during a system switch?".
 pub fn bring_units<H: Manager>(

@@ -14,8 +14,10 @@ ghost use Rattle.unit_stage.specs.System.{unit_refusal};
 
 use crate::system::{current_system, start_up_target};
 use host_trait::{HostFault, Manager, States, Tree, UnitSet};
-use owed_lists::{Lists, load};
+use log_text::Lists;
+use owed_log::{LogState, StandingLists};
 use std::alloc::{AllocError, Global};
+use std::mem;
 use switch_names::SystemName;
 use switch_parts::{PlanFault, Refusal};
 use unit_defs::{Defs, DefsFault};
@@ -27,10 +29,11 @@ pub struct OldSystem {
     pub defs: Defs,
 }
 
-/// The states of the units, and the lists that a switch which was cut has left.
+/// The states of the units, the lists that a switch which was cut has left, and what stands at the place of the log.
 pub struct UnitStates {
     pub states: States,
     pub lists: Lists,
+    pub log: LogState,
 }
 
 /// One call: a derived drop is proved anew in each function that lets one go.
@@ -39,6 +42,7 @@ impl Drop for UnitStates {
         let UnitStates {
             states: _,
             lists: _,
+            log: _,
         } = self;
     }
 }
@@ -115,7 +119,15 @@ fn lists_for(alloc: Global, stored: Lists, new: &Defs, start_up: bool) -> Result
     Ok(lists)
 }
 
-/// Reads the states of the units and the three lists.
+/// The lists that stand.
+fn lists_of(alloc: Global, standing: StandingLists) -> Lists
+    ensures { result ≡ standing.lists }
+{
+    let mut standing = standing;
+    mem::replace(&mut standing.lists, Lists::new(alloc))
+}
+
+/// Reads the states of the units, the lists, and what stands at the place of the log.
 fn read_states<H: Manager>(
     alloc: Global,
     host: &mut H,
@@ -126,9 +138,10 @@ fn read_states<H: Manager>(
     ensures reads { IsReading (H.host host.old) (H.host host.new) result }
 {
     let states = host.units(alloc)?;
-    let stored = load(alloc, host)?;
-    let lists = lists_for(alloc, stored, new, start_up)?;
-    Ok(UnitStates { states, lists })
+    let standing = StandingLists::read(alloc, host)?;
+    let log = standing.log;
+    let lists = lists_for(alloc, lists_of(alloc, standing), new, start_up)?;
+    Ok(UnitStates { states, lists, log })
 }
 
 /// Reads all that a switch to a system is planned by.

@@ -4,21 +4,25 @@ ghost use Rattle.tree_put.specs.WrittenPlace.{AreApartFromStage};
 ghost use Rattle.unit_stage.specs.Owned.{list_places, unit_places};
 
 use crate::system::current_path;
-use owed_lists::{Which, list_path};
+use log_text::Which;
+use owed_lists::list_path;
+use owed_log::log_path;
 use std::alloc::{AllocError, Global};
 use switch_names::Listed;
 use tree_put::{WrittenPlace, add_stage, read_before, unread};
 
-/// Adds the lists, which are read before.
+/// Adds the log and the lists of an older program, which are read before.
 fn add_lists(alloc: Global, places: &mut Listed<WrittenPlace>) -> Result<(), AllocError>
     ensures { OnOk result (places.new ≡ places.old ++ list_places) }
 {
+    places.push(read_before(log_path(alloc)?))?;
     places.push(read_before(list_path(alloc, Which::Reloads)?))?;
     places.push(read_before(list_path(alloc, Which::Restarts)?))?;
     places.push(read_before(list_path(alloc, Which::Starts)?))
 }
 
-/// Adds the places that switching the units writes: the stage, the link to the system in use, and the lists.
+/// Adds the places that switching the units writes: the stage, the link to the system in use, the
+/// log of what is owed, and the lists of an older program.
 pub fn add_unit_places(alloc: Global, places: &mut Listed<WrittenPlace>) -> Result<(), AllocError>
     ensures places { OnOk result (places.new ≡ places.old ++ unit_places) }
     ensures apart { AreApartFromStage places.old → OnOk result (AreApartFromStage places.new) }

@@ -6,6 +6,7 @@ ghost use Rattle.host_trait.specs.Bytes.{bytes_cmp};
 ghost use Rattle.host_trait.specs.Reading.{IsReadingOf};
 ghost use Rattle.host_trait.specs.Host.{Told};
 ghost use Rattle.host_trait.specs.States.{state_of};
+ghost use Rattle.owed_log.specs.Writing.{IsFilled};
 ghost use Rattle.owed_plan.specs.Owed.{IsPlan};
 ghost use Rattle.owed_plan.specs.Pull.{Pulled};
 ghost use Rattle.owed_plan.specs.Systems.{systems_in};
@@ -92,28 +93,33 @@ fn owed_calls(alloc: Global, known: &Known) -> Result<OwedCalls, AllocError>
     })
 }
 
-/// The plan of these parts.
-fn plan_of(known: Known, calls: OwedCalls) -> UnitPlan
+/// The plan of these parts, with what has to be written to record what is owed.
+fn plan_of(alloc: Global, known: Known, calls: OwedCalls) -> Result<UnitPlan, AllocError>
     requires { AreOwedCalls known calls }
-    ensures { IsPlanBy known result }
+    ensures plan { IfOk result (IsPlanBy known) }
+    ensures filled { IfOk result (λ plan. IsFilled plan.write) }
 {
-    let Known { old, new, units: _ } = known;
-    UnitPlan::new(
+    let Known { old, new, units } = known;
+    let lists = calls.owed.into_lists();
+    let write = units.log.prepare(alloc, &lists.1)?;
+    Ok(UnitPlan::new(
         old.name,
         new,
-        calls.owed,
+        lists,
+        write,
         calls.steady,
         calls.ordered,
         calls.duties,
-    )
+    ))
 }
 
 /// The plan of a switch by what is known.
 fn plan_by(alloc: Global, known: Known) -> Result<UnitPlan, AllocError>
-    ensures { IfOk result (IsPlanBy known) }
+    ensures plan { IfOk result (IsPlanBy known) }
+    ensures filled { IfOk result (λ plan. IsFilled plan.write) }
 {
     let calls = owed_calls(alloc, &known)?;
-    Ok(plan_of(known, calls))
+    plan_of(alloc, known, calls)
 }
 
 /// Plans what a switch to a system does to the units, and changes nothing. As the machine starts up,
@@ -127,6 +133,7 @@ pub fn plan_units<H: Manager>(
     start_up: bool,
 ) -> Result<UnitPlan, PlanFault>
     ensures plan { IfOk result (λ plan. Told (H.host host.old) (λ w. IsUnitPlanOf start_up system.now w plan)) }
+    ensures filled { IfOk result (λ plan. IsFilled plan.write) }
     ensures steady { IfOk result (λ plan. Told (H.host host.old) (λ w. IsTrue plan.steady ↔ IsSteadyWorld start_up w system.now)) }
     ensures not_refused { OnOk result (Told (H.host host.old) (λ w. unit_refusal w.leaves system.now ≡ None)) }
     ensures refused { (why : Refusal) → IsErrOf result (Refused why) → Told (H.host host.old) (λ w. unit_refusal w.leaves system.now ≡ Some why) }

@@ -1,11 +1,11 @@
 //! What a switch to a system does to the units.
 ghost use Rattle.std.specs.Prelude.{◌≡◌};
 ghost use Rattle.std.specs.Option.{option_copied};
-ghost use Rattle.owed_plan.specs.Law.{lists_of};
 ghost use Rattle.unit_stage.specs.Plan.{no_units};
 
-use owed_lists::Lists;
-use owed_plan::{Duty, Owed};
+use log_text::Lists;
+use owed_log::LogWrite;
+use owed_plan::Duty;
 use start_order::Ordered;
 use std::alloc::Global;
 use switch_names::{Listed, SystemName, UnitName};
@@ -17,6 +17,7 @@ pub struct UnitPlan {
     defs: Defs,
     stops: Listed<UnitName>,
     recorded: Lists,
+    write: LogWrite,
     left: Listed<UnitName>,
     steady: bool,
     ordered: Ordered,
@@ -31,6 +32,7 @@ impl Drop for UnitPlan {
             defs: _,
             stops: _,
             recorded: _,
+            write: _,
             left: _,
             steady: _,
             ordered: _,
@@ -40,23 +42,25 @@ impl Drop for UnitPlan {
 }
 
 impl UnitPlan {
-    /// A plan of these parts.
+    /// A plan of these parts; of the lists, the units to stop, those that are recorded, and the changed ones that get nothing.
     pub(crate) fn new(
         from: Option<SystemName>,
         defs: Defs,
-        owed: Owed,
+        lists: (Listed<UnitName>, Lists, Listed<UnitName>),
+        write: LogWrite,
         steady: bool,
         ordered: Ordered,
         duties: Listed<Duty>,
     ) -> UnitPlan
-        ensures { result ≡ record { from = from; defs = defs; stops = owed.stops; recorded = lists_of owed; left = owed.left; steady = steady; ordered = ordered; duties = duties } }
+        ensures { result ≡ record { from = from; defs = defs; stops = lists.0; recorded = lists.1; write = write; left = lists.2; steady = steady; ordered = ordered; duties = duties } }
     {
-        let (stops, recorded, left) = owed.into_lists();
+        let (stops, recorded, left) = lists;
         UnitPlan {
             from,
             defs,
             stops,
             recorded,
+            write,
             left,
             steady,
             ordered,
@@ -72,11 +76,8 @@ impl UnitPlan {
             from: None,
             defs: Defs::none(alloc),
             stops: Listed::new(alloc),
-            recorded: Lists {
-                starts: Listed::new(alloc),
-                restarts: Listed::new(alloc),
-                reloads: Listed::new(alloc),
-            },
+            recorded: Lists::new(alloc),
+            write: LogWrite::Nothing,
             left: Listed::new(alloc),
             steady: true,
             ordered: Ordered {
@@ -123,6 +124,13 @@ impl UnitPlan {
         ensures { result.now ≡ self.now.recorded }
     {
         &self.recorded
+    }
+
+    /// What has to be written to record these.
+    pub fn write(&self) -> &LogWrite
+        ensures { result.now ≡ self.now.write }
+    {
+        &self.write
     }
 
     /// The units to start in the order of their starts, with what could not be kept of that order.

@@ -1,5 +1,5 @@
-pub mod EmptyLemmas
 pub mod FallenLemmas
+pub mod LogLemmas
 pub mod NoUnitLemmas
 mod Silence
 pub mod StageLemmas

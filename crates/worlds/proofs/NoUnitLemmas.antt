@@ -1,15 +1,12 @@
 -- Without units nothing is pulled.
-use Rattle.std.proofs.Common.{◌≡◌, true, List, [], Option, is_some, refl, sym, ap, subst, ◌∙◌}
-use Rattle.std.specs.Cmp.Lexicographic.{slice_cmp}
-use Rattle.std.specs.List.Sorted.{IsStrictlySortedBy}
-use Rattle.std.specs.Ordering.{nat_cmp}
+use Rattle.std.proofs.Common.{◌≡◌, List, [], Option, is_some, sym, ap, subst, ◌∙◌}
 use Rattle.host_trait.specs.declared.unit_state.State.{State}
 use Rattle.host_trait.proofs.Orders.{none_sorted}
-use Rattle.owed_lists.specs.declared.lists.Lists.{Lists}
+use Rattle.log_text.specs.declared.lists.Lists.{Lists}
 use Rattle.owed_plan.specs.Pull.{IsRoot, Pulled}
 use Rattle.owed_plan.specs.Systems.{IsDefined, systems_in}
 use Rattle.owed_plan.proofs.SystemLemmas.{none_kept}
-use Rattle.switch_names.specs.Names.{IsListOf, Name, has}
+use Rattle.switch_names.specs.Names.{IsListOf, Name}
 use Rattle.unit_decide.proofs.SocketLemmas.{none_found}
 use Rattle.unit_defs.specs.declared.unit.Unit.{Unit}
 use Rattle.unit_defs.specs.Pull.{Reached}

@@ -10,7 +10,7 @@ use self::calls::{show_calls_of, show_owed};
 use self::changes::show_change;
 use self::definitions::show_units;
 use self::files::{show_file, show_file_values, show_sum};
-use self::lists::{show_lists, show_recorded_anew};
+use self::lists::{show_lists, show_record};
 use host_memory::MemoryHost;
 use std::alloc::Global;
 use std::test::Fail;
@@ -27,7 +27,7 @@ fn show_host(
 ) -> Result<(), Fail> {
     match (command, given) {
         ("lists", _) => show_lists(alloc, lines, host),
-        ("record", _) => show_recorded_anew(alloc, lines, host),
+        ("record", _) => show_record(alloc, lines, host, given),
         ("owed", _) => show_owed(alloc, lines, host),
         ("calls", _) => show_calls_of(alloc, lines, host.world().states(), given),
         (_, [units, ..]) => show_units(alloc, lines, command, host, units),
@@ -64,7 +64,8 @@ pub fn show_unit_case(
             show_file(alloc, lines, file.as_slice(), command, asked)
         }
         ("compare" | "decide", _) => show_change(alloc, lines, given),
-        ("lists" | "record" | "owed", _) => show_systems(alloc, lines, command, 0, given),
+        ("lists" | "owed", _) => show_systems(alloc, lines, command, 0, given),
+        ("record", _) => show_systems(alloc, lines, command, 3, given),
         ("calls", _) => show_systems(alloc, lines, command, 5, given),
         ("found" | "wanted" | "pull", _) => show_systems(alloc, lines, command, 1, given),
         ("found without a system" | "wanted without a system" | "pull without a system", _) => {

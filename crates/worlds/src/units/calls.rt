@@ -3,7 +3,8 @@ use crate::fields::names_of;
 use crate::writing::show_names;
 use host_memory::MemoryHost;
 use host_trait::States;
-use owed_lists::{Lists, load};
+use log_text::Lists;
+use owed_log::StandingLists;
 use owed_plan::{Owed, calls, plan};
 use start_order::Ordered;
 use std::alloc::{AllocError, Global};
@@ -73,8 +74,8 @@ fn owed_without_units(alloc: Global, states: &States, lists: &Lists) -> Result<O
 /// Shows the units that are left between two systems without units, and the calls, by the states and
 /// the lists of a host.
 pub fn show_owed(alloc: Global, lines: &mut Lines, host: &mut MemoryHost) -> Result<(), Fail> {
-    let lists = load(alloc, host)?;
+    let standing = StandingLists::read(alloc, host)?;
     let states = host.world().states();
-    let owed = owed_without_units(alloc, states, &lists)?;
+    let owed = owed_without_units(alloc, states, &standing.lists)?;
     Ok(show_calls(alloc, lines, &owed, states)?)
 }

@@ -6,6 +6,7 @@ use Rattle.boot_entries.specs.BootDefault.{IsDefaultFor}
 use Rattle.boot_entries.specs.declared.boot_default.BootDefaultPlan.{BootDefaultPlan}
 use Rattle.host_trait.specs.Host.{Leads, Passes, Told}
 use Rattle.host_trait.specs.World.{WorldState, seen}
+use Rattle.owed_log.specs.Writing.{IsFilled}
 use Rattle.switch_engine.specs.Carried.{CanRecordBy, CanSetBy, CanSwitchBy, IsPrepared, IsPreparing, IsSwitchMomentIf, IsSwitchedIf, cleared_by, moves_of}
 use Rattle.switch_engine.specs.Final.{HasFailed}
 use Rattle.switch_engine.specs.Moments.{IsClearStep, record_world}
@@ -31,7 +32,7 @@ prepare-requires-clause-can g c =
 
 pub prepare-requires-clause-sound : goal.prepare-requires-clause-sound
 prepare-requires-clause-sound g c profile is =
-    subst (λ (system : Name). IsDefaultFor system profile) (sym c.to-2.ensures) (c.requires.sound profile (sym c.profile.ensures ∙ is))
+    subst (λ (system : Name). IsDefaultFor system profile) (sym c.to-2.ensures) (c.requires.sound.default profile (sym c.profile.ensures ∙ is))
 
 pub returns-in_err-prepare-clause-moments : goal.returns-in_err-prepare-clause-moments
 returns-in_err-prepare-clause-moments g c =
@@ -47,6 +48,9 @@ carry_units-requires-clause-can g c =
     (subst (λ (o : Option BootDefaultPlan). Passes host then (IsPreparing (moves_of o) c.to-2.result.now)) c.profile.ensures c.prepare.ensures.moments)
     (subst (λ (o : Option BootDefaultPlan). Leads host then (IsPrepared (moves_of o) c.to-2.result.now)) c.profile.ensures c.in_ok-prepare.ensures.ok)
     c.to-3.result.now c.to-3.ensures))
+
+pub carry_units-requires-clause-filled : goal.carry_units-requires-clause-filled
+carry_units-requires-clause-filled g c = subst (λ (units : UnitPlan). IsFilled units.write) (sym c.units.ensures) c.requires.sound.filled
 
 pub carry_units-requires-clause-current : goal.carry_units-requires-clause-current
 carry_units-requires-clause-current g c = c.in_ok-current.ensures ∙ ap system_leaf (c.to.ensures ∙ sym c.to-3.ensures)

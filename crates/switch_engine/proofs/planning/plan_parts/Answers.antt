@@ -104,7 +104,7 @@ returns-clause-not_refused g c =
 pub returns-clause-sound : goal.returns-clause-sound
 returns-clause-sound g c =
     subst IsSound (sym c.new.ensures)
-    (λ profile some. c.in_ok-profile.ensures.sound profile some)
+    (record { default = λ profile some. c.in_ok-profile.ensures.sound profile some; filled = c.in_ok-units.ensures.filled })
 
 pub returns-clause-reads : goal.returns-clause-reads
 returns-clause-reads g c =

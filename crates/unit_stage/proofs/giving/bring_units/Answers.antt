@@ -4,20 +4,33 @@ use Rattle.host_trait.specs.World.{seen}
 use Rattle.host_trait.proofs.Causes.{cause_on}
 use Rattle.host_trait.proofs.Moments.{goes_on, leads_then, passes_as, told_after, told_as}
 use Rattle.unit_stage.specs.Acts.{CanPerform}
-use Rattle.unit_stage.specs.Steps.{CanLoad, IsBringMoment, with_brought, with_loaded}
+use Rattle.unit_stage.specs.Steps.{CanLoad, HasLogFor, IsBringMoment, with_brought, with_loaded}
 use Rattle.switch_parts.proofs.Faults.{handed}
 use Rattle.unit_stage.proofs.CauseLemmas.{cause_end}
-use Rattle.unit_stage.proofs.StepLemmas.{brought_world, giving_brings, loading_brings, manager_seen}
+use Rattle.unit_stage.proofs.StandLemmas.{loaded_log}
+use Rattle.unit_stage.proofs.StepLemmas.{brought_world, giving_brings, loading_brings, log_as, manager_seen}
 use Rattle.unit_stage.proofs.giving.bring_units.Goals as goal
 
 pub load_system-requires-clause-can : goal.load_system-requires-clause-can
 load_system-requires-clause-can g c = told_as c.requires.can (CanLoad c.args.system.now) (λ w is can. can.load)
 
-pub give_all-requires : goal.give_all-requires
-give_all-requires g c =
+pub give_all-requires-clause-calls : goal.give_all-requires-clause-calls
+give_all-requires-clause-calls g c =
     let calls = c.args.calls in
     told_after c.load_system.ensures.moments c.in_ok-load_system.ensures.ok (λ w. CanPerform (calls.reloads.now ++ calls.restarts.now ++ calls.starts.now) w.manager)
     (λ w v is came. subst (CanPerform (calls.reloads.now ++ calls.restarts.now ++ calls.starts.now)) (sym (manager_seen v (with_loaded c.args.system.now w) came)) (c.requires.can.has w is).calls)
+
+pub give_all-requires-clause-reload_log : goal.give_all-requires-clause-reload_log
+give_all-requires-clause-reload_log g c =
+    let reloads = c.args.calls.reloads.now in
+    told_after c.load_system.ensures.moments c.in_ok-load_system.ensures.ok (λ w. HasLogFor reloads w.leaves)
+    (λ w v is came. log_as reloads v.leaves w.leaves (loaded_log c.args.system.now w v came) (c.requires.can.has w is).reload_log)
+
+pub give_all-requires-clause-restart_log : goal.give_all-requires-clause-restart_log
+give_all-requires-clause-restart_log g c =
+    let restarts = c.args.calls.restarts.now in
+    told_after c.load_system.ensures.moments c.in_ok-load_system.ensures.ok (λ w. HasLogFor restarts w.leaves)
+    (λ w v is came. log_as restarts v.leaves w.leaves (loaded_log c.args.system.now w v came) (c.requires.can.has w is).restart_log)
 
 pub returns-in_err-load_system-clause-moments : goal.returns-in_err-load_system-clause-moments
 returns-in_err-load_system-clause-moments g c =

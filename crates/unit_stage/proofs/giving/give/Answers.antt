@@ -1,38 +1,30 @@
-use Rattle.std.proofs.Common.{◌≡◌, ap, ◌∙◌, inl}
-use Rattle.std.proofs.lemmas.Result.{err_from_is_err_and}
-use Rattle.host_trait.specs.World.{without_leaf}
-use Rattle.host_trait.proofs.Causes.{cause_on}
-use Rattle.host_trait.proofs.Moments.{goes_on, leads_then, passes_as}
-use Rattle.owed_lists.specs.Lists.{place_of}
+use Rattle.std.proofs.Common.{◌≡◌, sym, ◌∙◌}
+use Rattle.std.proofs.lemmas.Result.{on_ok_weaker}
+use Rattle.host_trait.specs.World.{IsFileAt}
+use Rattle.host_trait.proofs.Moments.{leads_as, passes_as, started, told_as}
+use Rattle.owed_log.specs.Places.{log_place}
 use Rattle.unit_stage.specs.Steps.{IsListMoment, with_given}
-use Rattle.switch_parts.proofs.Faults.{handed}
-use Rattle.unit_stage.proofs.CauseLemmas.{cause_end}
-use Rattle.unit_stage.proofs.StepLemmas.{given}
+use Rattle.unit_stage.proofs.StepLemmas.{same_given, same_listed, some_given, some_listed, some_logged}
 use Rattle.unit_stage.proofs.giving.give.Goals as goal
 
-pub returns-in_err-call_kept-clause-moments : goal.returns-in_err-call_kept-clause-moments
-returns-in_err-call_kept-clause-moments g c =
-    passes_as c.call_kept.ensures.moments (IsListMoment c.args.which c.args.calls.now) (λ w m is moment. inl moment)
+pub returns-then-is_empty-clause-ok : goal.returns-then-is_empty-clause-ok
+returns-then-is_empty-clause-ok g c = record { to = λ w is. (w, is, same_given c.args.which c.args.calls.now w (sym c.is_empty.ensures ∙ c.if-is_empty.true)) }
 
-pub returns-in_err-clear-clause-moments : goal.returns-in_err-clear-clause-moments
-returns-in_err-clear-clause-moments g c =
-    goes_on c.call_kept.ensures.moments c.in_ok-call_kept.ensures.ok c.clear.ensures.moments (IsListMoment c.args.which c.args.calls.now)
-    (λ w m is moment. inl moment) (λ w v m is is_v made moment. given c.args.which c.args.calls.now w v m made moment)
+pub returns-then-is_empty-clause-moments : goal.returns-then-is_empty-clause-moments
+returns-then-is_empty-clause-moments g c =
+    started (IsListMoment c.args.which c.args.calls.now) (λ w is. same_listed c.args.which c.args.calls.now w (sym c.is_empty.ensures ∙ c.if-is_empty.true))
+
+pub call_listed-requires-clause-file : goal.call_listed-requires-clause-file
+call_listed-requires-clause-file g c other =
+    told_as c.requires.log (λ w. IsFileAt w.leaves log_place) (λ w is log. some_logged c.args.calls.now w.leaves (sym c.is_empty.ensures ∙ c.if-is_empty.false) log)
 
 pub returns-clause-ok : goal.returns-clause-ok
 returns-clause-ok g c =
-    leads_then c.in_ok-call_kept.ensures.ok c.in_ok-clear.ensures.ok (λ w u. u ≡ with_given c.args.which c.args.calls.now w)
-    (λ w v u is is_v made gone. gone ∙ ap (without_leaf (place_of c.args.which)) made)
+    on_ok_weaker c.call_listed.result
+    (λ led. leads_as led (λ w v. v ≡ with_given c.args.which c.args.calls.now w) (λ w v is made. made ∙ some_given c.args.which c.args.calls.now w (sym c.is_empty.ensures ∙ c.if-is_empty.false)))
+    c.call_listed.ensures.ok
 
 pub returns-clause-moments : goal.returns-clause-moments
 returns-clause-moments g c =
-    goes_on c.call_kept.ensures.moments c.in_ok-call_kept.ensures.ok c.clear.ensures.moments (IsListMoment c.args.which c.args.calls.now)
-    (λ w m is moment. inl moment) (λ w v m is is_v made moment. given c.args.which c.args.calls.now w v m made moment)
-
-pub returns-in_err-clear-clause-cause : goal.returns-in_err-clear-clause-cause
-returns-in_err-clear-clause-cause g c =
-    let p = err_from_is_err_and c.from_residual-in_err-clear.result c.from_residual-in_err-clear.ensures.1 in
-    cause_on c.call_kept.ensures.cause c.in_err-clear.ensures.cause (λ e. handed _ p.0 _ _ p.1 p.2 e)
-
-pub returns-clause-cause : goal.returns-clause-cause
-returns-clause-cause g c = cause_end c.call_kept.ensures.cause c.clear.ensures.cause
+    passes_as c.call_listed.ensures.moments (IsListMoment c.args.which c.args.calls.now)
+    (λ w m is moment. some_listed c.args.which c.args.calls.now w m (sym c.is_empty.ensures ∙ c.if-is_empty.false) moment)

@@ -3,7 +3,7 @@ use Rattle.std.proofs.lemmas.Result.{err_from_is_err_and}
 use Rattle.host_trait.specs.World.{seen}
 use Rattle.host_trait.proofs.Causes.{cause_on}
 use Rattle.host_trait.proofs.Moments.{goes_on_same, leads_then}
-use Rattle.owed_lists.specs.Record.{IsRecordMoment, with_lists}
+use Rattle.owed_log.specs.Writing.{IsRecordMoment, recorded}
 use Rattle.switch_parts.proofs.Faults.{handed}
 use Rattle.unit_stage.proofs.CauseLemmas.{cause_end}
 use Rattle.unit_stage.proofs.giving.record_kept.Goals as goal
@@ -11,7 +11,7 @@ use Rattle.unit_stage.proofs.giving.record_kept.Goals as goal
 pub returns-in_err-sync-clause-moments : goal.returns-in_err-sync-clause-moments
 returns-in_err-sync-clause-moments g c =
     let way = c.record.ensures.moments in
-    goes_on_same way way.tells c.sync.ensures.reads.moments (IsRecordMoment c.args.lists.now) (λ w m is moment. moment) (λ w v is moment. moment)
+    goes_on_same way way.tells c.sync.ensures.reads.moments (IsRecordMoment c.args.write.now) (λ w m is moment. moment) (λ w v is moment. moment)
 
 pub returns-in_err-sync-clause-cause : goal.returns-in_err-sync-clause-cause
 returns-in_err-sync-clause-cause g c =
@@ -20,12 +20,12 @@ returns-in_err-sync-clause-cause g c =
 
 pub returns-clause-ok : goal.returns-clause-ok
 returns-clause-ok g c =
-    leads_then c.in_ok-record.ensures.ok c.sync.ensures.reads.moments.tells (λ w u. seen u ≡ seen (with_lists c.args.lists.now w)) (λ w v u is is_v came same. ap seen same ∙ came)
+    leads_then c.in_ok-record.ensures.ok c.sync.ensures.reads.moments.tells (λ w u. seen u ≡ seen (recorded c.args.write.now w)) (λ w v u is is_v came same. ap seen same ∙ came)
 
 pub returns-clause-moments : goal.returns-clause-moments
 returns-clause-moments g c =
     let way = c.record.ensures.moments in
-    goes_on_same way way.tells c.sync.ensures.reads.moments (IsRecordMoment c.args.lists.now) (λ w m is moment. moment) (λ w v is moment. moment)
+    goes_on_same way way.tells c.sync.ensures.reads.moments (IsRecordMoment c.args.write.now) (λ w m is moment. moment) (λ w v is moment. moment)
 
 pub returns-clause-cause : goal.returns-clause-cause
 returns-clause-cause g c = cause_end c.record.ensures.cause c.sync.ensures.reads.cause

@@ -1,5 +1,5 @@
 use Rattle.std.proofs.Common.{ap, ◌∙◌, take, drop, length}
-use Rattle.owed_lists.specs.declared.lists.Lists.{Lists}
+use Rattle.log_text.specs.declared.lists.Lists.{Lists}
 use Rattle.unit_stage.specs.Plan.{owed_of}
 use Rattle.unit_stage.proofs.PartLemmas.{are_parts}
 use Rattle.unit_stage.proofs.plan_calls.calls_of.Goals as goal

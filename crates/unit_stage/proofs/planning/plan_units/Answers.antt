@@ -13,12 +13,12 @@ use Rattle.unit_stage.proofs.planning.plan_units.Goals as goal
 pub returns-clause-plan : goal.returns-clause-plan
 returns-clause-plan g c =
     told_as c.in_ok-known.ensures.known (λ w. IsUnitPlanOf c.args.start_up c.args.system.now w c.in_ok-plan.plan)
-    (λ w is known. plan_is c.args.start_up c.args.system.now w c.in_ok-known.known c.in_ok-plan.plan known c.in_ok-plan.ensures)
+    (λ w is known. plan_is c.args.start_up c.args.system.now w c.in_ok-known.known c.in_ok-plan.plan known c.in_ok-plan.ensures.plan)
 
 pub returns-clause-steady : goal.returns-clause-steady
 returns-clause-steady g c =
     told_as c.in_ok-known.ensures.known (λ w. IsTrue c.in_ok-plan.plan.steady ↔ IsSteadyWorld c.args.start_up w c.args.system.now)
-    (λ w is known. steady_is c.args.start_up c.args.system.now w c.in_ok-known.known known c.in_ok-plan.plan c.in_ok-plan.ensures)
+    (λ w is known. steady_is c.args.start_up c.args.system.now w c.in_ok-known.known known c.in_ok-plan.plan c.in_ok-plan.ensures.plan)
 
 pub returns-in_err-plan-clause-refused : goal.returns-in_err-plan-clause-refused
 returns-in_err-plan-clause-refused g c why e =

@@ -1,5 +1,0 @@
-use Rattle.owed_lists.proofs.RecordedLemmas.{recorded_law}
-use Rattle.owed_lists.proofs.laws.lists_are_read_as_recorded.Goals as goal
-
-pub returns : goal.returns
-returns c = recorded_law

@@ -1,0 +1,136 @@
+-- What is left alone where lists are recorded, and where one is cleared.
+use Rattle.std.proofs.Common.{◌≡◌, ◌≢◌, ◌⊎◌, ◌++◌, rules, ℕ, false, cond, List, [], ◌∷◌, take, Option, None, Some, refl, sym, ap, ◌∙◌, inl, inr}
+use Rattle.std.specs.FinMap.{get, gets, remove}
+use Rattle.std.specs.List.{list_any}
+use Rattle.host_trait.specs.Change.{IsMoment, finished}
+use Rattle.host_trait.specs.declared.leaf.LeafKind.{LeafKind}
+use Rattle.host_trait.specs.World.{Leaves, WorldState, seen, extended, stage, with_extended, with_leaf, with_more, without_leaf}
+use Rattle.host_trait.proofs.Seen.{other_of, seen_at, seen_with_leaf}
+use Rattle.host_trait.proofs.Sound.{get_other}
+use Rattle.log_text.specs.declared.lists.Which.{Which}
+use Rattle.log_text.specs.declared.lists.Which.TheVariants.{Starts, Restarts, Reloads}
+use Rattle.log_text.specs.Lists.{block_of}
+use Rattle.log_text.specs.Log.{block_text}
+use Rattle.switch_names.specs.Names.{Name, is_name}
+use Rattle.tree_put.specs.Sequence.{without_places}
+use Rattle.tree_put.proofs.LeftLemmas.{gone_at}
+use Rattle.tree_put.proofs.SequenceLemmas.{seen_without_leaf}
+use Rattle.owed_log.specs.declared.log_write.LogWrite.{LogWrite}
+use Rattle.owed_log.specs.declared.log_write.LogWrite.TheVariants.{Nothing, Append, Put}
+use Rattle.owed_log.specs.Places.{log_place, old_places}
+use Rattle.owed_log.specs.Writing.{IsRecordMoment, IsWriting, clearing, log_leaf, recorded, with_write}
+use Rattle.owed_log.proofs.ContentLemmas.{log_other, more_elsewhere}
+
+at_of : (m w : WorldState) (q : Name) → m ≡ w → get m.leaves q ≡ get w.leaves q
+at_of m w q same = ap (λ (x : WorldState). get x.leaves q) same
+
+-- ---- other places
+
+module _ (q : Name) (ne : q ≢ stage) (other : q ≢ log_place) where
+  pub writing_beside : (write : LogWrite) (w m : WorldState) → IsWriting write w m → get m.leaves q ≡ get w.leaves q
+  writing_beside Nothing w m is = at_of m w q is
+  writing_beside (Append text) w m (inl is) = at_of m w q is
+  writing_beside (Append text) w m (inr (inl is)) = ap (λ (x : WorldState). get x.leaves q) is ∙ more_elsewhere w.leaves log_place text q other
+  writing_beside (Append text) w m (inr (inr middle)) = ap (λ (x : WorldState). get x.leaves q) middle.1 ∙ more_elsewhere w.leaves log_place (take middle.0 text) q other
+  writing_beside (Put text) w m (inl is) = seen_at m w is q ne
+  writing_beside (Put text) w m (inr is) = seen_at m (with_leaf log_place (log_leaf text) w) is q ne ∙ get_other w.leaves log_place q (log_leaf text) (other_of q log_place other)
+
+  pub write_beside : (write : LogWrite) (w : WorldState) → get (with_write write w).leaves q ≡ get w.leaves q
+  write_beside Nothing w = refl
+  write_beside (Append text) w = more_elsewhere w.leaves log_place text q other
+  write_beside (Put text) w = get_other w.leaves log_place q (log_leaf text) (other_of q log_place other)
+
+-- what isn't at the place of an older program's list
+module _ (q : Name) (ne : q ≢ stage) (other : q ≢ log_place) (apart : (count : ℕ) → list_any (is_name q) (take count old_places) ≡ false) where
+  removed_beside : (count : ℕ) (u : WorldState) → get (without_places (take count old_places) u).leaves q ≡ get u.leaves q
+  removed_beside count u = gone_at (take count old_places) u q ∙ ap (λ b. cond b None (get u.leaves q)) (apart count)
+
+  pub record_beside : (write : LogWrite) (w m : WorldState) → IsRecordMoment write w m → get m.leaves q ≡ get w.leaves q
+  record_beside write w m (IsRecordMoment.Writing cut) = writing_beside q ne other write w m cut
+  record_beside write w m (IsRecordMoment.Removing u came removing) =
+      ap (λ (x : WorldState). get x.leaves q) removing.world ∙ removed_beside removing.count u ∙ seen_at u (with_write write w) came q ne ∙ write_beside q ne other write w
+
+  pub recorded_beside : (write : LogWrite) (w : WorldState) → get (recorded write w).leaves q ≡ get w.leaves q
+  recorded_beside write w = removed_beside 3 (with_write write w) ∙ write_beside q ne other write w
+
+pub removed_elsewhere : (leaves : Leaves) (k q : Name) → q ≢ k → get (remove leaves k) q ≡ get leaves q
+removed_elsewhere leaves k q other = let no = other_of q k other in grind (gets, rules)
+
+pub clearing_beside : (which : Which) (w m : WorldState) (q : Name) → q ≢ log_place → IsMoment (clearing which) w m → get m.leaves q ≡ get w.leaves q
+clearing_beside which w m q other (inl is) = at_of m w q is
+clearing_beside Starts w m q other (inr (inl is)) = ap (λ (x : WorldState). get x.leaves q) is ∙ removed_elsewhere w.leaves log_place q other
+clearing_beside Starts w m q other (inr (inr middle)) = absurd middle
+clearing_beside Restarts w m q other (inr (inl is)) = ap (λ (x : WorldState). get x.leaves q) is ∙ more_elsewhere w.leaves log_place (block_text (block_of Restarts [])) q other
+clearing_beside Restarts w m q other (inr (inr middle)) =
+    ap (λ (x : WorldState). get x.leaves q) middle.1 ∙ more_elsewhere w.leaves log_place (take middle.0 (block_text (block_of Restarts []))) q other
+clearing_beside Reloads w m q other (inr (inl is)) = ap (λ (x : WorldState). get x.leaves q) is ∙ more_elsewhere w.leaves log_place (block_text (block_of Reloads [])) q other
+clearing_beside Reloads w m q other (inr (inr middle)) =
+    ap (λ (x : WorldState). get x.leaves q) middle.1 ∙ more_elsewhere w.leaves log_place (take middle.0 (block_text (block_of Reloads []))) q other
+
+-- ---- the manager
+
+writing_manager : (write : LogWrite) (w m : WorldState) → IsWriting write w m → m.manager ≡ w.manager
+writing_manager Nothing w m is = ap (λ (x : WorldState). x.manager) is
+writing_manager (Append text) w m (inl is) = ap (λ (x : WorldState). x.manager) is
+writing_manager (Append text) w m (inr (inl is)) = ap (λ (x : WorldState). x.manager) is
+writing_manager (Append text) w m (inr (inr middle)) = ap (λ (x : WorldState). x.manager) middle.1
+writing_manager (Put text) w m (inl is) = ap (λ (x : WorldState). x.manager) is
+writing_manager (Put text) w m (inr is) = ap (λ (x : WorldState). x.manager) is
+
+write_manager : (write : LogWrite) (w : WorldState) → (with_write write w).manager ≡ w.manager
+write_manager Nothing w = refl
+write_manager (Append text) w = refl
+write_manager (Put text) w = refl
+
+gone_manager : (places : List Name) (w : WorldState) → (without_places places w).manager ≡ w.manager
+gone_manager [] w = refl
+gone_manager (at ∷ places) w = gone_manager places (without_leaf at w)
+
+pub record_manager : (write : LogWrite) (w m : WorldState) → IsRecordMoment write w m → m.manager ≡ w.manager
+record_manager write w m (IsRecordMoment.Writing cut) = writing_manager write w m cut
+record_manager write w m (IsRecordMoment.Removing u came removing) =
+    ap (λ (x : WorldState). x.manager) removing.world ∙ gone_manager (take removing.count old_places) u ∙ ap (λ (x : WorldState). x.manager) came ∙ write_manager write w
+
+pub recorded_manager : (write : LogWrite) (w : WorldState) → (recorded write w).manager ≡ w.manager
+recorded_manager write w = gone_manager old_places (with_write write w) ∙ write_manager write w
+
+pub clearing_manager : (which : Which) (w m : WorldState) → IsMoment (clearing which) w m → m.manager ≡ w.manager
+clearing_manager which w m (inl is) = ap (λ (x : WorldState). x.manager) is
+clearing_manager Starts w m (inr (inl is)) = ap (λ (x : WorldState). x.manager) is
+clearing_manager Starts w m (inr (inr middle)) = absurd middle
+clearing_manager Restarts w m (inr (inl is)) = ap (λ (x : WorldState). x.manager) is
+clearing_manager Restarts w m (inr (inr middle)) = ap (λ (x : WorldState). x.manager) middle.1
+clearing_manager Reloads w m (inr (inl is)) = ap (λ (x : WorldState). x.manager) is
+clearing_manager Reloads w m (inr (inr middle)) = ap (λ (x : WorldState). x.manager) middle.1
+
+-- ---- worlds that are equal but for the stage
+
+module _ (v w : WorldState) (same : seen v ≡ seen w) where
+  -- stay so where bytes are appended
+  longer_seen : (more : List ℕ) (one other : Option LeafKind) → one ≡ other →
+      seen (record v { leaves = with_extended v.leaves log_place more one }) ≡ seen (record w { leaves = with_extended w.leaves log_place more other })
+  longer_seen more None None is = same
+  longer_seen more None (Some other) is = absurd cc
+  longer_seen more (Some one) None is = absurd cc
+  longer_seen more (Some one) (Some other) is =
+      let leaf : one ≡ other = cc in ap (λ (l : LeafKind). seen (with_leaf log_place (extended l more) v)) leaf ∙ seen_with_leaf log_place (extended other more) v w same
+
+  pub more_seen : (more : List ℕ) → seen (record v { leaves = with_more v.leaves log_place more }) ≡ seen (record w { leaves = with_more w.leaves log_place more })
+  more_seen more = longer_seen more (get v.leaves log_place) (get w.leaves log_place) (seen_at v w same log_place log_other)
+
+  -- and where a list is cleared
+  pub cleared_seen : (which : Which) → seen (finished (clearing which) v) ≡ seen (finished (clearing which) w)
+  cleared_seen Starts = seen_without_leaf log_place v w same
+  cleared_seen Restarts = more_seen (block_text (block_of Restarts []))
+  cleared_seen Reloads = more_seen (block_text (block_of Reloads []))
+
+  pub clearing_seen : (which : Which) (m : WorldState) → IsMoment (clearing which) v m → (u : WorldState) × IsMoment (clearing which) w u × (seen m ≡ seen u)
+  clearing_seen which m (inl is) = (w, inl refl, ap seen is ∙ same)
+  clearing_seen which m (inr (inl is)) = (finished (clearing which) w, inr (inl refl), ap seen is ∙ cleared_seen which)
+  clearing_seen Starts m (inr (inr middle)) = absurd middle
+  clearing_seen Restarts m (inr (inr middle)) =
+      let part = take middle.0 (block_text (block_of Restarts [])) in
+      (record w { leaves = with_more w.leaves log_place part }, inr (inr (middle.0, refl)), ap seen middle.1 ∙ more_seen part)
+  clearing_seen Reloads m (inr (inr middle)) =
+      let part = take middle.0 (block_text (block_of Reloads [])) in
+      (record w { leaves = with_more w.leaves log_place part }, inr (inr (middle.0, refl)), ap seen middle.1 ∙ more_seen part)
