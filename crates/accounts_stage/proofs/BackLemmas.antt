@@ -22,6 +22,7 @@ use Rattle.id_memory.specs.Ids.{AreIds}
 use Rattle.users_spec.specs.AccountName.{is_account_name}
 use Rattle.users_spec.specs.GroupSpec.{IsSoundGroup}
 use Rattle.users_spec.specs.UserSpec.{IsSoundUser}
+use Rattle.switch_names.proofs.Outcomes.{option_or_parts}
 use Rattle.users_spec.specs.declared.group_spec.GroupSpec.{GroupSpec}
 use Rattle.users_spec.specs.declared.user_spec.UserSpec.{UserSpec}
 use Rattle.users_spec.specs.Spec.{Accounts, IsSound, accounts_of, group_names, user_names}
@@ -33,6 +34,7 @@ use Rattle.users_merge.proofs.RowSoundLemmas.{named_all}
 use Rattle.users_merge.proofs.SoundLemmas.{all_ordered}
 use Rattle.users_merge.proofs.TableLemmas.{in_table}
 use Rattle.accounts_stage.specs.Places.{gids_place, group_place, groups_place, passwd_place, shadow_place, spec_path, uids_place, users_place}
+use Rattle.accounts_stage.specs.Rows.{merged_past}
 use Rattle.accounts_stage.specs.Standing.{bytes_at, declared_by, is_name_text, stored_in}
 use Rattle.accounts_stage.proofs.IdBackLemmas.{ids_back}
 use Rattle.accounts_stage.proofs.MergedLemmas.{IsGoodSpec, IsGoodStored, gids_bounded, uids_bounded}
@@ -154,22 +156,24 @@ module _ (spec : Accounts) (s : Stored) (good : IsGoodSpec spec) (stored : IsGoo
   unfolding merge_of
   gid_names = map_keys (λ name. option_or (group_id spec s name) (get s.gids name)) is_utf8 (group_names spec ++ keys s.gids) (joined is_utf8 (group_names spec) (keys s.gids) (utf8_names (group_names spec) group_texts) stored.gid_names)
 
-  merge_read_back : IsReadBack (merge_of spec s)
+  merge_read_back : merged_past (merge_of spec s) ≡ None → IsReadBack (merge_of spec s)
   unfolding merge_of
-  merge_read_back = record {
-    group = group_read spec s good stored;
-    passwd = passwd_read spec s good stored;
-    shadow = shadow_read spec s good stored is;
-    uids = ids_back (merge_of spec s).uids uids_are uid_names;
-    gids = ids_back (merge_of spec s).gids gids_are gid_names;
-    users = names_back (user_names spec) user_texts;
-    groups = names_back (group_names spec) group_texts;
-    all_users = names_back (s.users ++ _) (joined is_name_text s.users _ stored.users (all_ordered is_name_text (user_names spec) user_texts));
-    all_groups = names_back (s.groups ++ _) (joined is_name_text s.groups _ stored.groups (all_ordered is_name_text (group_names spec) group_texts));
-  }
+  merge_read_back none =
+      let few = option_or_parts _ _ none in
+      record {
+        group = group_read spec s good stored few.0;
+        passwd = passwd_read spec s good stored few.1;
+        shadow = shadow_read spec s good stored is few.1;
+        uids = ids_back (merge_of spec s).uids uids_are uid_names;
+        gids = ids_back (merge_of spec s).gids gids_are gid_names;
+        users = names_back (user_names spec) user_texts;
+        groups = names_back (group_names spec) group_texts;
+        all_users = names_back (s.users ++ _) (joined is_name_text s.users _ stored.users (all_ordered is_name_text (user_names spec) user_texts));
+        all_groups = names_back (s.groups ++ _) (joined is_name_text s.groups _ stored.groups (all_ordered is_name_text (group_names spec) group_texts));
+      }
 
-pub read_back : (system : Name) (leaves : Leaves) (spec : Accounts) → declared_by system leaves ≡ Some (Ok spec) → IsSound spec → AreContentsOf (stored_in leaves) (content_of leaves) → fault spec (stored_in leaves) ≡ None →
+pub read_back : (system : Name) (leaves : Leaves) (spec : Accounts) → declared_by system leaves ≡ Some (Ok spec) → IsSound spec → AreContentsOf (stored_in leaves) (content_of leaves) → fault spec (stored_in leaves) ≡ None → merged_past (merge_of spec (stored_in leaves)) ≡ None →
     IsReadBack (merge_of spec (stored_in leaves))
-read_back system leaves spec declared sound contents fine =
+read_back system leaves spec declared sound contents fine few =
     let texts = is_declared_text (content_of leaves (spec_path system)) spec declared in
-    merge_read_back spec (stored_in leaves) (record { sound = sound; groups = texts.groups; users = texts.users }) (stored_good leaves contents) (some_merge spec (stored_in leaves) fine)
+    merge_read_back spec (stored_in leaves) (record { sound = sound; groups = texts.groups; users = texts.users }) (stored_good leaves contents) (some_merge spec (stored_in leaves) fine) few

@@ -1,5 +1,5 @@
 -- Where the same stands wherever setting accounts looks, the same is read, merged and refused.
-use Rattle.std.proofs.Common.{◌≡◌, ◌&&◌, ℕ, true, List, [], ◌∷◌, Option, None, Some, Ok, Err, is_none, is_some, option_map, option_and_then, cond, refl, ap, ap₂, ◌∙◌}
+use Rattle.std.proofs.Common.{◌≡◌, ◌&&◌, ℕ, true, List, [], ◌∷◌, Option, None, Some, Ok, Err, is_none, is_some, option_map, cond, refl, ap, ap₂, ◌∙◌}
 use Rattle.std.specs.FinMap.{empty, get}
 use Rattle.std.specs.List.{AllByRecursion}
 use Rattle.std.specs.Option.{option_or, unwrap_or}
@@ -14,15 +14,19 @@ use Rattle.switch_names.specs.SystemName.{IsSystemPath}
 use Rattle.switch_parts.specs.declared.refusal.MapFile.TheVariants.{Gid, Uid}
 use Rattle.switch_parts.specs.declared.refusal.Refusal.TheVariants.{IdMap}
 use Rattle.switch_parts.specs.declared.refusal.TableFile.TheVariants.{Group, Passwd, Shadow}
+use Rattle.switch_parts.specs.declared.refusal.What.TheVariants.{Rows}
+use Rattle.switch_parts.specs.Limits.{too_many}
 use Rattle.tree_put.specs.declared.written_place.WrittenPlace.{WrittenPlace}
 use Rattle.tree_put.specs.WrittenPlace.{in_the_way, lacks_content}
-use Rattle.users_merge.specs.Merge.{fault, merge_of}
+use Rattle.users_merge.specs.Merge.{merge_of}
 use Rattle.users_merge.specs.Stored.{Merged, Stored, stored_of}
 use Rattle.users_spec.specs.Fields.{Read}
 use Rattle.users_spec.specs.Spec.{Accounts, accounts_of}
 use Rattle.switch_parts.specs.Store.{is_in_store}
 use Rattle.switch_parts.proofs.StoreLemmas.{store_content_kept}
-use Rattle.accounts_stage.specs.AccountsPart.{accounts_end, accounts_refusal, end_by, maps_refusal, merge_refusal, merged_by, merged_in, reads_accounts, refusal_of, table_refusal, tables_after, tables_by, wrong_table}
+use Rattle.accounts_stage.specs.AccountsPart.{accounts_end, accounts_refusal, end_by, merged_by, merged_in, reads_accounts, tables_after, tables_by}
+use Rattle.accounts_stage.specs.Refusals.{declared_refusal, maps_refusal, merging_refusal, refusal_of, table_refusal, wrong_table}
+use Rattle.accounts_stage.specs.Rows.{rows_too_many, texts_past}
 use Rattle.accounts_stage.specs.Places.{account_names, account_places, gids_place, group_place, groups_place, owns_accounts, passwd_place, shadow_place, spec_path, uids_place, users_place}
 use Rattle.accounts_stage.specs.Standing.{bytes_at, declared_by, declared_of, ids_of, memory_in, names_in, remembered_of, stored_in, tables_in}
 use Rattle.accounts_stage.proofs.OwnLemmas.{near_read, owned_read, reads_own, spec_stored, store_read}
@@ -103,10 +107,16 @@ module _ (w m : Leaves) (same : HaveSameContents w m) where
       option_or (cond (is_none (ids_kept uids_place own_uids i)) (Some (IdMap Uid)) None)
       (cond (is_none (ids_kept gids_place own_gids i)) (Some (IdMap Gid)) None)
 
+  rows_kept : rows_too_many m ≡ rows_too_many w
+  rows_kept = λ i. too_many Rows (texts_past (record { group = bytes_kept group_place own_group i; passwd = bytes_kept passwd_place own_passwd i; shadow = bytes_kept shadow_place own_shadow i }))
+
+  declared_refusal_kept : (declared : Option (Read Accounts)) → declared_refusal m declared ≡ declared_refusal w declared
+  declared_refusal_kept None = table_refusal_kept
+  declared_refusal_kept (Some (Err why)) = refl
+  declared_refusal_kept (Some (Ok spec)) = λ i. option_or (table_refusal_kept i) (option_or (map_refusal_kept i) (merging_refusal spec (stored_kept i)))
+
   refusal_kept : (declared : Option (Read Accounts)) → refusal_of m declared ≡ refusal_of w declared
-  refusal_kept None = table_refusal_kept
-  refusal_kept (Some (Err why)) = refl
-  refusal_kept (Some (Ok spec)) = λ i. option_or (table_refusal_kept i) (option_or (map_refusal_kept i) (option_and_then merge_refusal (fault spec (stored_kept i))))
+  refusal_kept declared = λ i. option_or (rows_kept i) (declared_refusal_kept declared i)
 
   merged_kept : (declared : Option (Read Accounts)) → merged_by m declared ≡ merged_by w declared
   merged_kept None = refl

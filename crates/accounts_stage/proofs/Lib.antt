@@ -22,6 +22,7 @@ pub mod PartLemmas
 pub mod PlanningLemmas
 pub mod PuttingLemmas
 pub mod ReadLemmas
+pub mod RowCountLemmas
 pub mod RowTextLemmas
 pub mod SpecTextLemmas
 pub mod TableBackLemmas

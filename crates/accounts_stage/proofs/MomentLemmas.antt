@@ -1,5 +1,5 @@
 -- Each moment of setting accounts keeps what is left at the end.
-use Rattle.std.proofs.Common.{◌≡◌, ℕ, zero, suc, Bool, true, false, cond, List, [], ◌∷◌, map, take, Option, None, Some, Ok, Err, is_none, is_some, option_map, option_and_then, refl, sym, ap, ◌∙◌}
+use Rattle.std.proofs.Common.{◌≡◌, ℕ, zero, suc, Bool, true, false, cond, List, [], ◌∷◌, length, map, take, Option, None, Some, Ok, Err, is_none, is_some, option_map, option_and_then, refl, sym, ap, ◌∙◌}
 use Rattle.std.specs.FinMap.{empty, get}
 use Rattle.std.specs.List.{filter_map}
 use Rattle.std.specs.Option.{option_or, unwrap_or}
@@ -11,12 +11,15 @@ use Rattle.account_text.specs.declared.passwd.PasswdRow.{PasswdRow}
 use Rattle.host_trait.specs.World.{Leaves, WorldState, content_of, seen}
 use Rattle.host_trait.proofs.Seen.{seen_at}
 use Rattle.host_trait.specs.Ids.{Ids}
+use Rattle.leaf_limits.specs.Counts.{past, rows_max}
 use Rattle.switch_names.specs.Names.{Name}
 use Rattle.switch_names.specs.SystemName.{IsSystemPath}
-use Rattle.switch_names.proofs.Outcomes.{option_or_parts, option_or_nothing}
+use Rattle.switch_names.proofs.Outcomes.{none_mapped, option_or_parts, option_or_nothing}
 use Rattle.switch_parts.specs.declared.refusal.Refusal.{Refusal}
 use Rattle.switch_parts.specs.declared.refusal.MapFile.{MapFile}
 use Rattle.switch_parts.specs.declared.refusal.TableFile.{TableFile}
+use Rattle.switch_parts.specs.declared.refusal.What.TheVariants.{Rows}
+use Rattle.switch_parts.specs.Limits.{too_many}
 use Rattle.switch_parts.specs.Part.{IsFree, IsSameFor}
 use Rattle.users_merge.specs.declared.merge_fault.MergeFault.{MergeFault}
 use Rattle.users_merge.specs.declared.merge_fault.MergeFault.TheVariants.{NoFreeId}
@@ -34,7 +37,9 @@ use Rattle.users_spec.proofs.Sound.{declared_are_sound}
 use Rattle.tree_put.specs.declared.leaf_put.LeafPut.{LeafPut}
 use Rattle.tree_put.specs.Sequence.{with_puts}
 use Rattle.switch_parts.specs.Store.{is_in_store}
-use Rattle.accounts_stage.specs.AccountsPart.{KeepsAccounts, accounts_part, end_by, ids_refusal, maps_refusal, merge_refusal, merged_by, merged_in, refusal_of, table_refusal, tables_by, wrong_table}
+use Rattle.accounts_stage.specs.AccountsPart.{KeepsAccounts, accounts_part, end_by, merged_by, merged_in, tables_by}
+use Rattle.accounts_stage.specs.Refusals.{ids_refusal, maps_refusal, merge_refusal, merging_refusal, refusal_of, table_refusal, wrong_table}
+use Rattle.accounts_stage.specs.Rows.{lines_of, merged_past, rows_past, rows_too_many}
 use Rattle.accounts_stage.specs.Files.{account_puts, merged_end}
 use Rattle.accounts_stage.specs.Laws.{AccountsMomentLaw}
 use Rattle.accounts_stage.specs.Places.{group_place, passwd_place, spec_path, uids_place}
@@ -80,29 +85,35 @@ no_fault spec s none = by (first_without (group_accounts spec) (group_ids spec s
     by None none = no_user_fault (gid_of spec s) spec.users (user_ids spec s) none
     by (Some name) none = absurd (cc)
 
--- where accounts that are declared aren't refused, the contents are those of what stands, and nothing keeps the accounts from being merged
+-- where accounts that are declared aren't refused, the contents are those of what stands, and nothing keeps the accounts from being merged, with few rows
 pub record IsMergeable (spec : Accounts) (leaves : Leaves) : Type 0 where
   pub contents : AreContentsOf (stored_in leaves) (content_of leaves)
   pub fine : fault spec (stored_in leaves) ≡ None
+  pub few : merged_past (merge_of spec (stored_in leaves)) ≡ None
 
 mergeable : (spec : Accounts) (leaves : Leaves) → refusal_of leaves (Some (Ok spec)) ≡ None → IsMergeable spec leaves
 mergeable spec leaves none =
-    let tables = option_or_parts _ _ none in
+    let whole = option_or_parts _ _ none in
+    let lines = option_or_parts _ _ (none_mapped (Refusal.TooMany Rows) (rows_past leaves) whole.0) in
+    let other_lines = option_or_parts _ _ lines.1 in
+    let tables = option_or_parts _ _ whole.1 in
     let maps = option_or_parts _ _ tables.1 in
     let group = option_or_parts _ _ tables.0 in
     let others = option_or_parts _ _ group.1 in
     let ids = option_or_parts _ _ maps.0 in
+    let merging = option_or_parts _ _ maps.1 in
     record {
       contents = record {
-        group = record { rows = refl; complete = no_line _ _ group.0 };
-        passwd = record { rows = refl; complete = no_line _ _ others.0 };
-        shadow = record { rows = refl; complete = no_line _ _ others.1 };
+        group = record { rows = refl; complete = no_line _ _ group.0; few = lines.0 };
+        passwd = record { rows = refl; complete = no_line _ _ others.0; few = other_lines.0 };
+        shadow = record { rows = refl; complete = no_line _ _ others.1; few = other_lines.1 };
         uids = is_map _ _ ids.0;
         gids = is_map _ _ ids.1;
         users = refl;
         groups = refl;
       };
-      fine = no_fault spec (stored_in leaves) maps.1;
+      fine = no_fault spec (stored_in leaves) merging.0;
+      few = none_mapped (Refusal.TooMany Rows) (merged_past (merge_of spec (stored_in leaves))) merging.1;
     }
 
 -- ---- what contents say
@@ -119,14 +130,20 @@ module _ (s : Stored) (leaves : Leaves) (are : AreContentsOf s (content_of leave
     groups = are.groups i;
   }
 
-  pub not_refused : (spec : Accounts) → fault spec s ≡ None → refusal_of leaves (Some (Ok spec)) ≡ None
-  not_refused spec fine =
-      option_or_nothing (table_refusal leaves) _
+  lines_few : rows_too_many leaves ≡ None
+  lines_few = ap (too_many Rows)
+      (option_or_nothing (past rows_max (lines_of (bytes_at leaves group_place))) _ are.group.few
+      (option_or_nothing (past rows_max (lines_of (bytes_at leaves passwd_place))) _ are.passwd.few are.shadow.few))
+
+  pub not_refused : (spec : Accounts) → fault spec s ≡ None → merged_past (merge_of spec s) ≡ None → refusal_of leaves (Some (Ok spec)) ≡ None
+  not_refused spec fine few =
+      option_or_nothing (rows_too_many leaves) _ lines_few
+      (option_or_nothing (table_refusal leaves) _
       (option_or_nothing (wrong_table TableFile.Group (wrong_line group_row (bytes_at leaves group_place))) _ (ap (wrong_table TableFile.Group) are.group.complete)
       (option_or_nothing (wrong_table TableFile.Passwd (wrong_line passwd_row (bytes_at leaves passwd_place))) _ (ap (wrong_table TableFile.Passwd) are.passwd.complete) (ap (wrong_table TableFile.Shadow) are.shadow.complete)))
       (option_or_nothing (maps_refusal (memory_in leaves)) _
       (option_or_nothing (ids_refusal MapFile.Uid (content_of leaves uids_place)) _ (ap (λ (o : Option Ids). cond (is_none o) (Some (Refusal.IdMap MapFile.Uid)) None) are.uids) (ap (λ (o : Option Ids). cond (is_none o) (Some (Refusal.IdMap MapFile.Gid)) None) are.gids))
-      (ap (option_and_then merge_refusal) (ap (fault spec) stored_is ∙ fine)))
+      (ap (merging_refusal spec) stored_is ∙ option_or_nothing (option_and_then merge_refusal (fault spec s)) _ (ap (option_and_then merge_refusal) fine) (ap (too_many Rows) few))))
 
 -- ---- merges that leave the same
 
@@ -149,6 +166,9 @@ same_tables m n leaves others same = λ i. record {
   passwd = in_order passwd_key (same.passwd i);
   shadow = filter_map (λ (row : PasswdRow). get (same.shadow i) row.name) (in_order passwd_key (same.passwd i));
 }
+
+same_rows : (m n : Merged) → IsSame m n → merged_past n ≡ merged_past m
+same_rows m n same = λ i. option_or (past rows_max (length (in_order group_key (same.group i)))) (past rows_max (length (in_order passwd_key (same.passwd i))))
 
 -- ---- after some puts
 
@@ -194,7 +214,7 @@ module _ (system : Name) (named : IsSystemPath system) (w : WorldState) (spec : 
           ∙ sym (ap (λ (one : Option Merged). end_by one w.leaves q) merged_before);
       free = λ way refusal. (
         puts_free merged (take k puts) w way,
-        ap (refusal_of then.leaves) declared_then ∙ not_refused stored then.leaves contents spec keeps.fine,
+        ap (refusal_of then.leaves) declared_then ∙ not_refused stored then.leaves contents spec keeps.fine (same_rows merged (merge_of spec stored) same ∙ can.few),
       );
     };
     tables =
@@ -219,13 +239,13 @@ moment_keeps system named w m free None declared k is = frame system named w m (
     none_left : (k : ℕ) → take {A = LeafPut} k [] ≡ []
     none_left zero = refl
     none_left (suc k) = refl
-moment_keeps system named w m free (Some (Err why)) declared k is = absurd (let refused : Some (Refusal.UsersSpec why) ≡ None = sym (ap (refusal_of w.leaves) declared) ∙ free.refusal in cc)
+moment_keeps system named w m free (Some (Err why)) declared k is = absurd (let refused : Some (Refusal.UsersSpec why) ≡ None = (option_or_parts (rows_too_many w.leaves) (Some (Refusal.UsersSpec why)) (sym (ap (refusal_of w.leaves) declared) ∙ free.refusal)).1 in cc)
 moment_keeps system named w m free (Some (Ok spec)) declared k is =
     let can = mergeable spec w.leaves (sym (ap (refusal_of w.leaves) declared) ∙ free.refusal) in
     let sound = is_declared (content_of w.leaves (spec_path system)) spec declared in
     let merged = merge_of spec (stored_in w.leaves) in
     let then = with_puts (map (put_of merged) (take k puts)) w in
-    keeps_then system w then m (put_keeps system named w spec declared can sound (read_back system w.leaves spec declared sound can.contents can.fine) k)
+    keeps_then system w then m (put_keeps system named w spec declared can sound (read_back system w.leaves spec declared sound can.contents can.fine can.few) k)
     (frame system named then m (seen_same system then m (is ∙ ap (λ (all : List LeafPut). seen (with_puts all w)) (first_puts_are merged k))))
 
 pub moment_law : AccountsMomentLaw

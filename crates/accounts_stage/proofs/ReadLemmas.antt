@@ -15,6 +15,7 @@ use Rattle.host_trait.specs.declared.leaf.LeafKind.TheVariants.{File}
 use Rattle.host_trait.specs.World.{Leaves, WorldState, content_of, is_path, leaf_content, with_leaf}
 use Rattle.host_trait.specs.Ids.{Ids}
 use Rattle.id_memory.specs.Json.{ids_read, ids_text}
+use Rattle.leaf_limits.specs.Counts.{past, rows_max}
 use Rattle.switch_names.specs.Names.{Name}
 use Rattle.users_merge.specs.Law.{Put, after, after_all, puts}
 use Rattle.users_merge.specs.Order.{group_rows, passwd_rows, shadow_rows}
@@ -23,6 +24,7 @@ use Rattle.tree_put.specs.declared.leaf_put.LeafPut.{LeafPut}
 use Rattle.tree_put.specs.Sequence.{put_at, with_puts}
 use Rattle.accounts_stage.specs.Files.{account_puts, closed_file, names_text, open_file}
 use Rattle.accounts_stage.specs.Places.{gids_place, group_place, groups_place, owns_accounts, passwd_place, shadow_place, uids_place, users_place}
+use Rattle.accounts_stage.specs.Rows.{lines_of}
 use Rattle.accounts_stage.specs.Standing.{names_in}
 use Rattle.tree_put.proofs.LeftLemmas.{leaf_after}
 use Rattle.switch_parts.proofs.StoreLemmas.{store_content_kept}
@@ -33,18 +35,21 @@ use Rattle.accounts_stage.proofs.OwnLemmas.{store_apart}
 abbrev pub text_of : Option (List ℕ) → List ℕ
 text_of content = unwrap_or content []
 
--- a content is a table of groups of which each name has this row
+-- a content is a table of groups of which each name has this row, and hasn't too many lines
 pub record IsGroupTable (table : Table GroupRow) (content : Option (List ℕ)) : Type 0 where
   pub rows : table_of group_name (rows_of group_row group_name (text_of content)) ≡ table
   pub complete : wrong_line group_row (text_of content) ≡ None
+  pub few : past rows_max (lines_of (text_of content)) ≡ None
 
 pub record IsPasswdTable (table : Table PasswdRow) (content : Option (List ℕ)) : Type 0 where
   pub rows : table_of passwd_name (rows_of passwd_row passwd_name (text_of content)) ≡ table
   pub complete : wrong_line passwd_row (text_of content) ≡ None
+  pub few : past rows_max (lines_of (text_of content)) ≡ None
 
 pub record IsShadowTable (table : Table ShadowRow) (content : Option (List ℕ)) : Type 0 where
   pub rows : table_of shadow_name (rows_of shadow_row shadow_name (text_of content)) ≡ table
   pub complete : wrong_line shadow_row (text_of content) ≡ None
+  pub few : past rows_max (lines_of (text_of content)) ≡ None
 
 -- a content is a map of these ids
 abbrev pub IsIdMap : Ids → Option (List ℕ) → Type 0

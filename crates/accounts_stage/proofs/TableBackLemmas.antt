@@ -1,5 +1,5 @@
 -- The tables that a merge leaves are read back where they are written.
-use Rattle.std.proofs.Common.{◌≡◌, ◌&&◌, Bool, true, List, [], ◌∷◌, ◌++◌, map, Option, None, Some, IfSome, is_some, option_map, option_and_then, refl, sym, ap, subst, ◌∙◌}
+use Rattle.std.proofs.Common.{◌≡◌, ◌&&◌, Bool, true, List, [], ◌∷◌, ◌++◌, length, map, Option, None, Some, IfSome, is_some, option_map, option_and_then, refl, sym, ap, subst, ◌∙◌}
 use Rattle.std.proofs.lemmas.Bool.{and_from, and_parts}
 use Rattle.std.specs.FinMap.{from_entries, get, keys}
 use Rattle.std.specs.List.{cons_option, filter_map, list_all}
@@ -19,6 +19,7 @@ use Rattle.account_text.specs.Shadow.{is_shadow_row, shadow_line, shadow_name, s
 use Rattle.account_text.specs.Table.{IsTableOf, are_distinct}
 use Rattle.account_text.proofs.BackLemmas.{group_back, passwd_back, shadow_back}
 use Rattle.account_text.proofs.SoundLemmas.{written_table}
+use Rattle.leaf_limits.specs.Counts.{past, rows_max}
 use Rattle.users_spec.specs.Spec.{Accounts, group_names, user_names}
 use Rattle.users_merge.specs.Merge.{IsMerge, group_at, map_at, merge_of, passwd_at, user_of}
 use Rattle.users_merge.specs.Order.{group_rows, in_order, passwd_rows, shadow_rows}
@@ -26,9 +27,11 @@ use Rattle.users_merge.specs.Rows as rows
 use Rattle.users_merge.specs.Stored.{Stored, Table, table_of}
 use Rattle.users_merge.proofs.ShadowLemmas.{made_distinct, made_found}
 use Rattle.users_merge.proofs.TableLemmas.{in_table}
+use Rattle.accounts_stage.specs.Rows.{lines_of}
 use Rattle.accounts_stage.proofs.MergedLemmas.{IsGoodSpec, IsGoodStored, group_good, group_named, passwd_good, passwd_named, shadow_good, shadow_named}
 use Rattle.accounts_stage.proofs.OrderLemmas.{all_in_order, all_made, distinct_in_order, named_in_order, table_in_order}
 use Rattle.accounts_stage.proofs.ReadLemmas.{IsGroupTable, IsPasswdTable, IsShadowTable}
+use Rattle.accounts_stage.proofs.RowCountLemmas.{fewer_made, fewer_past, written_lines}
 use Rattle.accounts_stage.proofs.RowTextLemmas.{group_line_text, group_texts, is_group_text, is_passwd_text, is_shadow_text, passwd_line_text, passwd_texts, shadow_line_text, shadow_texts}
 
 -- ---- rows that can be written are read back
@@ -40,6 +43,16 @@ first_tests p q (x ∷ xs) all = let parts = and_parts (p x && q x) (list_all (�
 more_tests : {X : Type 0} (p q : X → Bool) → ((x : X) → p x ≡ true → q x ≡ true) → (xs : List X) → list_all p xs ≡ true → list_all q xs ≡ true
 more_tests p q more [] all = refl
 more_tests p q more (x ∷ xs) all = let parts = and_parts (p x) (list_all p xs) all in and_from _ _ (more x parts.0) (more_tests p q more xs parts.1)
+
+-- how many lines are written
+group_lines : (all : List GroupRow) → list_all is_group_text all ≡ true → lines_of (group_text all) ≡ length all
+group_lines all good = written_lines group_row is_group_row group_line group_back all (first_tests is_group_row (λ row. list_all is_utf8 (group_texts row)) all good)
+
+user_lines : (all : List PasswdRow) → list_all is_passwd_text all ≡ true → lines_of (passwd_text all) ≡ length all
+user_lines all good = written_lines passwd_row is_passwd_row passwd_line passwd_back all (first_tests is_passwd_row (λ row. list_all is_utf8 (passwd_texts row)) all good)
+
+shadow_lines : (all : List ShadowRow) → list_all is_shadow_text all ≡ true → lines_of (shadow_text all) ≡ length all
+shadow_lines all good = written_lines shadow_row is_shadow_row shadow_line shadow_back all (first_tests is_shadow_row (λ row. list_all is_utf8 (shadow_texts row)) all good)
 
 groups_back : (all : List GroupRow) → list_all is_group_text all ≡ true → are_distinct (map group_name all) ≡ true → IsTableOf group_row group_name (group_text all) all
 groups_back all good distinct =
@@ -90,17 +103,27 @@ module _ (spec : Accounts) (s : Stored) (good : IsGoodSpec spec) (stored : IsGoo
   unfolding merge_of
   passwd_is = map_is_table passwd_name (passwd_at spec s) (passwd_named spec s good stored) (user_names spec ++ keys s.passwd)
 
-  pub group_read : IsGroupTable (merge_of spec s).group (Some (group_text (group_rows (merge_of spec s))))
-  group_read = subst (λ (table : Table GroupRow). IsGroupTable table (Some (group_text (in_order group_key table)))) (sym group_is)
-      (let back = groups_back (in_order group_key (table_of group_name made_groups)) (all_in_order group_key made_groups is_group_text (all_made is_group_text (group_at spec s) _ (group_good spec s good stored)))
-      (distinct_in_order group_key made_groups) in
-      record { rows = sym (ap (table_of group_name) back.exact) ∙ table_in_order group_key made_groups; complete = back.complete })
+  pub group_read : past rows_max (length (group_rows (merge_of spec s))) ≡ None → IsGroupTable (merge_of spec s).group (Some (group_text (group_rows (merge_of spec s))))
+  group_read = subst (λ (table : Table GroupRow). past rows_max (length (in_order group_key table)) ≡ None → IsGroupTable table (Some (group_text (in_order group_key table)))) (sym group_is)
+      (λ few.
+      let good_rows = all_in_order group_key made_groups is_group_text (all_made is_group_text (group_at spec s) _ (group_good spec s good stored)) in
+      let back = groups_back (in_order group_key (table_of group_name made_groups)) good_rows (distinct_in_order group_key made_groups) in
+      record {
+        rows = sym (ap (table_of group_name) back.exact) ∙ table_in_order group_key made_groups;
+        complete = back.complete;
+        few = ap (past rows_max) (group_lines (in_order group_key (table_of group_name made_groups)) good_rows) ∙ few;
+      })
 
-  pub passwd_read : IsPasswdTable (merge_of spec s).passwd (Some (passwd_text (passwd_rows (merge_of spec s))))
-  passwd_read = subst (λ (table : Table PasswdRow). IsPasswdTable table (Some (passwd_text (in_order passwd_key table)))) (sym passwd_is)
-      (let back = users_back (in_order passwd_key (table_of passwd_name made_users)) (all_in_order passwd_key made_users is_passwd_text (all_made is_passwd_text (passwd_at spec s) _ (passwd_good spec s good stored)))
-      (distinct_in_order passwd_key made_users) in
-      record { rows = sym (ap (table_of passwd_name) back.exact) ∙ table_in_order passwd_key made_users; complete = back.complete })
+  pub passwd_read : past rows_max (length (passwd_rows (merge_of spec s))) ≡ None → IsPasswdTable (merge_of spec s).passwd (Some (passwd_text (passwd_rows (merge_of spec s))))
+  passwd_read = subst (λ (table : Table PasswdRow). past rows_max (length (in_order passwd_key table)) ≡ None → IsPasswdTable table (Some (passwd_text (in_order passwd_key table)))) (sym passwd_is)
+      (λ few.
+      let good_rows = all_in_order passwd_key made_users is_passwd_text (all_made is_passwd_text (passwd_at spec s) _ (passwd_good spec s good stored)) in
+      let back = users_back (in_order passwd_key (table_of passwd_name made_users)) good_rows (distinct_in_order passwd_key made_users) in
+      record {
+        rows = sym (ap (table_of passwd_name) back.exact) ∙ table_in_order passwd_key made_users;
+        complete = back.complete;
+        few = ap (past rows_max) (user_lines (in_order passwd_key (table_of passwd_name made_users)) good_rows) ∙ few;
+      })
 
   -- ---- shadow, in the order of passwd
 
@@ -133,10 +156,14 @@ module _ (spec : Accounts) (s : Stored) (good : IsGoodSpec spec) (stored : IsGoo
         by None none = sym (is.shadow name ∙ ap (λ (o : Option PasswdRow). rows.shadow_row spec (user_of spec name) (is_some o) (get s.shadow name)) (sym has_user ∙ none))
         by (Some row) some = ap (get (merge_of spec s).shadow) (sym (name_exact name row.name (find_passes (λ (r : PasswdRow). is_name name (passwd_name r)) users_ordered row some)))
 
-    pub shadow_read : IsShadowTable (merge_of spec s).shadow (Some (shadow_text (shadow_rows (merge_of spec s))))
-    shadow_read = subst (λ (table : Table PasswdRow). IsShadowTable (merge_of spec s).shadow (Some (shadow_text (filter_map beside (in_order passwd_key table))))) (sym passwd_is)
-        (let back = shadows_back (filter_map beside users_ordered) (all_made is_shadow_text beside users_ordered beside_good) distinct_beside in
+    -- it has no more rows than passwd
+    pub shadow_read : past rows_max (length (passwd_rows (merge_of spec s))) ≡ None → IsShadowTable (merge_of spec s).shadow (Some (shadow_text (shadow_rows (merge_of spec s))))
+    shadow_read = subst (λ (table : Table PasswdRow). past rows_max (length (in_order passwd_key table)) ≡ None → IsShadowTable (merge_of spec s).shadow (Some (shadow_text (filter_map beside (in_order passwd_key table))))) (sym passwd_is)
+        (λ few.
+        let good_rows = all_made is_shadow_text beside users_ordered beside_good in
+        let back = shadows_back (filter_map beside users_ordered) good_rows distinct_beside in
         record {
           rows = sym (ap (table_of shadow_name) back.exact) ∙ alike _ _ (λ name. in_table shadow_name (filter_map beside users_ordered) name ∙ found_beside name);
           complete = back.complete;
+          few = ap (past rows_max) (shadow_lines (filter_map beside users_ordered) good_rows) ∙ fewer_past rows_max _ _ (fewer_made beside users_ordered) few;
         })

@@ -1,74 +1,22 @@
 -- The part of a switch that sets the accounts: nixpkgs, update-users-groups.pl; NixOS manual, "User Management".
-use Rattle.std.specs.Prelude.{◌≡◌, ◌||◌, Bool, false, Option, None, Some, option_map, option_and_then, Ok, Err, is_none}
+use Rattle.std.specs.Prelude.{◌≡◌, ◌||◌, Bool, false, Option, None, Some, Ok, Err}
 use Rattle.std.specs.FinMap.{get}
-use Rattle.std.specs.Option.{option_or}
-use Rattle.std.specs.Prelude.{ℕ, List, if◌then◌else◌}
 use Rattle.account_text.specs.declared.tables.Tables.{Tables}
-use Rattle.account_text.specs.Group.{group_row}
-use Rattle.account_text.specs.Passwd.{passwd_row}
-use Rattle.account_text.specs.Shadow.{shadow_row}
-use Rattle.account_text.specs.Table.{wrong_line}
 use Rattle.host_trait.specs.declared.leaf.LeafKind.{LeafKind}
 use Rattle.host_trait.specs.World.{Leaves, WorldState}
 use Rattle.switch_names.specs.Names.{Name}
-use Rattle.switch_parts.specs.declared.refusal.MapFile.{MapFile}
-use Rattle.switch_parts.specs.declared.refusal.MapFile.TheVariants.{Uid, Gid}
 use Rattle.switch_parts.specs.declared.refusal.Refusal.{Refusal}
-use Rattle.switch_parts.specs.declared.refusal.Refusal.TheVariants.{IdMap, NoFreeId, Table, UnknownGroup, UsersSpec}
-use Rattle.switch_parts.specs.declared.refusal.TableFile.{TableFile}
-use Rattle.switch_parts.specs.declared.refusal.TableFile.TheVariants.{Group, Passwd, Shadow}
 use Rattle.switch_parts.specs.Leaves.{EndsSame, is_near}
 use Rattle.switch_parts.specs.Part.{Part}
 use Rattle.switch_parts.specs.Store.{is_in_store}
-use Rattle.users_merge.specs.declared.merge_fault.MergeFault.{MergeFault}
-use Rattle.users_merge.specs.declared.merge_fault.MergeFault as faults
-use Rattle.users_merge.specs.Merge.{fault, merge_of}
+use Rattle.users_merge.specs.Merge.{merge_of}
 use Rattle.users_merge.specs.Stored.{Merged}
 use Rattle.users_spec.specs.Fields.{Read}
 use Rattle.users_spec.specs.Spec.{Accounts}
-use Rattle.accounts_stage.specs.declared.memory.MemoryTexts.{MemoryTexts}
-use Rattle.accounts_stage.specs.declared.reading.TableTexts.{TableTexts}
 use Rattle.accounts_stage.specs.Files.{merged_end, tables_with}
 use Rattle.accounts_stage.specs.Places.{account_places, owns_accounts}
-use Rattle.accounts_stage.specs.Standing.{declared_by, ids_of, memory_in, stored_in, tables_in, texts_in}
-
--- why a table can't be read, or nothing: its first line that is no row
-abbrev pub wrong_table : TableFile → Option ℕ → Option Refusal
-wrong_table file line = option_map (λ at. Table file at) line
-
--- why three texts aren't tables, or nothing
-abbrev pub texts_refusal : TableTexts → Option Refusal
-texts_refusal texts =
-    option_or (wrong_table Group (wrong_line group_row texts.group))
-    (option_or (wrong_table Passwd (wrong_line passwd_row texts.passwd)) (wrong_table Shadow (wrong_line shadow_row texts.shadow)))
-
--- why the tables that stand can't be read, or nothing
-abbrev pub table_refusal : Leaves → Option Refusal
-table_refusal leaves = texts_refusal (texts_in leaves)
-
--- why a content is no map of ids, or nothing
-abbrev pub ids_refusal : MapFile → Option (List ℕ) → Option Refusal
-ids_refusal file content = if is_none (ids_of content) then Some (IdMap file) else None
-
--- why the maps of ids can't be read, or nothing
-abbrev pub maps_refusal : MemoryTexts → Option Refusal
-maps_refusal texts = option_or (ids_refusal Uid texts.uids) (ids_refusal Gid texts.gids)
-
--- why what stands of accounts can't be read, or nothing
-abbrev pub stored_refusal : Leaves → Option Refusal
-stored_refusal leaves = option_or (table_refusal leaves) (maps_refusal (memory_in leaves))
-
--- a fault of a merge as a refusal; want of memory is none
-abbrev pub merge_refusal : MergeFault → Option Refusal
-merge_refusal (faults.TheVariants.NoFreeId name) = Some (NoFreeId name)
-merge_refusal (faults.TheVariants.UnknownGroup user group) = Some (UnknownGroup user group)
-merge_refusal faults.TheVariants.Memory = None
-
--- why accounts that are declared so are refused, or nothing: without a declaration the tables alone are read
-abbrev pub refusal_of : Leaves → Option (Read Accounts) → Option Refusal
-refusal_of leaves None = table_refusal leaves
-refusal_of leaves (Some (Err why)) = Some (UsersSpec why)
-refusal_of leaves (Some (Ok spec)) = option_or (table_refusal leaves) (option_or (maps_refusal (memory_in leaves)) (option_and_then merge_refusal (fault spec (stored_in leaves))))
+use Rattle.accounts_stage.specs.Refusals.{refusal_of}
+use Rattle.accounts_stage.specs.Standing.{declared_by, stored_in, tables_in}
 
 -- the merge of accounts that are declared so
 abbrev pub merged_by : Leaves → Option (Read Accounts) → Option Merged

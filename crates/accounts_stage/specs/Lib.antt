@@ -2,8 +2,11 @@ pub mod AccountsPart
 pub mod All
 pub mod Answer
 pub mod Files
+pub mod Judging
 pub mod Laws
 pub mod Places
 pub mod Plan
 pub mod Puts
+pub mod Refusals
+pub mod Rows
 pub mod Standing

@@ -3,6 +3,8 @@ use Rattle.std.specs.Prelude.{◌∷◌, ◌++◌, Bool, true, false, List, [], 
 use Rattle.host_trait.specs.World.{stage}
 use Rattle.switch_names.specs.Names.{Name}
 use Rattle.switch_parts.specs.Leaves.{is_among}
+use Rattle.switch_parts.specs.declared.refusal.TableFile.{TableFile}
+use Rattle.switch_parts.specs.declared.refusal.TableFile.TheVariants.{Group, Passwd, Shadow}
 use Rattle.tree_put.specs.declared.written_place.WrittenPlace.{WrittenPlace}
 use Rattle.tree_put.specs.WrittenPlace.{written}
 
@@ -17,6 +19,12 @@ passwd_place = codes "etc/passwd"
 -- the table of the users' passwords
 unfoldable pub shadow_place : Name
 shadow_place = codes "etc/shadow"
+
+-- where a table stands
+abbrev pub table_place : TableFile → Name
+table_place Group = group_place
+table_place Passwd = passwd_place
+table_place Shadow = shadow_place
 
 -- the names of groups that were declared
 unfoldable pub groups_place : Name

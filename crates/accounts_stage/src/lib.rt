@@ -2,6 +2,7 @@
 #![tactic(auto)]
 
 mod accounts_plan;
+mod judging;
 mod laws;
 mod memory;
 mod names;
@@ -9,6 +10,7 @@ mod places;
 mod planning;
 mod puts;
 mod reading;
+mod rows;
 mod setting;
 mod stored;
 mod written_places;
@@ -17,6 +19,7 @@ pub use accounts_plan::AccountsPlan;
 pub use laws::{account_plans_stay, set_accounts_stay, setting_accounts_is_a_part};
 pub use planning::plan_accounts;
 pub use reading::read_tables;
+pub use rows::{lines, too_many_rows};
 pub use setting::{apply, set_accounts};
 pub use stored::{Stored, read_all};
 pub use written_places::add_account_places;

@@ -7,7 +7,7 @@ ghost use Rattle.host_trait.specs.Host.{Told};
 ghost use Rattle.host_trait.specs.Reading.{IsReading};
 ghost use Rattle.switch_parts.specs.declared.plan_fault.PlanFault.TheVariants.{Host};
 ghost use Rattle.accounts_stage.specs.Answer.{Answers};
-ghost use Rattle.accounts_stage.specs.AccountsPart.{ids_refusal, maps_refusal};
+ghost use Rattle.accounts_stage.specs.Refusals.{ids_refusal, maps_refusal};
 ghost use Rattle.accounts_stage.specs.Standing.{declared_of, ids_of, memory_in, remembered_of};
 
 use crate::names::names_in;

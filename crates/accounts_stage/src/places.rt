@@ -1,10 +1,11 @@
 //! Where accounts stand.
 ghost use Rattle.std.specs.Prelude.{◌≡◌, IfOk};
-ghost use Rattle.accounts_stage.specs.Places.{gids_place, group_place, groups_place, passwd_place, shadow_place, spec_path, uids_place, users_place};
+ghost use Rattle.accounts_stage.specs.Places.{gids_place, group_place, groups_place, passwd_place, shadow_place, spec_path, table_place, uids_place, users_place};
 
 use host_trait::fixed_path;
 use std::alloc::{AllocError, Global};
 use switch_names::{NameFault, Path, SystemName};
+use switch_parts::TableFile;
 
 /// The place of the table of groups.
 #[tactic(auto, unfolding(crate::specs::Places::group_place))]
@@ -28,6 +29,17 @@ pub fn shadow_path(alloc: Global) -> Result<Path, AllocError>
     ensures { IfOk result (λ path. path ≡ shadow_place) }
 {
     fixed_path(alloc, "etc/shadow")
+}
+
+/// The place of a table.
+pub fn table_path(alloc: Global, file: TableFile) -> Result<Path, AllocError>
+    ensures { IfOk result (λ path. path ≡ table_place file) }
+{
+    match file {
+        TableFile::Group => group_path(alloc),
+        TableFile::Passwd => passwd_path(alloc),
+        TableFile::Shadow => shadow_path(alloc),
+    }
 }
 
 /// The place of the names of groups that were declared.

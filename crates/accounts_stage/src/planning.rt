@@ -6,69 +6,25 @@ ghost use Rattle.host_trait.specs.Reading.{IsReadingOf};
 ghost use Rattle.switch_parts.specs.declared.plan_fault.PlanFault.TheVariants.{Host, Refused};
 ghost use Rattle.switch_parts.specs.declared.refusal.Refusal.{Refusal};
 ghost use Rattle.users_merge.specs.Merge.{fault};
-ghost use Rattle.users_spec.specs.Spec.{accounts_of};
 ghost use Rattle.accounts_stage.specs.All.{HasSoundTables, stored_with};
-ghost use Rattle.accounts_stage.specs.AccountsPart.{accounts_refusal, merge_refusal, refusal_of};
-ghost use Rattle.accounts_stage.specs.Answer.{Answers, IsMergedBy, merge_fault, spec_fault, spec_refusal};
+ghost use Rattle.accounts_stage.specs.AccountsPart.{accounts_refusal};
+ghost use Rattle.accounts_stage.specs.Answer.{Answers, IsMergedBy, merge_fault};
+ghost use Rattle.accounts_stage.specs.Judging.{AreSoundTables, later_refusal, plan_past};
 ghost use Rattle.accounts_stage.specs.Plan.{ArePlanned, IsAccountsPlanOf};
-ghost use Rattle.accounts_stage.specs.Standing.{declared_by};
+ghost use Rattle.accounts_stage.specs.Refusals.{merge_refusal};
+ghost use Rattle.accounts_stage.specs.Standing.{tables_in};
 
 use crate::accounts_plan::AccountsPlan;
-use crate::places::spec_path;
-use crate::reading::read_tables;
-use crate::stored::{Stored, read_all};
-use host_trait::{HostFault, Tree, content};
+use crate::judging::{Judged, judge, read_account_texts, refuse};
+use crate::rows::tables_past;
+use crate::stored::{Stored, read_beside};
+use account_text::Tables;
+use host_trait::{HostFault, Tree};
 use std::alloc::Global;
-use switch_names::{Bytes, SystemName};
-use switch_parts::{PlanFault, Refusal};
+use switch_names::SystemName;
+use switch_parts::{PlanFault, Refusal, What, too_many};
 use users_merge::{MergeFault, Merged, merge};
-use users_spec::{Spec, SpecFault};
-
-/// What comes of a fault of a specification.
-fn spec_fault(fault: SpecFault) -> PlanFault
-    ensures { result ≡ spec_fault fault }
-{
-    match fault {
-        SpecFault::Memory => PlanFault::Host(HostFault::Memory),
-        fault => PlanFault::Refused(Refusal::UsersSpec(fault)),
-    }
-}
-
-/// The specification of these bytes.
-fn spec_of(alloc: Global, bytes: &Bytes) -> Result<Spec, PlanFault>
-    ensures spec { Answers (spec_refusal (Some (accounts_of bytes.now))) (λ spec. accounts_of bytes.now ≡ Ok spec) result }
-    ensures cause { IsErrOf result (Host Device) → ⊥ }
-{
-    match Spec::read(alloc, bytes.as_slice()) {
-        Ok(spec) => Ok(spec),
-        Err(fault) => Err(spec_fault(fault)),
-    }
-}
-
-/// The specification of a system, where it has one.
-fn spec_in(alloc: Global, bytes: Option<Bytes>) -> Result<Option<Spec>, PlanFault>
-    ensures spec { Answers (spec_refusal (option_map accounts_of bytes)) (λ spec. option_map accounts_of bytes ≡ option_map Ok spec) result }
-    ensures cause { IsErrOf result (Host Device) → ⊥ }
-{
-    match bytes {
-        Some(bytes) => Ok(Some(spec_of(alloc, &bytes)?)),
-        None => Ok(None),
-    }
-}
-
-/// Reads the specification of a system, where it has one.
-fn read_spec<T: Tree>(
-    alloc: Global,
-    host: &mut T,
-    system: &SystemName,
-) -> Result<Option<Spec>, PlanFault>
-    ensures spec { Told (T.host host.old) (λ w. Answers (spec_refusal (declared_by system.now w.leaves)) (λ spec. declared_by system.now w.leaves ≡ option_map Ok spec) result) }
-    ensures reads { IsReadingOf (T.host host.old) (T.host host.new) (IsErrOf result (Host Device)) }
-{
-    let at = spec_path(alloc, system)?;
-    let bytes = content(alloc, host, &at)?;
-    spec_in(alloc, bytes)
-}
+use users_spec::Spec;
 
 /// What comes of a fault of a merge.
 fn merge_fault(fault: MergeFault) -> PlanFault
@@ -101,12 +57,18 @@ fn merge_stored(alloc: Global, spec: &Spec, stored: &Stored) -> Result<Merged, P
     }
 }
 
-/// Plans accounts that are declared so: what stands is read and merged with them.
-fn plan_merge<T: Tree>(alloc: Global, host: &mut T, spec: &Spec) -> Result<AccountsPlan, PlanFault>
-    ensures plan { Told (T.host host.old) (λ w. Answers (refusal_of w.leaves (Some (Ok spec.now))) (ArePlanned w.leaves (Some (Ok spec.now))) result) }
+/// Plans accounts that are declared so: what else stands is read, and all is merged with them.
+fn plan_merge<T: Tree>(
+    alloc: Global,
+    host: &mut T,
+    spec: &Spec,
+    tables: Tables,
+) -> Result<AccountsPlan, PlanFault>
+    requires { AreSoundTables tables }
+    ensures plan { Told (T.host host.old) (λ w. tables ≡ tables_in w.leaves → Answers (later_refusal w.leaves (Some spec.now)) (ArePlanned w.leaves (Some (Ok spec.now))) result) }
     ensures reads { IsReadingOf (T.host host.old) (T.host host.new) (IsErrOf result (Host Device)) }
 {
-    let stored = read_all(alloc, host)?;
+    let stored = read_beside(alloc, host, tables)?;
     let merged = merge_stored(alloc, spec, &stored)?;
     Ok(AccountsPlan {
         tables: stored.into_tables(),
@@ -114,38 +76,42 @@ fn plan_merge<T: Tree>(alloc: Global, host: &mut T, spec: &Spec) -> Result<Accou
     })
 }
 
-/// Plans accounts where none are declared: the tables stay as they stand.
-fn plan_tables<T: Tree>(alloc: Global, host: &mut T) -> Result<AccountsPlan, PlanFault>
-    ensures plan { Told (T.host host.old) (λ w. Answers (refusal_of w.leaves None) (ArePlanned w.leaves None) result) }
-    ensures reads { IsReadingOf (T.host host.old) (T.host host.new) (IsErrOf result (Host Device)) }
-{
-    let tables = read_tables(alloc, host)?;
-    Ok(AccountsPlan {
-        tables,
-        merged: None,
-    })
-}
-
-/// Plans the accounts that are declared, where any are.
-fn plan_declared<T: Tree>(
+/// Plans accounts of what was judged. Where none are declared the tables stay as they stand.
+fn plan_judged<T: Tree>(
     alloc: Global,
     host: &mut T,
-    spec: &Option<Spec>,
+    judged: Judged,
 ) -> Result<AccountsPlan, PlanFault>
-    ensures plan { Told (T.host host.old) (λ w. Answers (refusal_of w.leaves (option_map Ok spec.now)) (ArePlanned w.leaves (option_map Ok spec.now)) result) }
+    requires { AreSoundTables judged.tables }
+    ensures plan { Told (T.host host.old) (λ w. judged.tables ≡ tables_in w.leaves → Answers (later_refusal w.leaves judged.spec) (ArePlanned w.leaves (option_map Ok judged.spec)) result) }
     ensures reads { IsReadingOf (T.host host.old) (T.host host.new) (IsErrOf result (Host Device)) }
 {
-    match spec {
-        Some(spec) => plan_merge(alloc, host, spec),
-        None => plan_tables(alloc, host),
+    let (spec, tables) = judged.into_parts();
+    match &spec {
+        Some(spec) => plan_merge(alloc, host, spec, tables),
+        None => Ok(AccountsPlan {
+            tables,
+            merged: None,
+        }),
+    }
+}
+
+/// How many rows the first table has that a plan leaves with too many.
+fn plan_past(plan: &AccountsPlan) -> Option<u64>
+    ensures { result ≡ plan_past plan.now }
+{
+    match &plan.merged {
+        Some(merged) => tables_past(&merged.tables),
+        None => None,
     }
 }
 
 /// Plans the accounts of a system, and changes nothing.
 ///
-/// It reads the specification, the tables, and, where there is a specification, the maps of ids and
-/// the names that were declared. The refusals are sought in this order: those of the specification,
-/// of the tables, of the maps, and of the merge.
+/// It reads the specification and the tables before it judges anything, and then, where there is a
+/// specification, the maps of ids and the names that were declared. The refusals are sought in this
+/// order: a table with more than `ROWS_MAX` lines that aren't empty, those of the specification, of
+/// the tables, of the maps, and of the merge, and more than `ROWS_MAX` merged groups or users.
 ///
 /// Source: nixpkgs, update-users-groups.pl; NixOS manual, "User Management".
 pub fn plan_accounts<T: Tree>(
@@ -158,6 +124,9 @@ pub fn plan_accounts<T: Tree>(
     ensures refused { (why : Refusal) → IsErrOf result (Refused why) → Told (T.host host.old) (λ w. accounts_refusal system.now w.leaves ≡ Some why) }
     ensures reads { IsReadingOf (T.host host.old) (T.host host.new) (IsErrOf result (Host Device)) }
 {
-    let spec = read_spec(alloc, host, system)?;
-    plan_declared(alloc, host, &spec)
+    let texts = read_account_texts(alloc, host, system)?;
+    let judged = judge(alloc, texts)?;
+    let plan = plan_judged(alloc, host, judged)?;
+    refuse(too_many(What::Rows, plan_past(&plan)))?;
+    Ok(plan)
 }

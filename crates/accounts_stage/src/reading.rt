@@ -11,7 +11,7 @@ ghost use Rattle.host_trait.specs.Reading.{IsReading, IsReadingOf};
 ghost use Rattle.switch_parts.specs.declared.plan_fault.PlanFault.TheVariants.{Host, Refused};
 ghost use Rattle.switch_parts.specs.declared.refusal.Refusal.{Refusal};
 ghost use Rattle.switch_parts.specs.declared.refusal.TableFile.TheVariants.{Group, Passwd, Shadow};
-ghost use Rattle.accounts_stage.specs.AccountsPart.{table_refusal, texts_refusal, wrong_table};
+ghost use Rattle.accounts_stage.specs.Refusals.{table_refusal, texts_refusal, wrong_table};
 ghost use Rattle.accounts_stage.specs.Answer.{Answers, table_fault};
 ghost use Rattle.accounts_stage.specs.Standing.{bytes_at, tables_in, tables_of, texts_in};
 
@@ -65,7 +65,7 @@ pub fn bytes_at<T: Tree>(alloc: Global, host: &mut T, at: &Path) -> Result<Bytes
 }
 
 /// Reads the texts of the three tables.
-fn read_texts<T: Tree>(alloc: Global, host: &mut T) -> Result<TableTexts, HostFault>
+pub fn read_texts<T: Tree>(alloc: Global, host: &mut T) -> Result<TableTexts, HostFault>
     ensures texts { IfOk result (λ texts. Told (T.host host.old) (λ w. texts ≡ texts_in w.leaves)) }
     ensures reads { IsReading (T.host host.old) (T.host host.new) result }
 {
@@ -129,7 +129,7 @@ fn shadow_rows(alloc: Global, text: &Bytes) -> Result<Listed<ShadowRow>, PlanFau
 }
 
 /// The tables of these texts.
-fn tables_of(alloc: Global, texts: &TableTexts) -> Result<Tables, PlanFault>
+pub fn tables_of(alloc: Global, texts: &TableTexts) -> Result<Tables, PlanFault>
     ensures tables { Answers (texts_refusal texts.now) (λ tables. tables ≡ tables_of texts.now) result }
     ensures sound { IfOk result (λ tables. IsSoundGroup tables.group × IsSoundPasswd tables.passwd × IsSoundShadow tables.shadow) }
     ensures cause { IsErrOf result (Host Device) → ⊥ }

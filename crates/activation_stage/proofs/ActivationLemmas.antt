@@ -10,9 +10,8 @@ use Rattle.host_trait.proofs.Moments.{one_world}
 use Rattle.switch_parts.specs.declared.refusal.Refusal.{Refusal}
 use Rattle.switch_parts.specs.Part.{IsAtEnd, IsFree, IsMomentOf, IsOnly, IsPart, IsSameFor, Part}
 use Rattle.switch_parts.proofs.Parts.{both_part, first_free, first_moment, moment_then, only_beside, only_first, only_second, only_then, second_free, second_moment, ends_both}
-use Rattle.etc_manifest.specs.Entries.{manifest_of}
 use Rattle.etc_manifest.specs.Owners.{OwnerIds}
-use Rattle.etc_farm.specs.EtcPart.{CanPutEtc, IsEtcPlanOf, etc_part, refusal_in}
+use Rattle.etc_farm.specs.EtcPart.{CanPutEtc, IsEtcPlanOf, etc_part, etc_refusal}
 use Rattle.etc_farm.specs.Making.{IsMakingEtc}
 use Rattle.etc_farm.proofs.EtcLemmas.{etc_frame, etc_is, etc_plan_law}
 use Rattle.accounts_stage.specs.AccountsPart.{accounts_part, accounts_refusal, tables_after}
@@ -151,14 +150,14 @@ owners_planned system leaves tables owners after are = are ∙ ap owners_in afte
 
 -- accounts that are refused refuse an activation
 pub first_refusal : (system : Name) (leaves : Leaves) (why : Refusal) → accounts_refusal system leaves ≡ Some why → (activation_in system leaves).refusal leaves ≡ Some why
-first_refusal system leaves why is = ap (λ (o : Option Refusal). option_or o (refusal_in (manifest_of leaves system (owners_after system leaves)))) is
+first_refusal system leaves why is = ap (λ (o : Option Refusal). option_or o (etc_refusal system (owners_after system leaves) leaves)) is
 
 -- where they aren't, an activation is refused as its etc is
 pub second_refusal : (system : Name) (leaves : Leaves) (owners : OwnerIds) (refusal : Option Refusal) → accounts_refusal system leaves ≡ None → owners ≡ owners_after system leaves →
-    refusal_in (manifest_of leaves system owners) ≡ refusal → (activation_in system leaves).refusal leaves ≡ refusal
+    etc_refusal system owners leaves ≡ refusal → (activation_in system leaves).refusal leaves ≡ refusal
 second_refusal system leaves owners refusal none are is =
-    ap (λ (o : Option Refusal). option_or o (refusal_in (manifest_of leaves system (owners_after system leaves)))) none
-    ∙ ap (λ ids. refusal_in (manifest_of leaves system ids)) (sym are) ∙ is
+    ap (λ (o : Option Refusal). option_or o (etc_refusal system (owners_after system leaves) leaves)) none
+    ∙ ap (λ ids. etc_refusal system ids leaves) (sym are) ∙ is
 
 -- ---- two calls, of which the second has led where its moments tell
 

@@ -1,10 +1,14 @@
 -- Making /etc what a system wants is a part of a switch.
-use Rattle.std.proofs.Common.{◌≡◌, ◌&&◌, Bool, true, false, cond, List, Option, None, Result, Ok, Err, is_some, refl, sym, ap, subst, ◌∙◌, inl, inr}
+use Rattle.std.proofs.Common.{◌≡◌, ◌&&◌, Bool, true, false, cond, List, length, Option, None, Result, Ok, Err, is_some, refl, sym, ap, subst, ◌∙◌, inl, inr}
 use Rattle.std.proofs.lemmas.Bool.{both_ways, cases_Bool, false_from_ne_true}
+use Rattle.std.specs.Option.{option_or}
+use Rattle.leaf_limits.specs.Counts.{entries_max, past}
 use Rattle.switch_names.specs.Names.{IsListOf, Name, has}
 use Rattle.switch_names.specs.SystemName.{IsSystemPath}
 use Rattle.std.specs.List.Sorted.{IsStrictlySortedBy}
 use Rattle.host_trait.specs.World.{Leaves, WorldState, bytes_cmp}
+use Rattle.switch_parts.specs.declared.refusal.What.TheVariants.{Entries}
+use Rattle.switch_parts.specs.Limits.{too_many}
 use Rattle.switch_parts.specs.Part.{IsAtEnd, IsMomentOf, IsPart, IsSameFor}
 use Rattle.etc_manifest.specs.declared.item.Item.{Item}
 use Rattle.etc_manifest.specs.declared.item.ItemKind.{ItemKind}
@@ -30,7 +34,7 @@ use Rattle.etc_clean.proofs.FarmLemmas.{blocked_kept}
 use Rattle.etc_clean.proofs.KeepsLemmas.{alike_law, end_law, owned_name}
 use Rattle.etc_clean.proofs.SearchLemmas.{none_wanted}
 use Rattle.etc_farm.specs.declared.etc_plan.EtcPlan.{EtcPlan}
-use Rattle.etc_farm.specs.EtcPart.{CanPutEtc, EtcPartLaw, EtcPlanLaw, KeepsEtc, etc_part, items_in, items_of, refusal_in}
+use Rattle.etc_farm.specs.EtcPart.{CanPutEtc, EtcPartLaw, EtcPlanLaw, KeepsEtc, etc_part, etc_refusal, items_in, items_of, refusal_in}
 use Rattle.etc_farm.specs.FarmPart.{CanApply, KeepsFarm, farm_of, farm_part}
 use Rattle.etc_farm.specs.Making.{IsMaking}
 use Rattle.etc_farm.specs.Runs.{EtcRunLaw}
@@ -40,7 +44,7 @@ use Rattle.etc_farm.proofs.StageLemmas.{all_free}
 use Rattle.etc_farm.proofs.PartLemmas.{farm_is, frame_alike, keeps_farm_self, keeps_farm_then}
 use Rattle.etc_farm.proofs.PlaceLemmas.{owned_read, place_of_owned, stage_unread, store_read}
 use Rattle.switch_parts.proofs.StoreLemmas.{store_not_stage}
-use Rattle.etc_farm.proofs.StoreLemmas.{manifest_same, store_not_owned}
+use Rattle.etc_farm.proofs.StoreLemmas.{entries_same, manifest_same, store_not_owned}
 
 -- ---- what is wanted isn't reserved
 
@@ -79,21 +83,27 @@ module _ (system : Name) (owners : OwnerIds) where
   module _ (named : IsSystemPath system) where
     pub etc_frame : (w m : WorldState) → IsSameFor (etc_part system owners) w m → KeepsEtc system owners w m
     etc_frame w m same = record {
+      entries = entries_same w.leaves m.leaves (λ path inside. same.leaves path (store_read path inside)) system named;
       manifest = manifest_same w.leaves m.leaves (λ path inside. same.leaves path (store_read path inside)) system named owners;
       farm = (farm_is (farm_of system (items_of system owners w.leaves)) (items_free w.leaves)).frame w m (record { leaves = same.leaves; manager = same.manager });
     }
 
+    -- what is counted and wanted is the same, so that the same is refused
+    etc_refusal_kept : (w m : WorldState) → KeepsEtc system owners w m → etc_refusal system owners m.leaves ≡ etc_refusal system owners w.leaves
+    etc_refusal_kept w m keeps = λ i. option_or (too_many Entries (past entries_max (length (keeps.entries i)))) (refusal_in (keeps.manifest i))
+
     pub etc_is : IsPart (etc_part system owners)
     etc_is = record {
-      keeps_self = λ w. record { manifest = refl; farm = keeps_farm_self (items_of system owners w.leaves) w };
+      keeps_self = λ w. record { entries = refl; manifest = refl; farm = keeps_farm_self (items_of system owners w.leaves) w };
       keeps_then = λ w v m first then. record {
+        entries = then.entries ∙ first.entries;
         manifest = then.manifest ∙ first.manifest;
         farm = keeps_farm_then (items_of system owners w.leaves) w v m first.farm (subst (λ items. KeepsFarm items v m) (ap items_in first.manifest) then.farm);
       };
       same_end = λ w m keeps q own.
           ap (λ items. etc (farm_of system items) m.leaves (name_of q)) (ap items_in keeps.manifest)
           ∙ end_law (farm_of system (items_of system owners w.leaves)) w.leaves m.leaves keeps.farm.keeps (name_of q) (place_of_owned q own).1;
-      stays_free = λ w m keeps free. record { way = keeps.farm.free free.way; refusal = ap refusal_in keeps.manifest ∙ free.refusal };
+      stays_free = λ w m keeps free. record { way = keeps.farm.free free.way; refusal = etc_refusal_kept w m keeps ∙ free.refusal };
       frame = etc_frame;
       reads_own = owned_read;
       no_stage = stage_unread;
@@ -166,6 +176,7 @@ module _ (system : Name) (plan : EtcPlan) (w : WorldState) (can : CanPutEtc syst
   moment_as : IsSystemPath system → (m : WorldState) → IsMomentOf (farm_part (farm_of system plan.manifest)) w m → IsMomentOf (etc_part system plan.owners) w m
   moment_as named m moment = record {
     keeps = record {
+      entries = entries_same w.leaves m.leaves (λ path inside. moment.only.leaves path (store_not_owned path inside) (store_not_stage path inside)) system named;
       manifest = manifest_same w.leaves m.leaves (λ path inside. moment.only.leaves path (store_not_owned path inside) (store_not_stage path inside)) system named plan.owners;
       farm = subst (λ items. KeepsFarm items w m) (sym wanted_is) moment.keeps;
     };

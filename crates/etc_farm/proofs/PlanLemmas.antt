@@ -1,31 +1,63 @@
 -- A plan of /etc is made by what is read of a host.
-use Rattle.std.proofs.Common.{◌≡◌, Some, Err, IsErrOf, refl, ap, ◌∙◌}
+use Rattle.std.proofs.Common.{◌≡◌, ℕ, List, Option, None, Some, Result, Ok, Err, IsErrOf, refl, subst}
+use Rattle.std.specs.Option.{option_or}
 use Rattle.host_trait.specs.Host.{HostState, Told}
-use Rattle.host_trait.proofs.Moments.{told_as}
+use Rattle.host_trait.specs.World.{Leaves}
 use Rattle.switch_names.specs.Names.{Name}
 use Rattle.switch_parts.specs.declared.refusal.Refusal.{Refusal}
+use Rattle.switch_parts.specs.declared.refusal.Refusal.TheVariants.{TooMany}
+use Rattle.switch_parts.specs.declared.refusal.What.TheVariants.{Entries}
+use Rattle.switch_parts.specs.Limits.{too_many}
+use Rattle.etc_manifest.specs.declared.item.Item.{Item}
 use Rattle.etc_manifest.specs.declared.manifest_fault.ManifestFault.{ManifestFault}
 use Rattle.etc_manifest.specs.declared.manifest_fault.ManifestFault as faults
+use Rattle.etc_manifest.specs.Count.{entries_past, refused_place}
 use Rattle.etc_manifest.specs.Entries.{manifest_of}
 use Rattle.etc_manifest.specs.Owners.{OwnerIds}
-use Rattle.etc_farm.specs.EtcPart.{manifest_refusal, refusal_in}
+use Rattle.etc_farm.specs.EtcPart.{etc_refusal, manifest_refusal, refusal_in}
 
--- ---- faults that are handed on
+-- ---- why a plan is refused
+
+-- a refusal by how many entries there are and what is wanted
+refusal_by : (system : Name) (owners : OwnerIds) (leaves : Leaves) (many : Option ℕ) (wanted : Result (List Item) ManifestFault) →
+    entries_past leaves system ≡ many → manifest_of leaves system owners ≡ wanted → etc_refusal system owners leaves ≡ option_or (too_many Entries many) (refusal_in wanted)
+refusal_by system owners leaves many wanted counted read = λ i. option_or (too_many Entries (counted i)) (refusal_in (read i))
 
 module _ (host : HostState) (system : Name) (owners : OwnerIds) where
-  abbrev Wanted : ManifestFault → Type 0
-  Wanted fault = Told host (λ w. manifest_of w.leaves system owners ≡ Err fault)
+  abbrev Counted : Option ℕ → Type 0
+  Counted many = Told host (λ w. entries_past w.leaves system ≡ many)
+
+  abbrev Wanted : Result (List Item) ManifestFault → Type 0
+  Wanted wanted = Told host (λ w. manifest_of w.leaves system owners ≡ wanted)
+
+  abbrev Refused : Option Refusal → Type 0
+  Refused why = Told host (λ w. etc_refusal system owners w.leaves ≡ why)
+
+  -- a system with few entries, all of which can be placed, isn't refused
+  pub told_none : (items : List Item) → Counted None → Wanted (Ok items) → Refused None
+  told_none items few wanted = record { has = λ w is. refusal_by system owners w.leaves None (Ok items) (few.has w is) (wanted.has w is) }
+
+  -- one with too many is refused for that
+  told_many : (count : ℕ) → Counted (Some count) → Refused (Some (TooMany Entries count))
+  told_many count many = record { has = λ w is. refusal_by system owners w.leaves (Some count) (manifest_of w.leaves system owners) (many.has w is) refl }
+
+  -- and one with few for what its first refused entry is
+  told_fault : (fault : ManifestFault) → Counted None → Wanted (Err fault) → Refused (manifest_refusal fault)
+  told_fault fault few wanted = record { has = λ w is. refusal_by system owners w.leaves None (Err fault) (few.has w is) (wanted.has w is) }
 
   -- what is refused of a manifest refuses its plan
   pub told_refusal : {M : Type 0} (fault : ManifestFault) (why : Refusal) →
-      ((place : Name) → IsErrOf {T = M} (Err fault) (faults.TheVariants.Reserved place) → Wanted (faults.TheVariants.Reserved place)) →
-      ((place : Name) → IsErrOf {T = M} (Err fault) (faults.TheVariants.Entry place) → Wanted (faults.TheVariants.Entry place)) →
-      ((place : Name) → IsErrOf {T = M} (Err fault) (faults.TheVariants.Owner place) → Wanted (faults.TheVariants.Owner place)) →
-      manifest_refusal fault ≡ Some why → Told host (λ w. refusal_in (manifest_of w.leaves system owners) ≡ Some why)
-  told_refusal (faults.TheVariants.Reserved place) why reserved entry owner refused =
-      told_as (reserved place refl) (λ w. refusal_in (manifest_of w.leaves system owners) ≡ Some why) (λ w at wanted. ap refusal_in wanted ∙ refused)
-  told_refusal (faults.TheVariants.Entry place) why reserved entry owner refused =
-      told_as (entry place refl) (λ w. refusal_in (manifest_of w.leaves system owners) ≡ Some why) (λ w at wanted. ap refusal_in wanted ∙ refused)
-  told_refusal (faults.TheVariants.Owner place) why reserved entry owner refused =
-      told_as (owner place refl) (λ w. refusal_in (manifest_of w.leaves system owners) ≡ Some why) (λ w at wanted. ap refusal_in wanted ∙ refused)
-  told_refusal (faults.TheVariants.Host fault) why reserved entry owner refused = absurd cc
+      ((count : ℕ) → IsErrOf {T = M} (Err fault) (faults.TheVariants.Many count) → Counted (Some count)) →
+      ((one : ManifestFault) (place : Name) → IsErrOf {T = M} (Err fault) one → refused_place one ≡ Some place → Counted None) →
+      ((place : Name) → IsErrOf {T = M} (Err fault) (faults.TheVariants.Reserved place) → Wanted (Err (faults.TheVariants.Reserved place))) →
+      ((place : Name) → IsErrOf {T = M} (Err fault) (faults.TheVariants.Entry place) → Wanted (Err (faults.TheVariants.Entry place))) →
+      ((place : Name) → IsErrOf {T = M} (Err fault) (faults.TheVariants.Owner place) → Wanted (Err (faults.TheVariants.Owner place))) →
+      manifest_refusal fault ≡ Some why → Refused (Some why)
+  told_refusal (faults.TheVariants.Many count) why many few reserved entry owner refused = subst Refused refused (told_many count (many count refl))
+  told_refusal (faults.TheVariants.Reserved place) why many few reserved entry owner refused =
+      subst Refused refused (told_fault (faults.TheVariants.Reserved place) (few (faults.TheVariants.Reserved place) place refl refl) (reserved place refl))
+  told_refusal (faults.TheVariants.Entry place) why many few reserved entry owner refused =
+      subst Refused refused (told_fault (faults.TheVariants.Entry place) (few (faults.TheVariants.Entry place) place refl refl) (entry place refl))
+  told_refusal (faults.TheVariants.Owner place) why many few reserved entry owner refused =
+      subst Refused refused (told_fault (faults.TheVariants.Owner place) (few (faults.TheVariants.Owner place) place refl refl) (owner place refl))
+  told_refusal (faults.TheVariants.Host fault) why many few reserved entry owner refused = absurd cc

@@ -1,25 +1,30 @@
 -- The part of a switch that makes /etc what a system wants: NixOS manual, `environment.etc`; setup-etc.pl of nixpkgs.
 use Rattle.std.specs.Prelude.{◌≡◌, false, List, [], Option, None, Some, Result, Ok, Err}
+use Rattle.std.specs.Option.{option_or}
 use Rattle.etc_clean.specs.Etc.{etc}
 use Rattle.etc_clean.specs.Names.{name_of}
 use Rattle.etc_clean.specs.Obsolete.{IsSortedOf}
 use Rattle.etc_manifest.specs.declared.item.Item.{Item}
 use Rattle.etc_manifest.specs.declared.manifest_fault.ManifestFault.{ManifestFault}
 use Rattle.etc_manifest.specs.declared.manifest_fault.ManifestFault as faults
-use Rattle.etc_manifest.specs.Entries.{manifest_of}
+use Rattle.etc_manifest.specs.Count.{entries_past}
+use Rattle.etc_manifest.specs.Entries.{entries_of, manifest_of}
 use Rattle.etc_manifest.specs.Manifest.{AreApart, places}
 use Rattle.etc_manifest.specs.Owners.{OwnerIds}
 use Rattle.host_trait.specs.World.{IsSound, Leaves, WorldState}
 use Rattle.switch_names.specs.Names.{Name}
 use Rattle.switch_names.specs.SystemName.{IsSystemPath}
 use Rattle.switch_parts.specs.declared.refusal.Refusal.{Refusal}
-use Rattle.switch_parts.specs.declared.refusal.Refusal.TheVariants.{EtcEntry, Owner, Reserved}
+use Rattle.switch_parts.specs.declared.refusal.Refusal.TheVariants.{EtcEntry, Owner, Reserved, TooMany}
+use Rattle.switch_parts.specs.declared.refusal.What.TheVariants.{Entries}
+use Rattle.switch_parts.specs.Limits.{too_many}
 use Rattle.switch_parts.specs.Part.{IsAtEnd, IsDone, IsFree, IsPart, IsSameFor, Part}
 use Rattle.etc_farm.specs.declared.etc_plan.EtcPlan.{EtcPlan}
 use Rattle.etc_farm.specs.FarmPart.{KeepsFarm, farm_of, fixed_places, owns_farm, reads_farm}
 
 -- a fault of a manifest as a refusal; a fault of the host is none
 abbrev pub manifest_refusal : ManifestFault → Option Refusal
+manifest_refusal (faults.TheVariants.Many count) = Some (TooMany Entries count)
 manifest_refusal (faults.TheVariants.Reserved place) = Some (Reserved place)
 manifest_refusal (faults.TheVariants.Entry place) = Some (EtcEntry place)
 manifest_refusal (faults.TheVariants.Owner place) = Some (Owner place)
@@ -30,6 +35,14 @@ abbrev pub refusal_in : Result (List Item) ManifestFault → Option Refusal
 refusal_in (Ok items) = None
 refusal_in (Err why) = manifest_refusal why
 
+-- the refusal of a system whose etc has too many entries
+abbrev pub entries_too_many : Leaves → Name → Option Refusal
+entries_too_many leaves system = too_many Entries (entries_past leaves system)
+
+-- why what a system wants below /etc is refused: too many entries come before what is wrong with any of them
+abbrev pub etc_refusal : Name → OwnerIds → Leaves → Option Refusal
+etc_refusal system owners leaves = option_or (entries_too_many leaves system) (refusal_in (manifest_of leaves system owners))
+
 -- the items that were read, and none where they can't be
 abbrev pub items_in : Result (List Item) ManifestFault → List Item
 items_in (Ok items) = items
@@ -39,8 +52,9 @@ items_in (Err why) = []
 abbrev pub items_of : Name → OwnerIds → Leaves → List Item
 items_of system owners leaves = items_in (manifest_of leaves system owners)
 
--- each moment keeps what the system wants, and what its farm looks at
+-- each moment keeps the system's entries, what it wants there, and what its farm looks at
 pub record KeepsEtc (system : Name) (owners : OwnerIds) (w m : WorldState) : Type 0 where
+  pub entries : entries_of m.leaves system ≡ entries_of w.leaves system
   pub manifest : manifest_of m.leaves system owners ≡ manifest_of w.leaves system owners
   pub farm : KeepsFarm (items_of system owners w.leaves) w m
 
@@ -51,7 +65,7 @@ etc_part system owners = record {
   reads = reads_farm;
   calls = false;
   places = λ leaves. fixed_places;
-  refusal = λ leaves. refusal_in (manifest_of leaves system owners);
+  refusal = etc_refusal system owners;
   end = λ leaves path. etc (farm_of system (items_of system owners leaves)) leaves (name_of path);
   Keeps = KeepsEtc system owners;
 }

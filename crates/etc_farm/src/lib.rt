@@ -19,5 +19,5 @@ pub use laws::{
     the_farm_is_a_part, what_was_made_stays, what_was_put_stays_known,
 };
 pub use places::add_farm_places;
-pub use planning::plan_etc;
+pub use planning::{plan_etc, too_many_entries};
 pub use putting::put_etc;

@@ -6,19 +6,21 @@ ghost use Rattle.host_trait.specs.Reading.{IsReading, IsReadingOf};
 ghost use Rattle.switch_parts.specs.declared.plan_fault.PlanFault.TheVariants.{Host, Refused};
 ghost use Rattle.switch_parts.specs.declared.refusal.Refusal.{Refusal};
 ghost use Rattle.etc_manifest.specs.declared.manifest_fault.ManifestFault.TheVariants as faults;
+ghost use Rattle.etc_manifest.specs.Count.{entries_past};
 ghost use Rattle.etc_manifest.specs.Entries.{manifest_of};
 ghost use Rattle.etc_manifest.specs.Manifest.{AreApart, places};
 ghost use Rattle.etc_clean.specs.Obsolete.{IsSortedOf};
-ghost use Rattle.etc_farm.specs.EtcPart.{IsEtcPlanOf, manifest_refusal, refusal_in};
+ghost use Rattle.etc_farm.specs.EtcPart.{IsEtcPlanOf, entries_too_many, etc_refusal, manifest_refusal};
 
 use crate::etc_plan::EtcPlan;
 use crate::places::static_path;
 use etc_clean::{Sorted, obsolete};
-use etc_manifest::{Manifest, ManifestFault, Owners};
+use etc_manifest::{Manifest, ManifestFault, Owners, count};
 use host_trait::{HostFault, Tree};
+use leaf_limits::{ENTRIES_MAX, past};
 use std::alloc::Global;
 use switch_names::SystemName;
-use switch_parts::{PlanFault, Refusal};
+use switch_parts::{PlanFault, Refusal, What, too_many};
 
 /// A fault of a manifest as one of a plan.
 fn plan_fault(fault: ManifestFault) -> PlanFault
@@ -26,6 +28,10 @@ fn plan_fault(fault: ManifestFault) -> PlanFault
     ensures device { result ≡ Host Device → fault ≡ faults.Host Device }
 {
     match fault {
+        ManifestFault::Many(count) => PlanFault::Refused(Refusal::TooMany {
+            what: What::Entries,
+            count,
+        }),
         ManifestFault::Reserved(place) => PlanFault::Refused(Refusal::Reserved(place)),
         ManifestFault::Entry(place) => PlanFault::Refused(Refusal::EtcEntry(place)),
         ManifestFault::Owner(place) => PlanFault::Refused(Refusal::Owner(place)),
@@ -42,7 +48,8 @@ fn read_manifest<T: Tree>(
 ) -> Result<Manifest, PlanFault>
     ensures manifest { IfOk result (λ manifest. Told (T.host host.old) (λ w. manifest_of w.leaves system.now owners.now ≡ Ok manifest)) }
     ensures apart { IfOk result (λ manifest. Told (T.host host.old) (λ w. AreApart (places manifest))) }
-    ensures refused { (why : Refusal) → IsErrOf result (Refused why) → Told (T.host host.old) (λ w. refusal_in (manifest_of w.leaves system.now owners.now) ≡ Some why) }
+    ensures few { OnOk result (Told (T.host host.old) (λ w. entries_past w.leaves system.now ≡ None)) }
+    ensures refused { (why : Refusal) → IsErrOf result (Refused why) → Told (T.host host.old) (λ w. etc_refusal system.now owners.now w.leaves ≡ Some why) }
     ensures reads { IsReadingOf (T.host host.old) (T.host host.new) (IsErrOf result (Host Device)) }
 {
     match Manifest::read(alloc, host, system, owners) {
@@ -62,10 +69,24 @@ fn look<T: Tree>(alloc: Global, host: &mut T, manifest: &Manifest) -> Result<Sor
     obsolete(alloc, host, manifest)
 }
 
+/// The refusal of a system whose etc has too many entries, where it has. It lists the folder once, and reads no leaf.
+pub fn too_many_entries<T: Tree>(
+    alloc: Global,
+    host: &mut T,
+    system: &SystemName,
+) -> Result<Option<Refusal>, HostFault>
+    ensures refusal { IfOk result (λ why. Told (T.host host.old) (λ w. why ≡ entries_too_many w.leaves system.now)) }
+    ensures reads { IsReading (T.host host.old) (T.host host.new) result }
+{
+    let count = count(alloc, host, system)?;
+    Ok(too_many(What::Entries, past(ENTRIES_MAX, count)))
+}
+
 /// Plans what is done to `/etc` for a system, and changes nothing. Each leaf that is replaced or removed has been read then.
 ///
-/// The entries are read in byte order, and the first that is refused is named. Of an entry that it is
-/// reserved is sought first, then that it can't be placed, and then that an owner is unknown.
+/// That there are too many entries is sought before any of them is read. They are read in byte order,
+/// and the first that is refused is named. Of an entry that it is reserved is sought first, then that it
+/// can't be placed, and then that an owner is unknown.
 /// Source: setup-etc.pl of nixpkgs.
 pub fn plan_etc<T: Tree>(
     alloc: Global,
@@ -75,8 +96,8 @@ pub fn plan_etc<T: Tree>(
 ) -> Result<EtcPlan, PlanFault>
     ensures plan { IfOk result (λ plan. Told (T.host host.old) (λ w. IsEtcPlanOf system.now w.leaves plan)) }
     ensures owners { IfOk result (λ plan. plan.owners ≡ owners) }
-    ensures not_refused { OnOk result (Told (T.host host.old) (λ w. refusal_in (manifest_of w.leaves system.now owners) ≡ None)) }
-    ensures refused { (why : Refusal) → IsErrOf result (Refused why) → Told (T.host host.old) (λ w. refusal_in (manifest_of w.leaves system.now owners) ≡ Some why) }
+    ensures not_refused { OnOk result (Told (T.host host.old) (λ w. etc_refusal system.now owners w.leaves ≡ None)) }
+    ensures refused { (why : Refusal) → IsErrOf result (Refused why) → Told (T.host host.old) (λ w. etc_refusal system.now owners w.leaves ≡ Some why) }
     ensures reads { IsReadingOf (T.host host.old) (T.host host.new) (IsErrOf result (Host Device)) }
 {
     let manifest = read_manifest(alloc, host, system, &owners)?;

@@ -1,5 +1,6 @@
 pub mod AnswerLemmas
 pub mod ApartLemmas
+pub mod CountLemmas
 pub mod FirstLemmas
 pub mod GatherLemmas
 pub mod KindLemmas

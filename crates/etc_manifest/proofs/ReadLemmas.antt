@@ -10,7 +10,7 @@ use Rattle.etc_manifest.specs.declared.item.Item.{Item}
 use Rattle.etc_manifest.specs.declared.item.ItemKind.{ItemKind}
 use Rattle.etc_manifest.specs.declared.item.ItemKind.TheVariants.{Linked}
 use Rattle.etc_manifest.specs.declared.manifest_fault.ManifestFault.{ManifestFault}
-use Rattle.etc_manifest.specs.declared.manifest_fault.ManifestFault.TheVariants.{Reserved, Entry, Owner, Host}
+use Rattle.etc_manifest.specs.declared.manifest_fault.ManifestFault.TheVariants.{Many, Reserved, Entry, Owner, Host}
 use Rattle.etc_manifest.specs.declared.mode.Mode.{Mode}
 use Rattle.etc_manifest.specs.Companion.{companion}
 use Rattle.etc_manifest.specs.Entries.{IsAnswer, entry_names, has_leaf, item_of, leaf_names, manifest_of, with_place}
@@ -52,6 +52,7 @@ module _ (has_name : Name → Bool) (leaves : Leaves) (folder : List ℕ) (owner
   item_faulty fault (Err x) free is answer = subst (λ f. IsAnswer (Err f) (item_of has_name leaves folder owners name)) (sym is) (by fault answer)
     where
       by : (fault : ManifestFault) → IsAnswer (Err fault) (kind_of has_name leaves folder owners name) → IsAnswer (Err fault) (item_of has_name leaves folder owners name)
+      by (Many count) answer = absurd answer
       by (Reserved place) answer = item_free free ∙ ap (with_place name) answer
       by (Entry place) answer = item_free free ∙ ap (with_place name) answer
       by (Owner place) answer = item_free free ∙ ap (with_place name) answer
@@ -59,13 +60,10 @@ module _ (has_name : Name → Bool) (leaves : Leaves) (folder : List ℕ) (owner
 
 -- the entries of all names are what the system wants
 pub all_read : (leaves : Leaves) (system folder : List ℕ) (owners : OwnerIds) (names : List (List ℕ)) (r : Result (List Item) ManifestFault) → IsSystemPath system →
-    folder ≡ etc_folder system → names ≡ leaf_names leaves folder →
+    folder ≡ etc_folder system → names ≡ leaf_names leaves (etc_folder system) →
     IsAnswer r (gathered (map (item_of (has names) leaves folder owners) (entry_names (has names) names))) → IsAnswer r (manifest_of leaves system owners)
-all_read leaves system folder owners names r named is_folder are_names answer = subst (IsAnswer r) same answer
+all_read leaves system folder owners names r named is_folder names_are answer = subst (IsAnswer r) same answer
   where
-    names_are : names ≡ leaf_names leaves (etc_folder system)
-    names_are = are_names ∙ ap (leaf_names leaves) is_folder
-
     has_same : (name : List ℕ) → has names name ≡ has_leaf leaves (etc_folder system) name
     has_same name = ap (λ ns. has ns name) names_are ∙ has_leaf_name leaves system named name
 
@@ -97,6 +95,7 @@ module _ (f : List ℕ → Result Item ManifestFault) (p : List ℕ → Bool) (n
   refused_here fault before (Err x) handed passes answer so_far = subst (λ e. IsAnswer (Err e) (gathered (map f (filter p names)))) (sym handed) (by fault answer)
     where
       by : (fault : ManifestFault) → IsAnswer (Err fault) (f name) → IsAnswer (Err fault) (gathered (map f (filter p names)))
+      by (Many count) answer = absurd answer
       by (Reserved place) answer = gathered_stops f p names i name within is (Reserved place) before passes answer so_far
       by (Entry place) answer = gathered_stops f p names i name within is (Entry place) before passes answer so_far
       by (Owner place) answer = gathered_stops f p names i name within is (Owner place) before passes answer so_far

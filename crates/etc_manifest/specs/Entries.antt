@@ -8,7 +8,7 @@ use Rattle.host_trait.specs.World.{Leaves, bytes_cmp, listed}
 use Rattle.etc_manifest.specs.declared.item.Item.{Item}
 use Rattle.etc_manifest.specs.declared.item.ItemKind.{ItemKind}
 use Rattle.etc_manifest.specs.declared.manifest_fault.ManifestFault.{ManifestFault}
-use Rattle.etc_manifest.specs.declared.manifest_fault.ManifestFault.TheVariants.{Reserved, Entry, Owner, Host}
+use Rattle.etc_manifest.specs.declared.manifest_fault.ManifestFault.TheVariants.{Many, Reserved, Entry, Owner, Host}
 use Rattle.etc_manifest.specs.Companion.{is_companion}
 use Rattle.etc_manifest.specs.Kind.{kind_of}
 use Rattle.etc_manifest.specs.Manifest.{gathered}
@@ -64,9 +64,10 @@ pub record IsFirstRefused (leaves : Leaves) (system : List ℕ) (owners : OwnerI
   pub refused : item_at leaves system owners name ≡ Err fault
   pub earlier : (other : Name) → has (entries_of leaves system) other ≡ true → bytes_cmp other name ≡ Less → (item : Item) × (item_at leaves system owners other ≡ Ok item)
 
--- but for a fault of the host, this is answered
+-- but for a fault of the host, this is answered: that there are too many entries is no answer of what stands at them
 abbrev pub IsAnswer : {T : Type 0} → Result T ManifestFault → Result T ManifestFault → Type 0
 IsAnswer (Ok item) wanted = wanted ≡ Ok item
+IsAnswer (Err (Many count)) wanted = ⊥
 IsAnswer (Err (Reserved place)) wanted = wanted ≡ Err (Reserved place)
 IsAnswer (Err (Entry place)) wanted = wanted ≡ Err (Entry place)
 IsAnswer (Err (Owner place)) wanted = wanted ≡ Err (Owner place)

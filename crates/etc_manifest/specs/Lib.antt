@@ -4,3 +4,4 @@ pub mod Companion
 pub mod Kind
 pub mod Manifest
 pub mod Entries
+pub mod Count

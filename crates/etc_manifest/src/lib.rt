@@ -2,6 +2,7 @@
 #![tactic(auto)]
 
 mod companion;
+mod counting;
 mod entry;
 mod item;
 mod laws;
@@ -13,6 +14,7 @@ mod owners;
 mod place;
 mod reading;
 
+pub use counting::count;
 pub use item::{Item, ItemKind};
 pub use laws::{
     first_refused_is_found, manifests_are_apart, manifests_say_what_is_wanted, names_are_entries,

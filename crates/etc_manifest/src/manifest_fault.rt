@@ -10,10 +10,14 @@ use thiserror::Error;
 
 /// Why what a system wants below `/etc` can't be read.
 ///
-/// The first entry in byte order that is refused is named, by its place below `/etc`. What is wrong
-/// with one entry is sought in the order in which the variants stand here.
+/// That there are too many entries is sought before any of them is read. Else the first entry in byte
+/// order that is refused is named, by its place below `/etc`. What is wrong with one entry is sought in
+/// the order in which the variants stand here.
 #[derive(Debug, Drop, Error)]
 pub enum ManifestFault {
+    /// There are more entries than 131,072.
+    #[error("there are too many entries")]
+    Many(u64),
     /// The entry's first name is one that a switch keeps for itself.
     #[error("a name is reserved")]
     Reserved(Path),

@@ -22,9 +22,11 @@ use Rattle.owed_plan.specs.Store.{AreSameInStore, IsInStore, IsOldInStore, Syste
 use Rattle.owed_plan.specs.Systems.{systems_of, text_at}
 use Rattle.switch_names.specs.Names.{Name, has}
 use Rattle.switch_names.specs.Path.{is_below, path_fault}
+use Rattle.switch_names.specs.UnitName.{is_unit}
 use Rattle.switch_names.proofs.Below.{below_both, below_front}
+use Rattle.unit_defs.specs.Count.{unit_names}
 use Rattle.unit_defs.specs.Files.{drop_in_at, file_of, paths_of, want_at, own_files}
-use Rattle.unit_defs.specs.Fstab.{fstab_of, fstab_path, line_text, wanted_by_lines}
+use Rattle.unit_defs.specs.Fstab.{fstab_of, fstab_path, line_text, names_of, wanted_by_lines}
 use Rattle.unit_defs.specs.declared.part.Part.{Part}
 use Rattle.unit_defs.specs.Part.{line_part, merged, part_of}
 use Rattle.unit_defs.specs.Place.{path_of, place_of, unit_folder}
@@ -141,6 +143,9 @@ module _ (leaves other : Leaves) (same : AreSameInStore leaves other) (system : 
   pub first_fault_same : first_fault_of leaves system ≡ first_fault_of other system
   first_fault_same =
       λ i. option_and_then (λ unit. option_map (λ line. (unit, line)) (fault_same unit i)) (find (λ unit. is_some (fault_same unit i)) (units_same i))
+
+  pub names_same : unit_names leaves system ≡ unit_names other system
+  names_same = λ i. filter (λ unit. is_unit unit && is_some (own_same unit i)) (in_order (units_same i ++ names_of (lines_same i)))
 
   pub text_same : (unit : Name) → text_of leaves system unit ≡ text_of other system unit
   text_same unit = λ i. find_text (λ name. own_same name i) unit

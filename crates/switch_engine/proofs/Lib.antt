@@ -3,6 +3,7 @@ pub mod BootLemmas
 pub mod CarryLemmas
 pub mod DefinedLemmas
 pub mod FailedLemmas
+pub mod FewLemmas
 pub mod FlagLemmas
 pub mod GoalApart
 pub mod GoalKeptLemmas

@@ -15,7 +15,7 @@ use Rattle.switch_engine.specs.declared.command.Command.{Command}
 use Rattle.switch_engine.specs.Commands.{if_so, lacks_system, missing, new_system}
 use Rattle.switch_engine.specs.Owing.{IsSteadyTo}
 use Rattle.switch_engine.specs.Plan.{AreGensBy, AreUnitsPlanned, IsActivationPlanned, IsProfilePlanned}
-use Rattle.switch_engine.specs.Rows.{part_if, parts_in, parts_refusal, refusal, refusal_by, switch_in, system_refusal}
+use Rattle.switch_engine.specs.Rows.{part_if, parts_in, parts_refusal, refusal, refusal_by, refusal_in_parts, switch_in, system_refusal, too_many_by}
 use Rattle.switch_engine.specs.System.{version_path}
 use Rattle.switch_engine.proofs.MovedPart.{default_in}
 use Rattle.switch_names.specs.Names.{Name}
@@ -42,7 +42,7 @@ module _ (start_up switches : Bool) (moves : Option Move) (system : Name) (leave
   profile_reason = (default_in moves system leaves).refusal leaves
 
   -- the reasons in their order
-  reasons : refusal_by start_up switches moves system leaves ≡ option_or (option_map InTheWay way) (option_or (option_or units_reason activation_reason) profile_reason)
+  reasons : refusal_in_parts start_up switches moves system leaves ≡ option_or (option_map InTheWay way) (option_or (option_or units_reason activation_reason) profile_reason)
   reasons = by switches
     where
       by : (b : Bool) →
@@ -52,24 +52,24 @@ module _ (start_up switches : Bool) (moves : Option Move) (system : Name) (leave
       by false = refl
 
   -- something is in the way
-  pub way_refused : (why : Refusal) → option_map InTheWay way ≡ Some why → refusal_by start_up switches moves system leaves ≡ Some why
+  pub way_refused : (why : Refusal) → option_map InTheWay way ≡ Some why → refusal_in_parts start_up switches moves system leaves ≡ Some why
   way_refused why is = reasons ∙ ap (λ o. option_or o (option_or (option_or units_reason activation_reason) profile_reason)) is
 
   module _ (free : way ≡ None) where
-    free_reasons : refusal_by start_up switches moves system leaves ≡ option_or (option_or units_reason activation_reason) profile_reason
+    free_reasons : refusal_in_parts start_up switches moves system leaves ≡ option_or (option_or units_reason activation_reason) profile_reason
     free_reasons = reasons ∙ ap (λ o. option_or (option_map InTheWay o) (option_or (option_or units_reason activation_reason) profile_reason)) free
 
     -- nothing is, and so the units are refused
-    pub units_refused : (why : Refusal) → units_reason ≡ Some why → refusal_by start_up switches moves system leaves ≡ Some why
+    pub units_refused : (why : Refusal) → units_reason ≡ Some why → refusal_in_parts start_up switches moves system leaves ≡ Some why
     units_refused why is = free_reasons ∙ ap (λ o. option_or (option_or o activation_reason) profile_reason) is
 
     module _ (none : units_reason ≡ None) where
       -- or they aren't, and so the activation is
-      pub activation_refused : (why : Refusal) → activation_reason ≡ Some why → refusal_by start_up switches moves system leaves ≡ Some why
+      pub activation_refused : (why : Refusal) → activation_reason ≡ Some why → refusal_in_parts start_up switches moves system leaves ≡ Some why
       activation_refused why is = free_reasons ∙ ap (λ o. option_or (option_or o activation_reason) profile_reason) none ∙ ap (λ o. option_or o profile_reason) is
 
       -- or it isn't, and so the parts are refused for what the profile is refused for
-      pub profile_refused : (why : Option Refusal) → activation_reason ≡ None → profile_reason ≡ why → refusal_by start_up switches moves system leaves ≡ why
+      pub profile_refused : (why : Option Refusal) → activation_reason ≡ None → profile_reason ≡ why → refusal_in_parts start_up switches moves system leaves ≡ why
       profile_refused why other is = free_reasons ∙ ap (λ o. option_or (option_or o activation_reason) profile_reason) none ∙ ap (λ o. option_or o profile_reason) other ∙ is
 
 -- what is told before a call that changes nothing is told after it

@@ -22,10 +22,11 @@ use Rattle.switch_engine.specs.declared.row.Row.{Row}
 use Rattle.switch_engine.specs.Commands.{brought_by, brought_to, if_so, lacks_system, missing, new_system, row, switched_by, switched_to}
 use Rattle.switch_engine.specs.Final.{AreFinalUnits}
 use Rattle.switch_engine.specs.Owing.{IsPaidBy, IsSteadyFor, IsSteadyTo, IsUnderway, OwesActTo}
-use Rattle.switch_engine.specs.Rows.{default_if, final, gens_to, part_of, parts, parts_in, refusal, refusal_by, switch_part, system_refusal}
+use Rattle.switch_engine.specs.Rows.{default_if, final, gens_to, part_of, parts, parts_in, refusal, refusal_by, refusal_in_parts, switch_part, system_refusal, too_many_by}
 use Rattle.switch_engine.specs.System.{version_path}
 use Rattle.activation_stage.proofs.ActivationLemmas.{owners_law}
 use Rattle.boot_entries.proofs.DefaultLemmas.{default_stays_law}
+use Rattle.switch_engine.proofs.FewLemmas.{parts_few}
 use Rattle.switch_engine.proofs.PartsLemmas.{gens_to_law, not_in_store, parts_are}
 use Rattle.switch_engine.proofs.StoreApart.{store_not_stage}
 use Rattle.tree_put.specs.First.{first_in_the_way}
@@ -55,7 +56,8 @@ refused_by start_up switches moves system leaves = cond (is_none (content_of lea
 free_by : (start_up switches : Bool) (moves : Option Move) (system : Name) (leaves : Leaves) → refused_by start_up switches moves system leaves ≡ None → IsFreeBy start_up switches moves system leaves
 free_by start_up switches moves system leaves none =
     let first = split (is_none (content_of leaves (version_path system))) (refusal_by start_up switches moves system leaves) none in
-    let second = option_or_parts (option_map InTheWay (first_in_the_way ((parts_in start_up switches moves system leaves).places leaves) leaves)) ((parts_in start_up switches moves system leaves).refusal leaves) first.1 in
+    let within = option_or_parts (too_many_by switches system leaves) (refusal_in_parts start_up switches moves system leaves) first.1 in
+    let second = option_or_parts (option_map InTheWay (first_in_the_way ((parts_in start_up switches moves system leaves).places leaves) leaves)) ((parts_in start_up switches moves system leaves).refusal leaves) within.1 in
     record {
       version = first.0;
       parts = record { way = (none_as_listed ((parts_in start_up switches moves system leaves).places leaves) leaves).0 (none_mapped InTheWay (first_in_the_way ((parts_in start_up switches moves system leaves).places leaves) leaves) second.0); refusal = second.1 };
@@ -68,8 +70,9 @@ free_by start_up switches moves system leaves none =
 by_free : (start_up switches : Bool) (moves : Option Move) (system : Name) (leaves : Leaves) → IsFreeBy start_up switches moves system leaves → refused_by start_up switches moves system leaves ≡ None
 by_free start_up switches moves system leaves free =
     ap (λ b. cond b (Some NoSystem) (refusal_by start_up switches moves system leaves)) free.version
-    ∙ option_or_nothing (option_map InTheWay (first_in_the_way ((parts_in start_up switches moves system leaves).places leaves) leaves)) ((parts_in start_up switches moves system leaves).refusal leaves)
-    (ap (option_map InTheWay) ((none_as_listed ((parts_in start_up switches moves system leaves).places leaves) leaves).1 free.parts.way)) free.parts.refusal
+    ∙ option_or_nothing (too_many_by switches system leaves) (refusal_in_parts start_up switches moves system leaves) (parts_few start_up moves system leaves switches free.parts.refusal)
+    (option_or_nothing (option_map InTheWay (first_in_the_way ((parts_in start_up switches moves system leaves).places leaves) leaves)) ((parts_in start_up switches moves system leaves).refusal leaves)
+    (ap (option_map InTheWay) ((none_as_listed ((parts_in start_up switches moves system leaves).places leaves) leaves).1 free.parts.way)) free.parts.refusal)
 
 abbrev pub IsFreeCommand : Command → Leaves → Type 0
 IsFreeCommand command leaves = IsFreeBy (row command leaves).start_up (row command leaves).switches (row command leaves).moves (new_system command leaves) leaves

@@ -2,8 +2,10 @@
 use Rattle.std.specs.Prelude.{Bool, true, false, Option, None, Some, is_none, option_map, if◌then◌else◌}
 use Rattle.std.specs.FinMap.{get}
 use Rattle.std.specs.Option.{option_or}
+use Rattle.accounts_stage.specs.Rows.{rows_too_many}
 use Rattle.activation_stage.specs.ActivationPart.{activation_part}
 use Rattle.activation_stage.specs.Owners.{owners_after}
+use Rattle.etc_farm.specs.EtcPart.{entries_too_many}
 use Rattle.etc_manifest.specs.Owners.{OwnerIds}
 use Rattle.boot_entries.specs.BootDefault.{boot_default_part}
 use Rattle.generations.specs.After.{gens_after}
@@ -21,6 +23,7 @@ use Rattle.switch_parts.specs.declared.refusal.Refusal.{Refusal}
 use Rattle.switch_parts.specs.declared.refusal.Refusal.TheVariants.{InTheWay, NoSystem}
 use Rattle.switch_parts.specs.Part.{Part, both, final_leaf, no_part}
 use Rattle.tree_put.specs.First.{first_in_the_way}
+use Rattle.unit_stage.specs.System.{units_too_many}
 use Rattle.unit_stage.specs.Units.{units_part}
 
 -- what is brought into use by a switch to a system, where these are the owners of what is put below /etc; that is made
@@ -68,10 +71,20 @@ parts_in start_up switches moves system leaves = parts start_up switches moves s
 abbrev pub part_of : Command → Leaves → Part
 part_of command leaves = parts_in (row command leaves).start_up (row command leaves).switches (row command leaves).moves (new_system command leaves) leaves
 
--- why the parts of a command that is about a system are refused, or nothing: something is in the way, or a part is refused
-abbrev pub refusal_by : Bool → Bool → Option Move → Name → Leaves → Option Refusal
-refusal_by start_up switches moves system leaves =
+-- what there is too much of for a command that is about a system, or nothing, where it switches the units: units, then entries
+-- below /etc, and then rows of account tables
+abbrev pub too_many_by : Bool → Name → Leaves → Option Refusal
+too_many_by true system leaves = option_or (units_too_many leaves system) (option_or (entries_too_many leaves system) (rows_too_many leaves))
+too_many_by false system leaves = None
+
+-- why the parts of such a command are refused, or nothing: something is in the way, or a part is refused
+abbrev pub refusal_in_parts : Bool → Bool → Option Move → Name → Leaves → Option Refusal
+refusal_in_parts start_up switches moves system leaves =
     let part = parts_in start_up switches moves system leaves in option_or (option_map InTheWay (first_in_the_way (part.places leaves) leaves)) (part.refusal leaves)
+
+-- why such a command is refused, or nothing: there is too much of something, or its parts are refused
+abbrev pub refusal_by : Bool → Bool → Option Move → Name → Leaves → Option Refusal
+refusal_by start_up switches moves system leaves = option_or (too_many_by switches system leaves) (refusal_in_parts start_up switches moves system leaves)
 
 -- the same for a command
 abbrev pub parts_refusal : Command → Leaves → Option Refusal

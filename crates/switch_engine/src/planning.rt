@@ -12,7 +12,7 @@ ghost use Rattle.owed_log.specs.Writing.{IsFilled};
 ghost use Rattle.switch_engine.specs.Commands.{switched_by};
 ghost use Rattle.switch_engine.specs.Owing.{IsSteadyFor, IsSteadyTo};
 ghost use Rattle.switch_engine.specs.Plan.{AreGensBy, ArePlanned, AreUnitsPlanned, IsActivationPlanned, IsPlanOf, IsProfilePlanned, IsSound};
-ghost use Rattle.switch_engine.specs.Rows.{default_if, gens_to, part_if, parts_in, refusal, refusal_by};
+ghost use Rattle.switch_engine.specs.Rows.{default_if, gens_to, part_if, parts_in, refusal, refusal_by, refusal_in_parts, too_many_by};
 ghost use Rattle.switch_parts.specs.declared.plan_fault.PlanFault.TheVariants.{Host, Refused};
 ghost use Rattle.switch_parts.specs.declared.refusal.Refusal.{Refusal};
 ghost use Rattle.switch_parts.specs.declared.refusal.Refusal.TheVariants.{InTheWay};
@@ -24,13 +24,15 @@ use crate::places::{check_way, places_of};
 use crate::plan::Plan;
 use crate::row::{Resolved, Row, resolve};
 use crate::system::has_version;
+use accounts_stage::too_many_rows;
 use activation_stage::{ActivationPlan, plan_activation};
 use boot_entries::{BootDefaultPlan, plan_boot_default};
+use etc_farm::too_many_entries;
 use generations::{Gens, all};
 use host_trait::{HostFault, Manager, Tree};
 use std::alloc::Global;
 use switch_parts::{PlanFault, Refusal};
-use unit_stage::{UnitPlan, plan_units};
+use unit_stage::{UnitPlan, plan_units, too_many_units};
 
 /// The generations that stand, where a row moves the profile: those that are known, else they are read.
 fn gens_for<T: Tree>(
@@ -134,39 +136,104 @@ fn plan_profile<T: Tree>(
     Ok(Some(plan))
 }
 
-/// Plans the parts of a row.
+/// Plans the parts of a row, however much there is of anything.
 fn plan_parts<H: Manager>(
     alloc: Global,
     host: &mut H,
     command: &Command,
-    row: Row,
+    row: &Row,
     known: Option<Gens>,
 ) -> Result<Plan, PlanFault>
     requires { Told (H.host host.old) (λ w. IfSome known (IsGensOf w.leaves)) }
     ensures command { IfOk result (λ plan. plan.command ≡ command.now) }
-    ensures row { IfOk result (λ plan. plan.row ≡ row) }
-    ensures plan { IfOk result (λ plan. Told (H.host host.old) (λ w. ArePlanned row w plan)) }
-    ensures steady { IfOk result (λ plan. Told (H.host host.old) (λ w. IsTrue plan.units.steady ↔ IsSteadyTo row.start_up (switched_by row) w)) }
+    ensures row { IfOk result (λ plan. plan.row ≡ row.now) }
+    ensures plan { IfOk result (λ plan. Told (H.host host.old) (λ w. ArePlanned row.now w plan)) }
+    ensures steady { IfOk result (λ plan. Told (H.host host.old) (λ w. IsTrue plan.units.steady ↔ IsSteadyTo row.now.start_up (switched_by row.now) w)) }
     ensures sound { IfOk result IsSound }
-    ensures not_refused { OnOk result (Told (H.host host.old) (λ w. refusal_by row.start_up row.switches row.moves row.system w.leaves ≡ None)) }
-    ensures refused { (why : Refusal) → IsErrOf result (Refused why) → Told (H.host host.old) (λ w. refusal_by row.start_up row.switches row.moves row.system w.leaves ≡ Some why) }
+    ensures not_refused { OnOk result (Told (H.host host.old) (λ w. refusal_in_parts row.now.start_up row.now.switches row.now.moves row.now.system w.leaves ≡ None)) }
+    ensures refused { (why : Refusal) → IsErrOf result (Refused why)
+        → Told (H.host host.old) (λ w. refusal_in_parts row.now.start_up row.now.switches row.now.moves row.now.system w.leaves ≡ Some why) }
     ensures reads { IsReadingOf (H.host host.old) (H.host host.new) (IsErrOf result (Host Device)) }
 {
     let planned = command.copy(alloc)?;
-    let gens = gens_for(alloc, host, &row, known)?;
-    check_places(alloc, host, &row, gens.as_ref())?;
-    let units = plan_switch(alloc, host, &row)?;
-    let activation = plan_accounts_and_etc(alloc, host, &row)?;
-    let profile = plan_profile(alloc, host, &row, gens)?;
-    Ok(Plan::new(planned, row, units, activation, profile))
+    let its = row.copy(alloc)?;
+    let gens = gens_for(alloc, host, row, known)?;
+    check_places(alloc, host, row, gens.as_ref())?;
+    let units = plan_switch(alloc, host, row)?;
+    let activation = plan_accounts_and_etc(alloc, host, row)?;
+    let profile = plan_profile(alloc, host, row, gens)?;
+    Ok(Plan::new(planned, its, units, activation, profile))
+}
+
+/// What there is too much of for a row that switches the units: units, then entries below `/etc`, and then rows of account
+/// tables.
+fn too_many<T: Tree>(alloc: Global, host: &mut T, row: &Row) -> Result<Option<Refusal>, HostFault>
+    ensures refusal { IfOk result (λ why. Told (T.host host.old) (λ w. why ≡ too_many_by row.now.switches row.now.system w.leaves)) }
+    ensures reads { IsReading (T.host host.old) (T.host host.new) result }
+{
+    if !row.switches {
+        return Ok(None);
+    }
+    if let Some(why) = too_many_units(alloc, host, &row.system)? {
+        return Ok(Some(why));
+    }
+    if let Some(why) = too_many_entries(alloc, host, &row.system)? {
+        return Ok(Some(why));
+    }
+    too_many_rows(alloc, host)
+}
+
+/// The refusal of a row whose parts are refused for this: where there is too much of something, that goes before.
+fn refused_first<T: Tree>(alloc: Global, host: &mut T, row: &Row, why: Refusal) -> PlanFault
+    requires { Told (T.host host.old) (λ w. refusal_in_parts row.now.start_up row.now.switches row.now.moves row.now.system w.leaves ≡ Some why) }
+    ensures refused { (first : Refusal) → result ≡ Refused first
+        → Told (T.host host.old) (λ w. refusal_by row.now.start_up row.now.switches row.now.moves row.now.system w.leaves ≡ Some first) }
+    ensures reads { IsReadingOf (T.host host.old) (T.host host.new) (result ≡ Host Device) }
+{
+    match too_many(alloc, host, row) {
+        Ok(Some(many)) => PlanFault::Refused(many),
+        Ok(None) => PlanFault::Refused(why),
+        Err(fault) => PlanFault::Host(fault),
+    }
+}
+
+/// Plans a row.
+///
+/// Each part that is planned has been found to have not too much of anything. So what there is is counted once more only where
+/// a part is refused, since that would be refused before.
+fn plan_row<H: Manager>(
+    alloc: Global,
+    host: &mut H,
+    command: &Command,
+    row: &Row,
+    known: Option<Gens>,
+) -> Result<Plan, PlanFault>
+    requires { Told (H.host host.old) (λ w. IfSome known (IsGensOf w.leaves)) }
+    ensures command { IfOk result (λ plan. plan.command ≡ command.now) }
+    ensures row { IfOk result (λ plan. plan.row ≡ row.now) }
+    ensures plan { IfOk result (λ plan. Told (H.host host.old) (λ w. ArePlanned row.now w plan)) }
+    ensures steady { IfOk result (λ plan. Told (H.host host.old) (λ w. IsTrue plan.units.steady ↔ IsSteadyTo row.now.start_up (switched_by row.now) w)) }
+    ensures sound { IfOk result IsSound }
+    ensures not_refused { OnOk result (Told (H.host host.old) (λ w. refusal_by row.now.start_up row.now.switches row.now.moves row.now.system w.leaves ≡ None)) }
+    ensures refused { (why : Refusal) → IsErrOf result (Refused why)
+        → Told (H.host host.old) (λ w. refusal_by row.now.start_up row.now.switches row.now.moves row.now.system w.leaves ≡ Some why) }
+    ensures reads { IsReadingOf (H.host host.old) (H.host host.new) (IsErrOf result (Host Device)) }
+{
+    match plan_parts(alloc, host, command, row, known) {
+        Ok(plan) => Ok(plan),
+        Err(PlanFault::Refused(why)) => Err(refused_first(alloc, host, row, why)),
+        Err(PlanFault::Host(fault)) => Err(PlanFault::Host(fault)),
+    }
 }
 
 /// Plans what a command does, before anything is put or changed, and changes nothing.
 ///
-/// The refusals are sought in this order: `NoPrevious` of a rollback or `NoProfile` of a start-up, `NoSystem`, `InTheWay`; of a switch of the units `UnitText`,
-/// `UsersSpec`, `Table`, `IdMap`, then the first of `NoFreeId` and `UnknownGroup`, and then the first of
-/// `Reserved`, `EtcEntry` and `Owner`; and of a set of the profile `GenerationsFull`. The boot menu
-/// after a set is planned last, and is refused for nothing but what is in the way of its places.
+/// The refusals are sought in this order: `NoPrevious` of a rollback or `NoProfile` of a start-up, `NoSystem`; of a switch of
+/// the units `TooMany` of units (of its system, then of the one in use), of entries below `/etc` and of rows of account tables;
+/// `InTheWay`; of a switch of the units `UnitText`, `UsersSpec`, `Table`, `IdMap`, then the first of `NoFreeId` and
+/// `UnknownGroup`, `TooMany` of rows after the merge, and then the first of `Reserved`, `EtcEntry` and `Owner`; and of a set of
+/// the profile `GenerationsFull`. The boot menu after a set is planned last, and is refused for nothing but what is in the way
+/// of its places.
 /// Source: NixOS manual, "What happens during a system switch?".
 pub fn plan_all<H: Manager>(
     alloc: Global,
@@ -186,6 +253,6 @@ pub fn plan_all<H: Manager>(
     if !has_version(alloc, host, &row.system)? {
         return Err(PlanFault::Refused(Refusal::NoSystem));
     }
-    let plan = plan_parts(alloc, host, command, row, gens)?;
+    let plan = plan_row(alloc, host, command, &row, gens)?;
     Ok(plan)
 }

@@ -45,6 +45,21 @@ impl Drop for Row {
     }
 }
 
+impl Row {
+    /// An equal row.
+    pub fn copy(&self, alloc: Global) -> Result<Row, AllocError>
+        ensures { IfOk result (λ row. row ≡ self.now) }
+    {
+        Ok(Row {
+            system: self.system.copy(alloc)?,
+            moves: self.moves,
+            switches: self.switches,
+            start_up: self.start_up,
+            changes: self.changes,
+        })
+    }
+}
+
 /// What a command does, and what was read to know it.
 #[derive(Drop)]
 pub struct Resolved {

@@ -1,3 +1,4 @@
 pub mod Leaves
+pub mod Limits
 pub mod Part
 pub mod Store

@@ -8,4 +8,4 @@ mod refusal;
 
 pub use keeping::put_kept;
 pub use plan_fault::PlanFault;
-pub use refusal::{MapFile, Refusal, TableFile, What};
+pub use refusal::{MapFile, Refusal, TableFile, What, too_many};

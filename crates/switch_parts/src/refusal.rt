@@ -1,4 +1,7 @@
 //! Why a command is refused.
+ghost use Rattle.std.specs.Prelude.{◌≡◌};
+ghost use Rattle.switch_parts.specs.Limits.{too_many};
+
 use switch_names::{Path, Text, UnitName};
 use thiserror::Error;
 use users_spec::SpecFault;
@@ -26,6 +29,12 @@ pub enum MapFile {
 /// What there can be too much of.
 #[derive(Clone, Copy, Debug, PartialEq, Eq)]
 pub enum What {
+    /// Units with a text of their own in one system, those of its fstab included: at most 16,384.
+    Units,
+    /// Entries below `/etc` of one system: at most 131,072.
+    Entries,
+    /// Rows of one account table: at most 65,536.
+    Rows,
     /// Bytes of one content: at most 16 MiB.
     LeafBytes,
 }
@@ -39,7 +48,7 @@ pub enum Refusal {
     /// The system has no readable `nixos-version`.
     #[error("no such system")]
     NoSystem,
-    /// There is too much of something that the command would read.
+    /// There is too much of something that the command would read or write.
     #[error("there is too much of something")]
     TooMany {
         /// What there is too much of.
@@ -102,4 +111,11 @@ pub enum Refusal {
     /// A collection is asked for while a switch or a rollback that was cut has something left to do.
     #[error("a switch is unfinished")]
     Unfinished,
+}
+
+/// The refusal of a count that is past the greatest, where there is one.
+pub fn too_many(what: What, past: Option<u64>) -> Option<Refusal>
+    ensures { result ≡ too_many what past }
+{
+    past.map(|count| Refusal::TooMany { what, count })
 }

@@ -8,7 +8,7 @@ use Rattle.switch_parts.specs.declared.refusal.Refusal.TheVariants.{EtcEntry, Ge
 use Rattle.switch_parts.specs.declared.refusal.TableFile.{TableFile}
 use Rattle.switch_parts.specs.declared.refusal.TableFile.TheVariants.{Group, Passwd, Shadow}
 use Rattle.switch_parts.specs.declared.refusal.What.{What}
-use Rattle.switch_parts.specs.declared.refusal.What.TheVariants.{LeafBytes}
+use Rattle.switch_parts.specs.declared.refusal.What.TheVariants.{Entries, LeafBytes, Rows, Units}
 use Rattle.users_spec.specs.declared.place.Place.{Place}
 use Rattle.users_spec.specs.declared.place.Place as places
 use Rattle.users_spec.specs.declared.spec_fault.SpecFault.{SpecFault}
@@ -53,6 +53,9 @@ map_text Gid = codes "gid-map"
 
 -- what there can be too much of
 abbrev pub what_text : What → List ℕ
+what_text Units = codes "units"
+what_text Entries = codes "entries"
+what_text Rows = codes "rows"
 what_text LeafBytes = codes "bytes"
 
 -- why a command was refused

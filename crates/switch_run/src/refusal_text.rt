@@ -82,6 +82,9 @@ fn what_text(what: What) -> &'static str
     ensures { result.now ≡ what_text what }
 {
     match what {
+        What::Units => "units",
+        What::Entries => "entries",
+        What::Rows => "rows",
         What::LeafBytes => "bytes",
     }
 }

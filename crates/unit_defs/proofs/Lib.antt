@@ -1,4 +1,5 @@
 pub mod AgreeLemmas
+pub mod CountLemmas
 mod DropInLemmas
 mod FaultLemmas
 pub mod FirstFaultLemmas

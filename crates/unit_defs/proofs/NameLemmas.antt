@@ -4,7 +4,7 @@ use Rattle.std.specs.List.{AllByRecursion, filter, flat_map}
 use Rattle.std.specs.List.Sorted.{IsStrictlySortedBy}
 use Rattle.std.specs.Ordering.{is_eq}
 use Rattle.std.specs.declared.cmp.Ordering.TheVariants.{Less}
-use Rattle.std.proofs.lemmas.Bool.{both_ways}
+use Rattle.std.proofs.lemmas.Bool.{both_ways, or_cases}
 use Rattle.std.proofs.lemmas.Cmp.{tied_itself}
 use Rattle.std.proofs.lemmas.List.{append-nil, append_assoc, map-append, take_more}
 use Rattle.std.proofs.lemmas.List.Concat.{flat_map-append}
@@ -208,10 +208,21 @@ exact_with_part (unit ∷ units) a sorted =
     ∙ ap (cond (is_name a unit.name) (is_some unit.part)) (exact_with_part units a sorted.1)
     ∙ sym (part_of_choice (is_name a unit.name) unit (unit_in units a))
 
-pub are_names : (units : List Unit) (names : List (List ℕ)) → AreSorted units → names ≡ map (λ (unit : Unit). unit.name) (filter (λ unit. is_some unit.part) units) → AreNamesOf units names
-are_names units names sorted is = record {
+-- one unit name more is added
+pub named_more : (names : List (List ℕ)) (name copied : List ℕ) (now : List (List ℕ)) → IsUnitName name → copied ≡ name → now ≡ names ++ copied ∷ [] →
+    ((unit : List ℕ) → has names unit ≡ true → IsUnitName unit) → (unit : List ℕ) → has now unit ≡ true → IsUnitName unit
+named_more names name copied now named same pushed each unit there =
+    elim (or_cases (has names unit) (has (copied ∷ []) unit) (sym (ap (λ ns. has ns unit) pushed ∙ has-append names (copied ∷ []) unit) ∙ there)) [
+      | inl before ↦ each unit before
+      | inr last ↦ subst IsUnitName (sym (name_exact unit copied (sym (or-false (is_name unit copied)) ∙ last) ∙ same)) named
+    ]
+
+pub are_names : (units : List Unit) (names : List (List ℕ)) → AreSorted units → names ≡ map (λ (unit : Unit). unit.name) (filter (λ unit. is_some unit.part) units) →
+    ((unit : List ℕ) → has names unit ≡ true → IsUnitName unit) → AreNamesOf units names
+are_names units names sorted is named = record {
   sorted = subst (IsStrictlySortedBy bytes_cmp) (sym is) (sorted_with_part units sorted);
   exact = λ name. ap (λ ns. has ns name) is ∙ exact_with_part units name sorted;
+  named = named;
 }
 
 sorted_none : AreSorted []
@@ -222,7 +233,7 @@ sorted_none = tt
 pub no_defs : (names : List (List ℕ)) (units : List Unit) (wants : List Wants) (nothing : List (List ℕ)) → names ≡ [] → units ≡ [] → wants ≡ [] → nothing ≡ [] → IsDefs names units wants nothing
 no_defs names units wants nothing no_names no_units no_wants none = record {
   in_order = subst AreSorted (sym no_units) sorted_none;
-  their_names = subst (λ us. AreNamesOf us names) (sym no_units) (are_names [] names sorted_none no_names);
+  their_names = subst (λ us. AreNamesOf us names) (sym no_units) (are_names [] names sorted_none no_names (λ unit there. absurd (both_ways _ (ap (λ ns. has ns unit) no_names) there)));
   their_wants = no_wants ∙ sym (ap (λ us. map (wants_for us) us) no_units);
   is_empty = none;
 }

@@ -1,5 +1,5 @@
 -- The units of a system as they are kept: in byte order, with what each wants.
-use Rattle.std.specs.Prelude.{◌≡◌, ℕ, ◌&&◌, ◌||◌, List, [], ◌∷◌, Option, None, map, filter, option_map, option_and_then, is_some}
+use Rattle.std.specs.Prelude.{◌≡◌, ℕ, ◌&&◌, ◌||◌, List, [], ◌∷◌, true, Option, None, map, filter, option_map, option_and_then, is_some}
 use Rattle.std.specs.List.{find}
 use Rattle.std.specs.List.Sorted.{IsStrictlySortedBy}
 use Rattle.std.specs.Option.{option_map_or, option_or}
@@ -55,6 +55,7 @@ wants_for units unit = record {
 pub record AreNamesOf (units : List Unit) (names : List (List ℕ)) : Type 0 where
   pub sorted : IsStrictlySortedBy bytes_cmp names
   pub exact : (name : List ℕ) → has names name ≡ is_some (own_in units name)
+  pub named : (name : List ℕ) → has names name ≡ true → IsUnitName name
 
 -- each unit once, in byte order
 abbrev pub AreSorted : List Unit → Type 0

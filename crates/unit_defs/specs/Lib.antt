@@ -1,3 +1,4 @@
+pub mod Count
 pub mod Defs
 pub mod Files
 pub mod Found

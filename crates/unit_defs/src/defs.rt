@@ -6,7 +6,8 @@ ghost use Rattle.host_trait.specs.declared.tree.HostFault.TheVariants.{Device};
 ghost use Rattle.host_trait.specs.Host.{Told};
 ghost use Rattle.host_trait.specs.Reading.{IsReading, IsReadingOf};
 ghost use Rattle.host_trait.specs.World.{bytes_cmp};
-ghost use Rattle.unit_defs.specs.declared.defs_fault.DefsFault.TheVariants.{Text, Host};
+ghost use Rattle.unit_defs.specs.declared.defs_fault.DefsFault.TheVariants.{Many, Text, Host};
+ghost use Rattle.unit_defs.specs.Count.{units_past};
 ghost use Rattle.unit_defs.specs.Defs.{AreDefsOf, AreNamesOf, AreSorted, first_faulty, found_in, own_in, wanted_in};
 ghost use Rattle.unit_defs.specs.Units.{HasNoFault, IsFirstFault, can_be_wanted, first_fault_of};
 ghost use Rattle.switch_names.specs.Names.{has};
@@ -19,6 +20,7 @@ use crate::defs_fault::DefsFault;
 use crate::reading::read_units;
 use crate::unit::{Unit, Wants};
 use host_trait::{HostFault, Tree};
+use leaf_limits::{UNITS_MAX, past};
 use std::alloc::{AllocError, Global};
 use std::marker::Model;
 use switch_names::{Listed, SystemName, UnitName};
@@ -73,11 +75,15 @@ impl Defs {
         }
     }
 
-    fn from_units(alloc: Global, units: Listed<Unit>) -> Result<Defs, AllocError>
-        requires { AreSorted units }
+    fn from_units(
+        alloc: Global,
+        units: Listed<Unit>,
+        names: Listed<UnitName>,
+    ) -> Result<Defs, AllocError>
+        requires sorted { AreSorted units }
+        requires their_names { AreNamesOf units names }
         ensures { IfOk result (λ defs. defs ≡ units) }
     {
-        let names = names_of(alloc, units.as_slice())?;
         let wants = wants_of(alloc, units.as_slice())?;
         Ok(Defs {
             names,
@@ -88,18 +94,24 @@ impl Defs {
     }
 
     /// These units, where none of them has a faulty file.
-    fn from_sound(alloc: Global, units: Listed<Unit>) -> Result<Defs, DefsFault>
-        requires { AreSorted units }
+    fn from_sound(
+        alloc: Global,
+        units: Listed<Unit>,
+        names: Listed<UnitName>,
+    ) -> Result<Defs, DefsFault>
+        requires sorted { AreSorted units }
+        requires their_names { AreNamesOf units names }
         ensures defs { IfOk result (λ defs. defs ≡ units) }
         ensures sound { OnOk result (None ≡ first_faulty units) }
         ensures text { (unit : List ℕ) (line : ℕ) → IsErrOf result (Text unit line) → Some (unit, line) ≡ first_faulty units }
         ensures named { (unit : List ℕ) (line : ℕ) → IsErrOf result (Text unit line) → IsUnitName unit }
+        ensures few { (count : ℕ) → IsErrOf result (Many count) → ⊥ }
         ensures cause { IsErrOf result (Host Device) → ⊥ }
     {
         if let Some((unit, line)) = first_fault(alloc, units.as_slice())? {
             return Err(DefsFault::Text { unit, line });
         }
-        Ok(Defs::from_units(alloc, units)?)
+        Ok(Defs::from_units(alloc, units, names)?)
     }
 
     /// Reads the units of a system.
@@ -111,6 +123,9 @@ impl Defs {
         system: &SystemName,
     ) -> Result<Defs, DefsFault>
         ensures defs { IfOk result (λ defs. Told (T.host host.old) (λ w. AreDefsOf w.leaves system.now defs)) }
+        ensures many { (count : ℕ) → IsErrOf result (Many count) → Told (T.host host.old) (λ w. units_past w.leaves system.now ≡ Some count) }
+        ensures few { OnOk result (Told (T.host host.old) (λ w. units_past w.leaves system.now ≡ None)) }
+        ensures few_faulty { (unit : List ℕ) (line : ℕ) → IsErrOf result (Text unit line) → Told (T.host host.old) (λ w. units_past w.leaves system.now ≡ None) }
         ensures sound { OnOk result (Told (T.host host.old) (λ w. HasNoFault w.leaves system.now)) }
         ensures text { (unit : List ℕ) (line : ℕ) → IsErrOf result (Text unit line) → Told (T.host host.old) (λ w. IsFirstFault w.leaves system.now unit line) }
 
@@ -134,6 +149,9 @@ impl Defs {
         other: &Defs,
     ) -> Result<Defs, DefsFault>
         ensures defs { IfOk result (λ defs. Told (T.host host.old) (λ w. AreDefsOf w.leaves system.now defs)) }
+        ensures many { (count : ℕ) → IsErrOf result (Many count) → Told (T.host host.old) (λ w. units_past w.leaves system.now ≡ Some count) }
+        ensures few { OnOk result (Told (T.host host.old) (λ w. units_past w.leaves system.now ≡ None)) }
+        ensures few_faulty { (unit : List ℕ) (line : ℕ) → IsErrOf result (Text unit line) → Told (T.host host.old) (λ w. units_past w.leaves system.now ≡ None) }
         ensures sound { OnOk result (Told (T.host host.old) (λ w. HasNoFault w.leaves system.now)) }
         ensures text { (unit : List ℕ) (line : ℕ) → IsErrOf result (Text unit line) → Told (T.host host.old) (λ w. IsFirstFault w.leaves system.now unit line) }
 
@@ -144,7 +162,11 @@ impl Defs {
         ensures reads { IsReadingOf (T.host host.old) (T.host host.new) (IsErrOf result (Host Device)) }
     {
         let units = read_units(alloc, host, system, other)?;
-        Defs::from_sound(alloc, units)
+        let names = names_of(alloc, units.as_slice())?;
+        if let Some(count) = past(UNITS_MAX, names.as_slice().len() as u64) {
+            return Err(DefsFault::Many(count));
+        }
+        Defs::from_sound(alloc, units, names)
     }
 
     /// Reads the units of a system that is in use. A file that can't be read counts as an empty one.
@@ -158,7 +180,8 @@ impl Defs {
     {
         let none = Defs::none(alloc);
         let old_units = read_units(alloc, host, system, &none)?;
-        Ok(Defs::from_units(alloc, old_units)?)
+        let names = names_of(alloc, old_units.as_slice())?;
+        Ok(Defs::from_units(alloc, old_units, names)?)
     }
 
     /// The text that a unit has of its own.

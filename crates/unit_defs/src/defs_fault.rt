@@ -11,6 +11,9 @@ use thiserror::Error;
 /// Why the units of a system can't be read.
 #[derive(Debug, Drop, Error)]
 pub enum DefsFault {
+    /// The system has more units with a text of their own than 16,384, those of its fstab included.
+    #[error("the system has too many units")]
+    Many(u64),
     /// A file of this unit can't be read.
     #[error("a unit file can't be read")]
     Text {

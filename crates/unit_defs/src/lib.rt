@@ -10,7 +10,9 @@ mod part;
 mod place;
 mod reading;
 mod unit;
+mod unit_count;
 
 pub use defs::Defs;
 pub use defs_fault::DefsFault;
-pub use laws::{first_faults_are_found, places_are_named};
+pub use laws::{first_faults_are_found, places_are_named, units_are_counted};
+pub use unit_count::count;

@@ -1,5 +1,5 @@
 -- Nothing gets in the way of a switch of the units.
-use Rattle.std.proofs.Common.{◌≡◌, ◌&&◌, ◌||◌, ◌∷◌, ℕ, Bool, true, false, cond, List, [], Option, None, Some, is_none, is_some, option_map, refl, ap, ◌∙◌}
+use Rattle.std.proofs.Common.{◌≡◌, ◌⊎◌, ◌&&◌, ◌||◌, ◌∷◌, ℕ, Bool, true, false, cond, List, [], length, Option, None, Some, is_none, is_some, option_map, option_and_then, refl, ap, ◌∙◌, inl, inr}
 use Rattle.std.proofs.lemmas.Bool.{or_parts}
 use Rattle.std.specs.FinMap.{get}
 use Rattle.std.specs.List.{AllByRecursion, find}
@@ -8,20 +8,29 @@ use Rattle.host_trait.specs.declared.leaf.LeafKind.TheVariants.{File, Link}
 use Rattle.host_trait.specs.World.{Leaves, WorldState, file_bytes, is_in_line, leaf_content, stage}
 use Rattle.owed_lists.specs.Lists.{reloads_place, restarts_place, starts_place}
 use Rattle.owed_log.specs.Places.{log_place}
-use Rattle.owed_plan.proofs.StoreLemmas.{first_fault_same, leaf_same}
+use Rattle.leaf_limits.specs.Counts.{past, units_max}
+use Rattle.generations.specs.Places.{target_of}
+use Rattle.owed_plan.specs.Store.{IsOldInStore}
+use Rattle.owed_plan.proofs.StoreLemmas.{first_fault_same, leaf_same, names_same}
 use Rattle.switch_names.specs.Names.{Name}
-use Rattle.switch_names.proofs.Outcomes.{none_mapped}
-use Rattle.switch_parts.specs.declared.refusal.Refusal.TheVariants.{UnitText}
+use Rattle.switch_names.proofs.Outcomes.{none_mapped, option_or_parts}
+use Rattle.switch_parts.specs.declared.refusal.Refusal.TheVariants.{TooMany}
+use Rattle.switch_parts.specs.declared.refusal.What.TheVariants.{Units}
+use Rattle.switch_parts.specs.Limits.{too_many}
 use Rattle.tree_put.specs.declared.written_place.WrittenPlace.{WrittenPlace}
 use Rattle.tree_put.specs.Put.{is_blocked}
 use Rattle.tree_put.specs.WrittenPlace.{is_in_the_way, lacks_content, written}
 use Rattle.host_trait.proofs.KeyTests.{all_fail, none_passes}
 use Rattle.unit_stage.specs.Laws.{AreSameBeside}
 use Rattle.unit_stage.specs.Owned.{unit_places}
-use Rattle.unit_stage.specs.System.{IsSystem, current_place}
+use Rattle.unit_defs.specs.Count.{units_past}
+use Rattle.unit_defs.specs.Units.{first_fault_of}
+use Rattle.unit_stage.specs.System.{IsSystem, current_place, current_system, old_units_past, system_leaf, text_refusal, unit_refusal, units_too_many}
 use Rattle.unit_stage.specs.Units.{AreUnitsFree}
 use Rattle.unit_stage.proofs.OwnedLemmas.{IsWritten, current_written, log_written, reloads_written, restarts_written, same_line, same_store, stage_written, starts_written}
 use Rattle.unit_stage.proofs.ListsLemmas.{AreListLeaves, IsListLeaf}
+use Rattle.unit_stage.proofs.CountLemmas.{refusal_by}
+use Rattle.unit_stage.proofs.SystemsLemmas.{current_inside}
 
 -- a test that fails at each place finds none, and the other way round
 none_found : (test : WrittenPlace → Bool) (places : List WrittenPlace) → AllByRecursion (λ place. test place ≡ false) places → find test places ≡ None
@@ -66,6 +75,30 @@ module _ (system : Name) (w m : WorldState) (same : AreSameBeside w m) where
       let parts = or_parts (is_blocked w.leaves at) (lacks_content w.leaves at) free in
       ap (λ b. b || lacks_content m.leaves at) (unblocked at is parts.0) ∙ lists_have at leaf parts.1
 
+  -- ---- how many units the systems have
+
+  -- the link names the system of before, or the one that comes into use
+  abbrev IsLinked : Type 0
+  IsLinked = (get m.leaves current_place ≡ get w.leaves current_place) ⊎ (get m.leaves current_place ≡ Some (system_leaf system))
+
+  same_past : IsSystem system → units_past m.leaves system ≡ units_past w.leaves system
+  same_past is_system = ap (λ names. past units_max (length names)) (names_same m.leaves w.leaves (same_store w m same) system is_system.inside)
+
+  same_old : (old : Option Name) → IsOldInStore old → option_and_then (units_past m.leaves) old ≡ option_and_then (units_past w.leaves) old
+  same_old None inside = refl
+  same_old (Some old) inside = ap (λ names. past units_max (length names)) (names_same m.leaves w.leaves (same_store w m same) old inside)
+
+  -- the system in use has as few units as the two that may be in use
+  still_few : IsSystem system → IsLinked → units_past w.leaves system ≡ None → old_units_past w.leaves ≡ None → old_units_past m.leaves ≡ None
+  still_few is_system (inl before) new old =
+      ap (λ (leaf : Option LeafKind). option_and_then (units_past m.leaves) (option_and_then target_of leaf)) before
+      ∙ same_old (current_system w.leaves) (current_inside w.leaves) ∙ old
+  still_few is_system (inr after) new old =
+      ap (λ (leaf : Option LeafKind). option_and_then (units_past m.leaves) (option_and_then target_of leaf)) after
+      ∙ ap (option_and_then (units_past m.leaves)) is_system.named ∙ same_past is_system ∙ new
+
+  -- ---- what is free
+
   module _ (are : AreListLeaves w.leaves m.leaves) where
     way_free : find (is_in_the_way w.leaves) unit_places ≡ None → find (is_in_the_way m.leaves) unit_places ≡ None
     way_free none =
@@ -87,9 +120,20 @@ module _ (system : Name) (w m : WorldState) (same : AreSameBeside w m) where
           ),
         )
 
-    -- nothing is in the way of the units' places that wasn't, and the units can be read as before
-    pub stays_free : IsSystem system → AreUnitsFree system w.leaves → AreUnitsFree system m.leaves
-    stays_free is_system free = record {
-      way = ap (option_map (λ (place : WrittenPlace). place.at)) (way_free (none_mapped _ _ free.way));
-      refusal = ap (option_map (λ fault. UnitText fault.0 fault.1)) (first_fault_same m.leaves w.leaves (same_store w m same) system is_system.inside) ∙ free.refusal;
-    }
+    module _ (is_system : IsSystem system) (linked : IsLinked) where
+      -- nothing is too much or faulty that wasn't
+      still_read : unit_refusal w.leaves system ≡ None → unit_refusal m.leaves system ≡ None
+      still_read none =
+          let parts = option_or_parts (units_too_many w.leaves system) (text_refusal w.leaves system) none in
+          let counts = option_or_parts (too_many Units (units_past w.leaves system)) (too_many Units (old_units_past w.leaves)) parts.0 in
+          let new = none_mapped (TooMany Units) (units_past w.leaves system) counts.0 in
+          let old = none_mapped (TooMany Units) (old_units_past w.leaves) counts.1 in
+          refusal_by m.leaves system None None (first_fault_of w.leaves system) (same_past is_system ∙ new) (still_few is_system linked new old)
+          (first_fault_same m.leaves w.leaves (same_store w m same) system is_system.inside) ∙ parts.1
+
+      -- nothing is in the way of the units' places that wasn't, and the units can be read as before
+      pub stays_free : AreUnitsFree system w.leaves → AreUnitsFree system m.leaves
+      stays_free free = record {
+        way = ap (option_map (λ (place : WrittenPlace). place.at)) (way_free (none_mapped _ _ free.way));
+        refusal = still_read free.refusal;
+      }

@@ -5,6 +5,7 @@ pub mod CallLemmas
 pub mod CallingLemmas
 pub mod CauseLemmas
 pub mod ComeLemmas
+pub mod CountLemmas
 pub mod ElsewhereLemmas
 pub mod EndLemmas
 pub mod FreeLemmas

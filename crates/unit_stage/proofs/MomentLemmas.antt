@@ -57,9 +57,9 @@ use Rattle.unit_stage.proofs.WaitingLemmas.{besides_owed, besides_same, joined, 
 -- ---- nothing gets in the way
 
 come_free : (system : Name) (owed : Owed) (order : List Name) (w m : WorldState) → IsSystem system → AreSameBeside w m → HasCome system owed order w m → AreUnitsFree system w.leaves → AreUnitsFree system m.leaves
-come_free system owed order w m is_system same (HasCome.Begun current leaves forth manager) = stays_free system w m same leaves is_system
-come_free system owed order w m is_system same (HasCome.Stopping count old restart reload before old_restarts old_reloads stand manager) = stays_free system w m same stand.written is_system
-come_free system owed order w m is_system same (HasCome.Bringing made rest start restart reload like prefix calling bad journal is stand) = stays_free system w m same stand.written is_system
+come_free system owed order w m is_system same (HasCome.Begun current leaves forth manager) = stays_free system w m same leaves is_system (inl current)
+come_free system owed order w m is_system same (HasCome.Stopping count old restart reload before old_restarts old_reloads stand manager) = stays_free system w m same stand.written is_system (inl stand.current)
+come_free system owed order w m is_system same (HasCome.Bringing made rest start restart reload like prefix calling bad journal is stand) = stays_free system w m same stand.written is_system (inr stand.current)
 
 -- ---- the names that are owed are names of units
 

@@ -111,7 +111,7 @@ module _ (start_up : Bool) (system : Name) (w m : WorldState) (is_system : IsSys
   listed_there = lists_same w.leaves m.leaves (same_store w m same_beside) lists_there
 
   still_free : AreUnitsFree system w.leaves → AreUnitsFree system m.leaves
-  still_free = stays_free system w m same_beside (old_leaves w.leaves m.leaves lists_there) is_system
+  still_free = stays_free system w m same_beside (old_leaves w.leaves m.leaves lists_there) is_system (inl same_current)
 
   pub kept_same : AreUnitsKept start_up system w m
   kept_same = record {

@@ -1,14 +1,18 @@
 -- The system in use, and the links to a system: NixOS manual, "What happens during a system switch?".
 use Rattle.std.specs.Prelude.{◌≡◌, ℕ, ◌++◌, List, Option, Some, codes, option_and_then, option_map}
 use Rattle.std.specs.FinMap.{get}
+use Rattle.std.specs.Option.{option_or}
 use Rattle.host_trait.specs.declared.leaf.LeafKind.{LeafKind}
 use Rattle.host_trait.specs.declared.leaf.LeafKind.TheVariants.{Link}
 use Rattle.host_trait.specs.World.{Leaves}
 use Rattle.generations.specs.Places.{link_target, system_of, target_of}
 use Rattle.owed_plan.specs.Store.{IsInStore}
+use Rattle.unit_defs.specs.Count.{units_past}
 use Rattle.unit_defs.specs.Units.{first_fault_of}
+use Rattle.switch_parts.specs.Limits.{too_many}
 use Rattle.switch_parts.specs.declared.refusal.Refusal.{Refusal}
 use Rattle.switch_parts.specs.declared.refusal.Refusal.TheVariants.{UnitText}
+use Rattle.switch_parts.specs.declared.refusal.What.TheVariants.{Units}
 
 -- where the link to the system in use stands
 unfoldable pub current_place : List ℕ
@@ -18,9 +22,21 @@ current_place = codes "run/current-system"
 abbrev pub current_system : Leaves → Option (List ℕ)
 current_system leaves = option_and_then target_of (get leaves current_place)
 
--- why the units of a system can't be read, or nothing: the first faulty file
+-- how many units the system in use has, where these are too many
+abbrev pub old_units_past : Leaves → Option ℕ
+old_units_past leaves = option_and_then (units_past leaves) (current_system leaves)
+
+-- the refusal of too many units: those of the system that comes into use are counted first, then those of the one in use
+abbrev pub units_too_many : Leaves → List ℕ → Option Refusal
+units_too_many leaves system = option_or (too_many Units (units_past leaves system)) (too_many Units (old_units_past leaves))
+
+-- the refusal of the first faulty file of a system's units
+abbrev pub text_refusal : Leaves → List ℕ → Option Refusal
+text_refusal leaves system = option_map (λ fault. UnitText fault.0 fault.1) (first_fault_of leaves system)
+
+-- why the units of a system can't be read, or nothing: too many units, or else the first faulty file
 abbrev pub unit_refusal : Leaves → List ℕ → Option Refusal
-unit_refusal leaves system = option_map (λ fault. UnitText fault.0 fault.1) (first_fault_of leaves system)
+unit_refusal leaves system = option_or (units_too_many leaves system) (text_refusal leaves system)
 
 -- the link to a system
 abbrev pub system_leaf : List ℕ → LeafKind

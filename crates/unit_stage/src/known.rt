@@ -1,5 +1,5 @@
 //! What is read of a world before a switch is planned.
-ghost use Rattle.std.specs.Prelude.{◌≡◌, None, Some, IfOk, OnOk, IsErrOf};
+ghost use Rattle.std.specs.Prelude.{◌≡◌, None, Some, IfOk, OnOk, IsErrOf, unwrap_or};
 ghost use Rattle.std.specs.Option.{option_copied};
 ghost use Rattle.host_trait.specs.declared.tree.HostFault.TheVariants.{Device};
 ghost use Rattle.host_trait.specs.Reading.{IsReading, IsReadingOf};
@@ -8,18 +8,22 @@ ghost use Rattle.owed_plan.specs.Systems.{AreOldDefs};
 ghost use Rattle.switch_names.specs.Names.{Name};
 ghost use Rattle.unit_defs.specs.Defs.{AreDefsOf};
 ghost use Rattle.switch_parts.specs.declared.plan_fault.PlanFault.TheVariants.{Host, Refused};
+ghost use Rattle.switch_parts.specs.Limits.{too_many};
 ghost use Rattle.switch_parts.specs.declared.refusal.Refusal.{Refusal};
+ghost use Rattle.switch_parts.specs.declared.refusal.Refusal.TheVariants.{TooMany, UnitText};
+ghost use Rattle.switch_parts.specs.declared.refusal.What.TheVariants.{Units};
 ghost use Rattle.unit_stage.specs.Known.{AreStatesOf, AreTaken, IsKnownOf, IsOldOf};
-ghost use Rattle.unit_stage.specs.System.{unit_refusal};
+ghost use Rattle.unit_stage.specs.System.{current_system, unit_refusal};
 
+use crate::counts::old_past;
 use crate::system::{current_system, start_up_target};
 use host_trait::{HostFault, Manager, States, Tree, UnitSet};
 use log_text::Lists;
 use owed_log::{LogState, StandingLists};
 use std::alloc::{AllocError, Global};
 use std::mem;
-use switch_names::SystemName;
-use switch_parts::{PlanFault, Refusal};
+use switch_names::{SystemName, UnitName};
+use switch_parts::{PlanFault, Refusal, What};
 use unit_defs::{Defs, DefsFault};
 
 /// The system in use, where there is one, with the units that it defines.
@@ -80,7 +84,29 @@ fn read_old<T: Tree>(alloc: Global, host: &mut T) -> Result<OldSystem, HostFault
     Ok(OldSystem { name, defs })
 }
 
+/// The refusal of so many units.
+fn units_refusal(count: u64) -> Refusal
+    ensures { result ≡ TooMany Units count }
+{
+    Refusal::TooMany {
+        what: What::Units,
+        count,
+    }
+}
+
+/// The refusal of a faulty file, where the units of the system in use aren't too many.
+fn text_refusal(in_use: Option<u64>, unit: UnitName, line: u32) -> Refusal
+    ensures { result ≡ unwrap_or (too_many Units in_use) (UnitText unit line) }
+{
+    match in_use {
+        Some(count) => units_refusal(count),
+        None => Refusal::UnitText { unit, line },
+    }
+}
+
 /// Reads the units of the system that comes into use, beside those of the system in use.
+///
+/// Too many units of the system that comes into use are sought first, then those of the one in use.
 pub fn read_new<T: Tree>(
     alloc: Global,
     host: &mut T,
@@ -88,14 +114,19 @@ pub fn read_new<T: Tree>(
     old: &Defs,
 ) -> Result<Defs, PlanFault>
     ensures defs { IfOk result (λ defs. Told (T.host host.old) (λ w. AreDefsOf w.leaves system.now defs)) }
-    ensures not_refused { OnOk result (Told (T.host host.old) (λ w. unit_refusal w.leaves system.now ≡ None)) }
-    ensures refused { (why : Refusal) → IsErrOf result (Refused why) → Told (T.host host.old) (λ w. unit_refusal w.leaves system.now ≡ Some why) }
+    ensures not_refused { OnOk result (Told (T.host host.old) (λ w. AreOldDefs w.leaves (current_system w.leaves) old.now → unit_refusal w.leaves system.now ≡ None)) }
+    ensures refused { (why : Refusal) → IsErrOf result (Refused why) → Told (T.host host.old) (λ w. AreOldDefs w.leaves (current_system w.leaves) old.now → unit_refusal w.leaves system.now ≡ Some why) }
     ensures reads { IsReadingOf (T.host host.old) (T.host host.new) (IsErrOf result (Host Device)) }
 {
+    let in_use = old_past(old);
     match Defs::read_beside(alloc, host, system, old) {
-        Ok(defs) => Ok(defs),
+        Ok(defs) => match in_use {
+            Some(count) => Err(PlanFault::Refused(units_refusal(count))),
+            None => Ok(defs),
+        },
+        Err(DefsFault::Many(count)) => Err(PlanFault::Refused(units_refusal(count))),
         Err(DefsFault::Text { unit, line }) => {
-            Err(PlanFault::Refused(Refusal::UnitText { unit, line }))
+            Err(PlanFault::Refused(text_refusal(in_use, unit, line)))
         }
         Err(DefsFault::Host(fault)) => Err(PlanFault::Host(fault)),
     }

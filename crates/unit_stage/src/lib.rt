@@ -2,6 +2,7 @@
 #![tactic(auto)]
 
 mod acting;
+mod counts;
 mod giving;
 mod known;
 pub mod laws;
@@ -14,6 +15,7 @@ mod system;
 mod unit_plan;
 
 pub use acting::call_units;
+pub use counts::too_many_units;
 pub use giving::{bring_units, stop_units};
 pub use links::{short_link, system_leaf};
 pub use places::add_unit_places;

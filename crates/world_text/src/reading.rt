@@ -82,6 +82,46 @@ fn put_long(alloc: Global, world: &mut World, at: &str, count: &[u8]) -> Result<
     Ok(())
 }
 
+/// A number and what follows it after a blank.
+fn numbered(text: &str) -> Result<(u64, &str), Fail> {
+    match text.split_once(' ') {
+        Some((count, rest)) => Ok((count.parse::<u64>()?, rest)),
+        None => misread(),
+    }
+}
+
+/// A text with a number for its star, where it has one.
+fn starred(alloc: Global, text: &str, number: u64) -> Result<String, Fail> {
+    match text.split_once('*') {
+        Some((front, end)) => Ok(format!(in alloc; "{front}{number}{end}")?),
+        None => Ok(String::from_str(alloc, text)?),
+    }
+}
+
+/// Puts the leaf of a node's text at so many paths, with their numbers, from 1 on, for the star.
+fn put_many(alloc: Global, world: &mut World, paths: &str, node: &[u8]) -> Result<(), Fail> {
+    let (count, path) = numbered(paths)?;
+    for number in 1..=count {
+        let at = starred(alloc, path, number)?;
+        put_node(alloc, world, at.as_str(), node)?;
+    }
+    Ok(())
+}
+
+/// Puts a file of so many lines, with their numbers, from 1 on, for the star.
+fn put_lines(alloc: Global, world: &mut World, place: &str, line: &str) -> Result<(), Fail> {
+    let (count, at) = numbered(place)?;
+    let mut bytes = Vec::new(alloc);
+    for number in 1..=count {
+        let text = starred(alloc, line, number)?;
+        bytes.extend_from_slice(text.as_bytes())?;
+        bytes.push(b'\n')?;
+    }
+    let at = Path::parse(alloc, at)?;
+    world.set_leaf(alloc, at, Leaf::file(Bytes::from_vec(bytes), 420, 0, 0))?;
+    Ok(())
+}
+
 /// Gives a world what a word says of its manager.
 fn put_word(alloc: Global, world: &mut World, word: &str, text: &[u8]) -> Result<(), Fail> {
     match word {
@@ -99,6 +139,8 @@ fn put_place(alloc: Global, world: &mut World, place: &str, text: &[u8]) -> Resu
     }
     match place.split_once(' ') {
         Some(("long", at)) => put_long(alloc, world, at, text),
+        Some(("many", paths)) => put_many(alloc, world, paths, text),
+        Some(("lines", at)) => put_lines(alloc, world, at, std::str::from_utf8(text)?),
         Some((system, name)) => put_in(alloc, world, system, (name, text)),
         None => put_word(alloc, world, place, text),
     }

@@ -1,8 +1,9 @@
 //! The cases of what is read of texts and made of them: account specifications, account tables, maps of ids,
-//! merges of accounts, fstabs, clean lists, and what systems want below `/etc`.
+//! merges of accounts, fstabs, clean lists, what systems want below `/etc`, and how much there is of it.
 mod account_specs;
 mod account_tables;
 mod clean_lists;
+mod counts;
 mod fstabs;
 mod id_maps;
 mod manifests;
@@ -11,6 +12,7 @@ mod merges;
 use self::account_specs::{show_account_name, show_spec};
 use self::account_tables::{show_group, show_passwd, show_shadow};
 use self::clean_lists::show_clean;
+use self::counts::show_counts;
 use self::fstabs::{show_fstab, show_mount, show_swap, show_units};
 use self::id_maps::{show_free, show_ids};
 use self::manifests::show_manifest;
@@ -52,6 +54,7 @@ pub fn show_text_case(
 ) -> Option<Result<(), Fail>> {
     let shown = match (command, fields) {
         ("manifest", _) => show_manifest(alloc, lines, fields),
+        ("counts", _) => show_counts(alloc, lines, fields),
         ("merge", _) => show_merge(alloc, lines, fields),
         ("id map", [text, steps @ ..]) => show_ids(alloc, lines, text, steps),
         ("free id", [marks, from, to]) => show_free(alloc, lines, marks, from, to),

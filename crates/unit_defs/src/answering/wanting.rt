@@ -232,6 +232,7 @@ pub fn names_of(alloc: Global, units: &[Unit]) -> Result<Listed<UnitName>, Alloc
     let mut names = Listed::new(alloc);
     for unit in units {
         if unit.part.is_some() {
+            let _name = unit.name.as_str();
             names.push(unit.name.copy(alloc)?)?;
         }
     }

@@ -60,6 +60,10 @@ fn show_refused(lines: &mut Lines, word: &str, place: &Path) {
 /// Shows why a system is refused.
 fn show_fault(lines: &mut Lines, fault: &ManifestFault) {
     match fault {
+        ManifestFault::Many(count) => {
+            lines.add_word("too many");
+            lines.add_value(count);
+        }
         ManifestFault::Reserved(place) => show_refused(lines, "reserved", place),
         ManifestFault::Entry(place) => show_refused(lines, "entry", place),
         ManifestFault::Owner(place) => show_refused(lines, "owner", place),

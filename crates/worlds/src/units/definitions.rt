@@ -48,7 +48,15 @@ fn show_by_defs(
     Ok(())
 }
 
-/// Shows what these units want in a new system, or the first unit with a fault and its line.
+/// Shows how many units a system has that are too many.
+fn show_many(lines: &mut Lines, count: u64) {
+    lines.add_word("too many");
+    lines.add_value(&count);
+    lines.end_line();
+}
+
+/// Shows what these units want in a new system, or how many it has that are too many, or the first unit with a fault and its
+/// line.
 fn show_wanted(
     alloc: Global,
     lines: &mut Lines,
@@ -58,6 +66,7 @@ fn show_wanted(
 ) -> Result<(), Fail> {
     match Defs::read(alloc, host, system) {
         Ok(defs) => show_wants(lines, &defs, units),
+        Err(DefsFault::Many(count)) => show_many(lines, count),
         Err(DefsFault::Text { unit, line }) => show_fault(lines, &unit, line),
         Err(DefsFault::Host(_)) => return Err(Fail::new("a call on the host has failed")),
     }

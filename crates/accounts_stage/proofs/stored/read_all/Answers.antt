@@ -5,7 +5,7 @@ use Rattle.host_trait.proofs.Moments.{told_as}
 use Rattle.host_trait.proofs.Readings.{read_of, reads_of, reads_then}
 use Rattle.switch_parts.specs.declared.plan_fault.PlanFault.TheVariants.{Refused}
 use Rattle.switch_parts.proofs.Faults.{host_device}
-use Rattle.accounts_stage.specs.AccountsPart.{maps_refusal, stored_refusal}
+use Rattle.accounts_stage.specs.Refusals.{maps_refusal, stored_refusal}
 use Rattle.accounts_stage.specs.Standing.{memory_in}
 use Rattle.accounts_stage.proofs.AnsweringLemmas.{err_handed}
 use Rattle.accounts_stage.proofs.stored.read_all.Goals as goal

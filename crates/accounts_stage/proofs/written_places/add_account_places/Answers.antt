@@ -1,4 +1,4 @@
-use Rattle.std.proofs.Common.{false, [], ◌∷◌, ◌∙◌, sym, subst}
+use Rattle.std.proofs.Common.{false, [], ◌∷◌, sym, subst}
 use Rattle.std.proofs.lemmas.Result.{on_ok_weaker}
 use Rattle.tree_put.specs.WrittenPlace.{AreApartFromStage, written}
 use Rattle.tree_put.proofs.AddedLemmas.{apart_joined, joined_three}

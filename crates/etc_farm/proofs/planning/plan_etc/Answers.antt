@@ -4,6 +4,7 @@ use Rattle.host_trait.proofs.Moments.{told_before}
 use Rattle.host_trait.proofs.Readings.{read_of, reads_of, reads_then}
 use Rattle.switch_parts.specs.declared.plan_fault.PlanFault.TheVariants.{Host}
 use Rattle.switch_parts.proofs.Faults.{handed, host_device, no_err}
+use Rattle.etc_farm.proofs.PlanLemmas.{told_none}
 use Rattle.etc_farm.proofs.planning.plan_etc.Goals as goal
 
 pub returns-in_err-manifest-clause-refused : goal.returns-in_err-manifest-clause-refused
@@ -25,6 +26,10 @@ returns-clause-plan g c = record {
     sorted = (told_before c.in_ok-manifest.ensures.reads.moments c.in_ok-sorted.ensures.sorted).has w is;
   };
 }
+
+pub returns-clause-not_refused : goal.returns-clause-not_refused
+returns-clause-not_refused g c =
+    told_none (g.T.Tree.host c.args.host.now) c.args.system.now c.args.owners c.in_ok-manifest.manifest c.in_ok-manifest.ensures.few c.in_ok-manifest.ensures.manifest
 
 pub returns-clause-reads : goal.returns-clause-reads
 returns-clause-reads g c =

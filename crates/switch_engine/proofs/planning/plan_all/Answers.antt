@@ -19,8 +19,8 @@ use Rattle.switch_parts.proofs.Faults.{handed, host_device, no_err, refused_is, 
 use Rattle.unit_stage.proofs.KnownLemmas.{same_fault}
 use Rattle.switch_engine.proofs.planning.plan_all.Goals as goal
 
-pub plan_parts-requires : goal.plan_parts-requires
-plan_parts-requires g c =
+pub plan_row-requires : goal.plan_row-requires
+plan_row-requires g c =
     told_as (told_still c.has_version.ensures.reads.moments (told_still c.resolve.ensures.reads.moments c.in_ok-resolved.ensures.resolved)) (λ w. IfSome c.in_ok-resolved.resolved.gens (IsGensOf w.leaves))
     (λ w is resolved. resolved.gens)
 
@@ -36,7 +36,7 @@ returns-in_err-plan-clause-reads g c =
 
 pub returns-clause-reads : goal.returns-clause-reads
 returns-clause-reads g c =
-    reads_of (reads_then (reads_then c.resolve.ensures.reads (read_of c.has_version.ensures.reads _ (λ e. e))) c.plan_parts.ensures.reads) _ (λ e. absurd (no_err c.in_ok-plan.plan (Host Device) e))
+    reads_of (reads_then (reads_then c.resolve.ensures.reads (read_of c.has_version.ensures.reads _ (λ e. e))) c.plan_row.ensures.reads) _ (λ e. absurd (no_err c.in_ok-plan.plan (Host Device) e))
 
 pub returns-then-not-branch-clause-reads : goal.returns-then-not-branch-clause-reads
 returns-then-not-branch-clause-reads g c =

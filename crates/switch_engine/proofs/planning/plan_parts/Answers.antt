@@ -1,13 +1,15 @@
 use Rattle.std.proofs.Common.{◌≡◌, ◌↔◌, Err, IsTrue, None, Some, sym, ap, subst, ◌∙◌}
 use Rattle.std.proofs.lemmas.Result.{err_from_is_err_and}
+use Rattle.boot_entries.specs.BootDefault.{IsDefaultFor}
 use Rattle.host_trait.specs.declared.tree.HostFault.TheVariants.{Device}
 use Rattle.host_trait.proofs.Moments.{told_as, told_before}
 use Rattle.host_trait.proofs.Readings.{nothing_read_of, read_of, reads_of, reads_then, told_read}
 use Rattle.switch_engine.specs.Commands.{switched_by}
 use Rattle.switch_engine.specs.declared.plan.Plan.{Plan}
+use Rattle.switch_engine.specs.declared.row.Row.{Row}
 use Rattle.switch_engine.specs.Owing.{IsSteadyTo}
 use Rattle.switch_engine.specs.Plan.{ArePlanned, IsSound}
-use Rattle.switch_engine.specs.Rows.{refusal_by}
+use Rattle.switch_engine.specs.Rows.{refusal_in_parts}
 use Rattle.switch_engine.proofs.PlanLemmas.{activation_refused, profile_refused, told_still, units_refused, way_refused}
 use Rattle.switch_parts.specs.declared.plan_fault.PlanFault.TheVariants.{Host, Refused}
 use Rattle.switch_parts.proofs.Faults.{handed, no_err, memory_no_device}
@@ -21,9 +23,9 @@ returns-in_err-planned-clause-reads g c =
 pub returns-in_err-check_places-clause-refused : goal.returns-in_err-check_places-clause-refused
 returns-in_err-check_places-clause-refused g c why e =
     let p = err_from_is_err_and c.from_residual-in_err-check_places.result c.from_residual-in_err-check_places.ensures.1 in
-    let its = c.args.row in
+    let its = c.args.row.now in
     told_as (told_read c.gens_for.ensures.reads (c.in_err-check_places.ensures.refused why (ap (λ f. Err f) (sym p.2 ∙ same_fault p.0 (Refused why) (sym p.1 ∙ e)))))
-    (λ w. refusal_by its.start_up its.switches its.moves its.system w.leaves ≡ Some why)
+    (λ w. refusal_in_parts its.start_up its.switches its.moves its.system w.leaves ≡ Some why)
     (λ w is way. way_refused its.start_up its.switches its.moves its.system w.leaves why way)
 
 pub returns-in_err-check_places-clause-reads : goal.returns-in_err-check_places-clause-reads
@@ -34,10 +36,10 @@ returns-in_err-check_places-clause-reads g c =
 pub returns-in_err-units-clause-refused : goal.returns-in_err-units-clause-refused
 returns-in_err-units-clause-refused g c why e =
     let p = err_from_is_err_and c.from_residual-in_err-units.result c.from_residual-in_err-units.ensures.1 in
-    let its = c.args.row in
+    let its = c.args.row.now in
     let refused = c.in_err-units.ensures.refused why (ap (λ f. Err f) (sym p.2 ∙ same_fault p.0 (Refused why) (sym p.1 ∙ e))) in
     let way = told_read c.gens_for.ensures.reads c.in_ok-check_places.ensures.free in
-    told_as (told_read c.gens_for.ensures.reads (told_before c.check_places.ensures.reads.moments refused)) (λ w. refusal_by its.start_up its.switches its.moves its.system w.leaves ≡ Some why)
+    told_as (told_read c.gens_for.ensures.reads (told_before c.check_places.ensures.reads.moments refused)) (λ w. refusal_in_parts its.start_up its.switches its.moves its.system w.leaves ≡ Some why)
     (λ w is units. units_refused its.start_up its.switches its.moves its.system w.leaves (way.has w is) why units)
 
 pub returns-in_err-units-clause-reads : goal.returns-in_err-units-clause-reads
@@ -48,11 +50,11 @@ returns-in_err-units-clause-reads g c =
 pub returns-in_err-activation-clause-refused : goal.returns-in_err-activation-clause-refused
 returns-in_err-activation-clause-refused g c why e =
     let p = err_from_is_err_and c.from_residual-in_err-activation.result c.from_residual-in_err-activation.ensures.1 in
-    let its = c.args.row in
+    let its = c.args.row.now in
     let refused = c.in_err-activation.ensures.refused why (ap (λ f. Err f) (sym p.2 ∙ same_fault p.0 (Refused why) (sym p.1 ∙ e))) in
     let way = told_read c.gens_for.ensures.reads c.in_ok-check_places.ensures.free in
     let units = told_read c.gens_for.ensures.reads (told_before c.check_places.ensures.reads.moments c.in_ok-units.ensures.not_refused) in
-    told_as (told_read c.gens_for.ensures.reads (told_before c.check_places.ensures.reads.moments (told_before c.plan_switch.ensures.reads.moments refused))) (λ w. refusal_by its.start_up its.switches its.moves its.system w.leaves ≡ Some why)
+    told_as (told_read c.gens_for.ensures.reads (told_before c.check_places.ensures.reads.moments (told_before c.plan_switch.ensures.reads.moments refused))) (λ w. refusal_in_parts its.start_up its.switches its.moves its.system w.leaves ≡ Some why)
     (λ w is activation. activation_refused its.start_up its.switches its.moves its.system w.leaves (way.has w is) (units.has w is) why activation)
 
 pub returns-in_err-activation-clause-reads : goal.returns-in_err-activation-clause-reads
@@ -75,17 +77,17 @@ returns-in_err-profile-clause-reads g c =
 pub returns-in_err-profile-clause-refused : goal.returns-in_err-profile-clause-refused
 returns-in_err-profile-clause-refused g c why e =
     let p = err_from_is_err_and c.from_residual-in_err-profile.result c.from_residual-in_err-profile.ensures.1 in
-    let its = c.args.row in
+    let its = c.args.row.now in
     let refused = c.in_err-profile.ensures.refused why (ap (λ f. Err f) (sym p.2 ∙ same_fault p.0 (Refused why) (sym p.1 ∙ e))) in
     let way = told_read c.gens_for.ensures.reads c.in_ok-check_places.ensures.free in
     let units = told_read c.gens_for.ensures.reads (told_before c.check_places.ensures.reads.moments c.in_ok-units.ensures.not_refused) in
     let activation = told_read c.gens_for.ensures.reads (told_before c.check_places.ensures.reads.moments (told_before c.plan_switch.ensures.reads.moments c.in_ok-activation.ensures.not_refused)) in
-    told_as (told_read c.gens_for.ensures.reads (told_before c.check_places.ensures.reads.moments (told_before c.plan_switch.ensures.reads.moments (told_before c.plan_accounts_and_etc.ensures.reads.moments refused)))) (λ w. refusal_by its.start_up its.switches its.moves its.system w.leaves ≡ Some why)
+    told_as (told_read c.gens_for.ensures.reads (told_before c.check_places.ensures.reads.moments (told_before c.plan_switch.ensures.reads.moments (told_before c.plan_accounts_and_etc.ensures.reads.moments refused)))) (λ w. refusal_in_parts its.start_up its.switches its.moves its.system w.leaves ≡ Some why)
     (λ w is profile. profile_refused its.start_up its.switches its.moves its.system w.leaves (way.has w is) (units.has w is) (Some why) (activation.has w is) profile)
 
 pub returns-clause-plan : goal.returns-clause-plan
 returns-clause-plan g c =
-    let its = c.args.row in
+    let its = c.args.row.now in
     let units = told_read c.gens_for.ensures.reads (told_before c.check_places.ensures.reads.moments c.in_ok-units.ensures.plan) in
     let activation = told_read c.gens_for.ensures.reads (told_before c.check_places.ensures.reads.moments (told_before c.plan_switch.ensures.reads.moments c.in_ok-activation.ensures.plan)) in
     let profile = told_read c.gens_for.ensures.reads (told_before c.check_places.ensures.reads.moments (told_before c.plan_switch.ensures.reads.moments (told_before c.plan_accounts_and_etc.ensures.reads.moments c.in_ok-profile.ensures.plan))) in
@@ -94,17 +96,20 @@ returns-clause-plan g c =
 
 pub returns-clause-not_refused : goal.returns-clause-not_refused
 returns-clause-not_refused g c =
-    let its = c.args.row in
+    let its = c.args.row.now in
     let way = told_read c.gens_for.ensures.reads c.in_ok-check_places.ensures.free in
     let units = told_read c.gens_for.ensures.reads (told_before c.check_places.ensures.reads.moments c.in_ok-units.ensures.not_refused) in
     let activation = told_read c.gens_for.ensures.reads (told_before c.check_places.ensures.reads.moments (told_before c.plan_switch.ensures.reads.moments c.in_ok-activation.ensures.not_refused)) in
-    told_as (told_read c.gens_for.ensures.reads (told_before c.check_places.ensures.reads.moments (told_before c.plan_switch.ensures.reads.moments (told_before c.plan_accounts_and_etc.ensures.reads.moments c.in_ok-profile.ensures.not_refused)))) (λ w. refusal_by its.start_up its.switches its.moves its.system w.leaves ≡ None)
+    told_as (told_read c.gens_for.ensures.reads (told_before c.check_places.ensures.reads.moments (told_before c.plan_switch.ensures.reads.moments (told_before c.plan_accounts_and_etc.ensures.reads.moments c.in_ok-profile.ensures.not_refused)))) (λ w. refusal_in_parts its.start_up its.switches its.moves its.system w.leaves ≡ None)
     (λ w is profile. profile_refused its.start_up its.switches its.moves its.system w.leaves (way.has w is) (units.has w is) None (activation.has w is) profile)
 
 pub returns-clause-sound : goal.returns-clause-sound
 returns-clause-sound g c =
     subst IsSound (sym c.new.ensures)
-    (record { default = λ profile some. c.in_ok-profile.ensures.sound profile some; filled = c.in_ok-units.ensures.filled })
+    (record {
+      default = λ profile some. subst (λ (r : Row). IsDefaultFor r.system profile) (sym c.in_ok-its.ensures) (c.in_ok-profile.ensures.sound profile some);
+      filled = c.in_ok-units.ensures.filled;
+    })
 
 pub returns-clause-reads : goal.returns-clause-reads
 returns-clause-reads g c =
@@ -113,5 +118,9 @@ returns-clause-reads g c =
 
 pub returns-clause-steady : goal.returns-clause-steady
 returns-clause-steady g c =
-    told_as (told_read c.gens_for.ensures.reads (told_before c.check_places.ensures.reads.moments c.in_ok-units.ensures.steady)) (λ w. IsTrue c.new.result.units.steady ↔ IsSteadyTo c.args.row.start_up (switched_by c.args.row) w)
-    (λ w is told. subst (λ (plan : Plan). IsTrue plan.units.steady ↔ IsSteadyTo c.args.row.start_up (switched_by c.args.row) w) (sym c.new.ensures) told)
+    told_as (told_read c.gens_for.ensures.reads (told_before c.check_places.ensures.reads.moments c.in_ok-units.ensures.steady)) (λ w. IsTrue c.new.result.units.steady ↔ IsSteadyTo c.args.row.now.start_up (switched_by c.args.row.now) w)
+    (λ w is told. subst (λ (plan : Plan). IsTrue plan.units.steady ↔ IsSteadyTo c.args.row.now.start_up (switched_by c.args.row.now) w) (sym c.new.ensures) told)
+
+pub returns-in_err-its-clause-reads : goal.returns-in_err-its-clause-reads
+returns-in_err-its-clause-reads g c =
+    let p = err_from_is_err_and c.from_residual-in_err-its.result c.from_residual-in_err-its.ensures.1 in nothing_read_of _ (λ e. memory_no_device c.from_residual-in_err-its.result p.0 p.1 p.2 e)

@@ -11,7 +11,8 @@ use Rattle.unit_stage.proofs.known.read_known.Goals as goal
 pub returns-in_err-new-clause-refused : goal.returns-in_err-new-clause-refused
 returns-in_err-new-clause-refused g c why e =
     let p = err_from_is_err_and c.from_residual-in_err-new.result c.from_residual-in_err-new.ensures.1 in
-    told_read c.read_old.ensures.reads (c.in_err-new.ensures.refused why (ap (λ f. Err f) (sym p.2 ∙ same_fault p.0 (Refused why) (sym p.1 ∙ e))))
+    let told = told_read c.read_old.ensures.reads (c.in_err-new.ensures.refused why (ap (λ f. Err f) (sym p.2 ∙ same_fault p.0 (Refused why) (sym p.1 ∙ e)))) in
+    record { has = λ w is. told.has w is (c.in_ok-old.ensures.old.has w is).defs }
 
 pub returns-in_err-new-clause-reads : goal.returns-in_err-new-clause-reads
 returns-in_err-new-clause-reads g c =
@@ -40,7 +41,9 @@ returns-clause-known g c = record {
 }
 
 pub returns-clause-not_refused : goal.returns-clause-not_refused
-returns-clause-not_refused g c = told_read c.read_old.ensures.reads c.in_ok-new.ensures.not_refused
+returns-clause-not_refused g c =
+    let told = told_read c.read_old.ensures.reads c.in_ok-new.ensures.not_refused in
+    record { has = λ w is. told.has w is (c.in_ok-old.ensures.old.has w is).defs }
 
 pub returns-clause-reads : goal.returns-clause-reads
 returns-clause-reads g c =

@@ -1,0 +1,129 @@
+//! What is judged of accounts before the maps of ids are read.
+ghost use Rattle.std.specs.Prelude.{◌≡◌, ⊤, Ok, Some, IfOk, IsErrOf, option_map};
+ghost use Rattle.host_trait.specs.declared.tree.HostFault.TheVariants.{Device};
+ghost use Rattle.host_trait.specs.Host.{Told};
+ghost use Rattle.host_trait.specs.Reading.{IsReading};
+ghost use Rattle.switch_parts.specs.declared.plan_fault.PlanFault.TheVariants.{Host};
+ghost use Rattle.users_spec.specs.Spec.{accounts_of};
+ghost use Rattle.accounts_stage.specs.Answer.{Answers, spec_fault, spec_refusal};
+ghost use Rattle.accounts_stage.specs.Judging.{AreSoundTables, IsJudged, account_texts, first_refusal};
+
+use crate::places::spec_path;
+use crate::reading::{TableTexts, read_texts, tables_of};
+use crate::rows::texts_past;
+use account_text::Tables;
+use host_trait::{HostFault, Tree, content};
+use std::alloc::Global;
+use switch_names::{Bytes, SystemName};
+use switch_parts::{PlanFault, Refusal, What, too_many};
+use users_spec::{Spec, SpecFault};
+
+/// The texts that are read of accounts before anything is judged.
+pub struct AccountTexts {
+    /// The specification of a system, where it has one.
+    pub spec: Option<Bytes>,
+    /// The texts of the three tables.
+    pub tables: TableTexts,
+}
+
+/// One call: a derived drop is proved anew in each function that lets one go.
+impl Drop for AccountTexts {
+    fn drop(self) {
+        let AccountTexts { spec: _, tables: _ } = self;
+    }
+}
+
+/// What such texts say.
+pub struct Judged {
+    /// The accounts that the system declares, where it does.
+    pub spec: Option<Spec>,
+    /// The three tables.
+    pub tables: Tables,
+}
+
+/// One call: a derived drop is proved anew in each function that lets one go.
+impl Drop for Judged {
+    fn drop(self) {
+        let Judged { spec: _, tables: _ } = self;
+    }
+}
+
+impl Judged {
+    /// The specification, and the tables.
+    pub fn into_parts(self) -> (Option<Spec>, Tables)
+        ensures { result ≡ (self.spec, self.tables) }
+    {
+        let Judged { spec, tables } = self;
+        (spec, tables)
+    }
+}
+
+/// Reads the specification of a system and the three tables, each once.
+pub fn read_account_texts<T: Tree>(
+    alloc: Global,
+    host: &mut T,
+    system: &SystemName,
+) -> Result<AccountTexts, HostFault>
+    ensures texts { IfOk result (λ texts. Told (T.host host.old) (λ w. texts ≡ account_texts system.now w.leaves)) }
+    ensures reads { IsReading (T.host host.old) (T.host host.new) result }
+{
+    let at = spec_path(alloc, system)?;
+    let spec = content(alloc, host, &at)?;
+    let tables = read_texts(alloc, host)?;
+    Ok(AccountTexts { spec, tables })
+}
+
+/// What comes of a fault of a specification.
+fn spec_fault(fault: SpecFault) -> PlanFault
+    ensures { result ≡ spec_fault fault }
+{
+    match fault {
+        SpecFault::Memory => PlanFault::Host(HostFault::Memory),
+        fault => PlanFault::Refused(Refusal::UsersSpec(fault)),
+    }
+}
+
+/// The specification of these bytes.
+fn spec_of(alloc: Global, bytes: &Bytes) -> Result<Spec, PlanFault>
+    ensures spec { Answers (spec_refusal (Some (accounts_of bytes.now))) (λ spec. accounts_of bytes.now ≡ Ok spec) result }
+    ensures cause { IsErrOf result (Host Device) → ⊥ }
+{
+    match Spec::read(alloc, bytes.as_slice()) {
+        Ok(spec) => Ok(spec),
+        Err(fault) => Err(spec_fault(fault)),
+    }
+}
+
+/// The specification of a system, where it has one.
+fn spec_in(alloc: Global, bytes: &Option<Bytes>) -> Result<Option<Spec>, PlanFault>
+    ensures spec { Answers (spec_refusal (option_map accounts_of bytes.now)) (λ spec. option_map accounts_of bytes.now ≡ option_map Ok spec) result }
+    ensures cause { IsErrOf result (Host Device) → ⊥ }
+{
+    match bytes {
+        Some(bytes) => Ok(Some(spec_of(alloc, bytes)?)),
+        None => Ok(None),
+    }
+}
+
+/// Refuses what there is a reason to refuse.
+pub fn refuse(why: Option<Refusal>) -> Result<(), PlanFault>
+    ensures refused { Answers why (λ nothing. ⊤) result }
+    ensures cause { IsErrOf result (Host Device) → ⊥ }
+{
+    match why {
+        Some(why) => Err(PlanFault::Refused(why)),
+        None => Ok(()),
+    }
+}
+
+/// What texts say: the lines of the tables are counted first, then the specification is read, and then the tables.
+pub fn judge(alloc: Global, texts: AccountTexts) -> Result<Judged, PlanFault>
+    ensures judged { Answers (first_refusal texts) (IsJudged texts) result }
+    ensures sound { IfOk result (λ judged. AreSoundTables judged.tables) }
+    ensures cause { IsErrOf result (Host Device) → ⊥ }
+{
+    refuse(too_many(What::Rows, texts_past(&texts.tables)))?;
+    let spec = spec_in(alloc, &texts.spec)?;
+    let tables = tables_of(alloc, &texts.tables)?;
+    Ok(Judged { spec, tables })
+}
