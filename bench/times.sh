@@ -17,6 +17,7 @@
 #   boot      10 1000 10000               a boot with so many generations
 #   collect   1000 4000 10000             a collection of a store of so many paths, half of which go
 #   switch    500,2000,60 and so on       a whole switch of so many units, entries and users, on a disk
+#   limits    16384,131072,65536          a dry run with as many units, entries and rows as there may be, and with one more
 #
 # What a kind makes, which columns it prints and what it judges stands in bench/times/KIND.sh. A row has the milliseconds of the
 # quickest run without strace, the most memory that a run had at once, and its system calls; then come the growth from row to
@@ -26,7 +27,7 @@
 # Needs bash 5, awk, grep and the coreutils, and the toolchain's rt for `units`, `accounts`, `plan`, `order` and `leaves`, which build
 # a small program each. The memory is left out where /usr/bin/time isn't there, and the calls where strace isn't there or may not
 # trace. Where rustc is there, `dry` and `test` are compared with bench/plain_switch.rs, which does the same to the same files.
-kinds='units accounts plan order leaves dry test etc boot collect switch'
+kinds='units accounts plan order leaves dry test etc boot collect switch limits'
 if [ $# -eq 0 ]; then
     failed=0
     for kind in $kinds; do
