@@ -102,6 +102,7 @@ fn read<H: Manager>(alloc: Global, host: &mut H) -> Result<usize, HostFault> {
     let old = Defs::read_old(alloc, host, &system_of(alloc, "nix/store/old-sys")?)?;
     let new = match Defs::read(alloc, host, &system_of(alloc, "nix/store/new-sys")?) {
         Ok(new) => new,
+        Err(DefsFault::Many(_)) => return Ok(0),
         Err(DefsFault::Text { .. }) => return Ok(0),
         Err(DefsFault::Host(fault)) => return Err(fault),
     };
