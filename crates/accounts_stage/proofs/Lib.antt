@@ -21,6 +21,7 @@ pub mod OwnLemmas
 pub mod PartLemmas
 pub mod PlanningLemmas
 pub mod PuttingLemmas
+pub mod QuietLemmas
 pub mod ReadLemmas
 pub mod RowCountLemmas
 pub mod RowTextLemmas

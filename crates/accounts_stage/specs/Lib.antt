@@ -4,6 +4,7 @@ pub mod Answer
 pub mod Files
 pub mod Judging
 pub mod Laws
+pub mod OnTheWay
 pub mod Places
 pub mod Plan
 pub mod Puts

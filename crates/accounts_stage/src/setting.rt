@@ -1,8 +1,12 @@
 //! Sets the accounts that are planned.
 ghost use Rattle.std.specs.Prelude.{◌≡◌, None, OnOk};
 ghost use Rattle.host_trait.specs.Host.{Comes, HasCause, Leads, Passes, Told};
-ghost use Rattle.tree_put.specs.Sequence.{IsPutting, with_puts};
+ghost use Rattle.switch_parts.specs.Part.{final_leaf};
+ghost use Rattle.switch_parts.specs.Quiet.{IsQuiet};
+ghost use Rattle.tree_put.specs.Sequence.{IsPutting, WritesOthers, with_puts};
 ghost use Rattle.tree_put.specs.WrittenPlace.{in_the_way};
+ghost use Rattle.accounts_stage.specs.AccountsPart.{accounts_part};
+ghost use Rattle.accounts_stage.specs.OnTheWay.{names_first};
 ghost use Rattle.accounts_stage.specs.Places.{account_places};
 ghost use Rattle.accounts_stage.specs.Plan.{AreAccountsSet, CanSetAccounts, IsSettingAccounts};
 ghost use Rattle.accounts_stage.specs.Puts.{answer_puts};
@@ -29,6 +33,7 @@ use users_merge::Merged;
 pub fn apply<T: Tree>(alloc: Global, host: &mut T, merged: &Merged) -> Result<(), HostFault>
     requires { Told (T.host host.old) (λ w. in_the_way account_places w.leaves ≡ None) }
     ensures ok { OnOk result (Comes (T.host host.old) (T.host host.new) (with_puts (answer_puts merged.now))) }
+    ensures written { OnOk result (Leads (T.host host.old) (T.host host.new) (WritesOthers (answer_puts merged.now))) }
     ensures moments { Passes (T.host host.old) (T.host host.new) (IsPutting (answer_puts merged.now)) }
     ensures cause { HasCause (T.host host.old) (T.host host.new) result }
 {
@@ -41,7 +46,8 @@ pub fn apply<T: Tree>(alloc: Global, host: &mut T, merged: &Merged) -> Result<()
 /// Sets the accounts that are planned, where the system declares any.
 ///
 /// At each moment the world is, but for the stage, the one after the first so many of the puts of
-/// the merge, and a moment is enough to plan the same again.
+/// the merge, and a moment is enough to plan the same again. Each file is written at most once, a list
+/// of declared names at most twice, and none where what is put stands.
 ///
 /// Source: nixpkgs, update-users-groups.pl.
 pub fn set_accounts<T: Tree>(
@@ -52,6 +58,7 @@ pub fn set_accounts<T: Tree>(
 ) -> Result<(), HostFault>
     requires { Told (T.host host.old) (CanSetAccounts system.now plan.now) }
     ensures ok { OnOk result (Leads (T.host host.old) (T.host host.new) (AreAccountsSet system.now)) }
+    ensures quiet { OnOk result (Leads (T.host host.old) (T.host host.new) (IsQuiet (names_first system.now) (final_leaf (accounts_part system.now)))) }
     ensures moments { Passes (T.host host.old) (T.host host.new) (IsSettingAccounts system.now) }
     ensures cause { HasCause (T.host host.old) (T.host host.new) result }
 {

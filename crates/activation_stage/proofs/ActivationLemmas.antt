@@ -105,14 +105,14 @@ module _ (system : Name) (named : IsSystemPath system) (plan : ActivationPlan) (
   abbrev owners : OwnerIds
   owners = owners_after system w.leaves
 
-  accounts_free : IsFree (accounts_part system) w.leaves
+  pub accounts_free : IsFree (accounts_part system) w.leaves
   accounts_free = first_free (accounts_part system) (etc_part system owners) w.leaves can.free
 
   pub can_set : CanSetAccounts system plan.accounts w
   can_set = record { planned = can.planned.accounts; free = accounts_free }
 
   module _ (u : WorldState) (set : AreAccountsSet system w u) where
-    farm_still : IsSameFor (etc_part system owners) w u
+    pub farm_still : IsSameFor (etc_part system owners) w u
     farm_still = farm_same system named owners w u (accounts_only system named w accounts_free u set)
 
     plan_still : IsEtcPlanOf system u.leaves plan.etc

@@ -2,4 +2,5 @@ pub mod ActivationLemmas
 pub mod AgainLemmas
 pub mod OwnerLemmas
 pub mod PartedLemmas
+pub mod QuietLemmas
 pub mod RebootLemmas

@@ -1,3 +1,4 @@
 pub mod ActivationPart
 pub mod Owners
+pub mod Quiet
 pub mod Reboot

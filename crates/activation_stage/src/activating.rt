@@ -2,6 +2,7 @@
 ghost use Rattle.std.specs.Prelude.{OnOk};
 ghost use Rattle.host_trait.specs.Host.{HasCause, Leads, Passes, Told};
 ghost use Rattle.activation_stage.specs.ActivationPart.{CanActivate, IsActivated, IsActivating};
+ghost use Rattle.activation_stage.specs.Quiet.{ActivatesQuietly};
 
 use crate::activation_plan::ActivationPlan;
 use accounts_stage::set_accounts;
@@ -13,7 +14,7 @@ use switch_names::SystemName;
 /// Sets the accounts of a system as planned, and then makes `/etc` what it wants.
 ///
 /// A cut leaves the accounts after some of their puts, or all of them and `/etc` after some of its
-/// steps.
+/// steps. What stands isn't written: each place is written at most once for each leaf that it gets.
 /// Source: NixOS manual, "What happens during a system switch?".
 pub fn activate<T: Tree>(
     alloc: Global,
@@ -23,6 +24,7 @@ pub fn activate<T: Tree>(
 ) -> Result<(), HostFault>
     requires { Told (T.host host.old) (CanActivate system.now plan.now) }
     ensures ok { OnOk result (Leads (T.host host.old) (T.host host.new) (IsActivated system.now)) }
+    ensures quiet { OnOk result (Leads (T.host host.old) (T.host host.new) (ActivatesQuietly system.now)) }
     ensures moments { Passes (T.host host.old) (T.host host.new) (IsActivating system.now) }
     ensures cause { HasCause (T.host host.old) (T.host host.new) result }
 {

@@ -16,3 +16,4 @@ pub mod PlanLawLemmas
 pub mod PlanLemmas
 pub mod PutLemmas
 pub mod TextLemmas
+pub mod WrittenLemmas

@@ -35,7 +35,7 @@ gone_sorted : (leaves : Leaves) (list : List Gen) → IsStrictlySortedBy bytes_c
 gone_sorted leaves list =
     IsStrictlySortedBy-filter bytes_cmp (is_gone_by (has_target list)) (listed entries_folder leaves) (IsStrictlySortedBy-filter bytes_cmp (is_listed entries_folder) (keys leaves) (keys_sorted leaves))
 
-gone_owned : (among : ℕ → Bool) (q : Name) → is_gone_by among q ≡ true → owns_boot q ≡ true
+pub gone_owned : (among : ℕ → Bool) (q : Name) → is_gone_by among q ≡ true → owns_boot q ≡ true
 gone_owned among q gone = or_right (is_path q loader_path) (is_some (numbered q)) (by (numbered q) gone)
   where
     by : (o : Option ℕ) → not (option_map_or among o true) ≡ true → is_some o ≡ true

@@ -1,11 +1,12 @@
 -- The part of a switch that makes a system the boot default: the profile, which is moved to it, and the boot menu of its generations.
 -- NixOS manual, "Changing the configuration"; Boot Loader Specification, "Type #1 Boot Loader Specification Entries".
-use Rattle.std.specs.Prelude.{◌≡◌, ◌++◌, ◌∷◌, false, List, [], map}
+use Rattle.std.specs.Prelude.{◌≡◌, ◌||◌, ◌++◌, ◌∷◌, Bool, false, List, [], map}
 use Rattle.generations.specs.declared.gens.Gen.{Gen}
 use Rattle.generations.specs.declared.gens.Gens.{Gens}
 use Rattle.generations.specs.declared.moving.Move.{Move}
 use Rattle.generations.specs.Gens.{IsGensOf}
 use Rattle.generations.specs.Move.{IsMoveMoment, IsNumberFor, gens_moved, move_part, move_world, number_moved}
+use Rattle.generations.specs.ProfilePart.{owns_profile}
 use Rattle.host_trait.specs.World.{Leaves, WorldState, seen}
 use Rattle.switch_names.specs.Names.{Name}
 use Rattle.switch_names.specs.SystemName.{IsSystemPath}
@@ -15,7 +16,7 @@ use Rattle.tree_put.specs.WrittenPlace.{written}
 use Rattle.boot_entries.specs.declared.boot_default.BootDefaultPlan.{BootDefaultPlan}
 use Rattle.boot_entries.specs.declared.boot_texts.BootTexts.{BootTexts}
 use Rattle.boot_entries.specs.BootPart.{boot_part, entry_places}
-use Rattle.boot_entries.specs.Places.{loader_path}
+use Rattle.boot_entries.specs.Places.{loader_path, owns_boot}
 use Rattle.boot_entries.specs.Steps.{AreEntries, IsBootMoment, with_menu}
 use Rattle.boot_entries.specs.Texts.{menu_of}
 
@@ -26,6 +27,10 @@ boot_default_part move system gens = both (move_part move system) (boot_part gen
 -- the same with the generations that stand after the move
 abbrev pub boot_default_in : Move → Name → Leaves → Part
 boot_default_in move system leaves = boot_default_part move system (gens_moved move system leaves)
+
+-- its places: those of the profile, and those of the boot menu
+abbrev pub owns_default : Name → Bool
+owns_default q = owns_profile q || owns_boot q
 
 -- the places of the boot menu of some generations, in byte order
 abbrev pub menu_places : List Gen → List WrittenPlace

@@ -2,6 +2,8 @@
 ghost use Rattle.std.specs.Prelude.{◌≡◌, IfOk, OnOk, map};
 ghost use Rattle.host_trait.specs.Host.{Becomes, Comes, HasCause, Leads, Passes, Told};
 ghost use Rattle.tree_put.specs.Sequence.{IsPutting, IsRemoving, with_puts, without_places};
+ghost use Rattle.tree_put.specs.Written.{WritesOnly};
+ghost use Rattle.boot_entries.specs.Places.{owns_boot};
 ghost use Rattle.boot_entries.specs.Steps.{AreEntries, CanApplyBoot, IsBootMoment, IsBootSet, boot_put, boot_puts, loader_files};
 ghost use Rattle.boot_entries.specs.Texts.{boot_file};
 
@@ -61,6 +63,7 @@ fn put_menu<T: Tree>(alloc: Global, host: &mut T, texts: &BootTexts) -> Result<(
     requires places { AreEntries texts.now.entries }
     requires can { Told (T.host host.old) (CanApplyBoot texts.now) }
     ensures ok { OnOk result (Comes (T.host host.old) (T.host host.new) (with_puts (boot_puts texts.now))) }
+    ensures written { OnOk result (Leads (T.host host.old) (T.host host.new) (WritesOnly owns_boot)) }
     ensures moments { Passes (T.host host.old) (T.host host.new) (IsPutting (boot_puts texts.now)) }
     ensures cause { HasCause (T.host host.old) (T.host host.new) result }
 {
@@ -84,6 +87,7 @@ pub fn apply<T: Tree>(alloc: Global, host: &mut T, texts: &BootTexts) -> Result<
     requires places { AreEntries texts.now.entries }
     requires can { Told (T.host host.old) (CanApplyBoot texts.now) }
     ensures ok { OnOk result (Leads (T.host host.old) (T.host host.new) (IsBootSet texts.now)) }
+    ensures written { OnOk result (Leads (T.host host.old) (T.host host.new) (WritesOnly owns_boot)) }
     ensures moments { Passes (T.host host.old) (T.host host.new) (IsBootMoment texts.now) }
     ensures cause { HasCause (T.host host.old) (T.host host.new) result }
 {

@@ -8,8 +8,9 @@ ghost use Rattle.generations.specs.Gens.{IsGensOf};
 ghost use Rattle.generations.specs.Move.{gens_moved};
 ghost use Rattle.switch_parts.specs.declared.plan_fault.PlanFault.TheVariants.{Host, Refused};
 ghost use Rattle.switch_parts.specs.declared.refusal.Refusal.{Refusal};
+ghost use Rattle.tree_put.specs.Written.{WritesOnly};
 ghost use Rattle.tree_put.specs.WrittenPlace.{AreApartFromStage};
-ghost use Rattle.boot_entries.specs.BootDefault.{CanMakeDefault, IsDefaultFor, IsDefaultPlanOf, IsMakingDefault, boot_default_in, default_end, menu_places};
+ghost use Rattle.boot_entries.specs.BootDefault.{CanMakeDefault, IsDefaultFor, IsDefaultPlanOf, IsMakingDefault, boot_default_in, default_end, menu_places, owns_default};
 
 use crate::applying::apply;
 use crate::boot_texts::BootTexts;
@@ -113,6 +114,7 @@ pub fn make_boot_default<T: Tree>(
     requires sound { IsDefaultFor system.now plan.now }
     requires can { Told (T.host host.old) (CanMakeDefault system.now plan.now) }
     ensures ok { OnOk result (Leads (T.host host.old) (T.host host.new) (λ w v. seen v ≡ default_end plan.now.to system.now w)) }
+    ensures written { OnOk result (Leads (T.host host.old) (T.host host.new) (WritesOnly owns_default)) }
     ensures moments { Passes (T.host host.old) (T.host host.new) (IsMakingDefault plan.now.to system.now) }
     ensures cause { HasCause (T.host host.old) (T.host host.new) result }
 {

@@ -13,6 +13,8 @@ pub mod PlaceLemmas
 pub mod PlanLemmas
 pub mod PrepareLemmas
 pub mod PutLemmas
+pub mod QuietLemmas
+pub mod QuietStageLemmas
 pub mod RemovalLemmas
 pub mod RunLemmas
 pub mod SkippedLemmas
@@ -20,3 +22,5 @@ pub mod StageLemmas
 pub mod StandingLemmas
 pub mod StepLemmas
 pub mod StoreLemmas
+pub mod TimesLemmas
+pub mod WrittenLemmas

@@ -110,7 +110,7 @@ module _ {farm : Farm} {found : Sorted} {prepared : Prepared} (is_prepared : IsP
   making : (w m : WorldState) → CanApply farm found w → IsAtStep farm is_prepared.names found.gone w m → IsMaking farm w m
   making w m can step = Since is_prepared.names found.gone (is_prepared.names_are w can) can.sorted.gone step
 
-  last_as : (w : WorldState) → CanApply farm found w → prepared.last ≡ put_at (place clean_name) (clean_leaf (placed farm.items w.leaves))
+  pub last_as : (w : WorldState) → CanApply farm found w → prepared.last ≡ put_at (place clean_name) (clean_leaf (placed farm.items w.leaves))
   last_as w can =
       let leaf : prepared.last.leaf ≡ clean_leaf (placed farm.items w.leaves) =
       is_prepared.last w can in

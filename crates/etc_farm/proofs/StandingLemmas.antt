@@ -44,7 +44,7 @@ standing_as items w v q same is = ap (λ leaf. is_leaf_of q (entry items q) leaf
 
 -- ---- once the first list stands and what is gone has been removed
 
-without_other : (names : List Name) (w : WorldState) (q : Name) → has names q ≡ false → at (without_names names w).leaves q ≡ at w.leaves q
+pub without_other : (names : List Name) (w : WorldState) (q : Name) → has names q ≡ false → at (without_names names w).leaves q ≡ at w.leaves q
 without_other [] w q other = refl
 without_other (x ∷ names) w q other =
     without_other names (without_leaf (place x) w) q (false_from_ne_true (has names q) (λ there. both_ways _ other (or_right (is_name q x) (has names q) there)))

@@ -3,3 +3,4 @@ pub mod FarmPart
 pub mod Making
 pub mod Runs
 pub mod Steps
+pub mod Written

@@ -1,12 +1,13 @@
 //! Puts the entries of a farm.
-ghost use Rattle.std.specs.Prelude.{OnOk};
-ghost use Rattle.host_trait.specs.Host.{Told, Comes, Passes, HasCause};
+ghost use Rattle.std.specs.Prelude.{◌≡◌, ◌++◌, ◌∷◌, [], OnOk};
+ghost use Rattle.host_trait.specs.Host.{Told, Comes, Leads, Passes, HasCause};
 ghost use Rattle.host_trait.specs.World.{with_leaf};
 ghost use Rattle.tree_put.specs.Put.{CanPut, IsOldOrNew};
 ghost use Rattle.tree_put.specs.Sequence.{IsPutting, with_puts};
 ghost use Rattle.etc_clean.specs.Etc.{leaf_of};
 ghost use Rattle.etc_clean.specs.Names.{place};
 ghost use Rattle.etc_farm.specs.Steps.{AreStanding, CanPutEntries, puts_but};
+ghost use Rattle.etc_farm.specs.Written.{WritesEntries};
 
 use etc_clean::{contains, etc_place, item_leaf};
 use etc_manifest::Item;
@@ -19,6 +20,7 @@ use tree_put::put;
 fn put_item<T: Tree>(alloc: Global, host: &mut T, item: &Item) -> Result<(), HostFault>
     requires { Told (T.host host.old) (CanPut (place item.now.place)) }
     ensures ok { OnOk result (Comes (T.host host.old) (T.host host.new) (with_leaf (place item.now.place) (leaf_of item.now.place item.now.kind))) }
+    ensures written { OnOk result (Leads (T.host host.old) (T.host host.new) (λ w v. v.written ≡ w.written ++ place item.now.place ∷ [])) }
     ensures moments { Passes (T.host host.old) (T.host host.new) (IsOldOrNew (place item.now.place) (leaf_of item.now.place item.now.kind)) }
     ensures cause { HasCause (T.host host.old) (T.host host.new) result }
 {
@@ -40,6 +42,7 @@ pub fn put_entries<T: Tree>(
     requires can { Told (T.host host.old) (CanPutEntries items.now blocked.now) }
     requires standing { Told (T.host host.old) (AreStanding items.now standing.now) }
     ensures ok { OnOk result (Comes (T.host host.old) (T.host host.new) (with_puts (puts_but blocked.now items.now))) }
+    ensures written { OnOk result (Leads (T.host host.old) (T.host host.new) (WritesEntries items.now blocked.now standing.now)) }
     ensures moments { Passes (T.host host.old) (T.host host.new) (IsPutting (puts_but blocked.now items.now)) }
     ensures cause { HasCause (T.host host.old) (T.host host.new) result }
 {

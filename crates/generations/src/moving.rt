@@ -4,10 +4,12 @@ ghost use Rattle.host_trait.specs.Host.{Told, Leads, Passes, HasCause};
 ghost use Rattle.host_trait.specs.World.{Leaves, seen};
 ghost use Rattle.switch_parts.specs.declared.refusal.Refusal.TheVariants.{GenerationsFull};
 ghost use Rattle.switch_parts.specs.Part.{IsFree};
+ghost use Rattle.tree_put.specs.Written.{WritesOnly};
 ghost use Rattle.tree_put.specs.WrittenPlace.{AreApartFromStage};
 ghost use Rattle.generations.specs.Gens.{IsGensOf};
 ghost use Rattle.generations.specs.GoalPart.{goal_places};
 ghost use Rattle.generations.specs.Move.{IsMoveMoment, IsNumberFor, gens_at, gens_moved, move_part, move_places, move_refusal, move_world, number_moved, point_places};
+ghost use Rattle.generations.specs.ProfilePart.{owns_profile};
 
 use crate::gens::{Gens, after_set, copy_list, number_for};
 use crate::places::add_profile_places;
@@ -115,6 +117,7 @@ pub fn move_profile<T: Tree>(
     requires number { IsNumberFor to gens.now.list system.now number }
     requires can { Told (T.host host.old) (λ w. IsFree (move_part to system.now) w.leaves) }
     ensures ok { OnOk result (Leads (T.host host.old) (T.host host.new) (λ w v. seen v ≡ move_world to system.now w)) }
+    ensures written { OnOk result (Leads (T.host host.old) (T.host host.new) (WritesOnly owns_profile)) }
     ensures moments { Passes (T.host host.old) (T.host host.new) (IsMoveMoment to system.now) }
     ensures cause { HasCause (T.host host.old) (T.host host.new) result }
 {

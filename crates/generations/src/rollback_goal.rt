@@ -3,14 +3,16 @@ ghost use Rattle.std.specs.Prelude.{◌≡◌, ◌&&◌, ◌==◌, IfOk, OnOk, I
 ghost use Rattle.std.specs.Bool.{then_some};
 ghost use Rattle.std.specs.List.{list_any};
 ghost use Rattle.host_trait.specs.declared.tree.HostFault.TheVariants.{Device};
-ghost use Rattle.host_trait.specs.Host.{Told, Becomes, Comes, Passes, HasCause};
+ghost use Rattle.host_trait.specs.Host.{Told, Leads, Becomes, Comes, Passes, HasCause};
 ghost use Rattle.host_trait.specs.Reading.{IsReading, IsReadingOf};
 ghost use Rattle.host_trait.specs.World.{content_of, with_leaf, without_leaf};
 ghost use Rattle.tree_put.specs.Put.{CanPut, IsOldOrGone, IsOldOrNew};
+ghost use Rattle.tree_put.specs.Written.{WritesOnly};
 ghost use Rattle.generations.specs.declared.rollback_goal.GoalFault.TheVariants.{Host, NoPrevious};
 ghost use Rattle.generations.specs.Digits.{BearsNumber};
 ghost use Rattle.generations.specs.Gens.{IsGensOf};
 ghost use Rattle.generations.specs.Goal.{BearsGoal, goal, goal_leaf, goal_place, goal_text, recorded, some_number};
+ghost use Rattle.generations.specs.GoalPart.{owns_goal};
 
 use crate::digits::number_between;
 use crate::gens::{Gen, Gens, previous};
@@ -138,6 +140,7 @@ fn goal_leaf(alloc: Global, number: u32) -> Result<Leaf, AllocError>
 pub fn record_goal<T: Tree>(alloc: Global, host: &mut T, number: u32) -> Result<(), HostFault>
     requires { Told (T.host host.old) (CanPut goal_place) }
     ensures ok { OnOk result (Comes (T.host host.old) (T.host host.new) (with_leaf goal_place (goal_leaf number))) }
+    ensures written { OnOk result (Leads (T.host host.old) (T.host host.new) (WritesOnly owns_goal)) }
     ensures moments { Passes (T.host host.old) (T.host host.new) (IsOldOrNew goal_place (goal_leaf number)) }
     ensures cause { HasCause (T.host host.old) (T.host host.new) result }
 {
@@ -151,6 +154,7 @@ pub fn record_goal<T: Tree>(alloc: Global, host: &mut T, number: u32) -> Result<
 /// A cut leaves what was recorded, or nothing.
 pub fn clear_goal<T: Tree>(alloc: Global, host: &mut T) -> Result<(), HostFault>
     ensures ok { OnOk result (Becomes (T.host host.old) (T.host host.new) (without_leaf goal_place)) }
+    ensures written { OnOk result (Leads (T.host host.old) (T.host host.new) (WritesOnly owns_goal)) }
     ensures moments { Passes (T.host host.old) (T.host host.new) (IsOldOrGone goal_place) }
     ensures cause { HasCause (T.host host.old) (T.host host.new) result }
 {

@@ -5,9 +5,11 @@ ghost use Rattle.host_trait.specs.declared.leaf.LeafKind.TheVariants.{Link};
 ghost use Rattle.host_trait.specs.Host.{Told, Leads, Comes, Passes, HasCause, HasCauseOf};
 ghost use Rattle.host_trait.specs.World.{seen};
 ghost use Rattle.tree_put.specs.Put.{CanPut, IsOldOrNew};
+ghost use Rattle.tree_put.specs.Written.{WritesOnly};
 ghost use Rattle.generations.specs.declared.setting.SetFault.TheVariants.{Full, Host};
 ghost use Rattle.generations.specs.Gens.{IsGensOf, number_for_in};
 ghost use Rattle.generations.specs.Places.{is_of, link_name, link_path, link_target, number_after, profile, set_end, with_profile};
+ghost use Rattle.generations.specs.ProfilePart.{owns_profile};
 ghost use Rattle.generations.specs.Set.{CanSet, IsLinkMoment, IsSetMoment, link_end};
 
 use crate::gens::{Gens, is_highest_of, number_for};
@@ -82,6 +84,7 @@ fn system_link(alloc: Global, system: &SystemName) -> Result<Leaf, AllocError>
 pub fn point<T: Tree>(alloc: Global, host: &mut T, number: u32) -> Result<(), HostFault>
     requires { Told (T.host host.old) (CanPut profile) }
     ensures ok { OnOk result (Comes (T.host host.old) (T.host host.new) (with_profile number)) }
+    ensures written { OnOk result (Leads (T.host host.old) (T.host host.new) (WritesOnly owns_profile)) }
     ensures moments { Passes (T.host host.old) (T.host host.new) (IsOldOrNew profile (Link (link_name number))) }
     ensures cause { HasCause (T.host host.old) (T.host host.new) result }
 {
@@ -102,6 +105,7 @@ fn put_generation<T: Tree>(
     requires number { number_for_in gens.now.list system.now ≡ Some number }
     requires can { Told (T.host host.old) (CanSet system.now) }
     ensures ok { OnOk result (Leads (T.host host.old) (T.host host.new) (λ w v. seen v ≡ link_end system.now w)) }
+    ensures written { OnOk result (Leads (T.host host.old) (T.host host.new) (WritesOnly owns_profile)) }
     ensures moments { Passes (T.host host.old) (T.host host.new) (IsLinkMoment system.now) }
     ensures cause { HasCause (T.host host.old) (T.host host.new) result }
 {
@@ -127,6 +131,7 @@ pub fn set_number<T: Tree>(
     requires number { number_for_in gens.now.list system.now ≡ Some number }
     requires can { Told (T.host host.old) (CanSet system.now) }
     ensures ok { OnOk result (Leads (T.host host.old) (T.host host.new) (λ w v. seen v ≡ set_end system.now w)) }
+    ensures written { OnOk result (Leads (T.host host.old) (T.host host.new) (WritesOnly owns_profile)) }
     ensures moments { Passes (T.host host.old) (T.host host.new) (IsSetMoment system.now) }
     ensures cause { HasCause (T.host host.old) (T.host host.new) result }
 {
@@ -152,6 +157,7 @@ pub fn set<T: Tree>(
     ensures full { IsErrOf result Full → IsNone (number_for_in gens.now.list system.now) }
     ensures none { IsNone (number_for_in gens.now.list system.now) → IsErrOf result Full }
     ensures ok { OnOk result (Leads (T.host host.old) (T.host host.new) (λ w v. seen v ≡ set_end system.now w)) }
+    ensures written { OnOk result (Leads (T.host host.old) (T.host host.new) (WritesOnly owns_profile)) }
     ensures moments { Passes (T.host host.old) (T.host host.new) (IsSetMoment system.now) }
     ensures cause { HasCauseOf (T.host host.old) (T.host host.new) (IsErrOf result (Host Device)) }
 {

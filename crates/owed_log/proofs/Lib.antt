@@ -3,3 +3,4 @@ pub mod ContentLemmas
 pub mod ListLemmas
 pub mod MomentLemmas
 pub mod StandingLemmas
+pub mod WrittenLemmas

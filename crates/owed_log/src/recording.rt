@@ -1,10 +1,11 @@
 //! Records lists.
 ghost use Rattle.std.specs.Prelude.{◌≡◌, ◌<◌, IfOk, OnOk, length};
 ghost use Rattle.host_trait.specs.Change.{Change, IsMoment, finished};
-ghost use Rattle.host_trait.specs.Host.{Told, Becomes, Comes, Passes, HasCause};
+ghost use Rattle.host_trait.specs.Host.{Told, Leads, Becomes, Comes, Passes, HasCause};
 ghost use Rattle.host_trait.specs.World.{IsFileAt, with_leaf};
 ghost use Rattle.tree_put.specs.Put.{CanPut, IsOldOrNew};
-ghost use Rattle.owed_log.specs.Places.{log_place};
+ghost use Rattle.tree_put.specs.Written.{WritesOnly};
+ghost use Rattle.owed_log.specs.Places.{is_owed_place, log_place};
 ghost use Rattle.owed_log.specs.Writing.{CanWrite, IsFilled, IsRecordMoment, IsWriting, log_leaf, recorded, with_write};
 
 use crate::log_write::LogWrite;
@@ -26,6 +27,7 @@ pub(crate) fn append_text<T: Tree>(
     requires file { Told (T.host host.old) (λ w. IsFileAt w.leaves log_place) }
     requires some { 0 < length text.now }
     ensures ok { OnOk result (Becomes (T.host host.old) (T.host host.new) (finished (Change.Append log_place text.now))) }
+    ensures written { OnOk result (Leads (T.host host.old) (T.host host.new) (WritesOnly is_owed_place)) }
     ensures moments { Passes (T.host host.old) (T.host host.new) (IsMoment (Change.Append log_place text.now)) }
     ensures cause { HasCause (T.host host.old) (T.host host.new) result }
 {
@@ -45,6 +47,7 @@ fn log_leaf(alloc: Global, text: &[u8]) -> Result<Leaf, AllocError>
 fn put_text<T: Tree>(alloc: Global, host: &mut T, text: &[u8]) -> Result<(), HostFault>
     requires { Told (T.host host.old) (CanPut log_place) }
     ensures ok { OnOk result (Comes (T.host host.old) (T.host host.new) (with_leaf log_place (log_leaf text.now))) }
+    ensures written { OnOk result (Leads (T.host host.old) (T.host host.new) (WritesOnly is_owed_place)) }
     ensures moments { Passes (T.host host.old) (T.host host.new) (IsOldOrNew log_place (log_leaf text.now)) }
     ensures cause { HasCause (T.host host.old) (T.host host.new) result }
 {
@@ -58,6 +61,7 @@ fn write_log<T: Tree>(alloc: Global, host: &mut T, write: &LogWrite) -> Result<(
     requires can { Told (T.host host.old) (CanWrite write.now) }
     requires filled { IsFilled write.now }
     ensures ok { OnOk result (Comes (T.host host.old) (T.host host.new) (with_write write.now)) }
+    ensures written { OnOk result (Leads (T.host host.old) (T.host host.new) (WritesOnly is_owed_place)) }
     ensures moments { Passes (T.host host.old) (T.host host.new) (IsWriting write.now) }
     ensures cause { HasCause (T.host host.old) (T.host host.new) result }
 {
@@ -82,6 +86,7 @@ pub fn record<T: Tree>(alloc: Global, host: &mut T, write: &LogWrite) -> Result<
     requires can { Told (T.host host.old) (CanWrite write.now) }
     requires filled { IsFilled write.now }
     ensures ok { OnOk result (Comes (T.host host.old) (T.host host.new) (recorded write.now)) }
+    ensures written { OnOk result (Leads (T.host host.old) (T.host host.new) (WritesOnly is_owed_place)) }
     ensures moments { Passes (T.host host.old) (T.host host.new) (IsRecordMoment write.now) }
     ensures cause { HasCause (T.host host.old) (T.host host.new) result }
 {

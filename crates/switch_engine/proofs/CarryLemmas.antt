@@ -200,7 +200,7 @@ verdict start_up false system plan w u v outcome planned same end states failed 
 
 -- ---- the goal is removed, where the profile is moved
 
-clear_only : (moves : Option Move) (v m : WorldState) → IsClearStep moves v m → IsOnly goal_part v m
+pub clear_only : (moves : Option Move) (v m : WorldState) → IsClearStep moves v m → IsOnly goal_part v m
 clear_only None v m same = record { leaves = λ q none ne. ap (λ (x : WorldState). get x.leaves q) same; manager = λ call. ap (λ (x : WorldState). x.manager) same }
 clear_only (Some move) v m step = (cleared_moment v m step).only
 
@@ -215,7 +215,7 @@ clear_begins None w m same = same
 clear_begins (Some move) w m same = inl same
 
 -- the last step leaves no goal
-clear_last : (moves : Option Move) (v e : WorldState) → e ≡ cleared_by moves v → IsClearStep moves v e
+pub clear_last : (moves : Option Move) (v e : WorldState) → e ≡ cleared_by moves v → IsClearStep moves v e
 clear_last None v e is = is
 clear_last (Some move) v e is = inr is
 
@@ -405,7 +405,7 @@ module _ (command : Command) (owed : Owed) (order : List Name) (w : WorldState) 
       last_set : IsSetStep moves system r u
       last_set = set_step system carried.named r moves record_free u is
 
-      alone_set : IsPartMoment second w u
+      pub alone_set : IsPartMoment second w u
       alone_set = moment_then second second_is w r u at_record (set_alone u last_set)
 
       at_set : IsPartMoment (both first second) w u

@@ -11,10 +11,14 @@ pub mod JournalLemmas
 pub mod LawLemmas
 pub mod MenuApart
 pub mod MovedPart
+pub mod MovedQuiet
 pub mod PaidLemmas
 pub mod PartsLemmas
 pub mod PlaceLemmas
 pub mod PlanLemmas
+pub mod QuietCommand
+pub mod QuietLemmas
+pub mod QuietWay
 pub mod RebootLemmas
 pub mod ResolveLemmas
 pub mod StepLeaves

@@ -80,7 +80,7 @@ menu_unread q own = elim (cases_Bool (owns_units q)) [
 -- ---- a switch doesn't look at what the boot menu owns
 
 -- a path of the boot menu
-abbrev menu_path : Name → Name
+abbrev pub menu_path : Name → Name
 menu_path rest = codes "boot/loader/" ++ rest
 
 loader_begins : loader_path ≡ menu_path (drop 12 loader_path)

@@ -102,7 +102,7 @@ profile_apart : (q : Name) → owns_profile q ≡ true → reads_units q || (rea
 profile_apart q own = or_from _ _ (owned_fails reads_units units_apart q own) (activation_apart q own)
 
 -- what is owned of a boot default is of the profile or of the boot menu
-of_default : (P : Name → Type 0) → ((q : Name) → owns_profile q ≡ true → P q) → ((q : Name) → owns_boot q ≡ true → P q) → (q : Name) → owns_profile q || owns_boot q ≡ true → P q
+pub of_default : (P : Name → Type 0) → ((q : Name) → owns_profile q ≡ true → P q) → ((q : Name) → owns_boot q ≡ true → P q) → (q : Name) → owns_profile q || owns_boot q ≡ true → P q
 of_default P profile menu q own = elim (cases_Bool (owns_profile q)) [
   | inl is ↦ profile q is
   | inr other ↦ menu q (sym (ap (λ b. b || owns_boot q) other) ∙ own)

@@ -3,7 +3,7 @@ use Rattle.std.proofs.Common.{◌≡◌, Bool, true, false, cond, ◌||◌, List
 use Rattle.std.proofs.lemmas.Bool.{both_ways, cases_Bool, or_from}
 use Rattle.std.specs.Cmp.Lexicographic.{same_text}
 use Rattle.std.specs.FinMap.{get}
-use Rattle.activation_stage.specs.ActivationPart.{CanActivate, IsActivating, IsActivationPlanOf, activation_part}
+use Rattle.activation_stage.specs.ActivationPart.{CanActivate, IsActivating, IsActivationPlanOf, activation_in, activation_part}
 use Rattle.activation_stage.specs.declared.activation_plan.ActivationPlan.{ActivationPlan}
 use Rattle.activation_stage.specs.Owners.{owners_after}
 use Rattle.etc_manifest.specs.Owners.{OwnerIds}
@@ -30,14 +30,19 @@ use Rattle.owed_plan.specs.declared.duty.Duty.{Duty}
 use Rattle.owed_plan.specs.declared.owed.Owed.{Owed}
 use Rattle.owed_plan.specs.Law.{lists_of}
 use Rattle.switch_engine.specs.Moments.{AreStopped, HasActivated, IsSwitchMoment, IsSwitched}
-use Rattle.switch_engine.specs.Rows.{switch_in}
+use Rattle.switch_engine.specs.Quiet.{IsQuietSwitch}
+use Rattle.switch_engine.specs.Rows.{switch_in, switched_leaf}
 use Rattle.switch_engine.proofs.ActivationApart.{definitions_end, definitions_owned, units_parted}
 use Rattle.activation_stage.proofs.ActivationLemmas.{activation_moment_law, activation_part_law, activation_plan_law, owners_law}
+use Rattle.activation_stage.specs.Quiet.{ActivatesQuietly, activation_first}
 use Rattle.switch_engine.proofs.PartsLemmas.{switch_is}
 use Rattle.switch_engine.proofs.PlaceLemmas.{all_clear}
+use Rattle.switch_engine.proofs.QuietWay.{activation_end, first_kept}
+use Rattle.switch_engine.proofs.QuietLemmas.{not_owned, quiet_between, quiet_not_stage, quiet_whole, units_not_quiet, units_written}
 use Rattle.switch_names.specs.Names.{Name}
 use Rattle.switch_names.specs.SystemName.{IsSystemPath}
 use Rattle.switch_parts.specs.Part.{IsAtEnd, IsFree, IsMomentOf, IsOnly, IsPart, Part}
+use Rattle.tree_put.specs.Written.{WritesOnly}
 use Rattle.switch_parts.proofs.Parts.{first_free, first_moment, is_final, moment_then, only_beside, only_first, only_then, second_free, second_moment}
 use Rattle.unit_stage.specs.Acts.{CanPerform, IsPerforming, performed, with_calls}
 use Rattle.unit_stage.specs.Laws.{AreSameBeside}
@@ -306,6 +311,19 @@ module _ (start_up : Bool) (system : Name) (named : IsSystemPath system) (owed :
                   journal = ap (λ (m : ManagerState). m.journal) manager ∙ all_entered owed text w.manager order;
                 };
               }
+
+          -- each quiet place is written as the activation writes it
+          pub switched_quietly : WritesOnly owns_units w u → ActivatesQuietly system u v → WritesOnly owns_units v d → IsQuietSwitch system w d
+          switched_quietly before quiet after =
+              let only = (stop_units write stopped.1 u last_stop).only in
+              quiet_between (activation_first system) (activation_first system) (switched_leaf system) (activation_end system) w u v d
+              (units_written w u before) (quiet_whole (activation_first system) (activation_end system) u v quiet) (units_written v d after)
+              (λ q is. first_kept system named w u (only_beside units activation activation_is (units_parted start_up system owners).first refl w u only) q)
+              (λ q is.
+              let ne = quiet_not_stage q is in
+              sym (is_final (activation_in system u.leaves) u v activated.end.only activated.end.end q ne)
+              ∙ sym ((bring_only d last_step).leaves q (not_owned owns_units units_not_quiet q is) ne) ∙ switched.leaves q ne)
+              (λ q is. only.leaves q (not_owned owns_units units_not_quiet q is) (quiet_not_stage q is))
 
   -- ---- each moment of a switch of the units is one of its parts
 

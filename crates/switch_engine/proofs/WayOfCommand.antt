@@ -1,11 +1,12 @@
 -- The steps of a planned command over a host: the goal of a rollback is recorded, its system is made the boot default, the units
 -- are switched, and the goal is removed.
 use Rattle.std.proofs.Common.{◌≡◌, ◌↔◌, ◌&&◌, Bool, List, IfOk, IsTrue, is_some, true, false, Option, None, Some, Result, Ok, Err, refl, sym, ap, subst, ◌∙◌, inl, inr}
+use Rattle.std.proofs.lemmas.Bool.{both_ways}
 use Rattle.std.specs.FinMap.{empty}
 use Rattle.host_trait.specs.declared.tree.HostFault.{HostFault}
 use Rattle.host_trait.specs.Host.{HostState, Leads, Passes, Told}
 use Rattle.host_trait.specs.World.{WorldState, seen}
-use Rattle.host_trait.proofs.Moments.{goes_on, leads_then, none_not_some, none_or_some, passes_as, started, told_after, told_as}
+use Rattle.host_trait.proofs.Moments.{goes_on, leads_as, leads_then, none_not_some, none_or_some, passes_as, started, told_after, told_as}
 use Rattle.owed_plan.specs.declared.owed.Owed.{Owed}
 use Rattle.switch_engine.specs.declared.outcome.Outcome.{Outcome}
 use Rattle.switch_engine.specs.declared.plan.Plan.{Plan}
@@ -15,13 +16,16 @@ use Rattle.switch_engine.specs.Commands.{IsBoot, IsQuery, if_so, row}
 use Rattle.switch_engine.specs.Final.{HasFailed, IsEndOf, LeavesFailed, LeavesFailedAt}
 use Rattle.switch_engine.specs.Moments.{IsClearStep, IsMomentOf, record_world}
 use Rattle.switch_engine.specs.Plan.{ArePlanned, IsPlanOf}
+use Rattle.switch_engine.specs.Quiet.{IsQuietCommand, IsQuietSwitch, is_not_quiet}
 use Rattle.switch_engine.specs.Rows.{gens_to}
 use Rattle.generations.specs.declared.moving.Move.{Move}
 use Rattle.switch_engine.proofs.CarryLemmas.{IsCarriedFrom, activation_same, can_record, can_set, can_switch, carried_from, clear_moment, ends, moves_same, none_failed, only_goal, ordered_still, written_still, owed_still, planned_parts, record_free, record_moment, same_manager, set_free, set_moment, switch_free, switch_moment, switches_same, verdict}
 use Rattle.switch_engine.proofs.FlagLemmas.{changes_on, switches_on}
 use Rattle.switch_engine.proofs.LawLemmas.{begins_moment}
+use Rattle.switch_engine.proofs.QuietCommand.{carried_quietly}
 use Rattle.switch_engine.proofs.WayOfSwitch.{leads_both}
 use Rattle.switch_names.specs.Names.{Name}
+use Rattle.tree_put.specs.Written.{WritesOnly}
 use Rattle.unit_defs.specs.declared.unit.Unit.{Unit}
 use Rattle.unit_stage.specs.Plan.{owed_of}
 
@@ -38,6 +42,20 @@ record HasSwitched (moves : Option Move) (switches : Bool) (system : Name) (owed
   prepared : IsPrepared moves system w u
   end : IsSwitchedIf switches system owed order u v
   moment : IsSwitchMomentIf switches system owed order u v
+
+-- the same, and what was written on the way
+record HasSwitchedQuietly (moves : Option Move) (switches : Bool) (system : Name) (owed : Owed) (order : List Name) (w v : WorldState) : Type 0 where
+  u : WorldState
+  prepared : IsPrepared moves system w u
+  before : WritesOnly is_not_quiet w u
+  end : IsSwitchedIf switches system owed order u v
+  moment : IsSwitchMomentIf switches system owed order u v
+  quiet : switches ≡ true → IsQuietSwitch system u v
+
+-- what holds where this is so
+leads_if : {a b : HostState} {P Q : WorldState → WorldState → Type 0} (is : Bool) → Leads a b P → (IsTrue is → Leads a b Q) → Leads a b (λ w v. IsTrue is → Q w v)
+leads_if {Q = Q} true led then = leads_as (then refl) (λ w v. IsTrue true → Q w v) (λ w v is here yes. here)
+leads_if {Q = Q} false led then = leads_as led (λ w v. IsTrue false → Q w v) (λ w v is here yes. absurd (both_ways false refl yes))
 
 module _ (plan : Plan) (changes : IsQuery plan.command → ⊥) {a : HostState} (planned : Told a (λ w. IsPlanOf w plan)) where
   abbrev starts : WorldState → Bool
@@ -166,6 +184,29 @@ module _ (plan : Plan) (changes : IsQuery plan.command → ⊥) {a : HostState} 
                       (λ w v x is is_v switched is_x.
                       ends plan.command owed order w (from w is) switched.prepared.recorded switched.prepared.is_recorded switched.u switched.prepared.is_set v switched.end switched.moment x
                       (is_x ∙ ap (λ mv. cleared_by mv v) (same_moves w is)))
+
+                  -- and each quiet place is written as the activation writes it
+                  pub comes_quietly :
+                      Leads a b (WritesOnly is_not_quiet) → (IsTrue by → Leads b d (IsQuietSwitch last)) → Leads d e (WritesOnly is_not_quiet) → Leads a e (IsQuietCommand plan.command)
+                  comes_quietly before quiet after =
+                      leads_then
+                      (leads_then (leads_both led before (λ w u. IsPrepared planned_moves system w u × WritesOnly is_not_quiet w u) (λ w u prepared writes. (prepared, writes)))
+                      (leads_both (leads_both done second.tells (λ u v. IsSwitchedIf by last owed order u v × IsSwitchMomentIf by last owed order u v) (λ u v end moment. (end, moment)))
+                      (leads_if by done quiet) (λ u v. (IsSwitchedIf by last owed order u v × IsSwitchMomentIf by last owed order u v) × (IsTrue by → IsQuietSwitch last u v)) (λ u v both quiet. (both, quiet)))
+                      (λ w v. HasSwitchedQuietly (moves w) (switches w) (named w) owed order w v)
+                      (λ w u v is is_u first both. record {
+                        u = u;
+                        prepared = came w u is first.0;
+                        before = first.1;
+                        end = end_as w u v is both.0.0;
+                        moment = moment_as w u v is both.0.1;
+                        quiet = λ on. subst (λ s. IsQuietSwitch s u v) (to_last w is) (both.1 (is_by w is ∙ on));
+                      }))
+                      (leads_both cleared after (λ v x. (x ≡ cleared_by planned_moves v) × WritesOnly is_not_quiet v x) (λ v x gone writes. (gone, writes)))
+                      (IsQuietCommand plan.command)
+                      (λ w v x is is_v at both.
+                      carried_quietly plan.command owed order w (from w is) at.prepared.recorded at.prepared.is_recorded at.u at.prepared.is_set v at.end at.moment x
+                      (both.0 ∙ ap (λ mv. cleared_by mv v) (same_moves w is)) at.before at.quiet both.1)
 
                   same_states : (o : Option Move) (v x : WorldState) → x ≡ cleared_by o v → v.manager.states ≡ x.manager.states
                   same_states None v x is = sym (ap (λ (y : WorldState). y.manager.states) is)

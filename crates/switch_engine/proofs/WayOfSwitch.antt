@@ -2,6 +2,7 @@
 use Rattle.std.proofs.Common.{◌≡◌, List, Some, sym, subst, ◌∙◌}
 use Rattle.activation_stage.specs.ActivationPart.{CanActivate, IsActivated, IsActivating, activation_in}
 use Rattle.activation_stage.specs.declared.activation_plan.ActivationPlan.{ActivationPlan}
+use Rattle.activation_stage.specs.Quiet.{ActivatesQuietly}
 use Rattle.host_trait.specs.declared.unit_state.State.{State}
 use Rattle.host_trait.specs.Host.{HostState, Told, Comes, Leads, Passes}
 use Rattle.host_trait.specs.States.{state_of}
@@ -20,13 +21,16 @@ use Rattle.owed_plan.specs.declared.owed.Owed.{Owed}
 use Rattle.owed_plan.specs.Law.{lists_of}
 use Rattle.switch_engine.specs.Carried.{CanSwitch}
 use Rattle.switch_engine.specs.Moments.{AreStopped, HasActivated, IsSwitchMoment, IsSwitched}
+use Rattle.switch_engine.specs.Quiet.{IsQuietSwitch}
 use Rattle.switch_engine.proofs.PlaceLemmas.{all_clear}
-use Rattle.switch_engine.proofs.SwitchLemmas.{bringing, can_activate, can_bring, switched}
+use Rattle.switch_engine.proofs.SwitchLemmas.{bringing, can_activate, can_bring, switched, switched_quietly}
 use Rattle.switch_names.specs.Names.{Name}
+use Rattle.tree_put.specs.Written.{WritesOnly}
 use Rattle.switch_parts.proofs.Parts.{first_free}
 use Rattle.unit_stage.specs.Acts.{CanPerform}
 use Rattle.unit_stage.specs.declared.unit_plan.UnitPlan.{UnitPlan}
 use Rattle.unit_stage.specs.Order.{ArrangesStarts}
+use Rattle.unit_stage.specs.Owned.{owns_units}
 use Rattle.unit_stage.specs.Plan.{owed_of}
 use Rattle.unit_stage.specs.Steps.{AreCallsOf, CanBring, IsBringMoment, IsStopMoment, with_brought, with_stops}
 use Rattle.unit_stage.specs.Units.{units_part}
@@ -52,6 +56,14 @@ record IsReady (system : Name) (owed : Owed) (w v : WorldState) : Type 0 where
   stopped : WorldState
   came : AreStopped owed w stopped
   activated : HasActivated system stopped v
+
+-- the same world, and what was written on the way to it
+record IsReadyQuietly (system : Name) (owed : Owed) (w v : WorldState) : Type 0 where
+  stopped : WorldState
+  came : AreStopped owed w stopped
+  before : WritesOnly owns_units w stopped
+  activated : HasActivated system stopped v
+  quiet : ActivatesQuietly system stopped v
 
 module _ (system : Name) (plan : UnitPlan) (activation : ActivationPlan) (write : LogWrite) (stops reloads restarts starts : List Duty) (is_write : write ≡ plan.write)
     (calls : (states : Name → State) → plan.duties ≡ calls_of (owed_of plan) plan.ordered.units states → AreCallsOf (owed_of plan) plan.ordered.units states stops reloads restarts starts)
@@ -122,3 +134,19 @@ module _ (system : Name) (plan : UnitPlan) (activation : ActivationPlan) (write 
               leads_then gets_ready brought (IsSwitched system owed order)
               (λ w v d is is_v at came. let known = can.has w is in let calls = calls_at w is in
               switched known.start_up system known.named owed w known.is_owed order (arranged_at w is) known.free at.stopped at.came v at.activated reloads restarts starts calls.are_reloads calls.are_restarts calls.are_starts d came)
+
+          -- and each quiet place is written as the activation writes it
+          pub ends_quietly :
+              {d : HostState} → Comes c d (with_brought system reloads restarts starts) → Leads a b (WritesOnly owns_units) → Leads b c (ActivatesQuietly system) → Leads c d (WritesOnly owns_units) →
+              Leads a d (IsQuietSwitch system)
+          ends_quietly brought before quiet after =
+              leads_then
+              (leads_then (leads_both came before (λ w u. AreStopped owed w u × WritesOnly owns_units w u) (λ w u came writes. (came, writes)))
+              (leads_both (leads_both activate_way.tells activated (HasActivated system) (λ u v moment end. record { moment = moment; end = end })) quiet (λ u v. HasActivated system u v × ActivatesQuietly system u v)
+              (λ u v done quiet. (done, quiet)))
+              (IsReadyQuietly system owed) (λ w u v is is_u first second. record { stopped = u; came = first.0; before = first.1; activated = second.0; quiet = second.1 }))
+              (leads_both brought after (λ v d. (seen d ≡ seen (with_brought system reloads restarts starts v)) × WritesOnly owns_units v d) (λ v d came writes. (came, writes)))
+              (IsQuietSwitch system)
+              (λ w v d is is_v at both. let known = can.has w is in let calls = calls_at w is in
+              switched_quietly known.start_up system known.named owed w known.is_owed order (arranged_at w is) known.free at.stopped at.came v at.activated reloads restarts starts calls.are_reloads calls.are_restarts calls.are_starts d both.0
+              at.before at.quiet both.1)

@@ -4,6 +4,7 @@ pub mod Final
 pub mod Moments
 pub mod Owing
 pub mod Plan
+pub mod Quiet
 pub mod Reboot
 pub mod Resolved
 pub mod Rows

@@ -13,8 +13,10 @@ ghost use Rattle.switch_engine.specs.Commands.{IsBoot, IsQuery};
 ghost use Rattle.switch_engine.specs.Final.{HasFailed, IsEndOf, LeavesFailed};
 ghost use Rattle.switch_engine.specs.Moments.{IsClearStep, IsMomentOf, IsRecordStep, IsSetStep, IsSwitchMoment, IsSwitched, record_world, set_world};
 ghost use Rattle.switch_engine.specs.Plan.{IsPlanOf, IsSound};
+ghost use Rattle.switch_engine.specs.Quiet.{IsQuietCommand, IsQuietSwitch, is_not_quiet};
 ghost use Rattle.unit_stage.specs.Plan.{owed_of};
 ghost use Rattle.tree_put.specs.Put.{CanPut, IsOldOrNew};
+ghost use Rattle.tree_put.specs.Written.{WritesOnly};
 ghost use Rattle.unit_stage.specs.System.{system_leaf};
 
 use crate::outcome::{Outcome, has_failed};
@@ -31,6 +33,7 @@ use unit_stage::{UnitPlan, bring_units, calls_of, stop_units, system_leaf};
 fn record_kept<T: Tree>(alloc: Global, host: &mut T, number: u32) -> Result<(), HostFault>
     requires { Told (T.host host.old) (CanPut goal_place) }
     ensures ok { OnOk result (Comes (T.host host.old) (T.host host.new) (with_leaf goal_place (goal_leaf number))) }
+    ensures written { OnOk result (Leads (T.host host.old) (T.host host.new) (WritesOnly is_not_quiet)) }
     ensures moments { Passes (T.host host.old) (T.host host.new) (IsOldOrNew goal_place (goal_leaf number)) }
     ensures cause { HasCause (T.host host.old) (T.host host.new) result }
 {
@@ -47,6 +50,7 @@ fn record_back<T: Tree>(
 ) -> Result<(), HostFault>
     requires { Told (T.host host.old) (CanRecordBy (moves_of (option_copied plan))) }
     ensures ok { OnOk result (Leads (T.host host.old) (T.host host.new) (λ w r. seen r ≡ record_world (moves_of (option_copied plan.entry)) w)) }
+    ensures written { OnOk result (Leads (T.host host.old) (T.host host.new) (WritesOnly is_not_quiet)) }
     ensures moments { Passes (T.host host.old) (T.host host.new) (IsRecordStep (moves_of (option_copied plan.entry))) }
     ensures cause { HasCause (T.host host.old) (T.host host.new) result }
 {
@@ -69,6 +73,7 @@ fn set_profile<T: Tree>(
     requires can { Told (T.host host.old) (CanSetBy system.now (option_copied plan)) }
     requires sound { (profile : BootDefaultPlan) → option_copied plan ≡ Some profile → IsDefaultFor system.now profile }
     ensures ok { OnOk result (Leads (T.host host.old) (T.host host.new) (λ w u. seen u ≡ set_world (moves_of (option_copied plan.entry)) system.now w)) }
+    ensures written { OnOk result (Leads (T.host host.old) (T.host host.new) (WritesOnly is_not_quiet)) }
     ensures moments { Passes (T.host host.old) (T.host host.new) (IsSetStep (moves_of (option_copied plan.entry)) system.now) }
     ensures cause { HasCause (T.host host.old) (T.host host.new) result }
 {
@@ -91,6 +96,7 @@ fn switch_units<H: Manager>(
     requires filled { IsFilled plan.now.write }
     requires current { current.now ≡ system_leaf system.now }
     ensures ok { OnOk result (Leads (H.host host.old) (H.host host.new) (IsSwitched system.now (owed_of plan.now) plan.now.ordered.units)) }
+    ensures quiet { OnOk result (Leads (H.host host.old) (H.host host.new) (IsQuietSwitch system.now)) }
     ensures moments { Passes (H.host host.old) (H.host host.new) (IsSwitchMoment system.now (owed_of plan.now) plan.now.ordered.units) }
     ensures cause { HasCause (H.host host.old) (H.host host.new) result }
 {
@@ -114,6 +120,7 @@ fn carry_switch<H: Manager>(
     requires filled { IsFilled plan.now.write }
     requires current { current.now ≡ system_leaf system.now }
     ensures ok { OnOk result (Leads (H.host host.old) (H.host host.new) (IsSwitched system.now (owed_of plan.now) plan.now.ordered.units)) }
+    ensures quiet { OnOk result (Leads (H.host host.old) (H.host host.new) (IsQuietSwitch system.now)) }
     ensures states { IfOk result (λ outcome. Told (H.host host.new) (λ v. outcome.states ≡ v.manager.states)) }
     ensures failed { IfOk result (λ outcome. IsTrue outcome.failed ↔ HasFailed plan.now.defs outcome.states) }
     ensures moments { Passes (H.host host.old) (H.host host.new) (IsSwitchMoment system.now (owed_of plan.now) plan.now.ordered.units) }
@@ -139,6 +146,7 @@ fn carry_units<H: Manager>(
     requires filled { IsFilled plan.now.write }
     requires current { current.now ≡ system_leaf system.now }
     ensures ok { OnOk result (Leads (H.host host.old) (H.host host.new) (IsSwitchedIf (is_some (option_copied activation.entry)) system.now (owed_of plan.now) plan.now.ordered.units)) }
+    ensures quiet { OnOk result (IsTrue (is_some (option_copied activation.entry)) → Leads (H.host host.old) (H.host host.new) (IsQuietSwitch system.now)) }
     ensures states { IfOk result (λ outcome. IsTrue (is_some (option_copied activation.entry)) → Told (H.host host.new) (λ v. outcome.states ≡ v.manager.states)) }
     ensures failed { IfOk result (λ outcome. IsTrue (is_some (option_copied activation.entry)) → IsTrue outcome.failed ↔ HasFailed plan.now.defs outcome.states) }
     ensures none { is_some (option_copied activation.entry) ≡ false → IfOk result (λ outcome. outcome ≡ record { states = empty; failed = false }) }
@@ -159,6 +167,7 @@ fn clear_back<T: Tree>(
     plan: Option<&BootDefaultPlan>,
 ) -> Result<(), HostFault>
     ensures ok { OnOk result (Leads (T.host host.old) (T.host host.new) (λ w v. v ≡ cleared_by (moves_of (option_copied plan.entry)) w)) }
+    ensures written { OnOk result (Leads (T.host host.old) (T.host host.new) (WritesOnly is_not_quiet)) }
     ensures moments { Passes (T.host host.old) (T.host host.new) (IsClearStep (moves_of (option_copied plan.entry))) }
     ensures cause { HasCause (T.host host.old) (T.host host.new) result }
 {
@@ -176,6 +185,7 @@ fn finish<T: Tree>(
     plan: Option<&BootDefaultPlan>,
 ) -> Result<(), HostFault>
     ensures ok { OnOk result (Leads (T.host host.old) (T.host host.new) (λ w v. v ≡ cleared_by (moves_of (option_copied plan.entry)) w)) }
+    ensures written { OnOk result (Leads (T.host host.old) (T.host host.new) (WritesOnly is_not_quiet)) }
     ensures moments { Passes (T.host host.old) (T.host host.new) (IsClearStep (moves_of (option_copied plan.entry))) }
     ensures cause { HasCause (T.host host.old) (T.host host.new) result }
 {
@@ -195,6 +205,7 @@ fn prepare<T: Tree>(
     requires can { Told (T.host host.old) (λ w. (r : WorldState) → seen r ≡ record_world (moves_of (option_copied plan)) w → CanSetBy system.now (option_copied plan) r) }
     requires sound { (profile : BootDefaultPlan) → option_copied plan ≡ Some profile → IsDefaultFor system.now profile }
     ensures ok { OnOk result (Leads (T.host host.old) (T.host host.new) (IsPrepared (moves_of (option_copied plan.entry)) system.now)) }
+    ensures written { OnOk result (Leads (T.host host.old) (T.host host.new) (WritesOnly is_not_quiet)) }
     ensures moments { Passes (T.host host.old) (T.host host.new) (IsPreparing (moves_of (option_copied plan.entry)) system.now) }
     ensures cause { HasCause (T.host host.old) (T.host host.new) result }
 {
@@ -220,6 +231,7 @@ pub fn carry_out<H: Manager>(alloc: Global, host: &mut H, plan: &Plan) -> Result
     requires sound { IsSound plan.now }
     requires changes { IsQuery plan.now.command → ⊥ }
     ensures ok { OnOk result (Leads (H.host host.old) (H.host host.new) (IsEndOf plan.now.command)) }
+    ensures quiet { OnOk result (Leads (H.host host.old) (H.host host.new) (IsQuietCommand plan.now.command)) }
     ensures states { IfOk result (λ outcome. (IsBoot plan.now.command → ⊥) → Told (H.host host.new) (λ v. outcome.states ≡ v.manager.states)) }
     ensures failed { IfOk result (λ outcome. IsTrue outcome.failed ↔ HasFailed plan.now.units.defs outcome.states) }
     ensures verdict { IfOk result (λ outcome. Told (H.host host.old) (λ w. IsTrue outcome.failed ↔ LeavesFailed plan.now.command w)) }

@@ -20,11 +20,14 @@ use Rattle.switch_engine.specs.Commands.{IsBoot, IsQuery, brought_to, if_so, new
 use Rattle.switch_engine.specs.Final.{AreEntries, AreFinalUnits, IsEndOf, LeavesFailed, LeavesFailedAt}
 use Rattle.switch_engine.specs.Moments as engine
 use Rattle.switch_engine.specs.Plan.{IsPlanOf}
-use Rattle.switch_engine.specs.Rows.{part_of, refusal}
+use Rattle.switch_engine.specs.Quiet.{IsQuietCommand, command_first, is_not_quiet}
+use Rattle.switch_engine.specs.Rows.{final, part_of, refusal}
+use Rattle.switch_engine.proofs.QuietLemmas.{quiet_none}
 use Rattle.switch_parts.specs.declared.plan_fault.PlanFault.{PlanFault}
 use Rattle.switch_parts.specs.declared.plan_fault.PlanFault.TheVariants as plan
 use Rattle.switch_parts.specs.declared.refusal.Refusal.{Refusal}
 use Rattle.switch_parts.specs.Part.{final_leaf}
+use Rattle.tree_put.proofs.WrittenLemmas.{writes_none}
 use Rattle.dry_report.specs.Close.{IsClosing, IsClosingBy, close_of, failed_in}
 use Rattle.dry_report.specs.Report.{IsReport}
 use Rattle.dry_report.proofs.LeftLemmas.{states_close}
@@ -176,6 +179,7 @@ module _ {host : HostState} (plan : Plan) (planned : Told host (λ w. IsPlanOf w
         come = record {
           not_refused = not_refused;
           led = record { to = λ w is. (w, is, query_end plan.command query w) };
+          quiet = record { to = λ w is. (w, is, quiet_none (command_first plan.command) (final plan.command) w w (writes_none is_not_quiet w w refl)) };
           verdict = record { has = λ w is. (λ never. absurd cc, λ left. absurd (query_fails plan.command query w left)) };
           output = told_as report_put (λ w. Puts sink put (IsWhole plan.command w)) (λ w is put. puts_as put (IsWhole plan.command w) (λ more report. query_whole plan.command query w more report));
         };
@@ -256,12 +260,13 @@ module _ {host : HostState} (plan : Plan) (planned : Told host (λ w. IsPlanOf w
             }
 
             -- the command has come to its end
-            pub carried : (failed : Bool) → Told host (λ w. IsTrue failed ↔ LeavesFailed plan.command w) → Puts put closed (λ more. more ≡ text) → put.faults ≤ closed.faults → HasCauseOf host after ⊥ →
+            pub carried : Leads host after (IsQuietCommand plan.command) → (failed : Bool) → Told host (λ w. IsTrue failed ↔ LeavesFailed plan.command w) → Puts put closed (λ more. more ≡ text) → put.faults ≤ closed.faults → HasCauseOf host after ⊥ →
                 IsEnding (Some plan.command) host after sink closed (Ok failed)
-            carried failed verdict whole later cause = record {
+            carried quiet failed verdict whole later cause = record {
               come = record {
                 not_refused = not_refused;
                 led = led;
+                quiet = quiet;
                 verdict = verdict;
                 output = record {
                   has = λ w is. puts_then (report_put.has w is) whole (IsWhole plan.command w) (λ first then report is_then. record {
@@ -291,6 +296,9 @@ module _ {host before : HostState} {F : Type 0} (command : Command) (reads : IsR
     leads : Leads before after (IsEndOf command) → Leads host after (IsEndOf command)
     leads led = leads_then reads.moments.tells led (IsEndOf command) (λ w v u is is_v same end. subst (λ (x : WorldState). IsEndOf command x u) same end)
 
+    quietly : Leads before after (IsQuietCommand command) → Leads host after (IsQuietCommand command)
+    quietly led = leads_then reads.moments.tells led (IsQuietCommand command) (λ w v u is is_v same quiet. subst (λ (x : WorldState). IsQuietCommand command x u) same quiet)
+
     module _ {sink put : SinkState} where
       idle_after : IsIdle before after sink put → IsIdle host after sink put
       idle_after nothing = record { unchanged = same_passes nothing.unchanged; silent = nothing.silent }
@@ -305,7 +313,7 @@ module _ {host before : HostState} {F : Type 0} (command : Command) (reads : IsR
 
   module _ (after : HostState) (sink put : SinkState) where
     come_after : (ending : Result Bool RunFault) → HasCome (Some command) before after sink put ending → HasCome (Some command) host after sink put ending
-    come_after (Ok failed) come = record { not_refused = told come.not_refused; led = leads come.led; verdict = told come.verdict; output = told come.output }
+    come_after (Ok failed) come = record { not_refused = told come.not_refused; led = leads come.led; quiet = quietly come.quiet; verdict = told come.verdict; output = told come.output }
     come_after (Err (Refused why)) come = record { refused = told come.refused; idle = idle_after come.idle }
     come_after (Err (Host why)) come = broken_after come
     come_after (Err Sink) come = record { not_refused = told come.not_refused; output = failed_after come.output }

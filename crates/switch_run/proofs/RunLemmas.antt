@@ -12,6 +12,7 @@ use Rattle.switch_engine.specs.declared.command.Command.TheVariants.{Test, DryAc
 use Rattle.switch_engine.specs.Commands.{IsQuery, lacks_system, new_system}
 use Rattle.switch_engine.specs.Final.{IsEndOf}
 use Rattle.switch_engine.specs.Reboot.{BootsOldOrNew}
+use Rattle.switch_engine.specs.Quiet.{IsQuietCommand}
 use Rattle.switch_engine.specs.Rows.{refusal}
 use Rattle.switch_names.specs.SystemName.{IsSystemPath}
 use Rattle.switch_parts.specs.declared.refusal.Refusal.{Refusal}
@@ -150,6 +151,9 @@ module _ {host_state after : HostState} {sink put : SinkState} (given : Option C
 
   pub ended : IsEnded status → (command : Command) → given ≡ Some command → Leads host_state after (IsEndOf command)
   ended s command some = (done s command some).2.led
+
+  pub quiet : IsEnded status → (command : Command) → given ≡ Some command → Leads host_state after (IsQuietCommand command)
+  quiet s command some = (done s command some).2.quiet
 
   pub verdict : IsEnded status → (command : Command) → given ≡ Some command → Told host_state (λ w. IsVerdict command w status)
   verdict s command some =

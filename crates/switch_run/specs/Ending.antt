@@ -8,6 +8,7 @@ use Rattle.switch_engine.specs.declared.command.Command.{Command}
 use Rattle.switch_engine.specs.declared.plan.Plan.{Plan}
 use Rattle.switch_engine.specs.Final.{IsEndOf, LeavesFailed}
 use Rattle.switch_engine.specs.Plan.{IsPlanOf}
+use Rattle.switch_engine.specs.Quiet.{IsQuietCommand}
 use Rattle.switch_engine.specs.Rows.{refusal}
 use Rattle.switch_parts.specs.declared.refusal.Refusal.{Refusal}
 use Rattle.dry_report.specs.Report.{IsReport}
@@ -16,10 +17,11 @@ use Rattle.switch_run.specs.declared.run_fault.RunFault.TheVariants.{Usage, Refu
 use Rattle.switch_run.specs.Moments.{IsMomentOf}
 use Rattle.switch_run.specs.Output.{IsBrokenOff, IsFailedOutput, IsIdle, IsInReport, IsWhole}
 
--- a command has come to its end, and says whether it left a unit failed
+-- a command has come to its end, has written no leaf that stood, and says whether it left a unit failed
 pub record IsDone (command : Command) (host after : HostState) (sink put : SinkState) (failed : Bool) : Type 0 where
   pub not_refused : Told host (λ w. refusal command w.leaves ≡ None)
   pub led : Leads host after (IsEndOf command)
+  pub quiet : Leads host after (IsQuietCommand command)
   pub verdict : Told host (λ w. IsTrue failed ↔ LeavesFailed command w)
   pub output : Told host (λ w. Puts sink put (IsWhole command w))
 

@@ -11,6 +11,7 @@ ghost use Rattle.switch_engine.specs.Commands.{IsQuery, row};
 ghost use Rattle.switch_engine.specs.Final.{IsEndOf};
 ghost use Rattle.switch_engine.specs.Moments.{IsOnItsWay};
 ghost use Rattle.switch_engine.specs.Owing.{IsOver, IsUnderway};
+ghost use Rattle.switch_engine.specs.Quiet.{IsQuietCommand};
 ghost use Rattle.switch_engine.specs.Reboot.{BootsOldOrNew};
 ghost use Rattle.switch_engine.specs.Rows.{refusal};
 ghost use Rattle.switch_parts.specs.declared.refusal.Refusal.{Refusal};
@@ -87,9 +88,10 @@ pub fn run<H: Manager, S: Sink>(alloc: Global, words: &[Text], host: &mut H, out
     ensures refused_world { (command : Command) (why : Refusal) → command_of words.now ≡ Some command
         → Told (H.host host.old) (λ w. refusal command w.leaves ≡ Some why → IsIdle (H.host host.old) (H.host host.new) (S.sink out.old) (S.sink out.new)) }
 
-    // A run that came to its end has left the final world, has entered exactly what was owed, has put
-    // both texts, and says whether a unit failed that the system defines.
+    // A run that came to its end has left the final world, has written no leaf of /etc and of the accounts that stood, has
+    // entered exactly what was owed, has put both texts, and says whether a unit failed that the system defines.
     ensures ended { IsEnded result → (command : Command) → command_of words.now ≡ Some command → Leads (H.host host.old) (H.host host.new) (IsEndOf command) }
+    ensures quiet { IsEnded result → (command : Command) → command_of words.now ≡ Some command → Leads (H.host host.old) (H.host host.new) (IsQuietCommand command) }
     ensures verdict { IsEnded result → (command : Command) → command_of words.now ≡ Some command → Told (H.host host.old) (λ w. IsVerdict command w result) }
     ensures ended_not_refused { IsEnded result → (command : Command) → command_of words.now ≡ Some command → Told (H.host host.old) (λ w. refusal command w.leaves ≡ None) }
     ensures output { IsEnded result → (command : Command) → command_of words.now ≡ Some command → Told (H.host host.old) (λ w. Puts (S.sink out.old) (S.sink out.new) (IsWhole command w)) }

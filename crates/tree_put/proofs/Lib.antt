@@ -6,3 +6,4 @@ pub mod PutLemmas
 pub mod SequenceLemmas
 pub mod StoreLemmas
 pub mod WayLemmas
+pub mod WrittenLemmas

@@ -28,3 +28,4 @@ pub mod TableLemmas
 pub mod UnderwayLemmas
 pub mod UnitsPartLemmas
 pub mod WaitingLemmas
+pub mod WrittenLemmas

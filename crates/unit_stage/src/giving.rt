@@ -1,11 +1,13 @@
 //! Gives the units what they are owed.
 ghost use Rattle.std.specs.Prelude.{◌≡◌, ◌≢◌, ◌++◌, OnOk};
-ghost use Rattle.host_trait.specs.Host.{Told, Becomes, Comes, Passes, HasCause};
+ghost use Rattle.host_trait.specs.Host.{Told, Leads, Becomes, Comes, Passes, HasCause};
 ghost use Rattle.host_trait.specs.World.{IsFileAt};
 ghost use Rattle.log_text.specs.declared.lists.Which.TheVariants.{Starts};
-ghost use Rattle.owed_log.specs.Places.{log_place};
+ghost use Rattle.owed_log.specs.Places.{is_owed_place, log_place};
 ghost use Rattle.owed_log.specs.Writing.{CanWrite, IsFilled, IsRecordMoment, recorded};
+ghost use Rattle.tree_put.specs.Written.{WritesOnly};
 ghost use Rattle.unit_stage.specs.Acts.{CanPerform, IsPerforming, with_calls};
+ghost use Rattle.unit_stage.specs.Owned.{owns_units};
 ghost use Rattle.unit_stage.specs.Steps.{CanBring, HasLogFor, IsBringMoment, IsClearingMoment, IsGiveMoment, IsListMoment, IsStopMoment, with_all_given, with_brought, with_cleared, with_given, with_stops};
 ghost use Rattle.unit_stage.specs.System.{system_leaf};
 
@@ -24,6 +26,7 @@ fn record_kept<T: Tree>(alloc: Global, host: &mut T, write: &LogWrite) -> Result
     requires can { Told (T.host host.old) (CanWrite write.now) }
     requires filled { IsFilled write.now }
     ensures ok { OnOk result (Comes (T.host host.old) (T.host host.new) (recorded write.now)) }
+    ensures written { OnOk result (Leads (T.host host.old) (T.host host.new) (WritesOnly is_owed_place)) }
     ensures moments { Passes (T.host host.old) (T.host host.new) (IsRecordMoment write.now) }
     ensures cause { HasCause (T.host host.old) (T.host host.new) result }
 {
@@ -58,6 +61,7 @@ pub fn stop_units<H: Manager>(
     requires filled { IsFilled write.now }
     requires calls { Told (H.host host.old) (λ w. CanPerform stops.now w.manager) }
     ensures ok { OnOk result (Comes (H.host host.old) (H.host host.new) (with_stops write.now stops.now)) }
+    ensures written { OnOk result (Leads (H.host host.old) (H.host host.new) (WritesOnly owns_units)) }
     ensures moments { Passes (H.host host.old) (H.host host.new) (IsStopMoment write.now stops.now) }
     ensures cause { HasCause (H.host host.old) (H.host host.new) result }
 {
@@ -138,6 +142,7 @@ pub fn bring_units<H: Manager>(
     requires can { Told (H.host host.old) (CanBring system.now calls.reloads.now calls.restarts.now calls.starts.now) }
     requires current { current.now ≡ system_leaf system.now }
     ensures ok { OnOk result (Comes (H.host host.old) (H.host host.new) (with_brought system.now calls.entry.reloads.now calls.entry.restarts.now calls.entry.starts.now)) }
+    ensures written { OnOk result (Leads (H.host host.old) (H.host host.new) (WritesOnly owns_units)) }
     ensures moments { Passes (H.host host.old) (H.host host.new) (IsBringMoment system.now calls.entry.reloads.now calls.entry.restarts.now calls.entry.starts.now) }
     ensures cause { HasCause (H.host host.old) (H.host host.new) result }
 {

@@ -1,7 +1,7 @@
 use Rattle.std.proofs.Common.{refl, sym, subst, ◌∙◌}
 use Rattle.std.proofs.lemmas.Result.{on_ok_weaker}
 use Rattle.host_trait.proofs.Moments.{started, told_after, told_as}
-use Rattle.switch_parts.proofs.TwoPutsLemmas.{both_led, first_way, second_way}
+use Rattle.switch_parts.proofs.TwoPutsLemmas.{both_led, both_wrote, first_way, second_way}
 use Rattle.tree_put.specs.Sequence.{CanPutAll, IsPutting}
 use Rattle.tree_put.proofs.SequenceLemmas.{putting_none}
 use Rattle.accounts_stage.specs.Files.{names_puts}
@@ -46,6 +46,15 @@ returns-clause-ok g c =
     on_ok_weaker c.put_all.result
     (λ led. both_led (answer_puts c.args.merged.now) first last parts c.put_kept.ensures.moments c.in_ok-put_kept.ensures.ok led)
     c.put_all.ensures.ok
+
+pub returns-clause-written : goal.returns-clause-written
+returns-clause-written g c =
+    let first = c.as_slice.result.now in let last = c.as_slice-2.result.now in
+    let parts = answer_parts c.args.merged.now first last (c.as_slice.ensures ∙ c.in_ok-first.ensures.puts) (c.as_slice-2.ensures ∙ c.in_ok-last.ensures.puts) in
+    let apart = accounts_apart last (subst AreAtAccounts (sym c.as_slice-2.ensures) c.in_ok-last.ensures.places) in
+    on_ok_weaker c.put_all.result
+    (λ wrote. both_wrote (answer_puts c.args.merged.now) first last parts c.put_kept.ensures.moments c.in_ok-put_kept.ensures.ok apart c.in_ok-put_kept.ensures.written wrote)
+    c.put_all.ensures.written
 
 pub returns-clause-moments : goal.returns-clause-moments
 returns-clause-moments g c =

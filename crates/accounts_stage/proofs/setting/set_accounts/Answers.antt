@@ -3,12 +3,17 @@ use Rattle.std.proofs.lemmas.Result.{on_ok_weaker}
 use Rattle.host_trait.specs.World.{seen}
 use Rattle.host_trait.proofs.Moments.{leads_as, passes_as, started, told_as}
 use Rattle.tree_put.specs.declared.leaf_put.LeafPut.{LeafPut}
-use Rattle.tree_put.specs.Sequence.{IsPutting, with_puts}
+use Rattle.switch_parts.specs.Part.{final_leaf}
+use Rattle.switch_parts.specs.Quiet.{IsQuiet}
+use Rattle.tree_put.specs.Sequence.{IsPutting, WritesOthers, with_puts}
 use Rattle.tree_put.specs.WrittenPlace.{in_the_way}
-use Rattle.tree_put.proofs.SequenceLemmas.{putting_none}
+use Rattle.tree_put.proofs.SequenceLemmas.{none_written, putting_none}
+use Rattle.accounts_stage.specs.AccountsPart.{accounts_part}
+use Rattle.accounts_stage.specs.OnTheWay.{names_first}
 use Rattle.accounts_stage.specs.Places.{account_places}
 use Rattle.accounts_stage.specs.Plan.{AreAccountsSet, IsSettingAccounts, puts_of}
 use Rattle.accounts_stage.proofs.PuttingLemmas.{merge_puts, no_puts}
+use Rattle.accounts_stage.proofs.QuietLemmas.{set_quiet}
 use Rattle.accounts_stage.proofs.setting.set_accounts.Goals as goal
 
 pub apply-requires : goal.apply-requires
@@ -35,3 +40,24 @@ returns-in-None-clause-ok g c = record {
 
 pub returns-in-None-clause-moments : goal.returns-in-None-clause-moments
 returns-in-None-clause-moments g c = started (IsSettingAccounts c.args.system.now) (λ w is. putting_none (puts_of c.args.system.now w.leaves) w)
+
+pub returns-in-Some-clause-quiet : goal.returns-in-Some-clause-quiet
+returns-in-Some-clause-quiet g c =
+    let system = c.args.system.now in
+    on_ok_weaker c.apply.result
+    (λ led. leads_as led (IsQuiet (names_first system) (final_leaf (accounts_part system)))
+    (λ w v is wrote. set_quiet system w v
+    (subst (λ (ps : List LeafPut). WritesOthers ps w v) (merge_puts system w.leaves c.args.plan.now (c.requires.has w is).planned c.in-Some.merged c.in-Some.is) wrote)))
+    c.apply.ensures.written
+
+pub returns-in-None-clause-quiet : goal.returns-in-None-clause-quiet
+returns-in-None-clause-quiet g c =
+    let system = c.args.system.now in
+    record {
+      to = λ w is. (
+        w,
+        is,
+        set_quiet system w w
+            (subst (λ (ps : List LeafPut). WritesOthers ps w w) (sym (no_puts system w.leaves c.args.plan.now (c.requires.has w is).planned c.in-None.is)) (none_written w)),
+      );
+    }

@@ -4,6 +4,7 @@ use Rattle.accounts_stage.specs.Plan.{CanSetAccounts}
 use Rattle.activation_stage.specs.ActivationPart.{IsActivated, IsActivating}
 use Rattle.activation_stage.specs.ActivationPart.IsActivating.{Setting}
 use Rattle.activation_stage.proofs.ActivationLemmas.{activated, can_put, can_set, leads_so, making, passes_both}
+use Rattle.activation_stage.proofs.QuietLemmas.{activated_quietly}
 use Rattle.activation_stage.proofs.activating.activate.Goals as goal
 
 pub set_accounts-requires : goal.set_accounts-requires
@@ -32,3 +33,7 @@ pub returns-clause-moments : goal.returns-clause-moments
 returns-clause-moments g c =
     goes_on c.set_accounts.ensures.moments c.in_ok-set_accounts.ensures.ok (passes_both c.put_etc.ensures.moments c.put_etc.ensures.steps) (IsActivating c.args.system.now) (λ w m is setting. Setting setting)
     (λ w u m is at set moment. making c.args.system.now c.path-path.ensures.names c.args.plan.now w (c.requires.has w is) u set m moment.0 moment.1)
+
+pub returns-clause-quiet : goal.returns-clause-quiet
+returns-clause-quiet g c =
+    activated_quietly c.args.system.now c.path-path.ensures.names c.args.plan.now c.requires c.in_ok-set_accounts.ensures.ok c.in_ok-set_accounts.ensures.quiet c.in_ok-put_etc.ensures.quiet

@@ -1,13 +1,17 @@
 use Rattle.std.proofs.Common.{◌≡◌, List, ◌++◌, map, refl, sym, ap, subst, ◌∙◌}
 use Rattle.std.proofs.lemmas.List.{map-append}
 use Rattle.host_trait.specs.World.{seen}
-use Rattle.host_trait.proofs.Moments.{started, told_after, told_as}
+use Rattle.host_trait.proofs.Moments.{leads_then, started, told_after, told_as}
 use Rattle.tree_put.specs.declared.leaf_put.LeafPut.{LeafPut}
 use Rattle.tree_put.specs.Sequence.{ArePutsApart, CanPutAll, IsPutting, with_puts}
+use Rattle.tree_put.specs.Written.{WritesOnly}
 use Rattle.tree_put.proofs.SequenceLemmas.{putting_none}
+use Rattle.tree_put.proofs.WrittenLemmas.{writes_then}
 use Rattle.boot_entries.specs.declared.boot_texts.BootTexts.{BootTexts}
+use Rattle.boot_entries.specs.Places.{owns_boot}
 use Rattle.boot_entries.specs.Steps.{boot_put, boot_puts, loader_files}
-use Rattle.boot_entries.proofs.ApplyLemmas.{can_entries, can_loader, entry_puts_apart, loader_puts_apart}
+use Rattle.boot_entries.proofs.ApplyLemmas.{can_entries, can_loader, entries_places, entry_puts_apart, loader_places, loader_puts_apart}
+use Rattle.boot_entries.proofs.WrittenLemmas.{files_written}
 use Rattle.switch_parts.proofs.TwoPutsLemmas.{both_led, first_way, second_way}
 use Rattle.boot_entries.proofs.applying.put_menu.Goals as goal
 
@@ -73,3 +77,13 @@ returns-clause-ok g c =
     let last = c.as_slice-3.ensures ∙ c.in_ok-loader.ensures in
     let both = parts texts c.as_slice-2.result.now c.as_slice-3.result.now first last in
     both_led (boot_puts texts) c.as_slice-2.result.now c.as_slice-3.result.now both c.put_kept.ensures.moments c.in_ok-put_kept.ensures.ok c.in_ok-put_kept-2.ensures.ok
+
+pub returns-clause-written : goal.returns-clause-written
+returns-clause-written g c =
+    let texts = c.args.texts.now in
+    let first = c.as_slice-2.ensures ∙ c.in_ok-entries.ensures ∙ ap (map boot_put) c.as_slice.ensures in
+    let last = c.as_slice-3.ensures ∙ c.in_ok-loader.ensures in
+    leads_then c.in_ok-put_kept.ensures.written c.in_ok-put_kept-2.ensures.written (WritesOnly owns_boot)
+    (λ w v u is is_v entries loader. writes_then owns_boot w v u
+    (files_written texts.entries c.as_slice-2.result.now w v (entries_places texts.entries c.requires.places) first entries)
+    (files_written (loader_files texts.loader) c.as_slice-3.result.now v u (loader_places texts.loader) last loader))

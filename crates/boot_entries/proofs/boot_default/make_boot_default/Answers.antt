@@ -1,11 +1,16 @@
 use Rattle.std.proofs.Common.{◌≡◌}
+use Rattle.std.proofs.lemmas.Bool.{or_left, or_right}
 use Rattle.generations.specs.Gens.{IsGensOf}
 use Rattle.generations.specs.Move.{move_part}
 use Rattle.switch_parts.specs.Part.{IsFree}
 use Rattle.host_trait.proofs.Moments.{goes_on, leads_then, passes_as, told_after, told_as}
 use Rattle.host_trait.specs.World.{seen}
-use Rattle.boot_entries.specs.BootDefault.{IsMakingDefault, default_end}
+use Rattle.generations.specs.ProfilePart.{owns_profile}
+use Rattle.tree_put.specs.Written.{WritesOnly}
+use Rattle.tree_put.proofs.WrittenLemmas.{writes_then, writes_wider}
+use Rattle.boot_entries.specs.BootDefault.{IsMakingDefault, default_end, owns_default}
 use Rattle.boot_entries.specs.BootDefault.IsMakingDefault.{Moving}
+use Rattle.boot_entries.specs.Places.{owns_boot}
 use Rattle.boot_entries.specs.Steps.{CanApplyBoot}
 use Rattle.boot_entries.proofs.MakeLemmas.{can_apply, can_move, default_made, listing_moment}
 use Rattle.boot_entries.proofs.boot_default.make_boot_default.Goals as goal
@@ -38,3 +43,10 @@ pub returns-clause-moments : goal.returns-clause-moments
 returns-clause-moments g c =
     goes_on c.move_profile.ensures.moments c.in_ok-move_profile.ensures.ok c.apply.ensures.moments (IsMakingDefault c.args.plan.now.to c.args.system.now) (λ w m is moment. Moving moment)
     (λ w u m is at set moment. listing_moment c.args.system.now c.args.plan.now w (c.requires.can.has w is) u set m moment)
+
+pub returns-clause-written : goal.returns-clause-written
+returns-clause-written g c =
+    leads_then c.in_ok-move_profile.ensures.written c.in_ok-apply.ensures.written (WritesOnly owns_default)
+    (λ w u v is at moved made. writes_then owns_default w u v
+    (writes_wider owns_profile owns_default (λ q own. or_left (owns_profile q) (owns_boot q) own) w u moved)
+    (writes_wider owns_boot owns_default (λ q own. or_right (owns_profile q) (owns_boot q) own) u v made))

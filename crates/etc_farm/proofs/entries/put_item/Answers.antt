@@ -1,4 +1,4 @@
-use Rattle.std.proofs.Common.{◌≡◌, refl, sym, subst, ◌∙◌, inl}
+use Rattle.std.proofs.Common.{◌≡◌, ◌∷◌, ◌++◌, [], refl, sym, ap, subst, ◌∙◌, inl}
 use Rattle.std.proofs.lemmas.Result.{on_ok_weaker}
 use Rattle.host_trait.specs.World.{seen, stage, with_leaf}
 use Rattle.host_trait.proofs.Moments.{leads_as, passes_as, started, told_as}
@@ -32,3 +32,9 @@ returns-clause-moments g c =
     passes_as c.put.ensures.moments (IsOldOrNew (place c.args.item.now.place) (leaf_of c.args.item.now.place c.args.item.now.kind))
     (λ w m is moment. let there = subst (λ p. IsOldOrNew p c.in_ok-leaf.leaf w m) c.in_ok-at.ensures moment in
     subst (λ l. IsOldOrNew (place c.args.item.now.place) l w m) c.in_ok-leaf.ensures there)
+
+pub returns-clause-written : goal.returns-clause-written
+returns-clause-written g c =
+    on_ok_weaker c.put.result
+    (λ led. leads_as led (λ w v. v.written ≡ w.written ++ place c.args.item.now.place ∷ []) (λ w v is wrote. wrote ∙ ap (λ p. w.written ++ p ∷ []) c.in_ok-at.ensures))
+    c.put.ensures.written

@@ -5,6 +5,7 @@ use Rattle.etc_farm.specs.FarmPart.{farm_of}
 use Rattle.etc_farm.specs.Making.{IsMaking}
 use Rattle.etc_farm.specs.Making.IsMaking.{Before}
 use Rattle.etc_farm.proofs.MakingLemmas.{begin_steps, can_begin, clear_steps, cleared_can, cleared_standing, end_steps, ended_led, puts_apart}
+use Rattle.etc_farm.proofs.QuietStageLemmas.{quiet_led}
 use Rattle.etc_farm.proofs.farm.apply.Goals as goal
 
 pub put_all-requires-clause-apart : goal.put_all-requires-clause-apart
@@ -49,3 +50,11 @@ pub returns-clause-steps : goal.returns-clause-steps
 returns-clause-steps g c =
     end_steps c.in_ok-prepared.ensures c.requires c.as_slice.ensures c.put_all.ensures.moments c.in_ok-put_all.ensures.ok c.as_slice-2.ensures c.drop_all.ensures.moments c.in_ok-drop_all.ensures.ok
     (c.as_slice-items.ensures ∙ c.items.ensures.items) c.as_slice-blocked.ensures c.finish.ensures.moments
+
+pub returns-clause-quiet : goal.returns-clause-quiet
+returns-clause-quiet g c =
+    on_ok_weaker c.finish.result
+    (λ wrote.
+    quiet_led c.in_ok-prepared.ensures c.as_slice.ensures c.in_ok-put_all.ensures.ok c.in_ok-put_all.ensures.written c.as_slice-2.ensures c.in_ok-drop_all.ensures.ok c.requires
+    (c.as_slice-items.ensures ∙ c.items.ensures.items) c.as_slice-blocked.ensures c.as_slice-standing.ensures wrote)
+    c.finish.ensures.written

@@ -9,6 +9,7 @@ use Rattle.etc_farm.specs.Steps.{puts_but}
 use Rattle.etc_farm.proofs.MakingLemmas.{last_led, last_steps, putting_more}
 use Rattle.etc_farm.proofs.PlaceLemmas.{place_apart}
 use Rattle.etc_farm.proofs.PutLemmas.{can_put_last}
+use Rattle.etc_farm.proofs.WrittenLemmas.{last_wrote}
 use Rattle.etc_farm.proofs.farm.finish.Goals as goal
 
 pub put_entries_kept-requires-clause-can : goal.put_entries_kept-requires-clause-can
@@ -43,3 +44,8 @@ returns-clause-ok g c = last_led (puts_but c.args.blocked.now c.args.items.now) 
 
 pub returns-clause-cause : goal.returns-clause-cause
 returns-clause-cause g c = cause_ok (cause_then c.put_entries_kept.ensures.cause c.put_if_other.ensures.cause) tt
+
+pub returns-clause-written : goal.returns-clause-written
+returns-clause-written g c =
+    last_wrote c.args.items.now c.args.blocked.now c.args.standing.now c.args.list.now c.requires.list _ c.requires.can c.in_ok-put_entries_kept.ensures.ok c.in_ok-put_entries_kept.ensures.written
+    c.in_ok-put_if_other.ensures.put c.in_ok-put_if_other.ensures.written

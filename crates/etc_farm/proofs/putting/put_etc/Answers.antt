@@ -1,12 +1,15 @@
 use Rattle.std.proofs.lemmas.Result.{on_ok_weaker}
 use Rattle.host_trait.proofs.Moments.{leads_as, passes_as, told_as}
-use Rattle.switch_parts.specs.Part.{IsAtEnd, IsMomentOf}
+use Rattle.switch_parts.specs.Part.{IsAtEnd, IsMomentOf, final_leaf}
+use Rattle.switch_parts.specs.Quiet.{IsQuiet}
 use Rattle.std.proofs.Common.{sym, ap, subst, List}
 use Rattle.etc_manifest.specs.declared.item.Item.{Item}
 use Rattle.etc_farm.specs.Making.{IsMaking, IsMakingEtc}
 use Rattle.etc_farm.specs.EtcPart.{etc_part, items_in}
 use Rattle.etc_farm.specs.FarmPart.{CanApply, farm_of}
 use Rattle.etc_farm.proofs.EtcLemmas.{can_apply, end_as, making_as}
+use Rattle.etc_farm.specs.Written.{clean_first}
+use Rattle.etc_farm.proofs.QuietStageLemmas.{quiet_etc}
 use Rattle.etc_farm.proofs.putting.put_etc.Goals as goal
 
 pub apply-requires : goal.apply-requires
@@ -30,3 +33,10 @@ pub returns-clause-steps : goal.returns-clause-steps
 returns-clause-steps g c =
     passes_as c.apply.ensures.steps (IsMakingEtc c.args.system.now c.args.plan.now.owners)
     (λ w m is step. subst (λ (items : List Item). IsMaking (farm_of c.args.system.now items) w m) (sym (ap items_in (c.requires.has w is).planned.wanted)) step)
+
+pub returns-clause-quiet : goal.returns-clause-quiet
+returns-clause-quiet g c =
+    on_ok_weaker c.apply.result
+    (λ led. leads_as led (IsQuiet (clean_first c.args.system.now c.args.plan.now.owners) (final_leaf (etc_part c.args.system.now c.args.plan.now.owners)))
+    (λ w v is quiet. quiet_etc c.args.system.now c.args.plan.now w (c.requires.has w is) v quiet))
+    c.apply.ensures.quiet

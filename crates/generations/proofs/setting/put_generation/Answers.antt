@@ -1,12 +1,16 @@
-use Rattle.std.proofs.Common.{◌≡◌, refl, sym, ap, subst, ◌∙◌, inl}
+use Rattle.std.proofs.Common.{◌≡◌, true, refl, sym, ap, subst, ◌∙◌, inl}
 use Rattle.std.proofs.lemmas.Result.{on_ok_weaker}
 use Rattle.host_trait.specs.World.{seen, stage}
 use Rattle.host_trait.proofs.Moments.{started, passes_as, leads_as, told_as}
 use Rattle.tree_put.specs.Put.{AreApart, CanPut}
+use Rattle.tree_put.specs.Written.{WritesOnly}
+use Rattle.tree_put.proofs.WrittenLemmas.{writes_none, writes_one}
 use Rattle.generations.specs.Places.{number_after}
+use Rattle.generations.specs.ProfilePart.{owns_profile}
 use Rattle.generations.specs.Set.{IsLinkMoment, link_end}
 use Rattle.generations.proofs.Apart.{link_apart}
 use Rattle.generations.proofs.Numbers.{highest_of_world, number_of_world}
+use Rattle.generations.proofs.ProfileApart.{link_owned}
 use Rattle.generations.proofs.SetLemmas.{kept_generation, can_put_link, link_moment, link_world}
 use Rattle.generations.proofs.setting.put_generation.Goals as goal
 
@@ -44,3 +48,11 @@ returns-clause-moments g c = passes_as c.put.ensures.moments (IsLinkMoment c.arg
     link_moment c.args.system.now c.args.number c.in_ok-at.at c.in_ok-link.link w m c.in_ok-at.ensures c.in_ok-link.ensures
     (number_of_world w.leaves c.args.gens.now c.args.system.now c.args.number (c.requires.gens.has w is) c.requires.number)
     (sym (highest_of_world w.leaves c.args.gens.now c.args.system.now (c.requires.gens.has w is)) ∙ sym c.is_highest_of.ensures ∙ c.if-is_highest_of.false) moment)
+
+pub returns-then-is_highest_of-clause-written : goal.returns-then-is_highest_of-clause-written
+returns-then-is_highest_of-clause-written g c = (started (WritesOnly owns_profile) (λ w is. writes_none owns_profile w w refl)).tells
+
+pub returns-clause-written : goal.returns-clause-written
+returns-clause-written g c =
+    on_ok_weaker c.put.result (λ led. leads_as led (WritesOnly owns_profile)
+    (λ w v is new. writes_one owns_profile c.in_ok-at.at w v (subst (λ p. owns_profile p ≡ true) (sym c.in_ok-at.ensures) (link_owned c.args.number)) new)) c.put.ensures.written

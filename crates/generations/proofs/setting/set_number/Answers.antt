@@ -2,7 +2,10 @@ use Rattle.std.proofs.Common.{◌≡◌}
 use Rattle.host_trait.specs.World.{seen}
 use Rattle.host_trait.proofs.Moments.{passes_as, goes_on, leads_then, told_after}
 use Rattle.tree_put.specs.Put.{CanPut}
+use Rattle.tree_put.specs.Written.{WritesOnly}
+use Rattle.tree_put.proofs.WrittenLemmas.{writes_then}
 use Rattle.generations.specs.Places.{profile, set_end}
+use Rattle.generations.specs.ProfilePart.{owns_profile}
 use Rattle.generations.specs.Set.{IsSetMoment}
 use Rattle.generations.proofs.Numbers.{number_of_world}
 use Rattle.generations.proofs.SetLemmas.{can_point, link_is_set, profile_moment, profile_world}
@@ -49,3 +52,8 @@ returns-clause-moments g c =
 
 pub returns-clause-cause : goal.returns-clause-cause
 returns-clause-cause g c = cause_ok (cause_then c.put_generation.ensures.cause c.point.ensures.cause) tt
+
+pub returns-clause-written : goal.returns-clause-written
+returns-clause-written g c =
+    leads_then c.in_ok-put_generation.ensures.written c.in_ok-point.ensures.written (WritesOnly owns_profile)
+    (λ w v u is is_v linked pointed. writes_then owns_profile w v u linked pointed)

@@ -6,7 +6,9 @@ use Rattle.tree_put.proofs.SequenceLemmas.{seen_without_places}
 use Rattle.switch_names.specs.Names.{Name}
 use Rattle.owed_log.specs.declared.log_write.LogWrite.{LogWrite}
 use Rattle.owed_log.specs.declared.log_write.LogWrite.TheVariants.{Append, Nothing, Put}
-use Rattle.owed_log.specs.Places.{old_places}
+use Rattle.tree_put.specs.Written.{WritesOnly}
+use Rattle.owed_log.specs.Places.{is_owed_place, old_places}
+use Rattle.owed_log.proofs.WrittenLemmas.{then_old_written}
 use Rattle.owed_log.specs.Writing.{IsRecordMoment, IsWriting, recorded, with_write}
 use Rattle.owed_log.proofs.recording.record.Goals as goal
 
@@ -41,3 +43,8 @@ returns-clause-ok g c =
     leads_then c.in_ok-write_log.ensures.ok c.in_ok-drop_all.ensures.ok (λ w v. seen v ≡ seen (recorded c.args.write.now w))
     (λ w v u is is_v came gone.
     ap seen (gone ∙ ap (λ (l : List Name). without_places l v) (c.as_slice.ensures ∙ c.in_ok-places.ensures)) ∙ seen_without_places old_places v (with_write c.args.write.now w) came)
+
+pub returns-clause-written : goal.returns-clause-written
+returns-clause-written g c =
+    leads_then c.in_ok-write_log.ensures.written c.in_ok-drop_all.ensures.ok (WritesOnly is_owed_place)
+    (λ w v u is is_v before gone. then_old_written c.as_slice.result.now w v u (c.as_slice.ensures ∙ c.in_ok-places.ensures) before gone)

@@ -3,8 +3,9 @@ use Rattle.host_trait.specs.Change.{Change, IsMoment, finished}
 use Rattle.host_trait.specs.World.{IsFileAt, seen, with_leaf}
 use Rattle.host_trait.proofs.Moments.{leads_as, passes_as, started, told_as}
 use Rattle.tree_put.specs.Put.{CanPut, IsOldOrNew}
+use Rattle.tree_put.proofs.WrittenLemmas.{writes_none}
 use Rattle.owed_log.specs.declared.log_write.LogWrite.{LogWrite}
-use Rattle.owed_log.specs.Places.{log_place}
+use Rattle.owed_log.specs.Places.{is_owed_place, log_place}
 use Rattle.owed_log.specs.Writing.{CanWrite, IsFilled, IsWriting, log_leaf, with_write}
 use Rattle.owed_log.proofs.recording.write_log.Goals as goal
 
@@ -52,3 +53,6 @@ pub returns-in_ok-put_text-in-Put-clause-ok : goal.returns-in_ok-put_text-in-Put
 returns-in_ok-put_text-in-Put-clause-ok g c =
     leads_as c.in_ok-put_text-in-Put.ensures.ok (λ w v. seen v ≡ seen (with_write c.args.write.now w))
     (λ w v is new. new ∙ ap (λ t. seen (with_leaf log_place (log_leaf t) w)) c.as_slice-in-Put.ensures ∙ ap (λ (x : LogWrite). seen (with_write x w)) (sym c.in-Put.is))
+
+pub returns-in-Nothing-clause-written : goal.returns-in-Nothing-clause-written
+returns-in-Nothing-clause-written g c = record { to = λ w is. (w, is, writes_none is_owed_place w w refl) }

@@ -10,7 +10,8 @@ use Rattle.owed_log.specs.Writing.{IsFilled}
 use Rattle.switch_engine.specs.Carried.{CanRecordBy, CanSetBy, CanSwitchBy, IsPrepared, IsPreparing, IsSwitchMomentIf, IsSwitchedIf, cleared_by, moves_of}
 use Rattle.switch_engine.specs.Final.{HasFailed}
 use Rattle.switch_engine.specs.Moments.{IsClearStep, record_world}
-use Rattle.switch_engine.proofs.WayOfCommand.{all_moments, begins, comes_to_end, failed_of, prepare_moments, profile_can, record_can, states_of, switch_moments, units_can, verdict_of}
+use Rattle.switch_engine.specs.Quiet.{IsQuietSwitch}
+use Rattle.switch_engine.proofs.WayOfCommand.{comes_quietly, all_moments, begins, comes_to_end, failed_of, prepare_moments, profile_can, record_can, states_of, switch_moments, units_can, verdict_of}
 use Rattle.switch_names.specs.Names.{Name}
 use Rattle.unit_stage.specs.declared.unit_plan.UnitPlan.{UnitPlan}
 use Rattle.unit_stage.specs.Plan.{owed_of}
@@ -143,3 +144,20 @@ returns-clause-failed g c =
     failed_of (is_some (option_copied c.activation-activation.result)) c.args.plan.now.units.defs (Ok c.in_ok-outcome.outcome)
     (subst (λ (units : UnitPlan). IsTrue (is_some (option_copied c.activation-activation.result)) → IsTrue c.in_ok-outcome.outcome.failed ↔ HasFailed units.defs c.in_ok-outcome.outcome.states) c.units.ensures c.in_ok-outcome.ensures.failed)
     c.in_ok-outcome.ensures.none
+
+pub returns-clause-quiet : goal.returns-clause-quiet
+returns-clause-quiet g c =
+    let host = g.H.Tree.host c.args.host.now in let then = g.H.Tree.host c.prepare.new.host in
+    comes_quietly c.args.plan.now c.requires.changes c.requires.planned c.to-2.result.now c.to-2.ensures
+    (subst (λ (o : Option BootDefaultPlan). Passes host then (IsPreparing (moves_of o) c.to-2.result.now)) c.profile.ensures c.prepare.ensures.moments)
+    (subst (λ (o : Option BootDefaultPlan). Leads host then (IsPrepared (moves_of o) c.to-2.result.now)) c.profile.ensures c.in_ok-prepare.ensures.ok)
+    c.to-3.result.now c.to-3.ensures
+    (subst (λ (o : Option ActivationPlan). Passes then (g.H.Tree.host c.carry_units.new.host) (IsSwitchMomentIf (is_some o) c.to-3.result.now (owed_of c.args.plan.now.units) c.args.plan.now.units.ordered.units)) c.activation-activation.ensures
+    (subst (λ (units : UnitPlan). Passes then (g.H.Tree.host c.carry_units.new.host) (IsSwitchMomentIf (is_some (option_copied c.activation-activation.result)) c.to-3.result.now (owed_of units) units.ordered.units)) c.units.ensures c.carry_units.ensures.moments))
+    (subst (λ (o : Option ActivationPlan). Leads then (g.H.Tree.host c.carry_units.new.host) (IsSwitchedIf (is_some o) c.to-3.result.now (owed_of c.args.plan.now.units) c.args.plan.now.units.ordered.units)) c.activation-activation.ensures
+    (subst (λ (units : UnitPlan). Leads then (g.H.Tree.host c.carry_units.new.host) (IsSwitchedIf (is_some (option_copied c.activation-activation.result)) c.to-3.result.now (owed_of units) units.ordered.units)) c.units.ensures c.in_ok-outcome.ensures.ok))
+    (subst (λ (o : Option BootDefaultPlan). Passes (g.H.Tree.host c.carry_units.new.host) (g.H.Tree.host c.finish.new.host) (IsClearStep (moves_of o))) c.profile-2.ensures c.finish.ensures.moments)
+    (subst (λ (o : Option BootDefaultPlan). Leads (g.H.Tree.host c.carry_units.new.host) (g.H.Tree.host c.finish.new.host) (λ v x. x ≡ cleared_by (moves_of o) v)) c.profile-2.ensures c.in_ok-finish.ensures.ok)
+    c.in_ok-prepare.ensures.written
+    (subst (λ (o : Option ActivationPlan). IsTrue (is_some o) → Leads then (g.H.Tree.host c.carry_units.new.host) (IsQuietSwitch c.to-3.result.now)) c.activation-activation.ensures c.in_ok-outcome.ensures.quiet)
+    c.in_ok-finish.ensures.written

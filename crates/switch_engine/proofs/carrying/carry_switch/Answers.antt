@@ -7,6 +7,7 @@ use Rattle.host_trait.proofs.Causes.{cause_on}
 use Rattle.host_trait.proofs.Moments.{goes_on_same, leads_then, told_after}
 use Rattle.switch_engine.specs.Final.{HasFailed}
 use Rattle.switch_engine.specs.Moments.{IsSwitched}
+use Rattle.switch_engine.specs.Quiet.{IsQuietSwitch}
 use Rattle.unit_defs.specs.declared.unit.Unit.{Unit}
 use Rattle.switch_parts.proofs.Faults.{handed}
 use Rattle.unit_stage.proofs.CauseLemmas.{cause_end}
@@ -45,3 +46,8 @@ returns-in_err-states-clause-cause g c =
 
 pub returns-clause-cause : goal.returns-clause-cause
 returns-clause-cause g c = cause_end c.switch_units.ensures.cause c.units.ensures.reads.cause
+
+pub returns-clause-quiet : goal.returns-clause-quiet
+returns-clause-quiet g c =
+    leads_then c.in_ok-switch_units.ensures.quiet c.units.ensures.reads.moments.tells (IsQuietSwitch c.args.system.now)
+    (λ w v u is is_v quiet same. subst (λ (x : WorldState). IsQuietSwitch c.args.system.now w x) (sym same) quiet)

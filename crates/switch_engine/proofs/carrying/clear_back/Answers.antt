@@ -3,13 +3,18 @@ use Rattle.std.specs.Option.{option_copied}
 use Rattle.std.proofs.lemmas.Result.{on_ok_weaker}
 use Rattle.generations.specs.declared.moving.Move.{Move}
 use Rattle.generations.specs.Goal.{goal_place}
+use Rattle.generations.specs.GoalPart.{owns_goal}
 use Rattle.host_trait.specs.Host.{Leads}
-use Rattle.host_trait.specs.World.{without_leaf}
+use Rattle.host_trait.specs.World.{WorldState, without_leaf}
 use Rattle.host_trait.proofs.Moments.{leads_then, passes_as, same_then, started}
 use Rattle.switch_engine.specs.Carried.{cleared_by, moves_of}
 use Rattle.switch_engine.specs.Moments.{IsClearStep}
 use Rattle.switch_engine.proofs.CarryLemmas.{clear_begins}
 use Rattle.switch_names.proofs.Outcomes.{none_left}
+use Rattle.tree_put.specs.Written.{WritesOnly}
+use Rattle.tree_put.proofs.WrittenLemmas.{writes_wider}
+use Rattle.switch_engine.specs.Quiet.{is_not_quiet}
+use Rattle.switch_engine.proofs.MovedQuiet.{goal_not_quiet, led_nowhere}
 use Rattle.switch_engine.proofs.carrying.clear_back.Goals as goal
 
 pub returns-in_default-clause-ok : goal.returns-in_default-clause-ok
@@ -37,3 +42,13 @@ returns-clause-moments g c =
     same_then c.sync.ensures.reads.moments c.clear_goal.ensures.moments (IsClearStep (moves_of (option_copied c.args.plan)))
     (λ w is. clear_begins (moves_of (option_copied c.args.plan)) w w refl)
     (λ w m is moment. subst (λ (moves : Option Move). IsClearStep moves w m) (sym (ap (λ o. moves_of (option_copied o)) c.in-Some.is)) moment)
+
+pub returns-in_default-clause-written : goal.returns-in_default-clause-written
+returns-in_default-clause-written g c = led_nowhere
+
+pub returns-clause-written : goal.returns-clause-written
+returns-clause-written g c =
+    on_ok_weaker c.clear_goal.result
+    (λ led. leads_then c.sync.ensures.reads.moments.tells led (WritesOnly is_not_quiet)
+    (λ w v u is is_v same gone. subst (λ (x : WorldState). WritesOnly is_not_quiet x u) same (writes_wider owns_goal is_not_quiet goal_not_quiet v u gone)))
+    c.clear_goal.ensures.written

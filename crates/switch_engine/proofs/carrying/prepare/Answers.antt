@@ -2,6 +2,9 @@ use Rattle.std.specs.Option.{option_copied}
 use Rattle.host_trait.proofs.Moments.{goes_on, leads_then, passes_as}
 use Rattle.switch_engine.specs.Carried.{IsPrepared, IsPreparing, moves_of}
 use Rattle.switch_engine.specs.Carried.IsPreparing.{Recording, Setting}
+use Rattle.tree_put.specs.Written.{WritesOnly}
+use Rattle.tree_put.proofs.WrittenLemmas.{writes_then}
+use Rattle.switch_engine.specs.Quiet.{is_not_quiet}
 use Rattle.switch_engine.proofs.carrying.prepare.Goals as goal
 
 pub returns-in_err-record_back-clause-moments : goal.returns-in_err-record_back-clause-moments
@@ -21,3 +24,8 @@ pub returns-clause-moments : goal.returns-clause-moments
 returns-clause-moments g c =
     goes_on c.record_back.ensures.moments c.in_ok-record_back.ensures.ok c.set_profile.ensures.moments (IsPreparing (moves_of (option_copied c.args.plan)) c.args.system.now)
     (λ w m is step. Recording step) (λ w r m is is_r recorded step. Setting r recorded step)
+
+pub returns-clause-written : goal.returns-clause-written
+returns-clause-written g c =
+    leads_then c.in_ok-record_back.ensures.written c.in_ok-set_profile.ensures.written (WritesOnly is_not_quiet)
+    (λ w r u is is_r recorded set. writes_then is_not_quiet w r u recorded set)

@@ -7,6 +7,7 @@ use Rattle.host_trait.proofs.Moments.{started}
 use Rattle.switch_engine.specs.Carried.{CanRecordBy, moves_of}
 use Rattle.switch_engine.specs.Moments.{IsRecordStep, record_world}
 use Rattle.switch_names.proofs.Outcomes.{none_left}
+use Rattle.switch_engine.proofs.MovedQuiet.{led_nowhere}
 use Rattle.switch_engine.proofs.carrying.record_back.Goals as goal
 
 pub returns-in_default-clause-ok : goal.returns-in_default-clause-ok
@@ -42,3 +43,9 @@ pub returns-in-Point-clause-moments : goal.returns-in-Point-clause-moments
 returns-in-Point-clause-moments g c =
     subst (λ (moves : Option Move). Passes (g.T.Tree.host c.args.host.now) (g.T.Tree.host c.record_kept.new.host) (IsRecordStep moves))
     (sym (ap (λ o. moves_of (option_copied o)) c.in-Some.is ∙ ap Some c.in-Point.is)) c.record_kept.ensures.moments
+
+pub returns-in_default-clause-written : goal.returns-in_default-clause-written
+returns-in_default-clause-written g c = led_nowhere
+
+pub returns-in-Set-clause-written : goal.returns-in-Set-clause-written
+returns-in-Set-clause-written g c = led_nowhere

@@ -1,12 +1,18 @@
 use Rattle.std.proofs.Common.{◌≡◌, None, Option, OnOk, refl, sym, ap, subst}
+use Rattle.std.proofs.lemmas.Result.{on_ok_weaker}
 use Rattle.std.specs.Option.{option_copied}
+use Rattle.boot_entries.specs.BootDefault.{owns_default}
 use Rattle.boot_entries.specs.declared.boot_default.BootDefaultPlan.{BootDefaultPlan}
 use Rattle.host_trait.specs.Host.{Leads, Passes, Told}
 use Rattle.host_trait.specs.World.{seen}
-use Rattle.host_trait.proofs.Moments.{started}
+use Rattle.host_trait.proofs.Moments.{leads_as, started}
 use Rattle.switch_engine.specs.Carried.{CanSetBy, moves_of}
 use Rattle.switch_engine.specs.Moments.{IsSetStep, set_world}
 use Rattle.generations.specs.declared.moving.Move.{Move}
+use Rattle.tree_put.specs.Written.{WritesOnly}
+use Rattle.tree_put.proofs.WrittenLemmas.{writes_wider}
+use Rattle.switch_engine.specs.Quiet.{is_not_quiet}
+use Rattle.switch_engine.proofs.MovedQuiet.{default_not_quiet, led_nowhere}
 use Rattle.switch_engine.proofs.carrying.set_profile.Goals as goal
 
 pub make_boot_default-requires-clause-sound : goal.make_boot_default-requires-clause-sound
@@ -35,3 +41,12 @@ pub returns-in-None-clause-moments : goal.returns-in-None-clause-moments
 returns-in-None-clause-moments g c =
     subst (λ (moves : Option Move). Passes (g.T.Tree.host c.args.host.now) (g.T.Tree.host c.args.host.now) (IsSetStep moves c.args.system.now))
     (sym (ap moves_of (ap option_copied c.in-None.is))) (started (IsSetStep None c.args.system.now) (λ w is. refl))
+
+pub returns-in-Some-clause-written : goal.returns-in-Some-clause-written
+returns-in-Some-clause-written g c =
+    on_ok_weaker c.make_boot_default.result
+    (λ led. leads_as led (WritesOnly is_not_quiet) (λ w v is made. writes_wider owns_default is_not_quiet default_not_quiet w v made))
+    c.make_boot_default.ensures.written
+
+pub returns-in-None-clause-written : goal.returns-in-None-clause-written
+returns-in-None-clause-written g c = led_nowhere

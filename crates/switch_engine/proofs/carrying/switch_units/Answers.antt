@@ -4,7 +4,7 @@ use Rattle.std.proofs.lemmas.Result.{err_from_is_err_and}
 use Rattle.host_trait.proofs.Causes.{cause_on, cause_then}
 use Rattle.switch_parts.proofs.Faults.{handed}
 use Rattle.unit_stage.proofs.CauseLemmas.{cause_end}
-use Rattle.switch_engine.proofs.WayOfSwitch.{activation_can, ends, first_way, second_way, stops_can, third_way, units_can, write_can}
+use Rattle.switch_engine.proofs.WayOfSwitch.{activation_can, ends, ends_quietly, first_way, second_way, stops_can, third_way, units_can, write_can}
 use Rattle.switch_engine.proofs.carrying.switch_units.Goals as goal
 
 pub stop_units-requires-clause-can : goal.stop_units-requires-clause-can
@@ -67,3 +67,9 @@ returns-in_err-bring_units-clause-cause g c =
 
 pub returns-clause-cause : goal.returns-clause-cause
 returns-clause-cause g c = cause_end (cause_then c.stop_units.ensures.cause c.activate.ensures.cause) c.bring_units.ensures.cause
+
+pub returns-clause-quiet : goal.returns-clause-quiet
+returns-clause-quiet g c =
+    let calls = c.calls_of-calls.result in
+    ends_quietly c.args.system.now c.args.plan.now c.args.activation.now c.write.result.now calls.stops.now calls.reloads.now calls.restarts.now calls.starts.now c.write.ensures c.calls_of-calls.ensures c.requires.can c.stop_units.ensures.moments c.in_ok-stop_units.ensures.ok c.activate.ensures.moments c.in_ok-activate.ensures.ok
+    c.in_ok-bring_units.ensures.ok c.in_ok-stop_units.ensures.written c.in_ok-activate.ensures.quiet c.in_ok-bring_units.ensures.written

@@ -32,4 +32,4 @@ pub returns : goal.returns
 returns g c =
     carried c.args.plan.now c.requires.planned c.in_ok-put_report.ensures.output (sink_as c.put_report.ensures.cause ⊥ (λ none. absurd none))
     (changing c.is_query.ensures c.command.ensures c.if-is_query.false) c.carry_out.ensures.moments c.in_ok-outcome.ensures.ok c.in_ok-outcome.outcome.states c.in_ok-outcome.ensures.states
-    c.in_ok-outcome.outcome.failed c.in_ok-outcome.ensures.verdict c.in_ok-close.ensures.ok c.close.ensures.cause.later (without_fault c.carry_out.ensures.cause)
+    c.in_ok-outcome.ensures.quiet c.in_ok-outcome.outcome.failed c.in_ok-outcome.ensures.verdict c.in_ok-close.ensures.ok c.close.ensures.cause.later (without_fault c.carry_out.ensures.cause)

@@ -4,11 +4,14 @@ use Rattle.host_trait.specs.World.{seen}
 use Rattle.host_trait.proofs.Causes.{cause_on}
 use Rattle.host_trait.proofs.Moments.{goes_on, leads_then, passes_as, told_after, told_as}
 use Rattle.unit_stage.specs.Acts.{CanPerform}
+use Rattle.tree_put.specs.Written.{WritesOnly}
+use Rattle.unit_stage.specs.Owned.{owns_units}
 use Rattle.unit_stage.specs.Steps.{CanLoad, HasLogFor, IsBringMoment, with_brought, with_loaded}
 use Rattle.switch_parts.proofs.Faults.{handed}
 use Rattle.unit_stage.proofs.CauseLemmas.{cause_end}
 use Rattle.unit_stage.proofs.StandLemmas.{loaded_log}
 use Rattle.unit_stage.proofs.StepLemmas.{brought_world, giving_brings, loading_brings, log_as, manager_seen}
+use Rattle.unit_stage.proofs.WrittenLemmas.{then_given}
 use Rattle.unit_stage.proofs.giving.bring_units.Goals as goal
 
 pub load_system-requires-clause-can : goal.load_system-requires-clause-can
@@ -65,3 +68,9 @@ returns-in_err-give_all-clause-cause g c =
 
 pub returns-clause-cause : goal.returns-clause-cause
 returns-clause-cause g c = cause_end c.load_system.ensures.cause c.give_all.ensures.cause
+
+pub returns-clause-written : goal.returns-clause-written
+returns-clause-written g c =
+    let calls = c.args.calls in
+    leads_then c.in_ok-load_system.ensures.written c.in_ok-give_all.ensures.ok (WritesOnly owns_units)
+    (λ w v u is is_v writes made. then_given calls.reloads.now calls.restarts.now calls.starts.now w v u writes made)

@@ -3,7 +3,10 @@ use Rattle.std.proofs.lemmas.Result.{err_from_is_err_and}
 use Rattle.host_trait.specs.World.{seen}
 use Rattle.host_trait.proofs.Causes.{cause_on}
 use Rattle.host_trait.proofs.Moments.{goes_on_same, leads_then}
+use Rattle.owed_log.specs.Places.{is_owed_place}
 use Rattle.owed_log.specs.Writing.{IsRecordMoment, recorded}
+use Rattle.tree_put.specs.Written.{WritesOnly}
+use Rattle.tree_put.proofs.WrittenLemmas.{writes_none, writes_then}
 use Rattle.switch_parts.proofs.Faults.{handed}
 use Rattle.unit_stage.proofs.CauseLemmas.{cause_end}
 use Rattle.unit_stage.proofs.giving.record_kept.Goals as goal
@@ -29,3 +32,8 @@ returns-clause-moments g c =
 
 pub returns-clause-cause : goal.returns-clause-cause
 returns-clause-cause g c = cause_end c.record.ensures.cause c.sync.ensures.reads.cause
+
+pub returns-clause-written : goal.returns-clause-written
+returns-clause-written g c =
+    leads_then c.in_ok-record.ensures.written c.sync.ensures.reads.moments.tells (WritesOnly is_owed_place)
+    (λ w v u is is_v writes same. writes_then is_owed_place w v u writes (writes_none is_owed_place v u same))

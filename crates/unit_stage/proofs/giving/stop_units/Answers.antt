@@ -4,10 +4,13 @@ use Rattle.host_trait.specs.World.{seen}
 use Rattle.host_trait.proofs.Causes.{cause_on}
 use Rattle.host_trait.proofs.Moments.{goes_on, leads_then, passes_as}
 use Rattle.owed_log.specs.Writing.{recorded}
+use Rattle.tree_put.specs.Written.{WritesOnly}
+use Rattle.unit_stage.specs.Owned.{owns_units}
 use Rattle.unit_stage.specs.Steps.{IsStopMoment, with_stops}
 use Rattle.switch_parts.proofs.Faults.{handed}
 use Rattle.unit_stage.proofs.CauseLemmas.{cause_end}
 use Rattle.unit_stage.proofs.StepLemmas.{recording, seen_with_calls, stopping}
+use Rattle.unit_stage.proofs.WrittenLemmas.{owed_written, then_called}
 use Rattle.unit_stage.proofs.giving.stop_units.Goals as goal
 
 pub returns-in_err-record_kept-clause-moments : goal.returns-in_err-record_kept-clause-moments
@@ -40,3 +43,8 @@ returns-in_err-call_units-clause-cause g c =
 
 pub returns-clause-cause : goal.returns-clause-cause
 returns-clause-cause g c = cause_end c.record_kept.ensures.cause c.call_units.ensures.cause
+
+pub returns-clause-written : goal.returns-clause-written
+returns-clause-written g c =
+    leads_then c.in_ok-record_kept.ensures.written c.in_ok-call_units.ensures.ok (WritesOnly owns_units)
+    (λ w v u is is_v writes made. then_called c.args.stops.now w v u (owed_written w v writes) made)

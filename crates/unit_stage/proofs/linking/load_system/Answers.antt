@@ -4,11 +4,14 @@ use Rattle.host_trait.specs.World.{seen, with_leaf}
 use Rattle.host_trait.proofs.Causes.{cause_on}
 use Rattle.host_trait.proofs.Moments.{goes_on, leads_then, passes_as, told_as}
 use Rattle.tree_put.specs.Put.{CanPut}
+use Rattle.tree_put.specs.Written.{WritesOnly}
+use Rattle.unit_stage.specs.Owned.{owns_units}
 use Rattle.unit_stage.specs.Steps.{IsLoadMoment, with_loaded}
 use Rattle.unit_stage.specs.System.{current_place}
 use Rattle.switch_parts.proofs.Faults.{handed}
 use Rattle.unit_stage.proofs.CauseLemmas.{cause_end}
 use Rattle.unit_stage.proofs.StepLemmas.{linking, loaded_world, loads}
+use Rattle.unit_stage.proofs.WrittenLemmas.{then_reloaded}
 use Rattle.unit_stage.proofs.linking.load_system.Goals as goal
 
 pub put_current-requires : goal.put_current-requires
@@ -43,3 +46,8 @@ returns-in_err-daemon_reload-clause-cause g c =
 
 pub returns-clause-cause : goal.returns-clause-cause
 returns-clause-cause g c = cause_end c.put_current.ensures.cause c.daemon_reload.ensures.cause
+
+pub returns-clause-written : goal.returns-clause-written
+returns-clause-written g c =
+    leads_then c.in_ok-put_current.ensures.written c.in_ok-daemon_reload.ensures.ok (WritesOnly owns_units)
+    (λ w v u is is_v writes done. then_reloaded w v u writes done)

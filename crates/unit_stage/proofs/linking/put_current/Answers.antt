@@ -1,10 +1,13 @@
-use Rattle.std.proofs.Common.{◌≡◌, refl, sym, ap, subst, ◌∙◌, inl}
+use Rattle.std.proofs.Common.{◌≡◌, ◌∷◌, ◌++◌, [], refl, sym, ap, subst, ◌∙◌, inl}
 use Rattle.host_trait.specs.Host.{Comes, Passes}
-use Rattle.host_trait.specs.World.{seen, stage, with_leaf}
+use Rattle.host_trait.specs.World.{WorldState, seen, stage, with_leaf}
 use Rattle.host_trait.proofs.Moments.{leads_then, same_as, same_then, started}
 use Rattle.tree_put.specs.Put.{AreApart, IsOldOrNew}
+use Rattle.tree_put.specs.Written.{WritesOnly}
+use Rattle.unit_stage.specs.Owned.{owns_units}
 use Rattle.unit_stage.specs.System.{current_place}
 use Rattle.unit_stage.proofs.StepLemmas.{current_apart}
+use Rattle.unit_stage.proofs.WrittenLemmas.{current_written}
 use Rattle.unit_stage.proofs.linking.put_current.Goals as goal
 
 pub returns-in_err-at-clause-moments : goal.returns-in_err-at-clause-moments
@@ -34,3 +37,8 @@ returns-clause-moments g c =
     same_then c.sync.ensures.reads.moments
     (subst (λ p. Passes (g.T.Tree.host c.sync.new.self) (g.T.Tree.host c.put.new.host) (IsOldOrNew p c.args.leaf.now)) c.in_ok-at.ensures c.put.ensures.moments)
     (IsOldOrNew current_place c.args.leaf.now) (λ w is. inl refl) (λ w m is moment. moment)
+
+pub returns-clause-written : goal.returns-clause-written
+returns-clause-written g c =
+    leads_then c.sync.ensures.reads.moments.tells c.in_ok-put.ensures.written (WritesOnly owns_units)
+    (λ w v u is is_v same now. current_written w u (now ∙ ap (λ p. v.written ++ p ∷ []) c.in_ok-at.ensures ∙ ap (λ (x : WorldState). x.written ++ current_place ∷ []) same))
