@@ -7,3 +7,4 @@ pub mod ListLemmas
 pub mod NameLemmas
 pub mod SearchLemmas
 pub mod StandingLemmas
+pub mod WalkLemmas

@@ -23,12 +23,11 @@ use Rattle.host_trait.proofs.Above as above
 use Rattle.etc_manifest.specs.declared.item.Item.{Item}
 use Rattle.etc_manifest.specs.declared.item.ItemKind.{ItemKind}
 use Rattle.etc_manifest.specs.Manifest.{entry, places}
-use Rattle.etc_clean.proofs.FarmLemmas.{entry_is}
 use Rattle.etc_clean.proofs.ListLemmas.{none_among}
 
 -- ---- a name among others
 
-has_at : (ks : List Name) (at : ℕ) (name : Name) → slice_get ks at ≡ Some name → has ks name ≡ true
+pub has_at : (ks : List Name) (at : ℕ) (name : Name) → slice_get ks at ≡ Some name → has ks name ≡ true
 has_at [] zero name is = absurd (cc)
 has_at [] (suc at) name is = absurd (cc)
 has_at (k ∷ ks) zero name is = or_left (is_name name k) (has ks name) (let same : k ≡ name = cc in subst (λ x. is_name name x ≡ true) (sym same) (itself name))
@@ -109,15 +108,10 @@ lent_at items at name (Some item) sorted is found =
     let same : item.now.place ≡ name = cc in
     (same, ap (entry items) (sym same) ∙ entry_of_found items at item.now sorted there)
 
+-- where no entry stands, nothing is wanted
 pub none_wanted : (o : Option ItemKind) → is_some o ≡ false → o ≡ None
 none_wanted None is = refl
 none_wanted (Some kind) is = absurd (both_ways _ is refl)
-
--- and where none is found, nothing is wanted
-pub none_found_at : (items : List Item) (name : Name) (r : Result ℕ ℕ) → IsStrictlySortedBy bytes_cmp (places items) → IsSearchInRange r (length items) →
-    IsBinarySearchResult (λ (item : Item). bytes_cmp item.place name) items r → is_ok r ≡ false → entry items name ≡ None
-none_found_at items name r sorted within is none =
-    none_wanted (entry items name) (entry_is items name ∙ sym (searched (λ (item : Item). item.place) items name r sorted within is) ∙ none)
 
 -- ---- names that begin with a text
 

@@ -15,7 +15,7 @@ ghost use Rattle.etc_clean.specs.Standing.{is_leaf_of};
 
 use crate::leaves::is_item_leaf;
 use crate::names::name_in_etc;
-use crate::search::{contains, find_item};
+use crate::walk::Walk;
 use etc_manifest::{Item, is_reserved};
 use host_trait::{HostFault, Leaf, LeafKind, Tree};
 use std::alloc::{AllocError, Global};
@@ -143,6 +143,7 @@ fn is_ours<T: Tree>(
     alloc: Global,
     host: &mut T,
     clean: &[Path],
+    walk: &mut Walk,
     path: &Path,
     name: &Path,
 ) -> Result<bool, HostFault>
@@ -150,7 +151,7 @@ fn is_ours<T: Tree>(
     ensures ours { IfOk result (λ ours. Told (T.host host.old) (λ w. ours ≡ is_ours clean.now name.now (get w.leaves path.now))) }
     ensures reads { IsReading (T.host host.old) (T.host host.new) result }
 {
-    if contains(clean, name) {
+    if walk.is_clean(clean, name) {
         return Ok(true);
     }
     let leaf = host.read(alloc, path)?;
@@ -172,6 +173,7 @@ fn take_path<T: Tree>(
     host: &mut T,
     items: &[Item],
     clean: &[Path],
+    walk: &mut Walk,
     path: &Path,
     found: &mut Found,
 ) -> Result<(), HostFault>
@@ -183,18 +185,18 @@ fn take_path<T: Tree>(
     let Some(name) = name_in_etc(alloc, path)? else {
         return Ok(());
     };
-    if let Some(item) = find_item(items, &name) {
+    if let Some(item) = walk.item(items, &name) {
         let stands = is_at(alloc, host, item, path)?;
         return Ok(found.add_entry(name, stands)?);
     }
     if is_reserved(&name) {
         return Ok(());
     }
-    let ours = is_ours(alloc, host, clean, path, &name)?;
+    let ours = is_ours(alloc, host, clean, walk, path, &name)?;
     Ok(found.add(name, ours)?)
 }
 
-/// Sorts the leaves at these paths.
+/// Sorts the leaves at these paths. Where they come in byte order, the items and the clean list are walked once beside them.
 pub fn find<T: Tree>(
     alloc: Global,
     host: &mut T,
@@ -208,8 +210,9 @@ pub fn find<T: Tree>(
     ensures reads { IsReading (T.host host.old) (T.host host.new) result }
 {
     let mut found = Found::new(alloc);
+    let mut walk = Walk::new();
     for path in paths {
-        take_path(alloc, host, items, clean, path, &mut found)?;
+        take_path(alloc, host, items, clean, &mut walk, path, &mut found)?;
     }
     Ok(found)
 }

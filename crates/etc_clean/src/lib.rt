@@ -10,6 +10,7 @@ mod names;
 mod order;
 mod search;
 mod sorting;
+mod walk;
 
 pub use clean_list::{clean_path, read_clean, write_clean};
 pub use laws::{clean_lists_are_read_as_written, farms_are_kept, kept_farms_end_alike};

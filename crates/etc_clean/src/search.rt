@@ -1,13 +1,11 @@
 //! Searches among names in byte order.
-ghost use Rattle.std.specs.Prelude.{◌≡◌, ◌++◌, ◌∷◌, [], nat_eq, IfOk, MatchOption, None, Some};
+ghost use Rattle.std.specs.Prelude.{◌≡◌, ◌++◌, ◌∷◌, [], nat_eq, IfOk};
 ghost use Rattle.std.specs.List.{list_any, starts_with};
 ghost use Rattle.std.specs.List.Sorted.{IsStrictlySortedBy};
 ghost use Rattle.switch_names.specs.Names.{has};
 ghost use Rattle.switch_names.specs.Path.{is_below, slash};
 ghost use Rattle.host_trait.specs.World.{bytes_cmp, is_in_line};
-ghost use Rattle.etc_manifest.specs.Manifest.{entry, places};
 
-use etc_manifest::Item;
 use std::alloc::{AllocError, Global};
 use switch_names::{Path, Text};
 
@@ -16,17 +14,6 @@ pub fn contains(names: &[Path], name: &Path) -> bool
     ensures { IsStrictlySortedBy bytes_cmp names.now → result ≡ has names.now name.now }
 {
     names.binary_search(name).is_ok()
-}
-
-/// The item at a name, where they are in byte order, or none.
-pub fn find_item<'a>(items: &'a [Item], name: &Path) -> Option<&'a Item>
-    requires { IsStrictlySortedBy bytes_cmp (places items.now) }
-    ensures { MatchOption result (entry items.now name.now ≡ None) (λ item. (item.now.place ≡ name.now) × (entry items.now name.now ≡ Some item.now.kind)) }
-{
-    match items.binary_search_by(|item| item.place.cmp(name)) {
-        Ok(at) => items.get(at),
-        Err(_) => None,
-    }
 }
 
 /// A name with a slash after it.

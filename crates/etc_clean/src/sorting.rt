@@ -103,7 +103,7 @@ fn blocked_by(alloc: Global, items: &[Item], foreign: &[Path]) -> Result<Listed<
 /// that stands.
 ///
 /// It reads the clean list once, lists `etc` once, and reads each leaf there at most once: those at entries too, so that one
-/// that can't be read is found before anything is changed.
+/// that can't be read is found before anything is changed. The entries and the clean list are walked once beside the leaves.
 /// Source: setup-etc.pl of nixpkgs.
 pub fn obsolete<T: Tree>(
     alloc: Global,

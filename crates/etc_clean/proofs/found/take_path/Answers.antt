@@ -30,7 +30,7 @@ returns-clause-found g c =
     record {
       has = λ w is.
           new_name c.args.items.now c.args.clean.now w.leaves c.args.path.now c.in-Some.name c.in_ok-ours.ours c.args.found.now c.add.new.self named.0 named.1
-          (sym c.is_reserved.ensures ∙ c.if-is_reserved.false) c.in_default-find_item.ensures (c.in_ok-ours.ensures.ours.has w is) c.in_ok-add.ensures.gone c.in_ok-add.ensures.foreign c.in_ok-add.ensures.standing;
+          (sym c.is_reserved.ensures ∙ c.if-is_reserved.false) c.in_default-item.ensures (c.in_ok-ours.ensures.ours.has w is) c.in_ok-add.ensures.gone c.in_ok-add.ensures.foreign c.in_ok-add.ensures.standing;
     }
 
 pub returns-then-is_reserved-clause-found : goal.returns-then-is_reserved-clause-found
@@ -39,7 +39,7 @@ returns-then-is_reserved-clause-found g c =
     record {
       has = λ w is.
           reserved_name c.args.items.now c.args.clean.now w.leaves c.args.path.now c.args.found.now named.0
-          (ap is_reserved (sym named.1) ∙ sym c.is_reserved.ensures ∙ c.if-is_reserved.true) (ap (entry c.args.items.now) (sym named.1) ∙ c.in_default-find_item.ensures);
+          (ap is_reserved (sym named.1) ∙ sym c.is_reserved.ensures ∙ c.if-is_reserved.true) (ap (entry c.args.items.now) (sym named.1) ∙ c.in_default-item.ensures);
     }
 
 pub returns-in_err-ours-clause-reads : goal.returns-in_err-ours-clause-reads
@@ -51,14 +51,14 @@ returns-in_err-add-clause-reads g c = read_starved c.is_ours.ensures.reads _ c.f
 pub returns-clause-reads : goal.returns-clause-reads
 returns-clause-reads g c = read_ok c.is_ours.ensures.reads _
 
-pub returns-in-Some-find_item-clause-found : goal.returns-in-Some-find_item-clause-found
-returns-in-Some-find_item-clause-found g c =
+pub returns-in-Some-item-clause-found : goal.returns-in-Some-item-clause-found
+returns-in-Some-item-clause-found g c =
     let named = name_there (is_in_etc c.args.path.now) (name_of c.args.path.now) c.in-Some.name c.in_ok-name.field-0 c.in_ok-name.ensures c.in-Some.is in
-    let item = c.in-Some-find_item.item.now in
+    let item = c.in-Some-item.item.now in
     record {
       has = λ w is.
           entry_name c.args.items.now c.args.clean.now w.leaves c.args.path.now c.in-Some.name item.kind c.in_ok-stands.stands c.args.found.now c.add_entry.new.self named.0 named.1
-          c.in-Some-find_item.ensures.1
-          (c.in_ok-stands.ensures.stands.has w is ∙ ap (λ name. is_leaf_of name (Some item.kind) (get w.leaves c.args.path.now)) c.in-Some-find_item.ensures.0)
+          c.in-Some-item.ensures.1
+          (c.in_ok-stands.ensures.stands.has w is ∙ ap (λ name. is_leaf_of name (Some item.kind) (get w.leaves c.args.path.now)) c.in-Some-item.ensures.0)
           c.in_ok-add_entry.ensures.gone c.in_ok-add_entry.ensures.foreign c.in_ok-add_entry.ensures.standing;
     }
