@@ -5,7 +5,7 @@
 # changes       calls that make, move or remove something below the root or write to it
 #
 # Two more roots have large unit files: a template of 10,000 keys with 1,000 active instances, each with a drop-in, which is
-# another one in the new system for one in ten; and a unit of 1,000,000 keys.
+# another one in the new system for one in ten; and a unit of 700,000 keys.
 # shellcheck shell=bash disable=SC2034,SC2154
 default_sizes=(500 4000 16000)
 counted_columns=(calls opens reads changes)
@@ -111,5 +111,5 @@ large() {
 finish() {
     compare_plain 8000
     large 1000 10000
-    large 0 1000000
+    large 0 700000
 }

@@ -1,7 +1,7 @@
 # A dry run of roots with as much as there may be: two systems of 16,384 units, all active, of which one in ten changes; 131,072
 # entries below the etc of the second; and tables of 65,536 rows, which a specification of one group and one user leaves as many.
 # It may take no more than 20 seconds and 2 GB. With one unit, one entry or one row more, and with one that a merge adds, the dry
-# run is refused by that number, as soon as it is counted.
+# run is refused by that number.
 # shellcheck shell=bash disable=SC2034,SC2154
 default_sizes=(16384,131072,65536)
 times=1

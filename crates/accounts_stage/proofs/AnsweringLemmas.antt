@@ -1,7 +1,12 @@
 -- Faults that the steps of planning and of setting accounts hand on, and the answer of a merge.
-use Rattle.std.proofs.Common.{◌≡◌, Result, Ok, Err, IsErrAnd, IsErrOf, ap, option_and_then}
+use Rattle.std.proofs.Common.{◌≡◌, Option, None, Result, Ok, Err, IfOk, OnOk, IsErrAnd, IsErrOf, ap, option_and_then, subst, sym}
+use Rattle.std.specs.Option.{option_or}
+use Rattle.account_text.specs.declared.tables.Tables.{Tables}
+use Rattle.host_trait.specs.Host.{HostState, Told}
+use Rattle.host_trait.specs.World.{Leaves, WorldState}
 use Rattle.switch_parts.specs.declared.plan_fault.PlanFault.{PlanFault}
 use Rattle.switch_parts.specs.declared.plan_fault.PlanFault.TheVariants.{Refused}
+use Rattle.switch_parts.specs.declared.refusal.Refusal.{Refusal}
 use Rattle.switch_parts.proofs.Faults.{no_err}
 use Rattle.users_merge.proofs.ExistLemmas.{one_merge, some_merge}
 use Rattle.users_merge.specs.declared.merged.Merged as answered
@@ -9,8 +14,11 @@ use Rattle.users_merge.specs.Merge.{IsMerge, fault, kept, merge_of}
 use Rattle.users_merge.specs.Order.{AreInOrder}
 use Rattle.users_merge.specs.Stored.{Stored, merged_of}
 use Rattle.users_spec.specs.Spec.{Accounts}
-use Rattle.accounts_stage.specs.Refusals.{merge_refusal}
+use Rattle.accounts_stage.specs.Refusals.{maps_refusal, merge_refusal, stored_refusal, table_refusal}
+use Rattle.accounts_stage.specs.declared.stored.Stored as read
+use Rattle.accounts_stage.specs.All.{all_in, all_of}
 use Rattle.accounts_stage.specs.Answer.{Answers, IsMergedBy}
+use Rattle.accounts_stage.specs.Standing.{memory_in, tables_in}
 
 module _ {Y : Type 0} where
   -- a fault that is handed on
@@ -30,3 +38,20 @@ merge_made spec s answer is order keeps = record {
   not_refused = ap (option_and_then merge_refusal) is.fine;
   refused = λ why e. absurd (no_err answer (Refused why) e);
 }
+
+-- what a step answers is told of the world at its beginning
+module _ {a : HostState} {X : Type 0} (refusal : WorldState → Option Refusal) (P : WorldState → X → Type 0) where
+  pub told_ok : (result : Result X PlanFault) → Told a (λ w. Answers (refusal w) (P w) result) → IfOk result (λ x. Told a (λ w. P w x))
+  told_ok (Ok x) told = record { has = λ w is. (told.has w is).ok }
+  told_ok (Err f) told = tt
+
+  pub told_fine : (result : Result X PlanFault) → Told a (λ w. Answers (refusal w) (P w) result) → OnOk result (Told a (λ w. refusal w ≡ None))
+  told_fine (Ok x) told = record { has = λ w is. (told.has w is).not_refused }
+  told_fine (Err f) told = tt
+
+-- tables that can be read, with what stands beside them
+pub with_tables : (leaves : Leaves) (tables : Tables) (result : Result read.Stored PlanFault) → tables ≡ tables_in leaves → table_refusal leaves ≡ None →
+    Answers (maps_refusal (memory_in leaves)) (λ stored. stored ≡ all_of tables (memory_in leaves)) result → Answers (stored_refusal leaves) (λ stored. stored ≡ all_in leaves) result
+with_tables leaves tables result same fine answers =
+    subst (λ (t : Tables). Answers (stored_refusal leaves) (λ stored. stored ≡ all_of t (memory_in leaves)) result) same
+    (subst (λ (o : Option Refusal). Answers (option_or o (maps_refusal (memory_in leaves))) (λ stored. stored ≡ all_of tables (memory_in leaves)) result) (sym fine) answers)

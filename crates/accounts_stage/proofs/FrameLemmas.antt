@@ -14,7 +14,7 @@ use Rattle.switch_names.specs.SystemName.{IsSystemPath}
 use Rattle.switch_parts.specs.declared.refusal.MapFile.TheVariants.{Gid, Uid}
 use Rattle.switch_parts.specs.declared.refusal.Refusal.TheVariants.{IdMap}
 use Rattle.switch_parts.specs.declared.refusal.TableFile.TheVariants.{Group, Passwd, Shadow}
-use Rattle.switch_parts.specs.declared.refusal.What.TheVariants.{Rows}
+use Rattle.switch_parts.specs.declared.refusal.What.TheVariants.{LeafBytes, Rows}
 use Rattle.switch_parts.specs.Limits.{too_many}
 use Rattle.tree_put.specs.declared.written_place.WrittenPlace.{WrittenPlace}
 use Rattle.tree_put.specs.WrittenPlace.{in_the_way, lacks_content}
@@ -25,6 +25,7 @@ use Rattle.users_spec.specs.Spec.{Accounts, accounts_of}
 use Rattle.switch_parts.specs.Store.{is_in_store}
 use Rattle.switch_parts.proofs.StoreLemmas.{store_content_kept}
 use Rattle.accounts_stage.specs.AccountsPart.{accounts_end, accounts_refusal, end_by, merged_by, merged_in, reads_accounts, tables_after, tables_by}
+use Rattle.accounts_stage.specs.Lengths.{content_past, spec_too_long}
 use Rattle.accounts_stage.specs.Refusals.{declared_refusal, maps_refusal, merging_refusal, refusal_of, table_refusal, wrong_table}
 use Rattle.accounts_stage.specs.Rows.{rows_too_many, texts_past}
 use Rattle.accounts_stage.specs.Places.{account_names, account_places, gids_place, group_place, groups_place, owns_accounts, passwd_place, shadow_place, spec_path, uids_place, users_place}
@@ -35,9 +36,16 @@ use Rattle.accounts_stage.proofs.WayLemmas.{AreReadAlike, all_free, each_free, s
 -- ---- what is read is the same where the store is
 
 module _ (w m : Leaves) (store : (q : Name) → is_in_store q ≡ true → get m q ≡ get w q) where
+  spec_kept : (system : Name) → IsSystemPath system → content_of m (spec_path system) ≡ content_of w (spec_path system)
+  spec_kept system named = store_content_kept w m store (spec_path system) (store (spec_path system) (spec_stored system named))
+
   -- what a system declares is the same
   pub declared_kept : (system : Name) → IsSystemPath system → declared_by system m ≡ declared_by system w
-  declared_kept system named = ap (option_map accounts_of) (store_content_kept w m store (spec_path system) (store (spec_path system) (spec_stored system named)))
+  declared_kept system named = ap (option_map accounts_of) (spec_kept system named)
+
+  -- and as long
+  pub length_kept : (system : Name) → IsSystemPath system → spec_too_long system m ≡ spec_too_long system w
+  length_kept system named = ap (λ (content : Option (List ℕ)). too_many LeafBytes (content_past content)) (spec_kept system named)
 
 -- ---- what is made of the contents of the places of accounts
 
@@ -134,8 +142,8 @@ module _ (w m : Leaves) (same : HaveSameContents w m) where
     pub tables_after_kept : tables_after system m ≡ tables_after system w
     tables_after_kept = ap (λ (one : Option Merged). tables_by one m) merged_in_kept ∙ tables_by_kept (merged_in system w)
 
-    pub refusal_in_kept : accounts_refusal system m ≡ accounts_refusal system w
-    refusal_in_kept = ap (refusal_of m) declared ∙ refusal_kept (declared_by system w)
+    pub refusal_in_kept : spec_too_long system m ≡ spec_too_long system w → accounts_refusal system m ≡ accounts_refusal system w
+    refusal_in_kept length = λ i. option_or ((ap (refusal_of m) declared ∙ refusal_kept (declared_by system w)) i) (length i)
 
 -- ---- where the same stands wherever is looked
 
@@ -160,6 +168,9 @@ module _ (w m : Leaves) (same : (q : Name) → reads_accounts q ≡ true → get
   module _ (system : Name) (named : IsSystemPath system) where
     pub declared_same : declared_by system m ≡ declared_by system w
     declared_same = declared_kept w m store_same system named
+
+    pub length_same : spec_too_long system m ≡ spec_too_long system w
+    length_same = length_kept w m store_same system named
 
     pub end_same : (q : Name) → owns_accounts q ≡ true → accounts_end system m q ≡ accounts_end system w q
     end_same q own = ap (λ (one : Option Merged). end_by one m q) (merged_in_kept w m contents_same system declared_same) ∙ by (merged_in system w)

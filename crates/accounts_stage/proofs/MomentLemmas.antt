@@ -37,6 +37,7 @@ use Rattle.users_spec.proofs.Sound.{declared_are_sound}
 use Rattle.tree_put.specs.declared.leaf_put.LeafPut.{LeafPut}
 use Rattle.tree_put.specs.Sequence.{with_puts}
 use Rattle.switch_parts.specs.Store.{is_in_store}
+use Rattle.accounts_stage.specs.Lengths.{spec_too_long}
 use Rattle.accounts_stage.specs.AccountsPart.{KeepsAccounts, accounts_part, end_by, merged_by, merged_in, tables_by}
 use Rattle.accounts_stage.specs.Refusals.{ids_refusal, maps_refusal, merge_refusal, merging_refusal, refusal_of, table_refusal, wrong_table}
 use Rattle.accounts_stage.specs.Rows.{lines_of, merged_past, rows_past, rows_too_many}
@@ -48,7 +49,7 @@ use Rattle.accounts_stage.specs.Standing.{bytes_at, declared_by, memory_in, stor
 use Rattle.accounts_stage.proofs.BackLemmas.{read_back}
 use Rattle.accounts_stage.proofs.EndLemmas.{only_elsewhere, only_puts}
 use Rattle.tree_put.proofs.LeftLemmas.{left_at, left_elsewhere}
-use Rattle.accounts_stage.proofs.FrameLemmas.{declared_kept}
+use Rattle.accounts_stage.proofs.FrameLemmas.{declared_kept, length_kept}
 use Rattle.accounts_stage.proofs.FreeLemmas.{puts_free}
 use Rattle.accounts_stage.proofs.OwnLemmas.{not_stage, store_unowned}
 use Rattle.accounts_stage.proofs.PartLemmas.{frame, keeps_then}
@@ -214,7 +215,9 @@ module _ (system : Name) (named : IsSystemPath system) (w : WorldState) (spec : 
           ∙ sym (ap (λ (one : Option Merged). end_by one w.leaves q) merged_before);
       free = λ way refusal. (
         puts_free merged (take k puts) w way,
-        ap (refusal_of then.leaves) declared_then ∙ not_refused stored then.leaves contents spec keeps.fine (same_rows merged (merge_of spec stored) same ∙ can.few),
+        option_or_nothing (refusal_of then.leaves (declared_by system then.leaves)) (spec_too_long system then.leaves)
+            (ap (refusal_of then.leaves) declared_then ∙ not_refused stored then.leaves contents spec keeps.fine (same_rows merged (merge_of spec stored) same ∙ can.few))
+            (length_kept w.leaves then.leaves store_stays system named ∙ (option_or_parts (refusal_of w.leaves (declared_by system w.leaves)) (spec_too_long system w.leaves) refusal).1),
       );
     };
     tables =
@@ -232,6 +235,10 @@ is_declared : (content : Option (List ℕ)) (spec : Accounts) → option_map acc
 is_declared None spec is = absurd (cc)
 is_declared (Some bytes) spec is = declared_are_sound bytes spec (let same : accounts_of bytes ≡ Ok spec = cc in same)
 
+-- what is read isn't refused
+read_fine : (system : Name) (w : WorldState) → IsFree (accounts_part system) w.leaves → refusal_of w.leaves (declared_by system w.leaves) ≡ None
+read_fine system w free = (option_or_parts (refusal_of w.leaves (declared_by system w.leaves)) (spec_too_long system w.leaves) free.refusal).0
+
 moment_keeps : (system : Name) (named : IsSystemPath system) (w m : WorldState) → IsFree (accounts_part system) w.leaves → (declared : Option (Read Accounts)) → declared_by system w.leaves ≡ declared → (k : ℕ) →
     seen m ≡ seen (with_puts (take k (puts_by (merged_by w.leaves declared))) w) → KeepsAccounts system w m
 moment_keeps system named w m free None declared k is = frame system named w m (seen_same system w m (is ∙ ap (λ puts. seen (with_puts puts w)) (none_left k)))
@@ -239,9 +246,9 @@ moment_keeps system named w m free None declared k is = frame system named w m (
     none_left : (k : ℕ) → take {A = LeafPut} k [] ≡ []
     none_left zero = refl
     none_left (suc k) = refl
-moment_keeps system named w m free (Some (Err why)) declared k is = absurd (let refused : Some (Refusal.UsersSpec why) ≡ None = (option_or_parts (rows_too_many w.leaves) (Some (Refusal.UsersSpec why)) (sym (ap (refusal_of w.leaves) declared) ∙ free.refusal)).1 in cc)
+moment_keeps system named w m free (Some (Err why)) declared k is = absurd (let refused : Some (Refusal.UsersSpec why) ≡ None = (option_or_parts (rows_too_many w.leaves) (Some (Refusal.UsersSpec why)) (sym (ap (refusal_of w.leaves) declared) ∙ read_fine system w free)).1 in cc)
 moment_keeps system named w m free (Some (Ok spec)) declared k is =
-    let can = mergeable spec w.leaves (sym (ap (refusal_of w.leaves) declared) ∙ free.refusal) in
+    let can = mergeable spec w.leaves (sym (ap (refusal_of w.leaves) declared) ∙ read_fine system w free) in
     let sound = is_declared (content_of w.leaves (spec_path system)) spec declared in
     let merged = merge_of spec (stored_in w.leaves) in
     let then = with_puts (map (put_of merged) (take k puts)) w in

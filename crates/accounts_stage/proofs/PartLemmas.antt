@@ -15,7 +15,7 @@ use Rattle.accounts_stage.specs.Places.{account_places, owns_accounts}
 use Rattle.accounts_stage.specs.Laws.{AccountsPartLaw, AccountsPlanLaw}
 use Rattle.accounts_stage.specs.Plan.{IsAnswerOf, IsMergePlanned}
 use Rattle.accounts_stage.specs.Standing.{declared_by, stored_in}
-use Rattle.accounts_stage.proofs.FrameLemmas.{contents_same, declared_same, end_same, refusal_in_kept, stored_kept, tables_after_kept, tables_kept, way_same}
+use Rattle.accounts_stage.proofs.FrameLemmas.{contents_same, declared_same, end_same, length_same, refusal_in_kept, stored_kept, tables_after_kept, tables_kept, way_same}
 use Rattle.accounts_stage.proofs.OwnLemmas.{owned_read, stage_unread}
 
 pub keeps_self : (system : Name) (w : WorldState) → KeepsAccounts system w w
@@ -35,7 +35,7 @@ frame system named w m same =
     record {
       same = record {
         ends = λ q own. end_same w.leaves m.leaves same.leaves system named q own;
-        free = λ way refusal. (way_same w.leaves m.leaves same.leaves way, refusal_in_kept w.leaves m.leaves contents system declared ∙ refusal);
+        free = λ way refusal. (way_same w.leaves m.leaves same.leaves way, refusal_in_kept w.leaves m.leaves contents system declared (length_same w.leaves m.leaves same.leaves system named) ∙ refusal);
       };
       tables = tables_after_kept w.leaves m.leaves contents system declared;
     }

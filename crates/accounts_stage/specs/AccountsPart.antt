@@ -1,6 +1,7 @@
 -- The part of a switch that sets the accounts: nixpkgs, update-users-groups.pl; NixOS manual, "User Management".
 use Rattle.std.specs.Prelude.{◌≡◌, ◌||◌, Bool, false, Option, None, Some, Ok, Err}
 use Rattle.std.specs.FinMap.{get}
+use Rattle.std.specs.Option.{option_or}
 use Rattle.account_text.specs.declared.tables.Tables.{Tables}
 use Rattle.host_trait.specs.declared.leaf.LeafKind.{LeafKind}
 use Rattle.host_trait.specs.World.{Leaves, WorldState}
@@ -14,6 +15,7 @@ use Rattle.users_merge.specs.Stored.{Merged}
 use Rattle.users_spec.specs.Fields.{Read}
 use Rattle.users_spec.specs.Spec.{Accounts}
 use Rattle.accounts_stage.specs.Files.{merged_end, tables_with}
+use Rattle.accounts_stage.specs.Lengths.{spec_too_long}
 use Rattle.accounts_stage.specs.Places.{account_places, owns_accounts}
 use Rattle.accounts_stage.specs.Refusals.{refusal_of}
 use Rattle.accounts_stage.specs.Standing.{declared_by, stored_in, tables_in}
@@ -36,8 +38,9 @@ end_by (Some m) leaves q = merged_end m q
 abbrev pub accounts_end : Name → Leaves → Name → Option LeafKind
 accounts_end system leaves q = end_by (merged_in system leaves) leaves q
 
+-- why the accounts of a system are refused, or nothing: last, its specification is too long
 abbrev pub accounts_refusal : Name → Leaves → Option Refusal
-accounts_refusal system leaves = refusal_of leaves (declared_by system leaves)
+accounts_refusal system leaves = option_or (refusal_of leaves (declared_by system leaves)) (spec_too_long system leaves)
 
 -- the rows of tables after a merge, and as they were without one
 abbrev pub tables_by : Option Merged → Leaves → Tables

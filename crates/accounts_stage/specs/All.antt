@@ -22,8 +22,8 @@ all_in leaves = all_of (tables_in leaves) (memory_in leaves)
 abbrev pub stored_with : Stored → merges.Stored
 stored_with stored = stored_of stored.tables stored.remembered stored.declared
 
--- what was read has sound tables
-pub record HasSoundTables (stored : Stored) : Type 0 where
-  pub group : IsSoundGroup stored.tables.group
-  pub passwd : IsSoundPasswd stored.tables.passwd
-  pub shadow : IsSoundShadow stored.tables.shadow
+-- each of three tables can be written
+pub record AreSoundTables (tables : Tables) : Type 0 where
+  pub group : IsSoundGroup tables.group
+  pub passwd : IsSoundPasswd tables.passwd
+  pub shadow : IsSoundShadow tables.shadow

@@ -1,10 +1,6 @@
 -- What is judged of accounts before the maps of ids are read, and after that: nixpkgs, update-users-groups.pl.
 use Rattle.std.specs.Prelude.{◌≡◌, ℕ, Option, None, Some, Ok, option_and_then, option_map}
 use Rattle.std.specs.Option.{option_or}
-use Rattle.account_text.specs.declared.tables.Tables.{Tables}
-use Rattle.account_text.specs.Group.{IsSoundGroup}
-use Rattle.account_text.specs.Passwd.{IsSoundPasswd}
-use Rattle.account_text.specs.Shadow.{IsSoundShadow}
 use Rattle.host_trait.specs.World.{Leaves, content_of}
 use Rattle.switch_names.specs.Names.{Name}
 use Rattle.switch_parts.specs.declared.refusal.Refusal.{Refusal}
@@ -39,12 +35,6 @@ first_refusal texts =
 pub record IsJudged (texts : AccountTexts) (judged : Judged) : Type 0 where
   pub spec : declared_in texts ≡ option_map Ok judged.spec
   pub tables : judged.tables ≡ tables_of texts.tables
-
--- each of three tables can be written
-pub record AreSoundTables (tables : Tables) : Type 0 where
-  pub group : IsSoundGroup tables.group
-  pub passwd : IsSoundPasswd tables.passwd
-  pub shadow : IsSoundShadow tables.shadow
 
 -- why accounts are refused beside their texts, or nothing: the maps of ids, then the merge
 abbrev pub later_refusal : Leaves → Option Accounts → Option Refusal

@@ -4,6 +4,7 @@ pub mod Answer
 pub mod Files
 pub mod Judging
 pub mod Laws
+pub mod Lengths
 pub mod OnTheWay
 pub mod Places
 pub mod Plan

@@ -1,22 +1,35 @@
 //! What is judged of accounts before the maps of ids are read.
-ghost use Rattle.std.specs.Prelude.{◌≡◌, ⊤, Ok, Some, IfOk, IsErrOf, option_map};
+ghost use Rattle.std.specs.Prelude.{◌≡◌, ⊤, [], length, unwrap_or, Ok, Some, IfOk, IsErrOf, option_map};
 ghost use Rattle.host_trait.specs.declared.tree.HostFault.TheVariants.{Device};
 ghost use Rattle.host_trait.specs.Host.{Told};
 ghost use Rattle.host_trait.specs.Reading.{IsReading};
 ghost use Rattle.switch_parts.specs.declared.plan_fault.PlanFault.TheVariants.{Host};
 ghost use Rattle.users_spec.specs.Spec.{accounts_of};
+ghost use Rattle.accounts_stage.specs.All.{AreSoundTables};
 ghost use Rattle.accounts_stage.specs.Answer.{Answers, spec_fault, spec_refusal};
-ghost use Rattle.accounts_stage.specs.Judging.{AreSoundTables, IsJudged, account_texts, first_refusal};
+ghost use Rattle.accounts_stage.specs.Judging.{IsJudged, account_texts, first_refusal};
+ghost use Rattle.accounts_stage.specs.Lengths.{content_past};
 
 use crate::places::spec_path;
 use crate::reading::{TableTexts, read_texts, tables_of};
 use crate::rows::texts_past;
 use account_text::Tables;
 use host_trait::{HostFault, Tree, content};
+use leaf_limits::{LEAF_MAX, past};
 use std::alloc::Global;
 use switch_names::{Bytes, SystemName};
 use switch_parts::{PlanFault, Refusal, What, too_many};
 use users_spec::{Spec, SpecFault};
+
+/// How many bytes a content has: none where there is none.
+fn length_of(content: &Option<Bytes>) -> u64
+    ensures { result ≡ length (unwrap_or content.now []) }
+{
+    match content {
+        Some(bytes) => bytes.as_slice().len() as u64,
+        None => 0,
+    }
+}
 
 /// The texts that are read of accounts before anything is judged.
 pub struct AccountTexts {
@@ -30,6 +43,15 @@ pub struct AccountTexts {
 impl Drop for AccountTexts {
     fn drop(self) {
         let AccountTexts { spec: _, tables: _ } = self;
+    }
+}
+
+impl AccountTexts {
+    /// How long the specification is, where it is too long.
+    pub fn spec_past(&self) -> Option<u64>
+        ensures { result ≡ content_past self.now.spec }
+    {
+        past(LEAF_MAX, length_of(&self.spec))
     }
 }
 

@@ -12,6 +12,7 @@ mod puts;
 mod reading;
 mod rows;
 mod setting;
+mod sources;
 mod stored;
 mod written_places;
 
@@ -21,5 +22,6 @@ pub use planning::plan_accounts;
 pub use reading::read_tables;
 pub use rows::{lines, too_many_rows};
 pub use setting::{apply, set_accounts};
+pub use sources::taken;
 pub use stored::{Stored, read_all};
 pub use written_places::add_account_places;

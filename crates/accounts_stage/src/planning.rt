@@ -6,10 +6,10 @@ ghost use Rattle.host_trait.specs.Reading.{IsReadingOf};
 ghost use Rattle.switch_parts.specs.declared.plan_fault.PlanFault.TheVariants.{Host, Refused};
 ghost use Rattle.switch_parts.specs.declared.refusal.Refusal.{Refusal};
 ghost use Rattle.users_merge.specs.Merge.{fault};
-ghost use Rattle.accounts_stage.specs.All.{HasSoundTables, stored_with};
+ghost use Rattle.accounts_stage.specs.All.{AreSoundTables, stored_with};
 ghost use Rattle.accounts_stage.specs.AccountsPart.{accounts_refusal};
 ghost use Rattle.accounts_stage.specs.Answer.{Answers, IsMergedBy, merge_fault};
-ghost use Rattle.accounts_stage.specs.Judging.{AreSoundTables, later_refusal, plan_past};
+ghost use Rattle.accounts_stage.specs.Judging.{later_refusal, plan_past};
 ghost use Rattle.accounts_stage.specs.Plan.{ArePlanned, IsAccountsPlanOf};
 ghost use Rattle.accounts_stage.specs.Refusals.{merge_refusal};
 ghost use Rattle.accounts_stage.specs.Standing.{tables_in};
@@ -41,7 +41,7 @@ fn merge_fault(fault: MergeFault) -> PlanFault
 
 /// Merges what is declared with what stands.
 fn merge_stored(alloc: Global, spec: &Spec, stored: &Stored) -> Result<Merged, PlanFault>
-    requires { HasSoundTables stored.now }
+    requires { AreSoundTables stored.now.tables }
     ensures merged { Answers (option_and_then merge_refusal (fault spec.now (stored_with stored.now))) (IsMergedBy spec.now (stored_with stored.now)) result }
     ensures cause { IsErrOf result (Host Device) → ⊥ }
 {
@@ -111,7 +111,8 @@ fn plan_past(plan: &AccountsPlan) -> Option<u64>
 /// It reads the specification and the tables before it judges anything, and then, where there is a
 /// specification, the maps of ids and the names that were declared. The refusals are sought in this
 /// order: a table with more than `ROWS_MAX` lines that aren't empty, those of the specification, of
-/// the tables, of the maps, and of the merge, and more than `ROWS_MAX` merged groups or users.
+/// the tables, of the maps, and of the merge, more than `ROWS_MAX` merged groups or users, and a
+/// specification of more than `LEAF_MAX` bytes.
 ///
 /// Source: nixpkgs, update-users-groups.pl; NixOS manual, "User Management".
 pub fn plan_accounts<T: Tree>(
@@ -125,8 +126,10 @@ pub fn plan_accounts<T: Tree>(
     ensures reads { IsReadingOf (T.host host.old) (T.host host.new) (IsErrOf result (Host Device)) }
 {
     let texts = read_account_texts(alloc, host, system)?;
+    let long = texts.spec_past();
     let judged = judge(alloc, texts)?;
     let plan = plan_judged(alloc, host, judged)?;
-    refuse(too_many(What::Rows, plan_past(&plan)))?;
+    let many = too_many(What::Rows, plan_past(&plan));
+    refuse(many.or(too_many(What::LeafBytes, long)))?;
     Ok(plan)
 }

@@ -7,7 +7,7 @@ ghost use Rattle.switch_parts.specs.declared.plan_fault.PlanFault.TheVariants.{H
 ghost use Rattle.switch_parts.specs.declared.refusal.Refusal.{Refusal};
 ghost use Rattle.accounts_stage.specs.Refusals.{maps_refusal, stored_refusal};
 ghost use Rattle.accounts_stage.specs.Answer.{Answers};
-ghost use Rattle.accounts_stage.specs.All.{HasSoundTables, all_in, all_of};
+ghost use Rattle.accounts_stage.specs.All.{AreSoundTables, all_in, all_of};
 ghost use Rattle.accounts_stage.specs.Standing.{memory_in};
 
 use crate::memory::{MemoryTexts, declared_of, read_memory, remembered_of};
@@ -90,11 +90,10 @@ pub fn read_beside<T: Tree>(
 pub fn read_all<T: Tree>(alloc: Global, host: &mut T) -> Result<Stored, PlanFault>
     ensures stored { IfOk result (λ stored. Told (T.host host.old) (λ w. stored ≡ all_in w.leaves)) }
     ensures not_refused { OnOk result (Told (T.host host.old) (λ w. stored_refusal w.leaves ≡ None)) }
-    ensures sound { IfOk result HasSoundTables }
+    ensures sound { IfOk result (λ stored. AreSoundTables stored.tables) }
     ensures refused { (why : Refusal) → IsErrOf result (Refused why) → Told (T.host host.old) (λ w. stored_refusal w.leaves ≡ Some why) }
     ensures reads { IsReadingOf (T.host host.old) (T.host host.new) (IsErrOf result (Host Device)) }
 {
     let tables = read_tables(alloc, host)?;
-    let texts = read_memory(alloc, host)?;
-    with_texts(alloc, tables, &texts)
+    read_beside(alloc, host, tables)
 }

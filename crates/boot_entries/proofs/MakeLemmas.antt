@@ -1,14 +1,19 @@
 -- A system is made the boot default as it is planned.
-use Rattle.std.proofs.Common.{◌≡◌, ℕ, Option, None, Some, refl, sym, ap, subst, ◌∙◌}
+use Rattle.std.proofs.Common.{◌≡◌, ℕ, Option, None, Some, option_map, refl, sym, ap, subst, ◌∙◌}
 use Rattle.std.specs.Option.{option_or}
 use Rattle.generations.specs.declared.gens.Gens.{Gens}
 use Rattle.generations.specs.declared.moving.Move.{Move}
 use Rattle.generations.specs.Gens.{IsGensOf}
 use Rattle.generations.specs.Move.{gens_moved, move_part, move_refusal, move_world, number_moved}
 use Rattle.host_trait.specs.World.{Leaves, WorldState, seen}
-use Rattle.switch_names.specs.Names.{Name}
+use Rattle.leaf_limits.specs.declared.too_long.TooLong.{TooLong}
+use Rattle.leaf_limits.specs.Limits.{IsFirstOf}
+use Rattle.leaf_limits.proofs.PastLemmas.{first_past}
+use Rattle.switch_names.specs.Names.{Name, has}
 use Rattle.switch_parts.proofs.Parts.{second_free}
 use Rattle.switch_parts.specs.declared.refusal.Refusal.{Refusal}
+use Rattle.switch_parts.specs.declared.refusal.What.TheVariants.{LeafBytes}
+use Rattle.switch_parts.specs.Limits.{too_many}
 use Rattle.switch_parts.specs.Part.{IsFree}
 use Rattle.boot_entries.specs.declared.boot_default.BootDefaultPlan.{BootDefaultPlan}
 use Rattle.boot_entries.specs.declared.boot_texts.BootTexts.{BootTexts}
@@ -16,6 +21,7 @@ use Rattle.boot_entries.specs.BootDefault.{CanMakeDefault, IsDefaultPlanOf, IsMa
 use Rattle.boot_entries.specs.BootDefault.IsMakingDefault.{Listing}
 use Rattle.boot_entries.specs.BootPart.{boot_part}
 use Rattle.boot_entries.specs.Laws.{IsBootGens}
+use Rattle.boot_entries.specs.Sources.{menu_too_long, taken_of}
 use Rattle.boot_entries.specs.Steps.{CanApplyBoot, IsBootMoment, IsBootSet, boot_puts}
 use Rattle.boot_entries.specs.Texts.{menu_of}
 use Rattle.tree_put.specs.Sequence.{with_puts}
@@ -62,13 +68,17 @@ module _ (system : Name) (plan : BootDefaultPlan) (w : WorldState) (can : CanMak
 
 -- ---- a plan is made
 
--- what refuses it is what refuses the move
-pub default_refusal : (move : Move) (system : Name) (leaves : Leaves) → (boot_default_in move system leaves).refusal leaves ≡ move_refusal move system leaves
-default_refusal move system leaves = whole (move_refusal move system leaves)
-  where
-    whole : (o : Option Refusal) → option_or o None ≡ o
-    whole None = refl
-    whole (Some why) = refl
+-- the length that is noted of its files refuses it, where nothing refuses the move
+pub default_refusal : (move : Move) (system : Name) (leaves : Leaves) (after : Gens) (noted : Option TooLong) → after ≡ gens_moved move system leaves →
+    move_refusal move system leaves ≡ None → IsFirstOf (taken_of after) leaves noted →
+    (boot_default_in move system leaves).refusal leaves ≡ too_many LeafBytes (option_map (λ (long : TooLong). long.count) noted)
+default_refusal move system leaves after noted same none first =
+    ap (λ (o : Option Refusal). option_or o (menu_too_long (gens_moved move system leaves) leaves)) none ∙ ap (λ (gens : Gens). menu_too_long gens leaves) (sym same)
+    ∙ ap (too_many LeafBytes) (sym (first_past (taken_of after) (has (taken_of after)) leaves (λ q there. refl) noted first))
+
+-- what refuses the move refuses it
+pub move_refused : (move : Move) (system : Name) (leaves : Leaves) (why : Refusal) → move_refusal move system leaves ≡ Some why → (boot_default_in move system leaves).refusal leaves ≡ Some why
+move_refused move system leaves why is = ap (λ (o : Option Refusal). option_or o (menu_too_long (gens_moved move system leaves) leaves)) is
 
 pub default_planned : (move : Move) (system : Name) (leaves : Leaves) (gens after : Gens) (menu : BootTexts) (number : ℕ) → IsGensOf leaves gens → number ≡ number_moved move system leaves →
     after ≡ gens_moved move system leaves → menu ≡ menu_of after leaves → IsDefaultPlanOf move system leaves (record { to = move; gens = gens; number = number; menu = menu })

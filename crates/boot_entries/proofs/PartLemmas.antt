@@ -2,16 +2,21 @@
 use Rattle.std.proofs.Common.{◌≡◌, ◌⊎◌, ℕ, ◌==◌, ◌&&◌, ◌||◌, Bool, true, false, cond, List, [], ◌∷◌, ◌++◌, map, take, Option, None, Some, IfSome, is_some, option_and_then, option_map, refl, sym, ap, ap₂, subst, ◌∙◌, inl, inr, ⊎_elim}
 use Rattle.std.proofs.lemmas.Bool.{both_ways, cases_Bool, or_from}
 use Rattle.std.specs.FinMap.{get}
-use Rattle.std.specs.List.{AllByRecursion, cons_option, filter_map, find, list_any}
+use Rattle.std.specs.List.{AllByRecursion, cons_option, filter_map, find, flat_map, list_any}
 use Rattle.std.specs.Option.{option_map_or, unwrap_or}
 use Rattle.generations.proofs.Numbers.{below_bound}
 use Rattle.generations.specs.declared.gens.Gen.{Gen}
 use Rattle.generations.specs.declared.gens.Gens.{Gens}
 use Rattle.generations.specs.Places.{is_number}
-use Rattle.host_trait.specs.World.{IsClear, Leaves, WorldState, is_in_line, is_path, seen, stage}
+use Rattle.host_trait.specs.World.{IsClear, Leaves, WorldState, content_of, is_in_line, is_path, seen, stage}
 use Rattle.host_trait.proofs.Seen.{clear_seen, seen_at, stage_clear_seen}
 use Rattle.host_trait.proofs.NameOrder.{all_named}
-use Rattle.switch_names.specs.Names.{Name}
+use Rattle.leaf_limits.specs.Limits.{long_past}
+use Rattle.leaf_limits.proofs.PastLemmas.{still_none_past}
+use Rattle.switch_names.specs.Names.{Name, has}
+use Rattle.switch_names.proofs.Outcomes.{none_mapped}
+use Rattle.switch_parts.specs.declared.refusal.Refusal.TheVariants.{TooMany}
+use Rattle.switch_parts.specs.declared.refusal.What.TheVariants.{LeafBytes}
 use Rattle.switch_names.specs.SystemName.{IsSystemPath}
 use Rattle.switch_parts.specs.Leaves.{EndsSame}
 use Rattle.switch_parts.specs.Part.{IsOnly, IsSameFor}
@@ -33,6 +38,7 @@ use Rattle.boot_entries.specs.Places.{entry_path, loader_path, numbered, owns_bo
 use Rattle.tree_put.specs.Sequence.{without_places}
 use Rattle.boot_entries.specs.Steps.{AreEntries, IsBootMoment, IsEntryPlace, boot_files, boot_put}
 use Rattle.boot_entries.proofs.PutLemmas.{IsBootPlace, with_files}
+use Rattle.boot_entries.specs.Sources.{files_of, menu_too_long, sources_of, taken_of}
 use Rattle.boot_entries.specs.Texts.{boot_file, entry_of, menu_of}
 use Rattle.boot_entries.proofs.AtEndLemmas.{entries_elsewhere, last_file, loader_unnumbered}
 use Rattle.tree_put.proofs.LeftLemmas.{gone_at, left_at}
@@ -86,6 +92,16 @@ system_is (gen ∷ list) systems n = by (gen.number == n) (system_is list system
     by true rest = systems.0
     by false rest = rest
 
+-- the files that a boot menu is made of lie in the store
+all_stored : (list : List Gen) → AllByRecursion (λ (gen : Gen). IfSome gen.target IsSystemPath) list → AllByRecursion (λ p. is_in_store p ≡ true) (flat_map sources_of list)
+all_stored [] systems = tt
+all_stored (gen ∷ list) systems = by gen.target systems.0 (all_stored list systems.1)
+  where
+    by : (target : Option Name) → IfSome target IsSystemPath → AllByRecursion (λ p. is_in_store p ≡ true) (flat_map sources_of list) →
+        AllByRecursion (λ p. is_in_store p ≡ true) (option_map_or files_of target [] ++ flat_map sources_of list)
+    by None named rest = rest
+    by (Some system) named rest = (version_stored system named, (params_stored system named, rest))
+
 module _ (gens : Gens) (is : IsBootGens gens) (w m : Leaves) (store : (q : Name) → is_in_store q ≡ true → get m q ≡ get w q) where
   line_kept : (at : Name) → is_in_store at ≡ true → line_at m at ≡ line_at w at
   line_kept at stored = ap (λ (o : Option (List ℕ)). first_line (unwrap_or o [])) (store_content_kept w m store at (store at stored))
@@ -118,14 +134,23 @@ module _ (gens : Gens) (is : IsBootGens gens) (w m : Leaves) (store : (q : Name)
         ∙ sym (ap (λ b. cond b (loader_end gens.current w) (option_map_or (entry_end gens.list w) (numbered q) (get w q))) away)
   ]
 
+  -- the files that it is made of are as long
+  source_kept : (q : Name) → has (taken_of gens) q ≡ true → content_of m q ≡ content_of w q
+  source_kept q taken =
+      let stored = each_of (λ p. is_in_store p ≡ true) (taken_of gens) (all_stored gens.list is.systems) q taken in store_content_kept w m store q (store q stored)
+
+  pub short_kept : menu_too_long gens w ≡ None → menu_too_long gens m ≡ None
+  short_kept none =
+      ap (option_map (TooMany LeafBytes)) (still_none_past (has (taken_of gens)) w m source_kept (none_mapped (TooMany LeafBytes) (long_past (has (taken_of gens)) w) none))
+
 abbrev KeepsBoot : Gens → WorldState → WorldState → Type 0
-KeepsBoot gens w m = EndsSame owns_boot (λ leaves. boot_places gens.list) (λ leaves. None) (boot_end gens) w m
+KeepsBoot gens w m = EndsSame owns_boot (λ leaves. boot_places gens.list) (menu_too_long gens) (boot_end gens) w m
 
 keeps_boot : (gens : Gens) → IsBootGens gens → (w m : WorldState) → ((q : Name) → is_in_store q ≡ true → get m.leaves q ≡ get w.leaves q) →
     (gens.current ≡ None → get m.leaves loader_path ≡ get w.leaves loader_path) → ((p : Name) → IsWay p → IsClear w.leaves p → IsClear m.leaves p) → KeepsBoot gens w m
 keeps_boot gens is w m store loader kept = record {
   ends = boot_kept gens is w.leaves m.leaves store loader;
-  free = λ way refusal. (free_kept w.leaves m.leaves (boot_places gens.list) (places_are (entry_places gens.list) (entry_places_are gens.list is.list.numbers)) kept way, refl);
+  free = λ way refusal. (free_kept w.leaves m.leaves (boot_places gens.list) (places_are (entry_places gens.list) (entry_places_are gens.list is.list.numbers)) kept way, short_kept gens is w.leaves m.leaves store refusal);
 }
 
 -- ---- the part
@@ -146,7 +171,7 @@ frame gens is w m same = keeps_boot gens is w m
     (λ p way clear q line. same.leaves q (way_line p q way line) ∙ clear q line)
 
 pub part_law : BootPartLaw
-part_law gens is = leaf_is_part owns_boot (λ leaves. boot_places gens.list) (λ leaves. None) (boot_end gens) reads_boot (frame gens is) owned_read stage_unread
+part_law gens is = leaf_is_part owns_boot (λ leaves. boot_places gens.list) (menu_too_long gens) (boot_end gens) reads_boot (frame gens is) owned_read stage_unread
 
 -- ---- each moment
 

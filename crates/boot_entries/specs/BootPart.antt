@@ -17,6 +17,7 @@ use Rattle.tree_put.specs.declared.written_place.WrittenPlace.{WrittenPlace}
 use Rattle.tree_put.specs.WrittenPlace.{written}
 use Rattle.boot_entries.specs.Entries.{loader_text}
 use Rattle.boot_entries.specs.Places.{entries_folder, entry_path, loader_path, numbered, owns_boot}
+use Rattle.boot_entries.specs.Sources.{menu_too_long}
 use Rattle.boot_entries.specs.Texts.{entry_of}
 
 -- a file of mode 0644 that root owns
@@ -58,6 +59,6 @@ boot_end gens leaves q =
     if is_path q loader_path then loader_end gens.current leaves
     else option_map_or (entry_end gens.list leaves) (numbered q) (get leaves q)
 
--- the part that makes the boot menu of some generations
+-- the part that makes the boot menu of some generations: it is refused where a file that it is made of is too long
 abbrev pub boot_part : Gens → Part
-boot_part gens = leaf_part owns_boot reads_boot (λ leaves. boot_places gens.list) (λ leaves. None) (boot_end gens)
+boot_part gens = leaf_part owns_boot reads_boot (λ leaves. boot_places gens.list) (menu_too_long gens) (boot_end gens)

@@ -15,12 +15,13 @@ ghost use Rattle.boot_entries.specs.BootDefault.{CanMakeDefault, IsDefaultFor, I
 use crate::applying::apply;
 use crate::boot_texts::BootTexts;
 use crate::menu_places::add_places_of;
-use crate::planning::texts;
+use crate::planning::texts_noted;
 use generations::{Gens, Move, after_move, move_profile, number_to};
 use host_trait::{HostFault, Tree};
+use leaf_limits::count_noted;
 use std::alloc::{AllocError, Global};
 use switch_names::{Listed, SystemName};
-use switch_parts::{PlanFault, Refusal};
+use switch_parts::{PlanFault, Refusal, What, too_many};
 use tree_put::WrittenPlace;
 
 /// What is planned to make a system the boot default.
@@ -66,8 +67,9 @@ pub fn add_menu_places(
 /// Plans to make a system the boot default by a move of the profile, given the generations that stand, and
 /// changes nothing.
 ///
-/// It is refused where a set finds no further number. It reads two files of each generation's system
-/// once, and lists the folder of the entries once.
+/// It is refused where a set finds no further number, and then with the length of the first of the
+/// files in byte order that is too long. It reads two files of each generation's system once, and lists
+/// the folder of the entries once.
 ///
 /// Source: NixOS manual, "Changing the configuration"; Boot Loader Specification, "Type #1 Boot
 /// Loader Specification Entries".
@@ -90,7 +92,11 @@ pub fn plan_boot_default<T: Tree>(
         return Err(PlanFault::Refused(Refusal::GenerationsFull));
     };
     let after = after_move(alloc, &gens, system, to)?;
-    let menu = texts(alloc, host, &after)?;
+    let mut long = None;
+    let menu = texts_noted(alloc, host, &after, &mut long)?;
+    if let Some(why) = too_many(What::LeafBytes, count_noted(&long)) {
+        return Err(PlanFault::Refused(why));
+    }
     Ok(BootDefaultPlan {
         to,
         gens,

@@ -6,6 +6,7 @@ pub mod FarmMoment
 pub mod FinishLemmas
 pub mod LeafLemmas
 pub mod LineLemmas
+pub mod LongLemmas
 pub mod MakingLemmas
 pub mod MomentLemmas
 pub mod PartLemmas

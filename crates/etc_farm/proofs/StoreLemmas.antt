@@ -1,5 +1,5 @@
 -- What a system wants below /etc stays the same where the store does.
-use Rattle.std.proofs.Common.{◌≡◌, ◌&&◌, ◌++◌, ◌∷◌, not, Bool, true, false, inl, inr, cond, List, ℕ, codes, map, Option, None, Some, Result, Err, is_some, option_map, option_and_then, append_assoc, refl, sym, ap, subst, ◌∙◌}
+use Rattle.std.proofs.Common.{◌≡◌, ◌&&◌, ◌||◌, ◌++◌, [], ◌∷◌, not, nat_lt, length, unwrap_or, Bool, true, false, inl, inr, cond, List, ℕ, codes, map, Option, None, Some, Result, Err, is_some, option_map, option_and_then, append_assoc, refl, sym, ap, subst, ◌∙◌}
 use Rattle.std.proofs.lemmas.Bool.{both_ways, cases_Bool}
 use Rattle.std.proofs.lemmas.Map.Lookups.{btree_set_from_contains, exact_bytes}
 use Rattle.std.specs.FinMap.{get}
@@ -9,12 +9,13 @@ use Rattle.switch_names.specs.SystemName.{IsSystemPath}
 use Rattle.host_trait.specs.declared.leaf.LeafKind.{LeafKind}
 use Rattle.host_trait.specs.World.{Leaves, content_of}
 use Rattle.host_trait.proofs.Places.{bytes_total}
+use Rattle.leaf_limits.specs.Limits.{is_long, leaf_max}
 use Rattle.etc_manifest.specs.declared.item.ItemKind.{ItemKind}
 use Rattle.etc_manifest.specs.declared.manifest_fault.ManifestFault.{ManifestFault}
-use Rattle.etc_manifest.specs.declared.manifest_fault.ManifestFault.TheVariants.{Reserved}
+use Rattle.etc_manifest.specs.declared.manifest_fault.ManifestFault.TheVariants.{Entry, Reserved}
 use Rattle.etc_manifest.specs.declared.mode.Mode.{Mode}
 use Rattle.etc_manifest.specs.declared.mode.Mode.TheVariants.{Bits, DirectSymlink}
-use Rattle.etc_manifest.specs.Companion.{companion, is_companion, owner_text, parts_of, without_line_feed}
+use Rattle.etc_manifest.specs.Companion.{companion, has_long_owner, is_companion, owner_text, parts_of, short_content, without_line_feed}
 use Rattle.etc_manifest.specs.Entries.{entries_of, has_leaf, item_at, item_of, manifest_of, with_place}
 use Rattle.etc_manifest.specs.Kind.{copied_kind, direct_kind, kind_by, kind_of, kind_with, mode_of, target_of}
 use Rattle.etc_manifest.specs.Manifest.{gathered}
@@ -55,6 +56,13 @@ module _ (w m : Leaves) (same : (path : Name) → is_in_store path ≡ true → 
   content_same : (name : Name) → content_of m (path_in (etc_folder system) name) ≡ content_of w (path_in (etc_folder system) name)
   content_same name = store_content_kept w m same (path_in (etc_folder system) name) (leaf_same name)
 
+  -- and is as long
+  long_same : (name : Name) → is_long m (path_in (etc_folder system) name) ≡ is_long w (path_in (etc_folder system) name)
+  long_same name = ap (λ (content : Option (List ℕ)). nat_lt leaf_max (length (unwrap_or content []))) (content_same name)
+
+  short_same : (name : Name) → short_content m (path_in (etc_folder system) name) ≡ short_content w (path_in (etc_folder system) name)
+  short_same name = λ i. cond (long_same name i) None (content_same name i)
+
   has_same : (name : Name) → has_leaf m (etc_folder system) name ≡ has_leaf w (etc_folder system) name
   has_same name = ap (λ (leaf : Option LeafKind). is_some leaf) (leaf_same name)
 
@@ -70,18 +78,21 @@ module _ (w m : Leaves) (same : (path : Name) → is_in_store path ≡ true → 
 
   module _ (has_name : Name → Bool) (owners : OwnerIds) (name : Name) where
     companion_same : (end : Name) → companion has_name m (etc_folder system) name end ≡ companion has_name w (etc_folder system) name end
-    companion_same end = ap (λ (content : Option (List ℕ)). cond (has_name (name ++ end)) (Some (option_map without_line_feed content)) None) (content_same (name ++ end))
+    companion_same end = ap (λ (content : Option (List ℕ)). cond (has_name (name ++ end)) (Some (option_map without_line_feed content)) None) (short_same (name ++ end))
+
+    long_owner_same : has_long_owner has_name m (etc_folder system) name ≡ has_long_owner has_name w (etc_folder system) name
+    long_owner_same = λ i. (has_name (name ++ codes ".uid") && long_same (name ++ codes ".uid") i) || (has_name (name ++ codes ".gid") && long_same (name ++ codes ".gid") i)
 
     parts_same : parts_of has_name m (etc_folder system) name ≡ parts_of has_name w (etc_folder system) name
     parts_same = λ i. record {
-      bytes = content_same name i;
+      bytes = short_same name i;
       uid = owner_text (companion_same (codes ".uid") i);
       gid = owner_text (companion_same (codes ".gid") i);
     }
 
     with_same : (mode : Option Mode) → kind_with has_name m (etc_folder system) owners name mode ≡ kind_with has_name w (etc_folder system) owners name mode
     with_same None = refl
-    with_same (Some DirectSymlink) = ap (λ (leaf : Option LeafKind). direct_kind name (target_of leaf)) (leaf_same name)
+    with_same (Some DirectSymlink) = λ i. cond (long_owner_same i) (Err (Entry name)) (direct_kind name (cond (long_same name i) None (target_of (leaf_same name i))))
     with_same (Some (Bits mode)) = ap (copied_kind owners name mode) parts_same
 
     by_same : (text : Option (Option (List ℕ))) → kind_by has_name m (etc_folder system) owners name text ≡ kind_by has_name w (etc_folder system) owners name text

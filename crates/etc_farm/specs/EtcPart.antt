@@ -11,12 +11,14 @@ use Rattle.etc_manifest.specs.Count.{entries_past}
 use Rattle.etc_manifest.specs.Entries.{entries_of, manifest_of}
 use Rattle.etc_manifest.specs.Manifest.{AreApart, places}
 use Rattle.etc_manifest.specs.Owners.{OwnerIds}
+use Rattle.etc_manifest.specs.Taken.{takes_entries}
 use Rattle.host_trait.specs.World.{IsSound, Leaves, WorldState}
+use Rattle.leaf_limits.specs.Limits.{long_past}
 use Rattle.switch_names.specs.Names.{Name}
 use Rattle.switch_names.specs.SystemName.{IsSystemPath}
 use Rattle.switch_parts.specs.declared.refusal.Refusal.{Refusal}
 use Rattle.switch_parts.specs.declared.refusal.Refusal.TheVariants.{EtcEntry, Owner, Reserved, TooMany}
-use Rattle.switch_parts.specs.declared.refusal.What.TheVariants.{Entries}
+use Rattle.switch_parts.specs.declared.refusal.What.TheVariants.{Entries, LeafBytes}
 use Rattle.switch_parts.specs.Limits.{too_many}
 use Rattle.switch_parts.specs.Part.{IsAtEnd, IsDone, IsFree, IsPart, IsSameFor, Part}
 use Rattle.etc_farm.specs.declared.etc_plan.EtcPlan.{EtcPlan}
@@ -38,6 +40,10 @@ refusal_in (Err why) = manifest_refusal why
 -- the refusal of a system whose etc has too many entries
 abbrev pub entries_too_many : Leaves → Name → Option Refusal
 entries_too_many leaves system = too_many Entries (entries_past leaves system)
+
+-- the refusal of a system of whose etc a content is taken that is too long
+abbrev pub entries_too_long : Leaves → Name → Option Refusal
+entries_too_long leaves system = too_many LeafBytes (long_past (takes_entries leaves system) leaves)
 
 -- why what a system wants below /etc is refused: too many entries come before what is wrong with any of them
 abbrev pub etc_refusal : Name → OwnerIds → Leaves → Option Refusal

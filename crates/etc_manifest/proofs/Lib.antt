@@ -10,4 +10,6 @@ pub mod ModeLemmas
 pub mod NameLemmas
 pub mod OwnerLemmas
 pub mod ReadLemmas
+pub mod ShortLemmas
+pub mod TakenLemmas
 pub mod WantedLemmas

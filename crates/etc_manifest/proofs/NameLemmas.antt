@@ -78,7 +78,7 @@ below_is_after folder path = by (after_front (path_in folder []) path) refl
     by (Some name) is = sym (name_below-cut path folder name (front_is (path_in folder []) path name is ∙ append_assoc folder (slash ∷ []) name))
 
 -- a front that two names share is passed over
-front_same : (front a b : List ℕ) → bytes_cmp (front ++ a) (front ++ b) ≡ bytes_cmp a b
+pub front_same : (front a b : List ℕ) → bytes_cmp (front ++ a) (front ++ b) ≡ bytes_cmp a b
 front_same [] a b = refl
 front_same (x ∷ front) a b = ap (λ o. ordering_then o (bytes_cmp (front ++ a) (front ++ b))) (itself x) ∙ front_same front a b
   where

@@ -8,6 +8,7 @@ use Rattle.switch_names.specs.Names.{Name}
 use Rattle.host_trait.specs.declared.leaf.LeafKind.{LeafKind}
 use Rattle.host_trait.specs.declared.leaf.LeafKind.TheVariants.{File, Link}
 use Rattle.host_trait.specs.World.{Leaves}
+use Rattle.leaf_limits.specs.Limits.{is_long}
 use Rattle.etc_manifest.specs.declared.item.ItemKind.{ItemKind}
 use Rattle.etc_manifest.specs.declared.item.ItemKind.TheVariants.{Linked, Copied, Direct}
 use Rattle.etc_manifest.specs.declared.manifest_fault.ManifestFault.{ManifestFault}
@@ -15,7 +16,7 @@ use Rattle.etc_manifest.specs.declared.manifest_fault.ManifestFault.TheVariants.
 use Rattle.etc_manifest.specs.declared.mode.Mode.{Mode}
 use Rattle.etc_manifest.specs.declared.mode.Mode.TheVariants.{DirectSymlink, Bits}
 use Rattle.etc_manifest.specs.declared.reading.Parts.{Parts}
-use Rattle.etc_manifest.specs.Companion.{companion, parts_of}
+use Rattle.etc_manifest.specs.Companion.{companion, has_long_owner, parts_of}
 use Rattle.etc_manifest.specs.Owners.{OwnerIds, owner_id}
 use Rattle.etc_manifest.specs.Place.{path_in}
 
@@ -39,6 +40,10 @@ target_of None = None
 target_of (Some (File bytes mode uid gid)) = None
 target_of (Some (Link target)) = Some target
 
+-- the target of the link at a path, where what it leads to isn't too long
+abbrev pub short_target : Leaves → List ℕ → Option (List ℕ)
+short_target leaves at = if is_long leaves at then None else target_of (get leaves at)
+
 -- an entry whose link is placed itself has to be one
 abbrev pub direct_kind : Name → Option (List ℕ) → Result ItemKind ManifestFault
 direct_kind name None = Err (Entry name)
@@ -61,7 +66,8 @@ module _ (has : Name → Bool) (leaves : Leaves) (folder : List ℕ) (owners : O
   -- an entry with this mode
   abbrev pub kind_with : Option Mode → Result ItemKind ManifestFault
   kind_with None = Err (Entry name)
-  kind_with (Some DirectSymlink) = direct_kind name (target_of (get leaves (path_in folder name)))
+  kind_with (Some DirectSymlink) =
+      if has_long_owner has leaves folder name then Err (Entry name) else direct_kind name (short_target leaves (path_in folder name))
   kind_with (Some (Bits mode)) = copied_kind owners name mode (parts_of has leaves folder name)
 
   -- an entry by what its `.mode` says: without one it is a link into the farm

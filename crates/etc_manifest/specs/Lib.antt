@@ -5,3 +5,4 @@ pub mod Kind
 pub mod Manifest
 pub mod Entries
 pub mod Count
+pub mod Taken

@@ -12,14 +12,14 @@ use std::alloc::{AllocError, Global};
 use switch_names::Path;
 
 /// What a text has before an ending.
-fn before_end<'a>(text: &'a str, ending: &str) -> Option<&'a str>
+pub fn before_end<'a>(text: &'a str, ending: &str) -> Option<&'a str>
     ensures { option_copied result ≡ before_end ending.now text.now }
 {
     text.strip_suffix(ending)
 }
 
 /// Whether leaves stand at a name and at its `.mode`.
-fn has_mode(alloc: Global, names: &[Path], name: &str) -> Result<bool, AllocError>
+pub fn has_mode(alloc: Global, names: &[Path], name: &str) -> Result<bool, AllocError>
     requires { IsStrictlySortedBy bytes_cmp names.now }
     ensures { IfOk result (λ answer. answer ≡ has_mode (has names.now) name.now) }
 {

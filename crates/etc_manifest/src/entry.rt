@@ -1,6 +1,5 @@
 //! Reads the entries of a system's etc.
-ghost use Rattle.std.specs.Prelude.{◌≡◌, ◌<◌, ◌≤◌, ℕ, false, List, length, Some, Err, IfOk, OnOk, IsErrOf, map, option_and_then, slice_get};
-ghost use Rattle.std.specs.FinMap.{get};
+ghost use Rattle.std.specs.Prelude.{◌≡◌, ◌<◌, ◌≤◌, ℕ, false, List, length, Some, Err, IfOk, OnOk, IsErrOf, map, option_and_then, slice_get, if◌then◌else◌};
 ghost use Rattle.std.specs.List.{AllByRecursion};
 ghost use Rattle.std.specs.List.Sorted.{IsStrictlySortedBy};
 ghost use Rattle.switch_names.specs.Names.{has};
@@ -11,8 +10,8 @@ ghost use Rattle.host_trait.specs.Reading.{IsReadingOf};
 ghost use Rattle.etc_manifest.specs.declared.manifest_fault.ManifestFault.TheVariants.{Entry, Host};
 ghost use Rattle.etc_manifest.specs.declared.mode.Mode.TheVariants.{Bits};
 ghost use Rattle.etc_manifest.specs.Entries.{IsAnswer, entry_names, item_of};
-ghost use Rattle.etc_manifest.specs.Companion.{parts_of};
-ghost use Rattle.etc_manifest.specs.Kind.{copied_kind, direct_kind, kind_of, kind_with, mode_of, owned_kind, target_of};
+ghost use Rattle.etc_manifest.specs.Companion.{has_long_owner, parts_of};
+ghost use Rattle.etc_manifest.specs.Kind.{copied_kind, direct_kind, kind_of, kind_with, mode_of, owned_kind, short_target};
 ghost use Rattle.etc_manifest.specs.Manifest.{gathered, places};
 ghost use Rattle.etc_manifest.specs.Owners.{owner_id};
 ghost use Rattle.etc_manifest.specs.Place.{is_reserved, path_in};
@@ -24,7 +23,7 @@ use crate::mode::{Mode, read_mode};
 use crate::names::has_longer;
 use crate::owners::Owners;
 use crate::place::is_reserved;
-use crate::reading::{Parts, companion, read_parts, read_target};
+use crate::reading::{Parts, companion, has_long_owner, read_parts, read_target};
 use host_trait::{Leaf, Tree};
 use std::alloc::{AllocError, Global};
 use switch_names::{Bytes, Listed, Path, Text};
@@ -116,12 +115,17 @@ fn read_direct<T: Tree>(
     alloc: Global,
     host: &mut T,
     folder: &Path,
+    names: &[Path],
     name: &Path,
 ) -> Result<ItemKind, ManifestFault>
-    ensures kind { Told (T.host host.old) (λ w. IsAnswer result (direct_kind name.now (target_of (get w.leaves (path_in folder.now name.now))))) }
+    requires { IsStrictlySortedBy bytes_cmp names.now }
+    ensures kind { Told (T.host host.old) (λ w. IsAnswer result (if has_long_owner (has names.now) w.leaves folder.now name.now then Err (Entry name.now) else direct_kind name.now (short_target w.leaves (path_in folder.now name.now)))) }
     ensures reads { IsReadingOf (T.host host.old) (T.host host.new) (IsErrOf result (Host Device)) }
 {
     let target = read_target(alloc, host, folder, name)?;
+    if has_long_owner(alloc, host, folder, names, name)? {
+        return refused_kind(alloc, name);
+    }
     direct_kind(alloc, name, target)
 }
 
@@ -160,7 +164,7 @@ fn read_with<T: Tree>(
     ensures reads { IsReadingOf (T.host host.old) (T.host host.new) (IsErrOf result (Host Device)) }
 {
     match mode {
-        Some(Mode::DirectSymlink) => read_direct(alloc, host, folder, name),
+        Some(Mode::DirectSymlink) => read_direct(alloc, host, folder, names, name),
         Some(Mode::Bits(mode)) => read_copied(alloc, host, folder, names, owners, name, mode),
         None => refused_kind(alloc, name),
     }

@@ -1,5 +1,5 @@
 //! Laws of what a system wants below `/etc`.
-ghost use Rattle.std.specs.Prelude.{◌≡◌, ◌↔◌, ◌&&◌, not, List, ℕ, Ok, Err};
+ghost use Rattle.std.specs.Prelude.{◌≡◌, ◌↔◌, ◌&&◌, true, false, not, List, ℕ, None, Ok, Err};
 ghost use Rattle.std.specs.List.Sorted.{IsStrictlySortedBy};
 ghost use Rattle.switch_names.specs.Names.{Name, has};
 ghost use Rattle.switch_names.specs.SystemName.{IsSystemPath};
@@ -11,6 +11,8 @@ ghost use Rattle.etc_manifest.specs.Entries.{IsFirstRefused, entries_of, has_lea
 ghost use Rattle.etc_manifest.specs.Manifest.{AreApart, entry, places};
 ghost use Rattle.etc_manifest.specs.Owners.{OwnerIds};
 ghost use Rattle.etc_manifest.specs.Place.{etc_folder};
+ghost use Rattle.etc_manifest.specs.Taken.{takes_entries};
+ghost use Rattle.leaf_limits.specs.Limits.{is_long, long_past};
 
 /// The entries of a system's etc are the names of the leaves there that are no companions, in byte
 /// order and each once.
@@ -36,4 +38,12 @@ pub fn manifests_say_what_is_wanted()
 pub fn manifests_are_apart()
     ensures { (leaves : Leaves) (system : List ℕ) (owners : OwnerIds) (items : List Item) → IsSystemPath system → IsSound leaves →
         manifest_of leaves system owners ≡ Ok items → AreApart (places items) }
+{}
+
+/// Where a system's etc isn't refused, no content that is taken of it is longer than may be read.
+pub fn taken_contents_are_short()
+    ensures short { (leaves : Leaves) (system : List ℕ) (owners : OwnerIds) (items : List Item) → IsSystemPath system → manifest_of leaves system owners ≡ Ok items →
+        (q : Name) → takes_entries leaves system q ≡ true → is_long leaves q ≡ false }
+    ensures none_past { (leaves : Leaves) (system : List ℕ) (owners : OwnerIds) (items : List Item) → IsSystemPath system → manifest_of leaves system owners ≡ Ok items →
+        long_past (takes_entries leaves system) leaves ≡ None }
 {}

@@ -72,7 +72,8 @@ impl Manifest {
     /// Reads the entries of a system's etc, and their companions.
     ///
     /// It lists the folder once, and counts the entries before it reads any of them. Of an entry without
-    /// a `.mode` nothing more is read, and of any other each leaf once.
+    /// a `.mode` nothing more is read, and of any other each leaf once. A link that is placed itself is followed
+    /// too, as what it leads to may be longer than may be read.
     ///
     /// Source: NixOS manual, `environment.etc`.
     pub fn read<T: Tree>(

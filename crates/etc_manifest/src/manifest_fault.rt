@@ -22,7 +22,8 @@ pub enum ManifestFault {
     #[error("a name is reserved")]
     Reserved(Path),
     /// The entry's mode is none, or the entry isn't what its mode wants: it or a companion has no
-    /// content, or it is no link.
+    /// content, or it is no link. Or the entry has a `.mode`, and its content or that of a companion is
+    /// longer than 16 MiB.
     #[error("an entry can't be placed")]
     Entry(Path),
     /// An owner of the entry is neither an id nor the name of an account.

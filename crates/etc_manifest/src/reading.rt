@@ -1,18 +1,18 @@
 //! Reads what stands at an entry and at its companions.
 ghost use Rattle.std.specs.Prelude.{◌≡◌, ◌⊎◌, ◌++◌, IfOk, MatchOption, None, Some, if◌then◌else◌};
-ghost use Rattle.std.specs.FinMap.{get};
 ghost use Rattle.std.specs.List.Sorted.{IsStrictlySortedBy};
 ghost use Rattle.switch_names.specs.Names.{has};
 ghost use Rattle.host_trait.specs.Bytes.{bytes_cmp};
 ghost use Rattle.host_trait.specs.Host.{Told};
 ghost use Rattle.host_trait.specs.Reading.{IsReading};
-ghost use Rattle.etc_manifest.specs.Companion.{companion, owner_text, parts_of, without_line_feed};
+ghost use Rattle.etc_manifest.specs.Companion.{companion, has_long, has_long_owner, owner_text, parts_of, without_line_feed};
 ghost use Rattle.etc_manifest.specs.Entries.{leaf_names};
-ghost use Rattle.etc_manifest.specs.Kind.{target_of};
+ghost use Rattle.etc_manifest.specs.Kind.{short_target};
 ghost use Rattle.etc_manifest.specs.Place.{path_in};
 
+use crate::content::{is_long_at, is_target_long, short_content};
 use crate::names::{has_name, names_after, with_ending};
-use host_trait::{HostFault, Leaf, LeafKind, Tree, content};
+use host_trait::{HostFault, LeafKind, Tree};
 use std::alloc::{AllocError, Global};
 use switch_names::{Bytes, Listed, Path, Text};
 
@@ -31,7 +31,7 @@ pub fn read_names<T: Tree>(
 }
 
 /// The path of what has a name below a folder.
-fn path_in(alloc: Global, folder: &Path, name: &str) -> Result<Path, AllocError>
+pub fn path_in(alloc: Global, folder: &Path, name: &str) -> Result<Path, AllocError>
     ensures { IfOk result (λ path. path ≡ path_in folder.now name.now) }
 {
     // The name follows the folder in a path, so that memory alone can be wanting.
@@ -70,7 +70,8 @@ fn without_line_feed(text: Bytes) -> Bytes
     Bytes::from_vec(text)
 }
 
-/// What the companion of an entry says, where a leaf stands there: nothing, where that has no content.
+/// What the companion of an entry says, where a leaf stands there: nothing, where that has no content, or one that is longer than may
+/// be read.
 pub fn companion<T: Tree>(
     alloc: Global,
     host: &mut T,
@@ -86,10 +87,47 @@ pub fn companion<T: Tree>(
     let Some(path) = companion_path(alloc, folder, names, name, ending)? else {
         return Ok(None);
     };
-    match content(alloc, host, &path)? {
+    match short_content(alloc, host, &path)? {
         Some(bytes) => Ok(Some(Some(without_line_feed(bytes)))),
         None => Ok(Some(None)),
     }
+}
+
+/// Whether the companion of an entry is longer than may be read.
+fn has_long<T: Tree>(
+    alloc: Global,
+    host: &mut T,
+    folder: &Path,
+    names: &[Path],
+    name: &Path,
+    ending: &str,
+) -> Result<bool, HostFault>
+    requires { IsStrictlySortedBy bytes_cmp names.now }
+    ensures long { IfOk result (λ long. Told (T.host host.old) (λ w. long ≡ has_long (has names.now) w.leaves folder.now name.now ending.now)) }
+    ensures reads { IsReading (T.host host.old) (T.host host.new) result }
+{
+    let Some(path) = companion_path(alloc, folder, names, name, ending)? else {
+        return Ok(false);
+    };
+    is_long_at(alloc, host, &path)
+}
+
+/// Whether a companion that says who owns an entry is longer than may be read.
+pub fn has_long_owner<T: Tree>(
+    alloc: Global,
+    host: &mut T,
+    folder: &Path,
+    names: &[Path],
+    name: &Path,
+) -> Result<bool, HostFault>
+    requires { IsStrictlySortedBy bytes_cmp names.now }
+    ensures long { IfOk result (λ long. Told (T.host host.old) (λ w. long ≡ has_long_owner (has names.now) w.leaves folder.now name.now)) }
+    ensures reads { IsReading (T.host host.old) (T.host host.new) result }
+{
+    if has_long(alloc, host, folder, names, name, ".uid")? {
+        return Ok(true);
+    }
+    has_long(alloc, host, folder, names, name, ".gid")
 }
 
 /// Who owns a file by its companion: the id 0, where no leaf stands there.
@@ -111,7 +149,7 @@ fn owner_text<T: Tree>(
     }
 }
 
-/// What a copy of an entry is made of, as far as its leaves have content.
+/// What a copy of an entry is made of, as far as its leaves have content that isn't longer than may be read.
 pub struct Parts {
     /// The content of the entry.
     pub bytes: Option<Bytes>,
@@ -168,33 +206,31 @@ pub fn read_parts<T: Tree>(
     ensures reads { IsReading (T.host host.old) (T.host host.new) result }
 {
     let path = path_in(alloc, folder, name.as_str())?;
-    let bytes = content(alloc, host, &path)?;
+    let bytes = short_content(alloc, host, &path)?;
     let uid = owner_text(alloc, host, folder, names, name, ".uid")?;
     let gid = owner_text(alloc, host, folder, names, name, ".gid")?;
     Ok(Parts { bytes, uid, gid })
 }
 
-/// The target of a link.
-fn into_target(leaf: Option<Leaf>) -> Option<Text>
-    ensures { result ≡ target_of leaf }
-{
-    match leaf?.into_kind() {
-        LeafKind::File { .. } => None,
-        LeafKind::Link { target } => Some(target),
-    }
-}
-
-/// Reads where an entry leads that is a link.
+/// Reads where an entry leads that is a link, unless what it leads to is longer than may be read.
 pub fn read_target<T: Tree>(
     alloc: Global,
     host: &mut T,
     folder: &Path,
     name: &Path,
 ) -> Result<Option<Text>, HostFault>
-    ensures target { IfOk result (λ target. Told (T.host host.old) (λ w. target ≡ target_of (get w.leaves (path_in folder.now name.now)))) }
+    ensures target { IfOk result (λ target. Told (T.host host.old) (λ w. target ≡ short_target w.leaves (path_in folder.now name.now))) }
     ensures reads { IsReading (T.host host.old) (T.host host.new) result }
 {
     let path = path_in(alloc, folder, name.as_str())?;
-    let leaf = host.read(alloc, &path)?;
-    Ok(into_target(leaf))
+    let Some(leaf) = host.read(alloc, &path)? else {
+        return Ok(None);
+    };
+    let LeafKind::Link { target } = leaf.into_kind() else {
+        return Ok(None);
+    };
+    if is_target_long(alloc, host, target.as_str())? {
+        return Ok(None);
+    }
+    Ok(Some(target))
 }

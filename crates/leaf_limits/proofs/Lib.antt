@@ -1,1 +1,2 @@
 pub mod LongLemmas
+pub mod PastLemmas

@@ -1,5 +1,5 @@
 -- The first content that is too long, with one place more.
-use Rattle.std.proofs.Common.{◌≡◌, ◌⊎◌, ◌≤◌, ◌<◌, ◌++◌, ℕ, true, false, List, [], ◌∷◌, length, Option, None, Some, unwrap_or, refl, sym, ap, subst, ◌∙◌, inl, inr}
+use Rattle.std.proofs.Common.{◌≡◌, ◌⊎◌, ◌≤◌, ◌<◌, ◌++◌, ◌||◌, ℕ, Bool, true, false, List, [], ◌∷◌, length, Option, None, Some, unwrap_or, refl, sym, ap, subst, ◌∙◌, inl, inr}
 use Rattle.std.proofs.lemmas.Bool.{or_cases, or_left, or_right}
 use Rattle.std.proofs.lemmas.List.Folds.{list_any-append}
 use Rattle.std.specs.Ordering.{ordering_reverse}
@@ -8,7 +8,7 @@ use Rattle.host_trait.specs.World.{Leaves, bytes_cmp, content_of}
 use Rattle.host_trait.proofs.NameOrder.{name_exact, name_itself}
 use Rattle.host_trait.proofs.Places.{bytes_total}
 use Rattle.leaf_limits.specs.declared.too_long.TooLong.{TooLong}
-use Rattle.leaf_limits.specs.Limits.{IsBefore, IsFirstOf, IsFirstTooLong, leaf_max, length_at}
+use Rattle.leaf_limits.specs.Limits.{AreTaken, IsBefore, IsFirstOf, IsFirstTooLong, leaf_max, length_at}
 use Rattle.switch_names.specs.Names.{Name, has, is_name}
 
 not_before : (p : Name) → bytes_cmp p p ≡ Less → ⊥
@@ -87,3 +87,7 @@ first_again places m w long same is = record {
   past = is.past;
   first = λ q there less. subst (λ (o : Option (List ℕ)). length (unwrap_or o []) ≤ leaf_max) (same q there) (is.first q there less);
 }
+
+-- of two lists together these are taken that are of either
+pub taken_both : (one other : List Name) (p r : Name → Bool) (leaves : Leaves) → AreTaken one p leaves → AreTaken other r leaves → AreTaken (one ++ other) (λ q. p q || r q) leaves
+taken_both one other p r leaves first second q there = list_any-append (is_name q) one other ∙ (λ i. first q there i || second q there i)

@@ -1,5 +1,7 @@
 -- How long a content may be that is read.
-use Rattle.std.specs.Prelude.{◌≡◌, ◌≤◌, ◌<◌, ◌^◌, ℕ, true, List, [], length, Option, None, Some, unwrap_or}
+use Rattle.std.specs.Prelude.{◌≡◌, ◌≤◌, ◌<◌, ◌^◌, ◌&&◌, ℕ, Bool, IsSome, true, List, [], length, nat_lt, Option, None, Some, option_map, unwrap_or}
+use Rattle.std.specs.FinMap.{keys}
+use Rattle.std.specs.List.{find}
 use Rattle.std.specs.declared.cmp.Ordering.TheVariants.{Less}
 use Rattle.host_trait.specs.World.{Leaves, bytes_cmp, content_of}
 use Rattle.leaf_limits.specs.declared.too_long.TooLong.{TooLong}
@@ -12,6 +14,18 @@ leaf_max = 2 ^ 24
 -- how many bytes the content at a place has: none where there is none
 abbrev pub length_at : Leaves → Name → ℕ
 length_at leaves at = length (unwrap_or (content_of leaves at) [])
+
+-- whether the content at a place is too long
+abbrev pub is_long : Leaves → Name → Bool
+is_long leaves at = nat_lt leaf_max (length_at leaves at)
+
+-- the length of the first content in byte order that is taken and too long, where there is one
+abbrev pub long_past : (Name → Bool) → Leaves → Option ℕ
+long_past is_taken leaves = option_map (length_at leaves) (find (λ q. is_taken q && is_long leaves q) (keys leaves))
+
+-- of the places with a content, these are the ones that are taken
+abbrev pub AreTaken : List Name → (Name → Bool) → Leaves → Type 0
+AreTaken places is_taken leaves = (q : Name) → IsSome (content_of leaves q) → has places q ≡ is_taken q
 
 -- the contents at some places are within the limit
 abbrev pub AreWithin : List Name → Leaves → Type 0

@@ -5,4 +5,4 @@ mod counts;
 mod too_long;
 
 pub use counts::{ENTRIES_MAX, ROWS_MAX, UNITS_MAX, past};
-pub use too_long::{LEAF_MAX, TooLong, content_noted};
+pub use too_long::{LEAF_MAX, TooLong, content_noted, count_noted, long_past};

@@ -1,10 +1,11 @@
 //! Contents that are too long.
-ghost use Rattle.std.specs.Prelude.{◌≡◌, ◌<◌, ◌↔◌, ◌++◌, ◌∷◌, [], List, length, unwrap_or, IsTrue, IfOk, OnOk};
+ghost use Rattle.std.specs.Prelude.{◌≡◌, ◌<◌, ◌↔◌, ◌++◌, ◌∷◌, [], Bool, List, length, option_map, unwrap_or, IsTrue, IfOk, OnOk};
 ghost use Rattle.host_trait.specs.Host.{Told};
 ghost use Rattle.host_trait.specs.Reading.{IsReading};
 ghost use Rattle.host_trait.specs.World.{Leaves, content_of};
 ghost use Rattle.switch_names.specs.Names.{Name};
-ghost use Rattle.leaf_limits.specs.Limits.{IsBefore, IsFirstOf, leaf_max, length_at};
+ghost use Rattle.leaf_limits.specs.declared.too_long.TooLong.{TooLong};
+ghost use Rattle.leaf_limits.specs.Limits.{AreTaken, IsBefore, IsFirstOf, leaf_max, length_at, long_past};
 
 use host_trait::{HostFault, Tree, content};
 use std::alloc::{AllocError, Global};
@@ -84,4 +85,32 @@ pub fn content_noted<T: Tree>(
         keep_first(alloc, long, at, count)?;
     }
     Ok(content)
+}
+
+/// The length of the content that was noted, where one was.
+pub fn count_noted(long: &Option<TooLong>) -> Option<u64>
+    ensures { result ≡ option_map (λ (first : TooLong). first.count) long.now }
+{
+    match long {
+        Some(first) => Some(first.count),
+        None => None,
+    }
+}
+
+/// The length of the first content in byte order that is too long, of those at some places.
+///
+/// It reads each place once.
+pub fn long_past<T: Tree>(
+    alloc: Global,
+    host: &mut T,
+    places: &[Path],
+) -> Result<Option<u64>, HostFault>
+    ensures past { IfOk result (λ past. (is_taken : Name → Bool) → Told (T.host host.old) (λ w. AreTaken places.now is_taken w.leaves → past ≡ long_past is_taken w.leaves)) }
+    ensures reads { IsReading (T.host host.old) (T.host host.new) result }
+{
+    let mut long = None;
+    for place in places {
+        content_noted(alloc, host, place, &mut long)?;
+    }
+    Ok(count_noted(&long))
 }

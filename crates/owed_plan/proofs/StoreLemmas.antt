@@ -124,7 +124,7 @@ module _ (leaves other : Leaves) (same : AreSameInStore leaves other) (system : 
   lines_same : fstab_of leaves system ≡ fstab_of other system
   lines_same = fstab_same leaves other system (content_same leaves other same (fstab_path system) fstab_inside)
 
-  files_same : (unit : Name) → file_part leaves system unit ≡ file_part other system unit
+  pub files_same : (unit : Name) → file_part leaves system unit ≡ file_part other system unit
   files_same unit =
       λ i. option_map (λ files. merged (map part_of files)) (own_files (λ name. file_of_same name i) (λ name. finite.values (from_entries {R = bytes_cmp} (dropped_same name i))) unit)
 

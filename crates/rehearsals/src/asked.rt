@@ -31,7 +31,7 @@ pub fn numbers_of(alloc: Global, text: &str) -> Result<Vec<u64>, Fail> {
 }
 
 /// The trouble of a text: how many changing calls finish before a cut and its pick, or the number of the call that fails.
-fn trouble_of(alloc: Global, text: &str) -> Result<Trouble, Fail> {
+pub fn trouble_of(alloc: Global, text: &str) -> Result<Trouble, Fail> {
     let numbers = numbers_of(alloc, text)?;
     match numbers.as_slice() {
         [after, pick] => Ok(Trouble::Cut(Cut {

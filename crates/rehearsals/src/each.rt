@@ -85,6 +85,33 @@ pub fn show_each(
     Ok(())
 }
 
+/// The word for whether two runs under one trouble have ended as one without a trouble.
+fn likeness(whole: &Ended, other: &Ended) -> &'static str {
+    if is_alike(whole, other) {
+        "alike"
+    } else {
+        "differs"
+    }
+}
+
+/// Shows how often a command is run under a trouble, how it ends, and whether it ends as without one.
+pub fn show_alike(
+    alloc: Global,
+    lines: &mut Lines,
+    world: &World,
+    command: &Command,
+    trouble: Trouble,
+) -> Result<(), Fail> {
+    let whole = ended_from(alloc, world, command, &[])?;
+    let other = ended_from(alloc, world, command, &[trouble])?;
+    lines.add_value(&other.summary.runs);
+    lines.add_word("runs");
+    lines.add_word(word_of(&other.summary.end));
+    lines.add_word(likeness(&whole, &other));
+    lines.end_line();
+    Ok(())
+}
+
 /// How many entries the journal of a host has.
 fn entries_of(ended: &Ended) -> usize {
     ended.host.world().journal().as_slice().len()
@@ -108,11 +135,7 @@ pub fn show_entered(
         let cut = Trouble::Cut(Cut { after, pick: 1 });
         let other = ended_from(alloc, world, command, &[cut])?;
         let entries = entries_of(&other);
-        let ending = if is_alike(&whole, &other) {
-            "alike"
-        } else {
-            "differs"
-        };
+        let ending = likeness(&whole, &other);
         if entries != last || ending != "alike" {
             lines.add_value(&entries);
             lines.add_word(ending);

@@ -7,8 +7,8 @@ mod each;
 mod ended;
 mod jobs;
 
-use self::asked::{command_of, made_of, rehearsal_of, rehearsal_of_jobs, troubles_of};
-use self::each::{show_each, show_entered};
+use self::asked::{command_of, made_of, rehearsal_of, rehearsal_of_jobs, trouble_of, troubles_of};
+use self::each::{show_alike, show_each, show_entered};
 use self::ended::show_ended;
 use self::jobs::{show_jobs, show_orders};
 use std::alloc::Global;
@@ -57,6 +57,11 @@ impl Commands for Rehearsals<'_> {
             ("made", [sizes]) => {
                 let (world, command) = made_of(alloc, text_of(sizes)?)?;
                 show_entered(alloc, lines, &world, &command)
+            }
+            ("alike", [sizes, trouble]) => {
+                let (world, command) = made_of(alloc, text_of(sizes)?)?;
+                let trouble = trouble_of(alloc, text_of(trouble)?)?;
+                show_alike(alloc, lines, &world, &command, trouble)
             }
             ("rehearsal", [sizes]) => {
                 let text = rehearsal_of(alloc, text_of(sizes)?)?;

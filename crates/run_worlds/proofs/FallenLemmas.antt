@@ -1,12 +1,13 @@
 -- The parts of a switch on a host without leaves.
-use Rattle.std.proofs.Common.{◌≡◌, ◌&&◌, ◌||◌, ℕ, Bool, true, false, List, [], ◌∷◌, Option, None, Some, cond, is_none, is_some, option_map, refl, sym, ap, subst, ◌∙◌}
+use Rattle.std.proofs.Common.{◌≡◌, ◌&&◌, ◌||◌, ℕ, Bool, true, false, List, [], ◌∷◌, Option, None, Some, cond, is_none, is_some, length, nat_lt, option_map, unwrap_or, refl, sym, ap, subst, ◌∙◌}
 use Rattle.std.specs.FinMap.{get, get-empty}
 use Rattle.std.specs.List.{find}
 use Rattle.host_trait.specs.Host.{HostState, Told}
-use Rattle.host_trait.specs.World.{Leaves, WorldState, bytes_cmp, content_of, empty_world}
+use Rattle.host_trait.specs.World.{Leaves, WorldState, bytes_cmp, content_of, empty_world, leaf_content}
 use Rattle.host_trait.proofs.Moments.{told_as}
 use Rattle.boot_entries.specs.BootPart.{boot_part}
 use Rattle.boot_entries.specs.declared.boot_texts.BootTexts.{BootTexts}
+use Rattle.boot_entries.specs.Sources.{menu_too_long, taken_of}
 use Rattle.boot_entries.specs.Steps.{CanApplyBoot}
 use Rattle.boot_entries.specs.Texts.{menu_of}
 use Rattle.etc_clean.specs.declared.sorting.Sorted.{Sorted}
@@ -17,6 +18,11 @@ use Rattle.etc_manifest.specs.Manifest.{AreApart, places}
 use Rattle.generations.specs.declared.gens.Gens.{Gens}
 use Rattle.generations.specs.Gens.{IsGensOf}
 use Rattle.generations.specs.Set.{CanSet}
+use Rattle.leaf_limits.specs.Limits.{is_long, leaf_max}
+use Rattle.leaf_limits.proofs.PastLemmas.{nothing_past}
+use Rattle.switch_names.specs.Names.{Name, has}
+use Rattle.switch_parts.specs.declared.refusal.What.TheVariants.{LeafBytes}
+use Rattle.switch_parts.specs.Limits.{too_many}
 use Rattle.switch_parts.specs.Part.{IsFree, Part}
 use Rattle.tree_put.specs.declared.written_place.WrittenPlace.{WrittenPlace}
 use Rattle.tree_put.specs.Put.{CanPut, is_blocked}
@@ -45,6 +51,13 @@ none_in_the_way w none all = ap (λ (found : Option WrittenPlace). option_map (�
     not_found : (all : List WrittenPlace) → find (is_in_the_way w.leaves) all ≡ None
     not_found [] = refl
     not_found (place ∷ rest) = ap (λ b. cond b (Some place) (find (is_in_the_way w.leaves) rest)) (free place) ∙ not_found rest
+
+-- no content is too long
+none_too_long : (w : WorldState) → HasNoLeaf w → (gens : Gens) → menu_too_long gens w.leaves ≡ None
+none_too_long w none gens = subst (λ (leaves : Leaves). menu_too_long gens leaves ≡ None) (sym none) (ap (too_many LeafBytes) (nothing_past (has (taken_of gens)) empty_world.leaves short))
+  where
+    short : (q : Name) → has (taken_of gens) q ≡ true → is_long empty_world.leaves q ≡ false
+    short q taken = ap (λ (leaf : Option LeafKind). nat_lt leaf_max (length (unwrap_or (leaf_content empty_world.leaves leaf) []))) (get-empty bytes_cmp q)
 
 module _ (host : HostState) (told : Told host HasNoLeaf) where
   pub nothing_in_the_way : (places : List WrittenPlace) → Told host (λ w. in_the_way places w.leaves ≡ None)
@@ -78,6 +91,6 @@ module _ (empty host : HostState) (w : WorldState) (stands : empty.world ≡ Som
     has = λ v is. record {
       gens = gens;
       planned = are.has w stands ∙ ap (menu_of gens) (same_leaves v is);
-      free = record { way = none_in_the_way v (told.has v is) ((boot_part gens).places v.leaves); refusal = refl };
+      free = record { way = none_in_the_way v (told.has v is) ((boot_part gens).places v.leaves); refusal = none_too_long v (told.has v is) gens };
     };
   }

@@ -10,6 +10,7 @@ mod reboots;
 mod reports;
 mod statuses;
 mod troubles;
+mod writes;
 
 use self::ends::{show_changing_run, show_run};
 use self::fallen::show_fallen;
@@ -18,6 +19,7 @@ use self::reboots::{show_all_reboots, show_reboot};
 use self::reports::show_switch;
 use self::statuses::show_fault_statuses;
 use self::troubles::{show_cut_and_then, show_troubles};
+use self::writes::show_writes;
 use std::io;
 use std::test::Fail;
 use switch_names::Bytes;
@@ -47,6 +49,9 @@ impl Commands for Runs<'_> {
             }
             ("then", [number, words, then, places @ ..]) => {
                 show_cut_and_then(alloc, lines, (number, words, then), places)
+            }
+            ("writes", [words, then, places @ ..]) => {
+                show_writes(alloc, lines, (words, then), places)
             }
             ("reboot", [number, words, places @ ..]) => {
                 show_reboot(alloc, lines, (number, words), places)

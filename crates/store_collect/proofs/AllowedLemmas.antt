@@ -13,8 +13,12 @@ use Rattle.host_trait.proofs.Seen.{clear_seen}
 use Rattle.host_trait.proofs.Sound.{not_in_line}
 use Rattle.owed_lists.specs.Lists.{reloads_place, restarts_place, starts_place}
 use Rattle.owed_log.specs.Places.{log_place}
-use Rattle.switch_names.specs.Names.{Name}
+use Rattle.leaf_limits.specs.Limits.{long_past}
+use Rattle.leaf_limits.proofs.PastLemmas.{past_first}
+use Rattle.switch_names.specs.Names.{Name, has}
 use Rattle.switch_names.specs.SystemName.{store_folder}
+use Rattle.switch_parts.specs.declared.refusal.What.TheVariants.{LeafBytes}
+use Rattle.switch_parts.specs.Limits.{too_many}
 use Rattle.switch_parts.specs.Part.{IsFree}
 use Rattle.tree_put.specs.declared.written_place.WrittenPlace.{WrittenPlace}
 use Rattle.tree_put.specs.First.{first_in_the_way, lesser}
@@ -27,6 +31,7 @@ use Rattle.tree_put.proofs.SequenceLemmas.{removed_clear}
 use Rattle.boot_entries.specs.BootPart.{boot_part, boot_places, entry_places}
 use Rattle.boot_entries.specs.Laws.{IsBootGens}
 use Rattle.boot_entries.specs.Places.{entry_path, loader_path, numbered, owns_boot}
+use Rattle.boot_entries.specs.Sources.{menu_too_long, taken_of}
 use Rattle.boot_entries.specs.Steps.{AreEntries, IsBootMoment, with_menu}
 use Rattle.boot_entries.proofs.MenuPlacesLemmas.{menu_apart}
 use Rattle.boot_entries.proofs.NumberLemmas.{bears_numbered}
@@ -124,8 +129,17 @@ module _ (keep : ℕ) (one : Collection) (w m : WorldState) (is : IsCollectionOf
     none_before None none = none
     none_before (Some at) some = absurd (allowed.free at record { gens = is.gens; stand = is.stand; first = some })
 
+    none_past : (past : Option ℕ) → long_past (has (taken_of kept)) w.leaves ≡ past → long_past (has (taken_of kept)) w.leaves ≡ None
+    none_past None told = told
+    none_past (Some count) told =
+        let first = past_first (taken_of kept) w.leaves count told in
+        absurd (allowed.short count record { gens = is.gens; stand = is.stand; long = first.0; first = first.1; is_count = sym first.2 })
+
+    none_too_long : menu_too_long kept w.leaves ≡ None
+    none_too_long = ap (too_many LeafBytes) (none_past (long_past (has (taken_of kept)) w.leaves) refl)
+
     free_before : IsFree (boot_part kept) w.leaves
-    free_before = record { way = (none_as_listed (boot_places kept.list) w.leaves).0 (none_before (first_in_the_way (boot_places kept.list) w.leaves) refl); refusal = refl }
+    free_before = record { way = (none_as_listed (boot_places kept.list) w.leaves).0 (none_before (first_in_the_way (boot_places kept.list) w.leaves) refl); refusal = none_too_long }
 
     menu_free : (v : WorldState) → IsBootMoment one.texts w v → first_in_the_way (boot_places kept.list) v.leaves ≡ None
     menu_free v boot =

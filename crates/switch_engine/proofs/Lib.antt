@@ -21,6 +21,8 @@ pub mod QuietLemmas
 pub mod QuietWay
 pub mod RebootLemmas
 pub mod ResolveLemmas
+pub mod ShortLemmas
+pub mod SourceLemmas
 pub mod StepLeaves
 pub mod StoreApart
 pub mod SwitchLemmas

@@ -12,10 +12,12 @@ use Rattle.host_trait.specs.Host.{HostState, Passes, Told}
 use Rattle.host_trait.specs.World.{Leaves, WorldState, content_of}
 use Rattle.host_trait.proofs.Moments.{told_after}
 use Rattle.switch_engine.specs.declared.command.Command.{Command}
-use Rattle.switch_engine.specs.Commands.{if_so, lacks_system, missing, new_system}
+use Rattle.switch_engine.specs.Commands.{if_so, lacks_system, missing, new_system, row}
+use Rattle.switch_engine.specs.declared.row.Row.{Row}
 use Rattle.switch_engine.specs.Owing.{IsSteadyTo}
 use Rattle.switch_engine.specs.Plan.{AreGensBy, AreUnitsPlanned, IsActivationPlanned, IsProfilePlanned}
-use Rattle.switch_engine.specs.Rows.{part_if, parts_in, parts_refusal, refusal, refusal_by, refusal_in_parts, switch_in, system_refusal, too_many_by}
+use Rattle.switch_engine.specs.Lengths.{too_long_by}
+use Rattle.switch_engine.specs.Rows.{gens_to, part_if, parts_in, parts_refusal, refusal, refusal_in_parts, switch_in, system_refusal, too_many_by, version_refusal}
 use Rattle.switch_engine.specs.System.{version_path}
 use Rattle.switch_engine.proofs.MovedPart.{default_in}
 use Rattle.switch_names.specs.Names.{Name}
@@ -100,29 +102,28 @@ pub no_gens : (moves : Option Move) (leaves : Leaves) → AreGensBy moves leaves
 no_gens None leaves none = refl
 no_gens (Some move) leaves none = absurd (both_ways _ none refl)
 
-some_is : {X : Type 0} (o : Option X) (b : Bool) → is_some o ≡ b → is_none o ≡ (if b then false else true)
-some_is None true is = absurd cc
-some_is None false is = refl
-some_is (Some x) true is = refl
-some_is (Some x) false is = absurd cc
-
 -- a command that has what goal it wants is refused for what its system is refused for
 has_its_system : (command : Command) (leaves : Leaves) → lacks_system command leaves ≡ false → refusal command leaves ≡ system_refusal command leaves
 has_its_system command leaves has = ap (λ b. cond b (Some (missing command)) (system_refusal command leaves)) has
 
--- a system without its file is refused, whatever else is so
-pub no_system : (command : Command) (leaves : Leaves) (named : Name) → lacks_system command leaves ≡ false → named ≡ new_system command leaves → is_some (content_of leaves (version_path named)) ≡ false → refusal command leaves ≡ Some NoSystem
-no_system command leaves named has is lacks =
+-- a system without its file, or with a content that is too long, is refused for that
+version_first : (b : Bool) (long many parts : Option Refusal) (why : Refusal) → cond b (Some NoSystem) long ≡ Some why → cond b (Some NoSystem) (option_or (option_or long many) parts) ≡ Some why
+version_first true long many parts why is = is
+version_first false long many parts why is = ap (λ o. option_or (option_or o many) parts) is
+
+pub version_refused : (command : Command) (leaves : Leaves) (its : Row) (why : Refusal) → lacks_system command leaves ≡ false → its ≡ row command leaves → version_refusal its.switches its.moves its.system leaves ≡ Some why → refusal command leaves ≡ Some why
+version_refused command leaves its why has is refused =
+    let r = row command leaves in
     has_its_system command leaves has
-    ∙ ap (λ system. cond (is_none (content_of leaves (version_path system))) (Some NoSystem) (parts_refusal command leaves)) (sym is)
-    ∙ ap (λ b. cond b (Some NoSystem) (parts_refusal command leaves)) (some_is (content_of leaves (version_path named)) false lacks)
+    ∙ version_first (is_none (content_of leaves (version_path r.system))) (too_long_by r.switches r.moves r.system (gens_to r.moves r.system leaves) leaves) (too_many_by r.switches r.system leaves)
+    (refusal_in_parts r.start_up r.switches r.moves r.system leaves) why (subst (λ (x : Row). version_refusal x.switches x.moves x.system leaves ≡ Some why) is refused)
 
 -- with its file it is refused for what its parts are refused for
-pub has_system : (command : Command) (leaves : Leaves) (named : Name) → lacks_system command leaves ≡ false → named ≡ new_system command leaves → is_some (content_of leaves (version_path named)) ≡ true → refusal command leaves ≡ parts_refusal command leaves
+pub has_system : (command : Command) (leaves : Leaves) (named : Name) → lacks_system command leaves ≡ false → named ≡ new_system command leaves → is_none (content_of leaves (version_path named)) ≡ false → refusal command leaves ≡ parts_refusal command leaves
 has_system command leaves named has is stands =
     has_its_system command leaves has
     ∙ ap (λ system. cond (is_none (content_of leaves (version_path system))) (Some NoSystem) (parts_refusal command leaves)) (sym is)
-    ∙ ap (λ b. cond b (Some NoSystem) (parts_refusal command leaves)) (some_is (content_of leaves (version_path named)) true stands)
+    ∙ ap (λ b. cond b (Some NoSystem) (parts_refusal command leaves)) stands
 
 -- a switch of the units is refused for what their part is refused for
 pub refused_switch : (start_up switches : Bool) (named system : Name) (leaves : Leaves) (why : Option Refusal) → switches ≡ true → named ≡ system → unit_refusal leaves named ≡ why → (part_if switches (units_part start_up system)).refusal leaves ≡ why

@@ -1,5 +1,5 @@
 -- Where the work of a command's parts has come to a moment, the command is underway.
-use Rattle.std.proofs.Common.{◌≡◌, ◌≢◌, ◌⊎◌, ◌↔◌, ◌&&◌, Bool, true, false, cond, ◌++◌, List, [], codes, append_assoc, Option, None, Some, is_none, option_map, refl, sym, ap, subst, ◌∙◌}
+use Rattle.std.proofs.Common.{◌≡◌, ◌≢◌, ◌⊎◌, ◌↔◌, ◌&&◌, ℕ, Bool, true, false, cond, ◌++◌, List, [], length, nat_lt, unwrap_or, codes, append_assoc, Option, None, Some, is_none, option_map, refl, sym, ap, subst, ◌∙◌}
 use Rattle.std.proofs.lemmas.List.{append-nil}
 use Rattle.std.proofs.lemmas.Option.{none-some}
 use Rattle.std.specs.FinMap.{get}
@@ -22,11 +22,13 @@ use Rattle.switch_engine.specs.declared.row.Row.{Row}
 use Rattle.switch_engine.specs.Commands.{brought_by, brought_to, if_so, lacks_system, missing, new_system, row, switched_by, switched_to}
 use Rattle.switch_engine.specs.Final.{AreFinalUnits}
 use Rattle.switch_engine.specs.Owing.{IsPaidBy, IsSteadyFor, IsSteadyTo, IsUnderway, OwesActTo}
-use Rattle.switch_engine.specs.Rows.{default_if, final, gens_to, part_of, parts, parts_in, refusal, refusal_by, refusal_in_parts, switch_part, system_refusal, too_many_by}
+use Rattle.switch_engine.specs.Rows.{default_if, final, gens_to, part_of, parts, parts_in, refusal, refusal_by, refusal_in_parts, switch_part, system_refusal, too_many_by, too_much_by}
+use Rattle.leaf_limits.specs.Limits.{is_long, leaf_max}
+use Rattle.switch_engine.specs.Lengths.{too_long_by}
 use Rattle.switch_engine.specs.System.{version_path}
 use Rattle.activation_stage.proofs.ActivationLemmas.{owners_law}
 use Rattle.boot_entries.proofs.DefaultLemmas.{default_stays_law}
-use Rattle.switch_engine.proofs.FewLemmas.{parts_few}
+use Rattle.switch_engine.proofs.ShortLemmas.{parts_little, version_short}
 use Rattle.switch_engine.proofs.PartsLemmas.{gens_to_law, not_in_store, parts_are}
 use Rattle.switch_engine.proofs.StoreApart.{store_not_stage}
 use Rattle.tree_put.specs.First.{first_in_the_way}
@@ -45,9 +47,10 @@ use Rattle.unit_stage.specs.Units.{AreUnitsUnderway, units_part}
 
 -- ---- why a command isn't refused
 
--- what a command has that isn't refused: its system's file stands, and its parts are free
+-- what a command has that isn't refused: its system's file stands and isn't too long, and its parts are free
 pub record IsFreeBy (start_up switches : Bool) (moves : Option Move) (system : Name) (leaves : Leaves) : Type 0 where
   pub version : is_none (content_of leaves (version_path system)) ≡ false
+  pub short : is_long leaves (version_path system) ≡ false
   pub parts : IsFree (parts_in start_up switches moves system leaves) leaves
 
 abbrev refused_by : Bool → Bool → Option Move → Name → Leaves → Option Refusal
@@ -56,10 +59,11 @@ refused_by start_up switches moves system leaves = cond (is_none (content_of lea
 free_by : (start_up switches : Bool) (moves : Option Move) (system : Name) (leaves : Leaves) → refused_by start_up switches moves system leaves ≡ None → IsFreeBy start_up switches moves system leaves
 free_by start_up switches moves system leaves none =
     let first = split (is_none (content_of leaves (version_path system))) (refusal_by start_up switches moves system leaves) none in
-    let within = option_or_parts (too_many_by switches system leaves) (refusal_in_parts start_up switches moves system leaves) first.1 in
+    let within = option_or_parts (too_much_by switches moves system leaves) (refusal_in_parts start_up switches moves system leaves) first.1 in
     let second = option_or_parts (option_map InTheWay (first_in_the_way ((parts_in start_up switches moves system leaves).places leaves) leaves)) ((parts_in start_up switches moves system leaves).refusal leaves) within.1 in
     record {
       version = first.0;
+      short = version_short switches moves system leaves (option_or_parts (too_long_by switches moves system (gens_to moves system leaves) leaves) (too_many_by switches system leaves) within.0).0;
       parts = record { way = (none_as_listed ((parts_in start_up switches moves system leaves).places leaves) leaves).0 (none_mapped InTheWay (first_in_the_way ((parts_in start_up switches moves system leaves).places leaves) leaves) second.0); refusal = second.1 };
     }
   where
@@ -67,10 +71,10 @@ free_by start_up switches moves system leaves none =
     split true o is = absurd (none-some NoSystem (sym is))
     split false o is = (refl, is)
 
-by_free : (start_up switches : Bool) (moves : Option Move) (system : Name) (leaves : Leaves) → IsFreeBy start_up switches moves system leaves → refused_by start_up switches moves system leaves ≡ None
-by_free start_up switches moves system leaves free =
+by_free : (start_up switches : Bool) (moves : Option Move) (system : Name) (leaves : Leaves) → IsSystemPath system → IsFreeBy start_up switches moves system leaves → refused_by start_up switches moves system leaves ≡ None
+by_free start_up switches moves system leaves named free =
     ap (λ b. cond b (Some NoSystem) (refusal_by start_up switches moves system leaves)) free.version
-    ∙ option_or_nothing (too_many_by switches system leaves) (refusal_in_parts start_up switches moves system leaves) (parts_few start_up moves system leaves switches free.parts.refusal)
+    ∙ option_or_nothing (too_much_by switches moves system leaves) (refusal_in_parts start_up switches moves system leaves) (parts_little start_up moves system named leaves free.short switches free.parts.refusal)
     (option_or_nothing (option_map InTheWay (first_in_the_way ((parts_in start_up switches moves system leaves).places leaves) leaves)) ((parts_in start_up switches moves system leaves).refusal leaves)
     (ap (option_map InTheWay) ((none_as_listed ((parts_in start_up switches moves system leaves).places leaves) leaves).1 free.parts.way)) free.parts.refusal)
 
@@ -228,13 +232,14 @@ module _ (command : Command) (w m : WorldState) (on : (row command w.leaves).cha
   still_free : IsFreeBy start_up switches moves system m.leaves
   still_free = record {
     version = ap is_none (content_same m.leaves w.leaves same_store (version_path system) (version_inside system named)) ∙ free.version;
+    short = ap (λ (content : Option (List ℕ)). nat_lt leaf_max (length (unwrap_or content []))) (content_same m.leaves w.leaves same_store (version_path system) (version_inside system named)) ∙ free.short;
     parts = free_owners start_up system w m switches moves moment (free_gens start_up system w m switches moves moment (parts_is.stays_free w m moment.keeps free.parts));
   }
 
   still_not_refused : refusal command m.leaves ≡ None
   still_not_refused =
       ap (λ b. cond b (Some (missing command)) (system_refusal command m.leaves)) has
-      ∙ ap (λ (r : Row). refused_by r.start_up r.switches r.moves r.system m.leaves) same ∙ by_free start_up switches moves system m.leaves still_free
+      ∙ ap (λ (r : Row). refused_by r.start_up r.switches r.moves r.system m.leaves) same ∙ by_free start_up switches moves system m.leaves named still_free
 
   pub underway : IsSteadyFor command w → IsUnderway w command m
   underway steady =

@@ -1,6 +1,7 @@
 pub mod Carried
 pub mod Commands
 pub mod Final
+pub mod Lengths
 pub mod Moments
 pub mod Owing
 pub mod Plan

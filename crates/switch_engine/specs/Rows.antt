@@ -17,6 +17,7 @@ use Rattle.host_trait.specs.declared.leaf.LeafKind.{LeafKind}
 use Rattle.host_trait.specs.World.{Leaves, content_of}
 use Rattle.switch_engine.specs.declared.command.Command.{Command}
 use Rattle.switch_engine.specs.Commands.{lacks_system, missing, new_system, row}
+use Rattle.switch_engine.specs.Lengths.{too_long_by}
 use Rattle.switch_engine.specs.System.{version_path}
 use Rattle.switch_names.specs.Names.{Name}
 use Rattle.switch_parts.specs.declared.refusal.Refusal.{Refusal}
@@ -82,13 +83,23 @@ abbrev pub refusal_in_parts : Bool → Bool → Option Move → Name → Leaves 
 refusal_in_parts start_up switches moves system leaves =
     let part = parts_in start_up switches moves system leaves in option_or (option_map InTheWay (first_in_the_way (part.places leaves) leaves)) (part.refusal leaves)
 
+-- what there is too much of for such a command, or nothing: bytes of a content that it takes, and then what is counted
+abbrev pub too_much_by : Bool → Option Move → Name → Leaves → Option Refusal
+too_much_by switches moves system leaves = option_or (too_long_by switches moves system (gens_to moves system leaves) leaves) (too_many_by switches system leaves)
+
 -- why such a command is refused, or nothing: there is too much of something, or its parts are refused
 abbrev pub refusal_by : Bool → Bool → Option Move → Name → Leaves → Option Refusal
-refusal_by start_up switches moves system leaves = option_or (too_many_by switches system leaves) (refusal_in_parts start_up switches moves system leaves)
+refusal_by start_up switches moves system leaves = option_or (too_much_by switches moves system leaves) (refusal_in_parts start_up switches moves system leaves)
 
 -- the same for a command
 abbrev pub parts_refusal : Command → Leaves → Option Refusal
 parts_refusal command leaves = refusal_by (row command leaves).start_up (row command leaves).switches (row command leaves).moves (new_system command leaves) leaves
+
+-- why the system of such a command is refused before its parts are looked at, or nothing: it isn't there, or a content that is taken
+-- is too long
+abbrev pub version_refusal : Bool → Option Move → Name → Leaves → Option Refusal
+version_refusal switches moves system leaves =
+    if is_none (content_of leaves (version_path system)) then Some NoSystem else too_long_by switches moves system (gens_to moves system leaves) leaves
 
 -- why the system of a command is refused, or nothing: it isn't there, or its parts are refused
 abbrev pub system_refusal : Command → Leaves → Option Refusal

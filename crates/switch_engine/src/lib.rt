@@ -9,6 +9,7 @@ mod places;
 mod plan;
 mod planning;
 mod row;
+mod sources;
 mod system;
 
 pub use carrying::carry_out;

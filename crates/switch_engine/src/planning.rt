@@ -1,5 +1,5 @@
 //! Plans what a command does, before anything is put or changed.
-ghost use Rattle.std.specs.Prelude.{◌≡◌, ◌↔◌, false, None, Some, IfOk, IfSome, IsErrOf, IsTrue, OnOk, option_map};
+ghost use Rattle.std.specs.Prelude.{◌≡◌, ◌↔◌, false, None, Some, is_none, IfOk, IfSome, IsErrOf, IsTrue, OnOk, option_map};
 ghost use Rattle.std.specs.Option.{option_copied};
 ghost use Rattle.activation_stage.specs.ActivationPart.{activation_in};
 ghost use Rattle.boot_entries.specs.BootDefault.{IsDefaultFor};
@@ -8,11 +8,14 @@ ghost use Rattle.generations.specs.Gens.{IsGensOf};
 ghost use Rattle.host_trait.specs.declared.tree.HostFault.TheVariants.{Device};
 ghost use Rattle.host_trait.specs.Host.{Told};
 ghost use Rattle.host_trait.specs.Reading.{IsReading, IsReadingOf};
+ghost use Rattle.host_trait.specs.World.{content_of};
+ghost use Rattle.leaf_limits.specs.Limits.{is_long};
 ghost use Rattle.owed_log.specs.Writing.{IsFilled};
 ghost use Rattle.switch_engine.specs.Commands.{switched_by};
 ghost use Rattle.switch_engine.specs.Owing.{IsSteadyFor, IsSteadyTo};
 ghost use Rattle.switch_engine.specs.Plan.{AreGensBy, ArePlanned, AreUnitsPlanned, IsActivationPlanned, IsPlanOf, IsProfilePlanned, IsSound};
-ghost use Rattle.switch_engine.specs.Rows.{default_if, gens_to, part_if, parts_in, refusal, refusal_by, refusal_in_parts, too_many_by};
+ghost use Rattle.switch_engine.specs.Rows.{default_if, gens_to, part_if, parts_in, refusal, refusal_by, refusal_in_parts, too_many_by, too_much_by, version_refusal};
+ghost use Rattle.switch_engine.specs.System.{version_path};
 ghost use Rattle.switch_parts.specs.declared.plan_fault.PlanFault.TheVariants.{Host, Refused};
 ghost use Rattle.switch_parts.specs.declared.refusal.Refusal.{Refusal};
 ghost use Rattle.switch_parts.specs.declared.refusal.Refusal.TheVariants.{InTheWay};
@@ -23,13 +26,15 @@ use crate::command::Command;
 use crate::places::{check_way, places_of};
 use crate::plan::Plan;
 use crate::row::{Resolved, Row, resolve};
-use crate::system::has_version;
+use crate::sources::too_long;
+use crate::system::version_length;
 use accounts_stage::too_many_rows;
 use activation_stage::{ActivationPlan, plan_activation};
 use boot_entries::{BootDefaultPlan, plan_boot_default};
 use etc_farm::too_many_entries;
 use generations::{Gens, all};
 use host_trait::{HostFault, Manager, Tree};
+use leaf_limits::LEAF_MAX;
 use std::alloc::Global;
 use switch_parts::{PlanFault, Refusal};
 use unit_stage::{UnitPlan, plan_units, too_many_units};
@@ -183,6 +188,17 @@ fn too_many<T: Tree>(alloc: Global, host: &mut T, row: &Row) -> Result<Option<Re
     too_many_rows(alloc, host)
 }
 
+/// What there is too much of for a row: bytes of a content that it takes, and then what is counted.
+fn too_much<T: Tree>(alloc: Global, host: &mut T, row: &Row) -> Result<Option<Refusal>, HostFault>
+    ensures refusal { IfOk result (λ why. Told (T.host host.old) (λ w. why ≡ too_much_by row.now.switches row.now.moves row.now.system w.leaves)) }
+    ensures reads { IsReading (T.host host.old) (T.host host.new) result }
+{
+    if let Some(why) = too_long(alloc, host, row)? {
+        return Ok(Some(why));
+    }
+    too_many(alloc, host, row)
+}
+
 /// The refusal of a row whose parts are refused for this: where there is too much of something, that goes before.
 fn refused_first<T: Tree>(alloc: Global, host: &mut T, row: &Row, why: Refusal) -> PlanFault
     requires { Told (T.host host.old) (λ w. refusal_in_parts row.now.start_up row.now.switches row.now.moves row.now.system w.leaves ≡ Some why) }
@@ -190,8 +206,8 @@ fn refused_first<T: Tree>(alloc: Global, host: &mut T, row: &Row, why: Refusal) 
         → Told (T.host host.old) (λ w. refusal_by row.now.start_up row.now.switches row.now.moves row.now.system w.leaves ≡ Some first) }
     ensures reads { IsReadingOf (T.host host.old) (T.host host.new) (result ≡ Host Device) }
 {
-    match too_many(alloc, host, row) {
-        Ok(Some(many)) => PlanFault::Refused(many),
+    match too_much(alloc, host, row) {
+        Ok(Some(much)) => PlanFault::Refused(much),
         Ok(None) => PlanFault::Refused(why),
         Err(fault) => PlanFault::Host(fault),
     }
@@ -199,8 +215,8 @@ fn refused_first<T: Tree>(alloc: Global, host: &mut T, row: &Row, why: Refusal) 
 
 /// Plans a row.
 ///
-/// Each part that is planned has been found to have not too much of anything. So what there is is counted once more only where
-/// a part is refused, since that would be refused before.
+/// Each part that is planned has been found to have not too much of anything. So what there is is measured and counted once
+/// more only where a part is refused, since that would be refused before.
 fn plan_row<H: Manager>(
     alloc: Global,
     host: &mut H,
@@ -208,7 +224,8 @@ fn plan_row<H: Manager>(
     row: &Row,
     known: Option<Gens>,
 ) -> Result<Plan, PlanFault>
-    requires { Told (H.host host.old) (λ w. IfSome known (IsGensOf w.leaves)) }
+    requires known { Told (H.host host.old) (λ w. IfSome known (IsGensOf w.leaves)) }
+    requires short { Told (H.host host.old) (λ w. is_long w.leaves (version_path row.now.system) ≡ false) }
     ensures command { IfOk result (λ plan. plan.command ≡ command.now) }
     ensures row { IfOk result (λ plan. plan.row ≡ row.now) }
     ensures plan { IfOk result (λ plan. Told (H.host host.old) (λ w. ArePlanned row.now w plan)) }
@@ -219,6 +236,7 @@ fn plan_row<H: Manager>(
         → Told (H.host host.old) (λ w. refusal_by row.now.start_up row.now.switches row.now.moves row.now.system w.leaves ≡ Some why) }
     ensures reads { IsReadingOf (H.host host.old) (H.host host.new) (IsErrOf result (Host Device)) }
 {
+    let _path = row.system.path();
     match plan_parts(alloc, host, command, row, known) {
         Ok(plan) => Ok(plan),
         Err(PlanFault::Refused(why)) => Err(refused_first(alloc, host, row, why)),
@@ -226,10 +244,30 @@ fn plan_row<H: Manager>(
     }
 }
 
+/// Refuses where a system doesn't have its file, and where that is longer than may be read.
+fn check_version<T: Tree>(alloc: Global, host: &mut T, row: &Row) -> Result<(), PlanFault>
+    ensures there { OnOk result (Told (T.host host.old) (λ w. is_none (content_of w.leaves (version_path row.now.system)) ≡ false)) }
+    ensures short { OnOk result (Told (T.host host.old) (λ w. is_long w.leaves (version_path row.now.system) ≡ false)) }
+    ensures refused { (why : Refusal) → IsErrOf result (Refused why)
+        → Told (T.host host.old) (λ w. version_refusal row.now.switches row.now.moves row.now.system w.leaves ≡ Some why) }
+    ensures reads { IsReadingOf (T.host host.old) (T.host host.new) (IsErrOf result (Host Device)) }
+{
+    let Some(count) = version_length(alloc, host, &row.system)? else {
+        return Err(PlanFault::Refused(Refusal::NoSystem));
+    };
+    if count <= LEAF_MAX {
+        return Ok(());
+    }
+    match too_long(alloc, host, row)? {
+        Some(why) => Err(PlanFault::Refused(why)),
+        None => Ok(()),
+    }
+}
+
 /// Plans what a command does, before anything is put or changed, and changes nothing.
 ///
-/// The refusals are sought in this order: `NoPrevious` of a rollback or `NoProfile` of a start-up, `NoSystem`; of a switch of
-/// the units `TooMany` of units (of its system, then of the one in use), of entries below `/etc` and of rows of account tables;
+/// The refusals are sought in this order: `NoPrevious` of a rollback or `NoProfile` of a start-up, `NoSystem`; `TooMany` of
+/// bytes of a content that the command takes, the first in byte order; of a switch of the units `TooMany` of units (of its system, then of the one in use), of entries below `/etc` and of rows of account tables;
 /// `InTheWay`; of a switch of the units `UnitText`, `UsersSpec`, `Table`, `IdMap`, then the first of `NoFreeId` and
 /// `UnknownGroup`, `TooMany` of rows after the merge, and then the first of `Reserved`, `EtcEntry` and `Owner`; and of a set of
 /// the profile `GenerationsFull`. The boot menu after a set is planned last, and is refused for nothing but what is in the way
@@ -250,9 +288,7 @@ pub fn plan_all<H: Manager>(
     let resolved = resolve(alloc, host, command)?;
     let Resolved { row, gens } = resolved;
     let _path = row.system.path();
-    if !has_version(alloc, host, &row.system)? {
-        return Err(PlanFault::Refused(Refusal::NoSystem));
-    }
+    check_version(alloc, host, &row)?;
     let plan = plan_row(alloc, host, command, &row, gens)?;
     Ok(plan)
 }

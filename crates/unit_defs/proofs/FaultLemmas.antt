@@ -19,7 +19,6 @@ use Rattle.unit_defs.specs.Fstab.{fstab_of, line_text}
 use Rattle.unit_defs.specs.Part.{line_part}
 use Rattle.unit_defs.specs.Units.{HasNoFault, IsFirstFault, file_part, own_fault}
 use Rattle.switch_names.proofs.Names.{name_turned}
-use Rattle.switch_names.proofs.Outcomes.{none_left}
 use Rattle.host_trait.proofs.NameOrder.{less_is_other, name_exact, name_itself}
 
 abbrev fault_of : Unit → Option ℕ

@@ -6,12 +6,14 @@ pub mod FirstFaultLemmas
 mod FoundLemmas
 pub mod FstabLemmas
 pub mod NameLemmas
+pub mod NotingLemmas
 pub mod OrderLemmas
 mod PathLemmas
 mod PartLemmas
 mod PlaceLemmas
 mod ReadingLemmas
 mod SearchLemmas
+pub mod TakenLemmas
 mod TextLemmas
 pub mod UnitLemmas
 mod WantLemmas

@@ -4,14 +4,13 @@ use Rattle.std.specs.List.{after_first, before_first, list_any, starts_with}
 use Rattle.std.specs.Option.{option_or}
 use Rattle.std.proofs.lemmas.Bool.{both_ways}
 use Rattle.std.proofs.lemmas.Bool.Decides.{Decides-eqb}
-use Rattle.std.proofs.lemmas.List.{drop_at}
 use Rattle.std.proofs.lemmas.Slice.Eq.{starts_is}
 use Rattle.switch_names.specs.UnitName.{IsUnitName, is_unit}
 use Rattle.unit_defs.specs.declared.place.Place.{Place}
 use Rattle.unit_defs.specs.declared.place.Place.TheVariants.{File, DropIn, Want}
 use Rattle.unit_defs.specs.Found.{is_file}
 use Rattle.switch_names.specs.Path.{is_slash}
-use Rattle.switch_names.specs.Texts.{after_front, before_end}
+use Rattle.switch_names.specs.Texts.{before_end}
 use Rattle.switch_names.proofs.Cuts.{front_there}
 use Rattle.unit_defs.specs.Place.{drop_in, drop_in_of, is_drop_in_name, named, place_after, place_below, place_in, want, want_of}
 use Rattle.host_trait.proofs.NameOrder.{name_exact, name_itself}

@@ -1,10 +1,6 @@
 -- Texts that are cut at their ends or at a byte.
-use Rattle.std.proofs.Common.{◌≡◌, ℕ, ◌+◌, ◌-◌, ◌<◌, ◌||◌, not, Bool, true, false, cond, List, [], ◌∷◌, length, take, drop, Option, None, Some, MatchOption, Bor, refl, sym, ap, ◌∙◌, arith}
+use Rattle.std.proofs.Common.{◌≡◌, ℕ, ◌<◌, Bool, true, false, List, length, Option, None, Some, MatchOption, Bor}
 use Rattle.std.specs.List.{list_any, position_or_len, before_first, after_first}
-use Rattle.std.specs.Option.{option_copied}
-use Rattle.std.specs.Str.Pattern.{FindsTextPrefix, FindsTextSuffix}
-use Rattle.std.proofs.lemmas.Str.Pattern.{ends_text, starts_text}
-use Rattle.switch_names.specs.Texts.{after_front, before_end}
 use Rattle.unit_text.proofs.EndLemmas.{none_passes, one_passes}
 
 -- a text that is split once at a byte

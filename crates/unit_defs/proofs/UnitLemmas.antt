@@ -13,19 +13,21 @@ use Rattle.switch_names.specs.UnitName.{IsUnitName, instance_of, is_at_sign, is_
 use Rattle.switch_names.proofs.Faultless.{HasNone-from_sought}
 use Rattle.switch_names.proofs.UnitNames.{name_ending-of_kind, template_is_name}
 use Rattle.host_trait.specs.World.{Leaves, bytes_cmp}
+use Rattle.fstab_mounts.specs.declared.fs_unit.FsUnit.{FsUnit}
 use Rattle.unit_defs.specs.declared.reading.found.Found.{Found}
 use Rattle.unit_defs.specs.declared.reading.found.UnitFiles.{UnitFiles}
 use Rattle.unit_defs.specs.declared.part.Part.{Part}
 use Rattle.unit_defs.specs.declared.unit.Unit.{Unit}
-use Rattle.unit_defs.specs.Defs.{AreSorted, AreUnitsOf, names_in, part_in, unit_in}
-use Rattle.unit_defs.specs.Files.{base_of, drop_ins_of, file_of}
-use Rattle.unit_defs.specs.Fstab.{fstab_of}
+use Rattle.unit_defs.specs.Defs.{AreSorted, AreUnitsOf, HaveFileTexts, names_in, part_in, unit_in}
+use Rattle.unit_defs.specs.Files.{base_of, drop_ins_of, file_of, folder_wants}
+use Rattle.unit_defs.specs.Fstab.{fstab_of, line_text, wanted_by_lines}
 use Rattle.unit_defs.specs.Found.{AreFilesOf, drop_ins_in, file_in, files_in, in_name_order, own_part_in, unit_of, wants_in}
 use Rattle.unit_defs.specs.Part.{line_part, merged, part_of}
 use Rattle.switch_names.specs.Names.{has, is_name}
-use Rattle.unit_defs.specs.Units.{own_part}
+use Rattle.unit_defs.specs.Units.{file_part}
 use Rattle.unit_defs.proofs.DropInLemmas.{none_ordered}
 use Rattle.host_trait.proofs.NameOrder.{name_exact}
+use Rattle.switch_names.proofs.Outcomes.{option_or_none}
 use Rattle.unit_defs.proofs.PartLemmas.{part_by}
 
 -- ---- the template of a unit is a unit
@@ -122,7 +124,7 @@ world_of files drop_ins name template =
     option_map (λ all. merged (map part_of all)) (option_map (λ file. file ∷ option_map_or drop_ins template [] ++ drop_ins name)
     (base_of (files name) (drop_ins name) (option_and_then files template)))
 
-module _ (leaves : Leaves) (system : List ℕ) (found : Found) (are : AreFilesOf leaves system (fstab_of leaves system) found) where
+module _ (leaves : Leaves) (system : List ℕ) (lines : List FsUnit) (found : Found) (are : AreFilesOf leaves system lines found) where
   parts_same : (name : List ℕ) (drops : List (List ℕ)) (file : Option (List ℕ)) (inherited : List (List ℕ)) (template : Option (List ℕ)) →
       file_in found name ≡ option_map part_of file → drop_ins_in found name ≡ map part_of drops →
       (inherited_in : List Part) → inherited_in ≡ map part_of inherited → (template_in : Option Part) → template_in ≡ option_map part_of template →
@@ -146,7 +148,7 @@ module _ (leaves : Leaves) (system : List ℕ) (found : Found) (are : AreFilesOf
       (are.file name named) (are.drop_ins name named) (drop_ins_in found template) (are.drop_ins template is_unit)
       (file_in found template) (are.file template is_unit)
 
-  own_same : (name : List ℕ) → IsUnitName name → own_part_in found name ≡ own_part leaves system name
+  own_same : (name : List ℕ) → IsUnitName name → own_part_in found name ≡ option_or (file_part leaves system name) (option_map line_part (line_text lines name))
   own_same name named = λ i. option_or (by_template name (template_of name) named refl i) (option_map line_part (are.line name named i))
 
   part_at : (name : List ℕ) → part_in (map (unit_of found) (keys_of found.units.entries)) name ≡ own_part_in found name
@@ -163,9 +165,23 @@ module _ (leaves : Leaves) (system : List ℕ) (found : Found) (are : AreFilesOf
       ∙ ap (λ b. cond b (wants_in found name) []) (has_key found.units.entries name)
       ∙ wants_only (files_in found name)
 
+  units_part : (units : List Unit) → units ≡ map (unit_of found) (keys_of found.units.entries) → (name : List ℕ) → IsUnitName name →
+      part_in units name ≡ option_or (file_part leaves system name) (option_map line_part (line_text lines name))
+  units_part units is name named = ap (λ us. part_in us name) is ∙ part_at name ∙ own_same name named
+
+  units_names : (units : List Unit) → units ≡ map (unit_of found) (keys_of found.units.entries) → (name : List ℕ) → IsUnitName name →
+      names_in units name ≡ folder_wants leaves system name ++ wanted_by_lines lines name
+  units_names units is name named = ap (λ us. names_in us name) is ∙ names_at name ∙ are.wants name named
+
+module _ (leaves : Leaves) (system : List ℕ) (found : Found) (units : List Unit) (is : units ≡ map (unit_of found) (keys_of found.units.entries)) where
   -- the units that were found are those of the world
-  pub units_all : (units : List Unit) → units ≡ map (unit_of found) (keys_of found.units.entries) → AreUnitsOf leaves system units
-  units_all units is = record {
-    part = λ name named. ap (λ us. part_in us name) is ∙ part_at name ∙ own_same name named;
-    wants = λ name named. ap (λ us. names_in us name) is ∙ names_at name ∙ are.wants name named;
+  pub units_all : AreFilesOf leaves system (fstab_of leaves system) found → AreUnitsOf leaves system units
+  units_all are = record {
+    part = units_part leaves system (fstab_of leaves system) found are units is;
+    wants = units_names leaves system (fstab_of leaves system) found are units is;
   }
+
+  -- where no line was joined, their texts are what their files say
+  pub file_texts : AreFilesOf leaves system [] found → HaveFileTexts leaves system units
+  file_texts are name named =
+      ap (option_map (λ (part : Part). part.text)) (units_part leaves system [] found are units is name named ∙ option_or_none (file_part leaves system name))

@@ -1,5 +1,5 @@
 -- What is read at all listed paths is all that the folder of units says.
-use Rattle.std.proofs.Common.{◌≡◌, ℕ, ◌||◌, ◌&&◌, not, Bool, true, false, cond, List, [], ◌∷◌, ◌++◌, length, get_or, codes, Option, None, Some, is_some, option_map, option_and_then, refl, sym, ap, subst, ◌∙◌, append_assoc, length-append, arith}
+use Rattle.std.proofs.Common.{◌≡◌, ℕ, Bool, true, false, cond, List, [], ◌∷◌, ◌++◌, length, get_or, codes, Option, None, Some, is_some, option_map, option_and_then, refl, sym, ap, subst, ◌∙◌, append_assoc, length-append, arith}
 use Rattle.std.specs.BTreeMap.{is_at}
 use Rattle.std.specs.FinMap.{contains_key-keys, get, keys}
 use Rattle.std.specs.List.{flat_map, list_any}
@@ -8,12 +8,10 @@ use Rattle.std.specs.Option.{option_map_or}
 use Rattle.std.specs.Ordering.{eq_by_cmp}
 use Rattle.std.specs.Cmp.{both_ways as same_test}
 use Rattle.std.proofs.lemmas.Map.Views.{any-filter_same}
-use Rattle.std.proofs.lemmas.Slice.Eq.{bytes_eq-Decides}
-use Rattle.switch_names.specs.Path.{is_below, slash}
+use Rattle.switch_names.specs.Path.{slash}
 use Rattle.switch_names.specs.UnitName.{IsUnitName}
-use Rattle.switch_names.proofs.Below.{below_front}
 use Rattle.host_trait.specs.declared.leaf.LeafKind.{LeafKind}
-use Rattle.host_trait.specs.World.{Leaves, bytes_cmp, content_of, is_listed, is_path, leaf_content, stage}
+use Rattle.host_trait.specs.World.{Leaves, bytes_cmp, content_of, is_listed, leaf_content, stage}
 use Rattle.unit_defs.specs.declared.reading.found.Found.{Found}
 use Rattle.unit_defs.specs.declared.reading.found.UnitFiles.{UnitFiles}
 use Rattle.unit_defs.specs.Files.{drop_in_at, file_of, folder_wants, paths_of}
@@ -23,7 +21,6 @@ use Rattle.unit_defs.specs.Part.{part_of}
 use Rattle.unit_defs.specs.Place.{path_of, place_after, unit_folder}
 use Rattle.switch_names.specs.Names.{is_name}
 use Rattle.std.proofs.lemmas.List.{append-nil}
-use Rattle.std.proofs.lemmas.Bool.{false_from_ne_true}
 use Rattle.unit_defs.proofs.DropInLemmas.{same_in_name_order}
 use Rattle.host_trait.proofs.NameOrder.{name_exact, name_from}
 use Rattle.host_trait.proofs.Listings.{is_among as listed_below}
@@ -40,7 +37,7 @@ not_stage (a ∷ b ∷ c ∷ d ∷ more) rest same =
     absurd (omega (arith, ap (λ (p : List ℕ). length p) same, length-append (more ++ codes "/etc/systemd/system") (slash ∷ rest), length-append more (codes "/etc/systemd/system")))
 
 -- what stands in the folder of units is listed
-is_among : (system rest : List ℕ) → is_listed (unit_folder system) (path_of system rest) ≡ true
+pub is_among : (system rest : List ℕ) → is_listed (unit_folder system) (path_of system rest) ≡ true
 is_among system rest = listed_below (unit_folder system) rest (not_stage system rest)
 
 module _ (leaves : Leaves) (system unit : List ℕ) (named : IsUnitName unit) where

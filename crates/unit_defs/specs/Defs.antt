@@ -12,7 +12,7 @@ use Rattle.unit_defs.specs.declared.place.Place.TheVariants.{File, DropIn, Want}
 use Rattle.unit_defs.specs.declared.unit.Unit.{Unit}
 use Rattle.unit_defs.specs.declared.unit.Wants.{Wants}
 use Rattle.switch_names.specs.Names.{Name, has, is_name}
-use Rattle.unit_defs.specs.Units.{can_be_wanted, find_text, own_part, own_text, text_of, wanted, wanted_of, wants_of}
+use Rattle.unit_defs.specs.Units.{can_be_wanted, file_text, find_text, own_part, own_text, text_of, wanted, wanted_of, wants_of}
 
 -- the unit of this name
 abbrev pub unit_in : List Unit → List ℕ → Option Unit
@@ -65,6 +65,10 @@ AreSorted units = IsStrictlySortedBy bytes_cmp (map (λ unit. unit.name) units)
 pub record AreUnitsOf (leaves : Leaves) (system : List ℕ) (units : List Unit) : Type 0 where
   pub part : (name : List ℕ) → IsUnitName name → part_in units name ≡ own_part leaves system name
   pub wants : (name : List ℕ) → IsUnitName name → names_in units name ≡ wants_of leaves system name
+
+-- each of these units has as its own text what its files alone say
+abbrev pub HaveFileTexts : Leaves → List ℕ → List Unit → Type 0
+HaveFileTexts leaves system units = (name : List ℕ) → IsUnitName name → own_in units name ≡ file_text leaves system name
 
 -- to a set are added those of these names that can be wanted
 abbrev pub AddsWanted : List Unit → List Name → List Name → List Name → Type 0

@@ -6,5 +6,6 @@ pub mod Fstab
 pub mod Part
 pub mod Place
 pub mod Pull
+pub mod Taken
 pub mod UnitFiles
 pub mod Units

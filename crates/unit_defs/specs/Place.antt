@@ -1,9 +1,9 @@
 -- What stands in the folder of a system's units: systemd.unit(5), "Description".
-use Rattle.std.specs.Prelude.{◌≡◌, ◌⊎◌, ◌↔◌, ℕ, ◌-◌, ◌&&◌, ◌==◌, not, Bool, false, true, List, [], ◌∷◌, ◌++◌, length, take, drop, codes, nat_eq, Option, None, Some, option_and_then, is_none, if◌then◌else◌}
-use Rattle.std.specs.List.{list_any, starts_with, ends_with, before_first, after_first}
+use Rattle.std.specs.Prelude.{◌≡◌, ◌⊎◌, ◌↔◌, ℕ, ◌&&◌, ◌==◌, not, Bool, false, true, List, [], ◌∷◌, ◌++◌, length, codes, Option, None, Some, option_and_then, if◌then◌else◌}
+use Rattle.std.specs.List.{list_any, before_first, after_first}
 use Rattle.std.specs.Option.{option_or}
 use Rattle.switch_names.specs.Path.{slash, is_slash}
-use Rattle.switch_names.specs.UnitName.{IsUnitName, unit_fault, is_unit}
+use Rattle.switch_names.specs.UnitName.{IsUnitName, is_unit}
 use Rattle.switch_names.specs.Texts.{after_front, before_end}
 use Rattle.unit_defs.specs.declared.place.Place.{Place}
 use Rattle.unit_defs.specs.declared.place.Place.TheVariants.{File, DropIn, Want}

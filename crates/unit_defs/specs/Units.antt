@@ -60,6 +60,10 @@ own_part leaves system unit = option_or (file_part leaves system unit) (option_m
 abbrev pub own_text : Leaves → List ℕ → List ℕ → Option (List Assignment)
 own_text leaves system unit = option_map (λ part. part.text) (own_part leaves system unit)
 
+-- the text that the files of a unit say, where one is its base
+abbrev pub file_text : Leaves → List ℕ → List ℕ → Option (List Assignment)
+file_text leaves system unit = option_map (λ part. part.text) (file_part leaves system unit)
+
 -- the line of the first fault in the files of a unit
 abbrev pub own_fault : Leaves → List ℕ → List ℕ → Option ℕ
 own_fault leaves system unit = option_and_then (λ part. part.fault) (file_part leaves system unit)

@@ -8,6 +8,7 @@ ghost use Rattle.host_trait.specs.Reading.{IsReading, IsReadingOf};
 ghost use Rattle.host_trait.specs.World.{bytes_cmp};
 ghost use Rattle.unit_defs.specs.declared.defs_fault.DefsFault.TheVariants.{Many, Text, Host};
 ghost use Rattle.unit_defs.specs.Count.{units_past};
+ghost use Rattle.unit_defs.specs.Taken.{NotesLong, takes_units};
 ghost use Rattle.unit_defs.specs.Defs.{AreDefsOf, AreNamesOf, AreSorted, first_faulty, found_in, own_in, wanted_in};
 ghost use Rattle.unit_defs.specs.Units.{HasNoFault, IsFirstFault, can_be_wanted, first_fault_of};
 ghost use Rattle.switch_names.specs.Names.{has};
@@ -161,7 +162,33 @@ impl Defs {
 
         ensures reads { IsReadingOf (T.host host.old) (T.host host.new) (IsErrOf result (Host Device)) }
     {
-        let units = read_units(alloc, host, system, other)?;
+        let mut long = false;
+        Defs::read_beside_noted(alloc, host, system, other, &mut long)
+    }
+
+    /// Reads the units of a system as `read_beside` does. Where a content that is read has more than 16 MiB, that is noted.
+    pub fn read_beside_noted<T: Tree>(
+        alloc: Global,
+        host: &mut T,
+        system: &SystemName,
+        other: &Defs,
+        long: &mut bool,
+    ) -> Result<Defs, DefsFault>
+        ensures defs { IfOk result (λ defs. Told (T.host host.old) (λ w. AreDefsOf w.leaves system.now defs)) }
+        ensures many { (count : ℕ) → IsErrOf result (Many count) → Told (T.host host.old) (λ w. units_past w.leaves system.now ≡ Some count) }
+        ensures few { OnOk result (Told (T.host host.old) (λ w. units_past w.leaves system.now ≡ None)) }
+        ensures few_faulty { (unit : List ℕ) (line : ℕ) → IsErrOf result (Text unit line) → Told (T.host host.old) (λ w. units_past w.leaves system.now ≡ None) }
+        ensures sound { OnOk result (Told (T.host host.old) (λ w. HasNoFault w.leaves system.now)) }
+        ensures text { (unit : List ℕ) (line : ℕ) → IsErrOf result (Text unit line) → Told (T.host host.old) (λ w. IsFirstFault w.leaves system.now unit line) }
+
+        // By the law `first_faults_are_found` that is the first fault among the units with files.
+        ensures not_faulty { OnOk result (Told (T.host host.old) (λ w. first_fault_of w.leaves system.now ≡ None)) }
+        ensures faulty { (unit : List ℕ) (line : ℕ) → IsErrOf result (Text unit line) → Told (T.host host.old) (λ w. first_fault_of w.leaves system.now ≡ Some (unit, line)) }
+
+        ensures short { OnOk result (Told (T.host host.old) (λ w. NotesLong long.old long.new (takes_units w.leaves system.now) w.leaves)) }
+        ensures reads { IsReadingOf (T.host host.old) (T.host host.new) (IsErrOf result (Host Device)) }
+    {
+        let units = read_units(alloc, host, system, other, long)?;
         let names = names_of(alloc, units.as_slice())?;
         if let Some(count) = past(UNITS_MAX, names.as_slice().len() as u64) {
             return Err(DefsFault::Many(count));
@@ -178,8 +205,23 @@ impl Defs {
         ensures defs { IfOk result (λ defs. Told (T.host host.old) (λ w. AreDefsOf w.leaves system.now defs)) }
         ensures reads { IsReading (T.host host.old) (T.host host.new) result }
     {
+        let mut long = false;
+        Defs::read_old_noted(alloc, host, system, &mut long)
+    }
+
+    /// Reads the units of a system as `read_old` does. Where a content that is read has more than 16 MiB, that is noted.
+    pub fn read_old_noted<T: Tree>(
+        alloc: Global,
+        host: &mut T,
+        system: &SystemName,
+        long: &mut bool,
+    ) -> Result<Defs, HostFault>
+        ensures defs { IfOk result (λ defs. Told (T.host host.old) (λ w. AreDefsOf w.leaves system.now defs)) }
+        ensures short { OnOk result (Told (T.host host.old) (λ w. NotesLong long.old long.new (takes_units w.leaves system.now) w.leaves)) }
+        ensures reads { IsReading (T.host host.old) (T.host host.new) result }
+    {
         let none = Defs::none(alloc);
-        let old_units = read_units(alloc, host, system, &none)?;
+        let old_units = read_units(alloc, host, system, &none, long)?;
         let names = names_of(alloc, old_units.as_slice())?;
         Ok(Defs::from_units(alloc, old_units, names)?)
     }

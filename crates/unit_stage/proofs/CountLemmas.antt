@@ -16,7 +16,7 @@ use Rattle.unit_defs.specs.Defs.{AreNamesOf, own_in}
 use Rattle.unit_defs.specs.Units.{first_fault_of}
 use Rattle.unit_defs.proofs.CountLemmas.{kept_names}
 use Rattle.host_trait.proofs.NameOrder.{name_itself}
-use Rattle.unit_stage.specs.System.{old_units_past, unit_refusal}
+use Rattle.unit_stage.specs.System.{defs_refusal, old_units_past}
 
 -- of no units there are no names
 no_names : (units : List Unit) (names : List Name) → units ≡ [] → AreNamesOf units names → names ≡ []
@@ -32,15 +32,15 @@ counted_old leaves (Some system) units names are their = ap (λ ns. past units_m
 
 -- what is refused, by how many units are past and the first fault
 pub refusal_by : (leaves : Leaves) (system : Name) (new old : Option ℕ) (fault : Option (Name × ℕ)) → units_past leaves system ≡ new → old_units_past leaves ≡ old → first_fault_of leaves system ≡ fault →
-    unit_refusal leaves system ≡ option_or (option_or (too_many Units new) (too_many Units old)) (option_map (λ fault. UnitText fault.0 fault.1) fault)
+    defs_refusal leaves system ≡ option_or (option_or (too_many Units new) (too_many Units old)) (option_map (λ fault. UnitText fault.0 fault.1) fault)
 refusal_by leaves system new old fault new_is old_is fault_is =
     λ i. option_or (option_or (too_many Units (new_is i)) (too_many Units (old_is i))) (option_map (λ (fault : Name × ℕ). UnitText fault.0 fault.1) (fault_is i))
 
 -- where the units of the system that comes into use are too many, nothing else is refused
-pub many_refused : (leaves : Leaves) (system : Name) (count : ℕ) → units_past leaves system ≡ Some count → unit_refusal leaves system ≡ too_many Units (Some count)
+pub many_refused : (leaves : Leaves) (system : Name) (count : ℕ) → units_past leaves system ≡ Some count → defs_refusal leaves system ≡ too_many Units (Some count)
 many_refused leaves system count is = refusal_by leaves system (Some count) (old_units_past leaves) (first_fault_of leaves system) is refl refl
 
--- the count of the system in use comes before a fault
-pub count_or : (old : Option ℕ) (why : Refusal) → option_or (too_many Units old) (Some why) ≡ Some (unwrap_or (too_many Units old) why)
-count_or None why = refl
-count_or (Some count) why = refl
+-- a refusal comes before a fault
+pub refusal_or : (first : Option Refusal) (why : Refusal) → option_or first (Some why) ≡ Some (unwrap_or first why)
+refusal_or None why = refl
+refusal_or (Some first) why = refl

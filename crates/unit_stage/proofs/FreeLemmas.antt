@@ -13,7 +13,7 @@ use Rattle.generations.specs.Places.{target_of}
 use Rattle.owed_plan.specs.Store.{IsOldInStore}
 use Rattle.owed_plan.proofs.StoreLemmas.{first_fault_same, leaf_same, names_same}
 use Rattle.switch_names.specs.Names.{Name}
-use Rattle.switch_names.proofs.Outcomes.{none_mapped, option_or_parts}
+use Rattle.switch_names.proofs.Outcomes.{none_mapped, option_or_nothing, option_or_parts}
 use Rattle.switch_parts.specs.declared.refusal.Refusal.TheVariants.{TooMany}
 use Rattle.switch_parts.specs.declared.refusal.What.TheVariants.{Units}
 use Rattle.switch_parts.specs.Limits.{too_many}
@@ -25,11 +25,12 @@ use Rattle.unit_stage.specs.Laws.{AreSameBeside}
 use Rattle.unit_stage.specs.Owned.{unit_places}
 use Rattle.unit_defs.specs.Count.{units_past}
 use Rattle.unit_defs.specs.Units.{first_fault_of}
-use Rattle.unit_stage.specs.System.{IsSystem, current_place, current_system, old_units_past, system_leaf, text_refusal, unit_refusal, units_too_many}
+use Rattle.unit_stage.specs.System.{IsSystem, current_place, current_system, defs_refusal, old_units_past, system_leaf, text_refusal, unit_refusal, units_too_long, units_too_many}
 use Rattle.unit_stage.specs.Units.{AreUnitsFree}
 use Rattle.unit_stage.proofs.OwnedLemmas.{IsWritten, current_written, log_written, reloads_written, restarts_written, same_line, same_store, stage_written, starts_written}
 use Rattle.unit_stage.proofs.ListsLemmas.{AreListLeaves, IsListLeaf}
 use Rattle.unit_stage.proofs.CountLemmas.{refusal_by}
+use Rattle.unit_stage.proofs.LengthLemmas.{still_short}
 use Rattle.unit_stage.proofs.SystemsLemmas.{current_inside}
 
 -- a test that fails at each place finds none, and the other way round
@@ -122,14 +123,27 @@ module _ (system : Name) (w m : WorldState) (same : AreSameBeside w m) where
 
     module _ (is_system : IsSystem system) (linked : IsLinked) where
       -- nothing is too much or faulty that wasn't
-      still_read : unit_refusal w.leaves system ≡ None → unit_refusal m.leaves system ≡ None
-      still_read none =
+      still_defined : defs_refusal w.leaves system ≡ None → defs_refusal m.leaves system ≡ None
+      still_defined none =
           let parts = option_or_parts (units_too_many w.leaves system) (text_refusal w.leaves system) none in
           let counts = option_or_parts (too_many Units (units_past w.leaves system)) (too_many Units (old_units_past w.leaves)) parts.0 in
           let new = none_mapped (TooMany Units) (units_past w.leaves system) counts.0 in
           let old = none_mapped (TooMany Units) (old_units_past w.leaves) counts.1 in
           refusal_by m.leaves system None None (first_fault_of w.leaves system) (same_past is_system ∙ new) (still_few is_system linked new old)
           (first_fault_same m.leaves w.leaves (same_store w m same) system is_system.inside) ∙ parts.1
+
+      still_linked : (current_system m.leaves ≡ current_system w.leaves) ⊎ (current_system m.leaves ≡ Some system)
+      still_linked = elim linked [
+        | inl before ↦ inl (ap (option_and_then target_of) before)
+        | inr after ↦ inr (ap (option_and_then target_of) after ∙ is_system.named)
+      ]
+
+      -- nor is a content too long that wasn't
+      still_read : unit_refusal w.leaves system ≡ None → unit_refusal m.leaves system ≡ None
+      still_read none =
+          let parts = option_or_parts (defs_refusal w.leaves system) (units_too_long w.leaves system) none in
+          option_or_nothing (defs_refusal m.leaves system) (units_too_long m.leaves system) (still_defined parts.0)
+          (still_short m.leaves w.leaves (same_store w m same) system is_system.inside (current_inside w.leaves) still_linked parts.1)
 
       -- nothing is in the way of the units' places that wasn't, and the units can be read as before
       pub stays_free : AreUnitsFree system w.leaves → AreUnitsFree system m.leaves

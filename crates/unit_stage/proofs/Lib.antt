@@ -11,6 +11,7 @@ pub mod EndLemmas
 pub mod FreeLemmas
 pub mod GivenLemmas
 pub mod KnownLemmas
+pub mod LengthLemmas
 pub mod ListsLemmas
 pub mod MomentLemmas
 pub mod OrderLemmas

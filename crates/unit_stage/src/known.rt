@@ -1,5 +1,5 @@
 //! What is read of a world before a switch is planned.
-ghost use Rattle.std.specs.Prelude.{◌≡◌, None, Some, IfOk, OnOk, IsErrOf, unwrap_or};
+ghost use Rattle.std.specs.Prelude.{◌≡◌, None, Some, IfOk, OnOk, IsErrOf};
 ghost use Rattle.std.specs.Option.{option_copied};
 ghost use Rattle.host_trait.specs.declared.tree.HostFault.TheVariants.{Device};
 ghost use Rattle.host_trait.specs.Reading.{IsReading, IsReadingOf};
@@ -7,23 +7,22 @@ ghost use Rattle.host_trait.specs.Host.{Told};
 ghost use Rattle.owed_plan.specs.Systems.{AreOldDefs};
 ghost use Rattle.switch_names.specs.Names.{Name};
 ghost use Rattle.unit_defs.specs.Defs.{AreDefsOf};
+ghost use Rattle.unit_defs.specs.Taken.{NotesLong, takes_units};
 ghost use Rattle.switch_parts.specs.declared.plan_fault.PlanFault.TheVariants.{Host, Refused};
-ghost use Rattle.switch_parts.specs.Limits.{too_many};
 ghost use Rattle.switch_parts.specs.declared.refusal.Refusal.{Refusal};
-ghost use Rattle.switch_parts.specs.declared.refusal.Refusal.TheVariants.{TooMany, UnitText};
-ghost use Rattle.switch_parts.specs.declared.refusal.What.TheVariants.{Units};
 ghost use Rattle.unit_stage.specs.Known.{AreStatesOf, AreTaken, IsKnownOf, IsOldOf};
-ghost use Rattle.unit_stage.specs.System.{current_system, unit_refusal};
+ghost use Rattle.unit_stage.specs.System.{current_system, defs_refusal, takes_old, unit_refusal};
 
 use crate::counts::old_past;
+use crate::lengths::check_lengths;
 use crate::system::{current_system, start_up_target};
 use host_trait::{HostFault, Manager, States, Tree, UnitSet};
 use log_text::Lists;
 use owed_log::{LogState, StandingLists};
 use std::alloc::{AllocError, Global};
 use std::mem;
-use switch_names::{SystemName, UnitName};
-use switch_parts::{PlanFault, Refusal, What};
+use switch_names::SystemName;
+use switch_parts::{PlanFault, Refusal, What, too_many};
 use unit_defs::{Defs, DefsFault};
 
 /// The system in use, where there is one, with the units that it defines.
@@ -64,69 +63,59 @@ fn read_old_defs<T: Tree>(
     alloc: Global,
     host: &mut T,
     system: Option<&SystemName>,
+    long: &mut bool,
 ) -> Result<Defs, HostFault>
     ensures defs { IfOk result (λ defs. Told (T.host host.old) (λ w. AreOldDefs w.leaves (option_copied system.entry) defs)) }
+    ensures short { OnOk result (Told (T.host host.old) (λ w. NotesLong long.old long.new (takes_old w.leaves (option_copied system.entry)) w.leaves)) }
     ensures reads { IsReading (T.host host.old) (T.host host.new) result }
 {
     match system {
-        Some(system) => Defs::read_old(alloc, host, system),
+        Some(system) => Defs::read_old_noted(alloc, host, system, long),
         None => Ok(Defs::none(alloc)),
     }
 }
 
 /// Reads the system in use.
-fn read_old<T: Tree>(alloc: Global, host: &mut T) -> Result<OldSystem, HostFault>
+fn read_old<T: Tree>(alloc: Global, host: &mut T, long: &mut bool) -> Result<OldSystem, HostFault>
     ensures old { IfOk result (λ old. Told (T.host host.old) (λ w. IsOldOf w.leaves old)) }
+    ensures short { OnOk result (Told (T.host host.old) (λ w. NotesLong long.old long.new (takes_old w.leaves (current_system w.leaves)) w.leaves)) }
     ensures reads { IsReading (T.host host.old) (T.host host.new) result }
 {
     let name = current_system(alloc, host)?;
-    let defs = read_old_defs(alloc, host, name.as_ref())?;
+    let defs = read_old_defs(alloc, host, name.as_ref(), long)?;
     Ok(OldSystem { name, defs })
-}
-
-/// The refusal of so many units.
-fn units_refusal(count: u64) -> Refusal
-    ensures { result ≡ TooMany Units count }
-{
-    Refusal::TooMany {
-        what: What::Units,
-        count,
-    }
-}
-
-/// The refusal of a faulty file, where the units of the system in use aren't too many.
-fn text_refusal(in_use: Option<u64>, unit: UnitName, line: u32) -> Refusal
-    ensures { result ≡ unwrap_or (too_many Units in_use) (UnitText unit line) }
-{
-    match in_use {
-        Some(count) => units_refusal(count),
-        None => Refusal::UnitText { unit, line },
-    }
 }
 
 /// Reads the units of the system that comes into use, beside those of the system in use.
 ///
-/// Too many units of the system that comes into use are sought first, then those of the one in use.
+/// Too many units of the system that comes into use are sought first, then those of the one in use. A content that is too long
+/// is noted.
 pub fn read_new<T: Tree>(
     alloc: Global,
     host: &mut T,
     system: &SystemName,
     old: &Defs,
+    long: &mut bool,
 ) -> Result<Defs, PlanFault>
     ensures defs { IfOk result (λ defs. Told (T.host host.old) (λ w. AreDefsOf w.leaves system.now defs)) }
-    ensures not_refused { OnOk result (Told (T.host host.old) (λ w. AreOldDefs w.leaves (current_system w.leaves) old.now → unit_refusal w.leaves system.now ≡ None)) }
-    ensures refused { (why : Refusal) → IsErrOf result (Refused why) → Told (T.host host.old) (λ w. AreOldDefs w.leaves (current_system w.leaves) old.now → unit_refusal w.leaves system.now ≡ Some why) }
+    ensures not_refused { OnOk result (Told (T.host host.old) (λ w. AreOldDefs w.leaves (current_system w.leaves) old.now → defs_refusal w.leaves system.now ≡ None)) }
+    ensures refused { (why : Refusal) → IsErrOf result (Refused why) → Told (T.host host.old) (λ w. AreOldDefs w.leaves (current_system w.leaves) old.now → defs_refusal w.leaves system.now ≡ Some why) }
+    ensures short { OnOk result (Told (T.host host.old) (λ w. NotesLong long.old long.new (takes_units w.leaves system.now) w.leaves)) }
     ensures reads { IsReadingOf (T.host host.old) (T.host host.new) (IsErrOf result (Host Device)) }
 {
-    let in_use = old_past(old);
-    match Defs::read_beside(alloc, host, system, old) {
+    let in_use = too_many(What::Units, old_past(old));
+    match Defs::read_beside_noted(alloc, host, system, old, long) {
         Ok(defs) => match in_use {
-            Some(count) => Err(PlanFault::Refused(units_refusal(count))),
+            Some(why) => Err(PlanFault::Refused(why)),
             None => Ok(defs),
         },
-        Err(DefsFault::Many(count)) => Err(PlanFault::Refused(units_refusal(count))),
+        Err(DefsFault::Many(count)) => {
+            let what = What::Units;
+            Err(PlanFault::Refused(Refusal::TooMany { what, count }))
+        }
         Err(DefsFault::Text { unit, line }) => {
-            Err(PlanFault::Refused(text_refusal(in_use, unit, line)))
+            let fault = Refusal::UnitText { unit, line };
+            Err(PlanFault::Refused(in_use.unwrap_or(fault)))
         }
         Err(DefsFault::Host(fault)) => Err(PlanFault::Host(fault)),
     }
@@ -187,8 +176,10 @@ pub fn read_known<H: Manager>(
     ensures refused { (why : Refusal) → IsErrOf result (Refused why) → Told (H.host host.old) (λ w. unit_refusal w.leaves system.now ≡ Some why) }
     ensures reads { IsReadingOf (H.host host.old) (H.host host.new) (IsErrOf result (Host Device)) }
 {
-    let old = read_old(alloc, host)?;
-    let new = read_new(alloc, host, system, &old.defs)?;
+    let mut long = false;
+    let old = read_old(alloc, host, &mut long)?;
+    let new = read_new(alloc, host, system, &old.defs, &mut long)?;
+    check_lengths(alloc, host, system, long)?;
     let units = read_states(alloc, host, &new, start_up)?;
     Ok(Known { old, new, units })
 }

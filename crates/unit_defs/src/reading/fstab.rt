@@ -5,18 +5,21 @@ ghost use Rattle.host_trait.specs.Host.{Told};
 ghost use Rattle.host_trait.specs.Reading.{IsReading};
 ghost use Rattle.unit_defs.specs.Found.{Joins, JoinsLines};
 ghost use Rattle.unit_defs.specs.Fstab.{fstab_of, fstab_path, target_of, wanted_by_lines};
+ghost use Rattle.unit_defs.specs.Taken.{NotesLong};
 ghost use Rattle.fstab_mounts.specs.Fstab.{fstab_units};
+ghost use Rattle.switch_names.specs.Names.{is_name};
 
 use super::found::Found;
+use super::noting::content_noted;
 use crate::place::named;
 use fstab_mounts::{FsUnit, parse};
-use host_trait::{HostFault, Tree, content};
+use host_trait::{HostFault, Tree};
 use std::alloc::{AllocError, Global};
 use switch_names::{Bytes, Listed, NameFault, Path, SystemName, UnitKind, UnitName};
 
 /// The fstab of a system.
 #[tactic(auto, unfolding(crate::specs::Fstab::fstab_path))]
-fn fstab_path(alloc: Global, system: &SystemName) -> Result<Path, AllocError>
+pub fn fstab_path(alloc: Global, system: &SystemName) -> Result<Path, AllocError>
     ensures { IfOk result (λ path. path ≡ fstab_path system.now) }
 {
     system
@@ -40,12 +43,14 @@ fn lines_of<T: Tree>(
     alloc: Global,
     host: &mut T,
     system: &SystemName,
+    long: &mut bool,
 ) -> Result<Listed<FsUnit>, HostFault>
     ensures lines { IfOk result (λ lines. Told (T.host host.old) (λ w. lines ≡ fstab_of w.leaves system.now)) }
+    ensures short { OnOk result (Told (T.host host.old) (λ w. NotesLong long.old long.new (λ q. is_name q (fstab_path system.now)) w.leaves)) }
     ensures reads { IsReading (T.host host.old) (T.host host.new) result }
 {
     let path = fstab_path(alloc, system)?;
-    let bytes = content(alloc, host, &path)?;
+    let bytes = content_noted(alloc, host, &path, long)?;
     Ok(lines_in(alloc, bytes)?)
 }
 
@@ -94,10 +99,12 @@ pub fn read_fstab<T: Tree>(
     host: &mut T,
     system: &SystemName,
     found: &mut Found,
+    long: &mut bool,
 ) -> Result<(), HostFault>
     ensures found { OnOk result (Told (T.host host.old) (λ w. JoinsLines (fstab_of w.leaves system.now) found.old found.new)) }
+    ensures short { OnOk result (Told (T.host host.old) (λ w. NotesLong long.old long.new (λ q. is_name q (fstab_path system.now)) w.leaves)) }
     ensures reads { IsReading (T.host host.old) (T.host host.new) result }
 {
-    let lines = lines_of(alloc, host, system)?;
+    let lines = lines_of(alloc, host, system, long)?;
     Ok(add_lines(alloc, lines.as_slice(), found)?)
 }

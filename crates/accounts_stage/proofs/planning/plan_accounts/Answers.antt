@@ -1,15 +1,16 @@
 use Rattle.std.proofs.Common.{◌≡◌, None, Some, ap, sym, ◌∙◌}
+use Rattle.std.specs.Option.{option_or}
 use Rattle.host_trait.specs.declared.tree.HostFault.TheVariants.{Device}
 use Rattle.host_trait.proofs.Moments.{told_as, told_before}
 use Rattle.host_trait.proofs.Readings.{read_of, reads_of, reads_then}
 use Rattle.switch_parts.specs.declared.plan_fault.PlanFault.TheVariants.{Host, Refused}
-use Rattle.switch_parts.specs.declared.refusal.What.TheVariants.{Rows}
+use Rattle.switch_parts.specs.declared.refusal.What.TheVariants.{LeafBytes, Rows}
 use Rattle.switch_parts.specs.Limits.{too_many}
 use Rattle.switch_parts.proofs.Faults.{no_err}
 use Rattle.accounts_stage.specs.AccountsPart.{accounts_refusal}
 use Rattle.accounts_stage.specs.Plan.{IsAccountsPlanOf}
 use Rattle.accounts_stage.proofs.AnsweringLemmas.{err_handed}
-use Rattle.accounts_stage.proofs.PlanningLemmas.{first_refused, later_refused, planned_for, rows_last, tables_are}
+use Rattle.accounts_stage.proofs.PlanningLemmas.{first_refused, later_refused, length_is, planned_for, rows_last, tables_are}
 use Rattle.accounts_stage.proofs.planning.plan_accounts.Goals as goal
 
 pub returns-in_err-judged-clause-refused : goal.returns-in_err-judged-clause-refused
@@ -37,7 +38,8 @@ returns-in_err-refuse-clause-refused g c why e =
     (λ w is answers.
     let same = texts.ensures.texts.has w is in let ok = judged.ensures.judged.ok in let fine = judged.ensures.judged.not_refused in
     rows_last system w.leaves texts.texts same judged.judged ok fine c.in_ok-plan.plan (answers (tables_are system w.leaves texts.texts same judged.judged ok fine))
-    ∙ ap (too_many Rows) (sym c.plan_past.ensures) ∙ sym c.too_many.ensures ∙ c.in_err-refuse.ensures.refused.refused why (err_handed _ (Refused why) _ c.from_residual-in_err-refuse.ensures.1 e))
+    ∙ sym (c.or.ensures ∙ (λ i. option_or ((c.too_many-many.ensures ∙ ap (too_many Rows) c.plan_past.ensures) i)
+    ((c.too_many.ensures ∙ ap (too_many LeafBytes) c.spec_past-long.ensures ∙ length_is system w.leaves texts.texts same) i))) ∙ c.in_err-refuse.ensures.refused.refused why (err_handed _ (Refused why) _ c.from_residual-in_err-refuse.ensures.1 e))
 
 pub returns-in_err-refuse-clause-reads : goal.returns-in_err-refuse-clause-reads
 returns-in_err-refuse-clause-reads g c =
@@ -59,7 +61,8 @@ returns-clause-not_refused g c =
     (λ w is answers.
     let same = texts.ensures.texts.has w is in let ok = judged.ensures.judged.ok in let fine = judged.ensures.judged.not_refused in
     rows_last system w.leaves texts.texts same judged.judged ok fine c.in_ok-plan.plan (answers (tables_are system w.leaves texts.texts same judged.judged ok fine))
-    ∙ ap (too_many Rows) (sym c.plan_past.ensures) ∙ sym c.too_many.ensures ∙ c.in_ok-refuse.ensures.refused.not_refused)
+    ∙ sym (c.or.ensures ∙ (λ i. option_or ((c.too_many-many.ensures ∙ ap (too_many Rows) c.plan_past.ensures) i)
+    ((c.too_many.ensures ∙ ap (too_many LeafBytes) c.spec_past-long.ensures ∙ length_is system w.leaves texts.texts same) i))) ∙ c.in_ok-refuse.ensures.refused.not_refused)
 
 pub returns-clause-reads : goal.returns-clause-reads
 returns-clause-reads g c =

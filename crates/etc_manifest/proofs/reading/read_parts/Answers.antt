@@ -5,11 +5,11 @@ pub returns-in_err-path-clause-reads : goal.returns-in_err-path-clause-reads
 returns-in_err-path-clause-reads g c = nothing_read _ (no_device _ c.from_residual.ensures.1)
 
 pub returns-in_err-uid-clause-reads : goal.returns-in_err-uid-clause-reads
-returns-in_err-uid-clause-reads g c = read_handed (read_then c.content.ensures.reads c.in_err-uid.ensures.reads) _ c.from_residual-in_err-uid.ensures.1
+returns-in_err-uid-clause-reads g c = read_handed (read_then c.short_content.ensures.reads c.in_err-uid.ensures.reads) _ c.from_residual-in_err-uid.ensures.1
 
 pub returns-in_err-gid-clause-reads : goal.returns-in_err-gid-clause-reads
 returns-in_err-gid-clause-reads g c =
-    read_handed (read_then (read_then c.content.ensures.reads c.owner_text.ensures.reads) c.in_err-gid.ensures.reads) _ c.from_residual-in_err-gid.ensures.1
+    read_handed (read_then (read_then c.short_content.ensures.reads c.owner_text.ensures.reads) c.in_err-gid.ensures.reads) _ c.from_residual-in_err-gid.ensures.1
 
 pub returns-clause-reads : goal.returns-clause-reads
-returns-clause-reads g c = read_ok (read_then (read_then c.content.ensures.reads c.owner_text.ensures.reads) c.owner_text-2.ensures.reads) _
+returns-clause-reads g c = read_ok (read_then (read_then c.short_content.ensures.reads c.owner_text.ensures.reads) c.owner_text-2.ensures.reads) _

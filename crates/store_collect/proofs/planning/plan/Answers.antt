@@ -1,8 +1,11 @@
-use Rattle.std.proofs.Common.{false, ◌≡◌, [], Option, Some, refl, sym, ap, subst, ◌∙◌}
+use Rattle.std.proofs.Common.{false, ◌≡◌, [], Option, None, Some, refl, sym, ap, subst, ◌∙◌}
 use Rattle.std.proofs.lemmas.Result.{err_from_is_err_and}
 use Rattle.host_trait.proofs.Moments.{told_as}
 use Rattle.host_trait.proofs.Readings.{read_of, read_then, told_read}
-use Rattle.switch_names.specs.Names.{Name}
+use Rattle.leaf_limits.proofs.PastLemmas.{first_past}
+use Rattle.switch_names.specs.Names.{Name, has}
+use Rattle.switch_parts.specs.declared.refusal.What.TheVariants as bytes
+use Rattle.switch_parts.specs.Limits.{too_many}
 use Rattle.tree_put.specs.First.{first_in_the_way}
 use Rattle.tree_put.proofs.FirstLemmas.{none_as_listed}
 use Rattle.generations.specs.declared.gens.Gens.{Gens}
@@ -38,6 +41,7 @@ returns-clause-can g c =
     let texts = told_read c.is_unfinished.ensures.reads (told_read c.all.ensures.reads c.in_ok-texts.ensures.texts) in
     let planned = told_read c.is_unfinished.ensures.reads (told_read c.all.ensures.reads (told_read c.texts_noted.ensures.reads (told_read c.blocked_place.ensures.reads c.in_ok-collection.ensures.planned))) in
     let kept = gens_kept c.args.keep c.in_ok-gens.gens in
+    let noted = told_read c.is_unfinished.ensures.reads (told_read c.all.ensures.reads (c.in_ok-texts.ensures.noted [])) in
     told_as (told_read c.is_unfinished.ensures.reads (told_read c.all.ensures.reads (told_read c.texts_noted.ensures.reads c.in_ok-at.ensures.first))) (CanApplyBoot c.in_ok-collection.collection.texts)
     (λ w world first. record {
       gens = kept;
@@ -45,7 +49,10 @@ returns-clause-can g c =
       free = record {
         way = (none_as_listed (boot_places kept.list) w.leaves).0
             (ap (λ (gens : Gens). first_in_the_way (boot_places gens.list) w.leaves) (sym c.in_ok-kept.ensures) ∙ sym first ∙ c.in_default-2.is);
-        refusal = refl;
+        refusal = ap (too_many bytes.LeafBytes)
+            (sym (first_past (taken_of kept) (has (taken_of kept)) w.leaves (λ q there. refl) None
+            (subst (λ (gens : Gens). AreWithin (taken_of gens) w.leaves) c.in_ok-kept.ensures
+            (subst (λ (found : Option TooLong). IsFirstOf (taken_of c.in_ok-kept.kept) w.leaves found) c.in_default.is (noted.has w world (none_before w.leaves))))));
       };
     })
 

@@ -11,7 +11,7 @@ use Rattle.switch_engine.specs.Commands.{row, switched_by}
 use Rattle.switch_engine.specs.Owing.{IsSteadyFor, IsSteadyTo}
 use Rattle.switch_engine.specs.Plan.{ArePlanned, IsPlanOf}
 use Rattle.switch_engine.specs.Rows.{refusal, refusal_by}
-use Rattle.switch_engine.proofs.PlanLemmas.{has_system, no_system, told_still}
+use Rattle.switch_engine.proofs.PlanLemmas.{has_system, told_still, version_refused}
 use Rattle.switch_names.specs.SystemName.{IsSystemPath}
 use Rattle.switch_parts.specs.declared.plan_fault.PlanFault.TheVariants.{Host, Refused}
 use Rattle.switch_parts.specs.declared.refusal.Refusal.TheVariants.{NoSystem}
@@ -19,52 +19,53 @@ use Rattle.switch_parts.proofs.Faults.{handed, host_device, no_err, refused_is, 
 use Rattle.unit_stage.proofs.KnownLemmas.{same_fault}
 use Rattle.switch_engine.proofs.planning.plan_all.Goals as goal
 
-pub plan_row-requires : goal.plan_row-requires
-plan_row-requires g c =
-    told_as (told_still c.has_version.ensures.reads.moments (told_still c.resolve.ensures.reads.moments c.in_ok-resolved.ensures.resolved)) (λ w. IfSome c.in_ok-resolved.resolved.gens (IsGensOf w.leaves))
+pub plan_row-requires-clause-known : goal.plan_row-requires-clause-known
+plan_row-requires-clause-known g c =
+    told_as (told_still c.check_version.ensures.reads.moments (told_still c.resolve.ensures.reads.moments c.in_ok-resolved.ensures.resolved)) (λ w. IfSome c.in_ok-resolved.resolved.gens (IsGensOf w.leaves))
     (λ w is resolved. resolved.gens)
 
-pub returns-in_err-has_version-clause-reads : goal.returns-in_err-has_version-clause-reads
-returns-in_err-has_version-clause-reads g c =
-    let p = err_from_is_err_and c.from_residual-in_err-has_version.result c.from_residual-in_err-has_version.ensures.1 in
-    reads_of (reads_then c.resolve.ensures.reads (read_of c.in_err-has_version.ensures.reads _ (λ e. e))) _ (λ e. host_device _ p.0 _ p.1 p.2 e)
+pub plan_row-requires-clause-short : goal.plan_row-requires-clause-short
+plan_row-requires-clause-short g c = told_still c.check_version.ensures.reads.moments c.in_ok-check_version.ensures.short
+
+pub returns-in_err-check_version-clause-reads : goal.returns-in_err-check_version-clause-reads
+returns-in_err-check_version-clause-reads g c =
+    let p = err_from_is_err_and c.from_residual-in_err-check_version.result c.from_residual-in_err-check_version.ensures.1 in
+    reads_of (reads_then c.resolve.ensures.reads c.in_err-check_version.ensures.reads) _ (λ e. handed _ p.0 _ _ p.1 p.2 e)
+
+pub returns-in_err-check_version-clause-refused : goal.returns-in_err-check_version-clause-refused
+returns-in_err-check_version-clause-refused g c why e =
+    let p = err_from_is_err_and c.from_residual-in_err-check_version.result c.from_residual-in_err-check_version.ensures.1 in
+    let refused = c.in_err-check_version.ensures.refused why (ap (λ f. Err f) (sym p.2 ∙ same_fault p.0 (Refused why) (sym p.1 ∙ e))) in
+    told_as (told_before c.resolve.ensures.reads.moments refused) (λ w. refusal c.args.command.now w.leaves ≡ Some why)
+    (λ w is version.
+    let its = c.in_ok-resolved.ensures.resolved.has w is in
+    version_refused c.args.command.now w.leaves c.in_ok-resolved.resolved.row why its.has_one its.row version)
 
 pub returns-in_err-plan-clause-reads : goal.returns-in_err-plan-clause-reads
 returns-in_err-plan-clause-reads g c =
     let p = err_from_is_err_and c.from_residual-in_err-plan.result c.from_residual-in_err-plan.ensures.1 in
-    reads_of (reads_then (reads_then c.resolve.ensures.reads (read_of c.has_version.ensures.reads _ (λ e. e))) c.in_err-plan.ensures.reads) _ (λ e. handed _ p.0 _ _ p.1 p.2 e)
+    reads_of (reads_then (reads_then c.resolve.ensures.reads c.check_version.ensures.reads) c.in_err-plan.ensures.reads) _ (λ e. handed _ p.0 _ _ p.1 p.2 e)
 
 pub returns-clause-reads : goal.returns-clause-reads
 returns-clause-reads g c =
-    reads_of (reads_then (reads_then c.resolve.ensures.reads (read_of c.has_version.ensures.reads _ (λ e. e))) c.plan_row.ensures.reads) _ (λ e. absurd (no_err c.in_ok-plan.plan (Host Device) e))
-
-pub returns-then-not-branch-clause-reads : goal.returns-then-not-branch-clause-reads
-returns-then-not-branch-clause-reads g c =
-    reads_of (reads_then c.resolve.ensures.reads (read_of c.has_version.ensures.reads _ (λ e. e))) _ (λ e. absurd (refused_no_device NoSystem e))
-
-pub returns-then-not-branch-clause-refused : goal.returns-then-not-branch-clause-refused
-returns-then-not-branch-clause-refused g c why e =
-    told_as c.in_ok-resolved.ensures.resolved (λ w. refusal c.args.command.now w.leaves ≡ Some why)
-    (λ w is its.
-    no_system c.args.command.now w.leaves c.in_ok-resolved.resolved.row.system its.has_one (ap (λ (r : Row). r.system) its.row)
-    (sym ((told_before c.resolve.ensures.reads.moments c.in_ok-has_version.ensures.has).has w is) ∙ c.if-not-branch.true) ∙ ap Some (refused_is NoSystem why e))
+    reads_of (reads_then (reads_then c.resolve.ensures.reads c.check_version.ensures.reads) c.plan_row.ensures.reads) _ (λ e. absurd (no_err c.in_ok-plan.plan (Host Device) e))
 
 pub returns-in_err-plan-clause-refused : goal.returns-in_err-plan-clause-refused
 returns-in_err-plan-clause-refused g c why e =
     let p = err_from_is_err_and c.from_residual-in_err-plan.result c.from_residual-in_err-plan.ensures.1 in
     let refused = c.in_err-plan.ensures.refused why (ap (λ f. Err f) (sym p.2 ∙ same_fault p.0 (Refused why) (sym p.1 ∙ e))) in
-    told_as (told_before c.resolve.ensures.reads.moments (told_read c.has_version.ensures.reads refused)) (λ w. refusal c.args.command.now w.leaves ≡ Some why)
+    told_as (told_before c.resolve.ensures.reads.moments (told_before c.check_version.ensures.reads.moments refused)) (λ w. refusal c.args.command.now w.leaves ≡ Some why)
     (λ w is parts.
     let its = c.in_ok-resolved.ensures.resolved.has w is in
     has_system c.args.command.now w.leaves c.in_ok-resolved.resolved.row.system its.has_one (ap (λ (r : Row). r.system) its.row)
-    (sym ((told_before c.resolve.ensures.reads.moments c.in_ok-has_version.ensures.has).has w is) ∙ c.if-not-branch.false)
+    ((told_before c.resolve.ensures.reads.moments c.in_ok-check_version.ensures.there).has w is)
     ∙ subst (λ (r : Row). refusal_by r.start_up r.switches r.moves r.system w.leaves ≡ Some why) its.row parts)
 
 pub returns-clause-plan : goal.returns-clause-plan
 returns-clause-plan g c =
     let plan = c.in_ok-plan.plan in
     let same_row = c.in_ok-plan.ensures.row in
-    told_as (told_before c.resolve.ensures.reads.moments (told_read c.has_version.ensures.reads c.in_ok-plan.ensures.plan)) (λ w. IsPlanOf w plan)
+    told_as (told_before c.resolve.ensures.reads.moments (told_before c.check_version.ensures.reads.moments c.in_ok-plan.ensures.plan)) (λ w. IsPlanOf w plan)
     (λ w is planned.
     let its = c.in_ok-resolved.ensures.resolved.has w is in
     record {
@@ -73,15 +74,15 @@ returns-clause-plan g c =
       named = subst (λ (r : Row). IsSystemPath r.system) (sym same_row) c.path-path.ensures.names;
       not_refused = subst (λ (command : Command). refusal command w.leaves ≡ None) (sym c.in_ok-plan.ensures.command)
           (has_system c.args.command.now w.leaves c.in_ok-resolved.resolved.row.system its.has_one (ap (λ (r : Row). r.system) its.row)
-          (sym ((told_before c.resolve.ensures.reads.moments c.in_ok-has_version.ensures.has).has w is) ∙ c.if-not-branch.false)
+          ((told_before c.resolve.ensures.reads.moments c.in_ok-check_version.ensures.there).has w is)
           ∙ subst (λ (r : Row). refusal_by r.start_up r.switches r.moves r.system w.leaves ≡ None) its.row
-          ((told_before c.resolve.ensures.reads.moments (told_read c.has_version.ensures.reads c.in_ok-plan.ensures.not_refused)).has w is));
+          ((told_before c.resolve.ensures.reads.moments (told_before c.check_version.ensures.reads.moments c.in_ok-plan.ensures.not_refused)).has w is));
     })
 
 pub returns-clause-steady : goal.returns-clause-steady
 returns-clause-steady g c =
     let plan = c.in_ok-plan.plan in
-    told_as (told_before c.resolve.ensures.reads.moments (told_read c.has_version.ensures.reads c.in_ok-plan.ensures.steady)) (λ w. IsTrue plan.units.steady ↔ IsSteadyFor c.args.command.now w)
+    told_as (told_before c.resolve.ensures.reads.moments (told_before c.check_version.ensures.reads.moments c.in_ok-plan.ensures.steady)) (λ w. IsTrue plan.units.steady ↔ IsSteadyFor c.args.command.now w)
     (λ w is told. subst (λ (r : Row). IsTrue plan.units.steady ↔ IsSteadyTo r.start_up (switched_by r) w) (c.in_ok-resolved.ensures.resolved.has w is).row told)
 
 pub returns-in_err-resolved-clause-refused : goal.returns-in_err-resolved-clause-refused

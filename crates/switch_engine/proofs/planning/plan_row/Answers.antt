@@ -1,8 +1,8 @@
 use Rattle.std.proofs.Common.{◌≡◌, Err, None, Some, ap}
 use Rattle.host_trait.proofs.Moments.{told_as, told_before}
 use Rattle.host_trait.proofs.Readings.{reads_of, reads_then}
-use Rattle.switch_engine.specs.Rows.{refusal_by, refusal_in_parts, too_many_by}
-use Rattle.switch_engine.proofs.FewLemmas.{few_in_parts}
+use Rattle.switch_engine.specs.Rows.{refusal_by, refusal_in_parts, too_much_by}
+use Rattle.switch_engine.proofs.ShortLemmas.{little_in_parts}
 use Rattle.switch_engine.proofs.PlanLemmas.{told_still}
 use Rattle.switch_names.proofs.Outcomes.{option_or_nothing}
 use Rattle.switch_parts.proofs.Faults.{same_err}
@@ -17,8 +17,8 @@ returns-in-Ok-clause-not_refused g c =
     let its = c.args.row.now in
     told_as c.in-Ok.ensures.not_refused (λ w. refusal_by its.start_up its.switches its.moves its.system w.leaves ≡ None)
     (λ w is none.
-    option_or_nothing (too_many_by its.switches its.system w.leaves) (refusal_in_parts its.start_up its.switches its.moves its.system w.leaves)
-    (few_in_parts its.start_up its.moves its.system w.leaves its.switches none) none)
+    option_or_nothing (too_much_by its.switches its.moves its.system w.leaves) (refusal_in_parts its.start_up its.switches its.moves its.system w.leaves)
+    (little_in_parts its.start_up its.moves its.system c.path-path.ensures.names w.leaves (c.requires.short.has w is) its.switches none) none)
 
 pub returns-in-Err-Refused-clause-refused : goal.returns-in-Err-Refused-clause-refused
 returns-in-Err-Refused-clause-refused g c why e =

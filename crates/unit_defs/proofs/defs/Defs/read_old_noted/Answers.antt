@@ -3,7 +3,7 @@ use Rattle.host_trait.proofs.Moments.{told_as}
 use Rattle.unit_defs.specs.Defs.{AreDefsOf}
 use Rattle.unit_defs.proofs.AgreeLemmas.{are_defs}
 use Rattle.host_trait.proofs.Readings.{read_ok, read_starved}
-use Rattle.unit_defs.proofs.defs.Defs.read_old.Goals as goal
+use Rattle.unit_defs.proofs.defs.Defs.read_old_noted.Goals as goal
 
 pub returns-clause-defs : goal.returns-clause-defs
 returns-clause-defs g c =

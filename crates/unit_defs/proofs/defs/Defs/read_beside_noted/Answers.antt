@@ -11,7 +11,7 @@ use Rattle.unit_defs.proofs.AgreeLemmas.{are_defs}
 use Rattle.unit_defs.proofs.CountLemmas.{past_read, same_count}
 use Rattle.unit_defs.proofs.FaultLemmas.{first_is, no_fault}
 use Rattle.unit_defs.proofs.FirstFaultLemmas.{first_is_found, none_is_found}
-use Rattle.unit_defs.proofs.defs.Defs.read_beside.Goals as goal
+use Rattle.unit_defs.proofs.defs.Defs.read_beside_noted.Goals as goal
 
 pub returns-in-Some-clause-many : goal.returns-in-Some-clause-many
 returns-in-Some-clause-many g c = λ count same.
@@ -66,6 +66,9 @@ pub returns-clause-faulty : goal.returns-clause-faulty
 returns-clause-faulty g c = λ unit line same.
     told_as (returns-clause-text g c unit line same) (λ w. first_fault_of w.leaves c.args.system.now ≡ Some (unit, line))
     (λ w is first. first_is_found w.leaves c.args.system.now unit line first)
+
+pub returns-clause-short : goal.returns-clause-short
+returns-clause-short g c = on_ok_weaker c.from_sound.result (λ none. c.in_ok-units.ensures.short) c.from_sound.ensures.sound
 
 pub returns-clause-reads : goal.returns-clause-reads
 returns-clause-reads g c = read_of c.read_units.ensures.reads _ (λ fault. absurd (c.from_sound.ensures.cause fault))

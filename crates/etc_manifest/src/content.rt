@@ -1,0 +1,89 @@
+//! Contents that aren't longer than may be read.
+ghost use Rattle.std.specs.Prelude.{◌≡◌, [], length, nat_lt, unwrap_or, IfOk};
+ghost use Rattle.host_trait.specs.Host.{Told};
+ghost use Rattle.host_trait.specs.Reading.{IsReading};
+ghost use Rattle.host_trait.specs.World.{file_at, file_bytes, store_place};
+ghost use Rattle.leaf_limits.specs.Limits.{is_long, leaf_max};
+ghost use Rattle.etc_manifest.specs.Companion.{short_content};
+
+use host_trait::{HostFault, Leaf, LeafKind, Tree, content};
+use leaf_limits::LEAF_MAX;
+use std::alloc::{AllocError, Global};
+use switch_names::{Bytes, NameFault, Path};
+
+/// Where the store lies, as a link's target begins that leads into it.
+const STORE: &str = "/nix/store/";
+
+/// Whether a content is longer than may be read.
+fn is_long(content: &Option<Bytes>) -> bool
+    ensures { result ≡ nat_lt leaf_max (length (unwrap_or content.now [])) }
+{
+    match content {
+        Some(bytes) => bytes.as_slice().len() as u64 > LEAF_MAX,
+        None => false,
+    }
+}
+
+/// Whether the content at a path is longer than may be read.
+pub fn is_long_at<T: Tree>(alloc: Global, host: &mut T, at: &Path) -> Result<bool, HostFault>
+    ensures long { IfOk result (λ long. Told (T.host host.old) (λ w. long ≡ is_long w.leaves at.now)) }
+    ensures reads { IsReading (T.host host.old) (T.host host.new) result }
+{
+    let content = content(alloc, host, at)?;
+    Ok(is_long(&content))
+}
+
+/// The content at a path, where it isn't longer than may be read.
+pub fn short_content<T: Tree>(
+    alloc: Global,
+    host: &mut T,
+    at: &Path,
+) -> Result<Option<Bytes>, HostFault>
+    ensures content { IfOk result (λ bytes. Told (T.host host.old) (λ w. bytes ≡ short_content w.leaves at.now)) }
+    ensures reads { IsReading (T.host host.old) (T.host host.new) result }
+{
+    let content = content(alloc, host, at)?;
+    if is_long(&content) {
+        return Ok(None);
+    }
+    Ok(content)
+}
+
+/// The bytes of a leaf that is a file.
+fn into_file_bytes(leaf: Option<Leaf>) -> Option<Bytes>
+    ensures { result ≡ file_bytes leaf }
+{
+    match leaf?.into_kind() {
+        LeafKind::File { bytes, .. } => Some(bytes),
+        LeafKind::Link { .. } => None,
+    }
+}
+
+/// The path in the store that a link's target names.
+fn find_store_place(alloc: Global, target: &str) -> Result<Option<Path>, AllocError>
+    ensures { IfOk result (λ place. place ≡ store_place target.now) }
+{
+    if !target.as_bytes().starts_with(STORE.as_bytes()) {
+        return Ok(None);
+    }
+    let Some(place) = target.strip_prefix('/') else {
+        return Ok(None);
+    };
+    match Path::parse(alloc, place) {
+        Ok(path) => Ok(Some(path)),
+        Err(NameFault::Memory) => Err(AllocError),
+        Err(_) => Ok(None),
+    }
+}
+
+/// Whether the file in the store that a link leads to is longer than may be read.
+pub fn is_target_long<T: Tree>(alloc: Global, host: &mut T, target: &str) -> Result<bool, HostFault>
+    ensures long { IfOk result (λ long. Told (T.host host.old) (λ w. long ≡ nat_lt leaf_max (length (unwrap_or (file_at w.leaves (store_place target.now)) [])))) }
+    ensures reads { IsReading (T.host host.old) (T.host host.new) result }
+{
+    let Some(at) = find_store_place(alloc, target)? else {
+        return Ok(false);
+    };
+    let leaf = host.read(alloc, &at)?;
+    Ok(is_long(&into_file_bytes(leaf)))
+}

@@ -1,0 +1,87 @@
+//! Which contents a row takes, and which of them is too long.
+ghost use Rattle.std.specs.Prelude.{◌≡◌, ◌++◌, IfOk, OnOk};
+ghost use Rattle.host_trait.specs.Host.{Told};
+ghost use Rattle.host_trait.specs.Reading.{IsReading};
+ghost use Rattle.leaf_limits.specs.Limits.{AreTaken};
+ghost use Rattle.switch_engine.specs.Lengths.{takes_by, takes_menu, takes_switch, too_long_by};
+ghost use Rattle.switch_engine.specs.Rows.{gens_to};
+
+use crate::row::Row;
+use crate::system::version_path;
+use generations::{after_move, all};
+use host_trait::{HostFault, Tree};
+use leaf_limits::long_past;
+use std::alloc::{AllocError, Global};
+use switch_names::{Listed, Path};
+use switch_parts::{Refusal, What, too_many};
+
+/// Adds paths.
+fn add_paths(alloc: Global, places: &mut Listed<Path>, more: &[Path]) -> Result<(), AllocError>
+    ensures { OnOk result (places.new ≡ places.old ++ more.now) }
+{
+    for path in more {
+        places.push(path.copy(alloc)?)?;
+    }
+    Ok(())
+}
+
+/// The paths of what a switch of the units takes, where they are switched.
+fn switch_sources<T: Tree>(
+    alloc: Global,
+    host: &mut T,
+    row: &Row,
+) -> Result<Listed<Path>, HostFault>
+    ensures taken { IfOk result (λ places. Told (T.host host.old) (λ w. AreTaken places (takes_switch row.now.switches row.now.system w.leaves) w.leaves)) }
+    ensures reads { IsReading (T.host host.old) (T.host host.new) result }
+{
+    if !row.switches {
+        return Ok(Listed::new(alloc));
+    }
+    let mut places = unit_stage::taken(alloc, host, &row.system)?;
+    let mut others = accounts_stage::taken(alloc, &row.system)?;
+    let entries = etc_manifest::taken(alloc, host, &row.system)?;
+    add_paths(alloc, &mut others, entries.as_slice())?;
+    add_paths(alloc, &mut places, others.as_slice())?;
+    Ok(places)
+}
+
+/// The paths of what the boot menu takes, where the profile is moved.
+fn menu_sources<T: Tree>(alloc: Global, host: &mut T, row: &Row) -> Result<Listed<Path>, HostFault>
+    ensures taken { IfOk result (λ places. Told (T.host host.old) (λ w. AreTaken places (takes_menu row.now.moves (gens_to row.now.moves row.now.system w.leaves)) w.leaves)) }
+    ensures reads { IsReading (T.host host.old) (T.host host.new) result }
+{
+    let Some(to) = row.moves else {
+        return Ok(Listed::new(alloc));
+    };
+    let gens = all(alloc, host)?;
+    let after = after_move(alloc, &gens, &row.system, to)?;
+    Ok(boot_entries::taken(alloc, &after)?)
+}
+
+/// The paths of what a row takes.
+fn sources<T: Tree>(alloc: Global, host: &mut T, row: &Row) -> Result<Listed<Path>, HostFault>
+    ensures taken { IfOk result (λ places. Told (T.host host.old) (λ w. AreTaken places (takes_by row.now.switches row.now.moves row.now.system (gens_to row.now.moves row.now.system w.leaves) w.leaves) w.leaves)) }
+    ensures reads { IsReading (T.host host.old) (T.host host.new) result }
+{
+    let mut places = Listed::new(alloc);
+    places.push(version_path(alloc, &row.system)?)?;
+    let mut others = switch_sources(alloc, host, row)?;
+    let menu = menu_sources(alloc, host, row)?;
+    add_paths(alloc, &mut others, menu.as_slice())?;
+    add_paths(alloc, &mut places, others.as_slice())?;
+    Ok(places)
+}
+
+/// The refusal of the first content in byte order that a row takes and that is too long, where there is one.
+pub fn too_long<T: Tree>(
+    alloc: Global,
+    host: &mut T,
+    row: &Row,
+) -> Result<Option<Refusal>, HostFault>
+    ensures refusal { IfOk result (λ why. Told (T.host host.old) (λ w. why ≡ too_long_by row.now.switches row.now.moves row.now.system (gens_to row.now.moves row.now.system w.leaves) w.leaves)) }
+    ensures reads { IsReading (T.host host.old) (T.host host.new) result }
+{
+    let places = sources(alloc, host, row)?;
+    let past = long_past(alloc, host, places.as_slice())?;
+    Ok(too_many(What::LeafBytes, past))
+}
