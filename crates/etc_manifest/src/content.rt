@@ -1,28 +1,18 @@
 //! Contents that aren't longer than may be read.
-ghost use Rattle.std.specs.Prelude.{◌≡◌, [], length, nat_lt, unwrap_or, IfOk};
+ghost use Rattle.std.specs.Prelude.{◌≡◌, IfOk};
 ghost use Rattle.host_trait.specs.Host.{Told};
 ghost use Rattle.host_trait.specs.Reading.{IsReading};
 ghost use Rattle.host_trait.specs.World.{file_at, file_bytes, store_place};
-ghost use Rattle.leaf_limits.specs.Limits.{is_long, leaf_max};
+ghost use Rattle.leaf_limits.specs.Limits.{is_long, is_long_content};
 ghost use Rattle.etc_manifest.specs.Companion.{short_content};
 
 use host_trait::{HostFault, Leaf, LeafKind, Tree, content};
-use leaf_limits::LEAF_MAX;
+use leaf_limits::is_long;
 use std::alloc::{AllocError, Global};
 use switch_names::{Bytes, NameFault, Path};
 
 /// Where the store lies, as a link's target begins that leads into it.
 const STORE: &str = "/nix/store/";
-
-/// Whether a content is longer than may be read.
-fn is_long(content: &Option<Bytes>) -> bool
-    ensures { result ≡ nat_lt leaf_max (length (unwrap_or content.now [])) }
-{
-    match content {
-        Some(bytes) => bytes.as_slice().len() as u64 > LEAF_MAX,
-        None => false,
-    }
-}
 
 /// Whether the content at a path is longer than may be read.
 pub fn is_long_at<T: Tree>(alloc: Global, host: &mut T, at: &Path) -> Result<bool, HostFault>
@@ -78,7 +68,7 @@ fn find_store_place(alloc: Global, target: &str) -> Result<Option<Path>, AllocEr
 
 /// Whether the file in the store that a link leads to is longer than may be read.
 pub fn is_target_long<T: Tree>(alloc: Global, host: &mut T, target: &str) -> Result<bool, HostFault>
-    ensures long { IfOk result (λ long. Told (T.host host.old) (λ w. long ≡ nat_lt leaf_max (length (unwrap_or (file_at w.leaves (store_place target.now)) [])))) }
+    ensures long { IfOk result (λ long. Told (T.host host.old) (λ w. long ≡ is_long_content (file_at w.leaves (store_place target.now)))) }
     ensures reads { IsReading (T.host host.old) (T.host host.new) result }
 {
     let Some(at) = find_store_place(alloc, target)? else {

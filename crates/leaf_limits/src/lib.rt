@@ -5,4 +5,6 @@ mod counts;
 mod too_long;
 
 pub use counts::{ENTRIES_MAX, ROWS_MAX, UNITS_MAX, past};
-pub use too_long::{LEAF_MAX, TooLong, content_noted, count_noted, long_past};
+pub use too_long::{
+    LEAF_MAX, TooLong, content_noted, content_past, count_noted, first_long, is_long, long_past,
+};

@@ -5,8 +5,9 @@ ghost use Rattle.host_trait.specs.Reading.{IsReading};
 ghost use Rattle.host_trait.specs.World.{Leaves, content_of};
 ghost use Rattle.switch_names.specs.Names.{Name};
 ghost use Rattle.leaf_limits.specs.declared.too_long.TooLong.{TooLong};
-ghost use Rattle.leaf_limits.specs.Limits.{AreTaken, IsBefore, IsFirstOf, leaf_max, length_at, long_past};
+ghost use Rattle.leaf_limits.specs.Limits.{AreTaken, IsBefore, IsFirstOf, content_past, first_long, is_long_content, leaf_max, length_at, length_of, long_past};
 
+use crate::counts::past;
 use host_trait::{HostFault, Tree, content};
 use std::alloc::{AllocError, Global};
 use switch_names::{Bytes, Path};
@@ -31,11 +32,43 @@ impl Drop for TooLong {
 
 /// How many bytes a content has: none where there is none.
 fn length_of(content: &Option<Bytes>) -> u64
-    ensures { result ≡ length (unwrap_or content.now []) }
+    ensures { result ≡ length_of content.now }
 {
     match content {
         Some(bytes) => bytes.as_slice().len() as u64,
         None => 0,
+    }
+}
+
+/// Whether a content has more than `LEAF_MAX` bytes.
+pub fn is_long(content: &Option<Bytes>) -> bool
+    ensures { result ≡ is_long_content content.now }
+{
+    length_of(content) > LEAF_MAX
+}
+
+/// How many bytes a content has, where it has more than `LEAF_MAX`.
+pub fn content_past(content: &Option<Bytes>) -> Option<u64>
+    ensures { result ≡ content_past content.now }
+{
+    past(LEAF_MAX, length_of(content))
+}
+
+/// The first in byte order of two contents that are too long, where there are any. Of two at one place it is the one that is
+/// told first.
+pub fn first_long(one: Option<TooLong>, other: Option<TooLong>) -> Option<TooLong>
+    ensures { result ≡ first_long one other }
+{
+    match (one, other) {
+        (None, other) => other,
+        (one, None) => one,
+        (Some(one), Some(other)) => {
+            if other.at < one.at {
+                Some(other)
+            } else {
+                Some(one)
+            }
+        }
     }
 }
 

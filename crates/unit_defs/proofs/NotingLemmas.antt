@@ -1,21 +1,21 @@
 -- What is noted of the contents that are read.
-use Rattle.std.proofs.Common.{◌≡◌, ◌&&◌, ◌||◌, ◌++◌, ◌∷◌, Bool, true, false, ℕ, nat_lt, List, [], length, Option, unwrap_or, refl, sym, ap, ◌∙◌, inl, inr}
+use Rattle.std.proofs.Common.{◌≡◌, ◌&&◌, ◌||◌, ◌++◌, ◌∷◌, Bool, true, false, ℕ, List, [], Option, refl, sym, ap, ◌∙◌, inl, inr}
 use Rattle.std.proofs.lemmas.Bool.{and_parts, or_cases, or_left, or_parts, or_right}
 use Rattle.std.proofs.lemmas.List.Folds.{list_any-append}
 use Rattle.host_trait.specs.World.{Leaves, content_of}
 use Rattle.host_trait.proofs.NameOrder.{name_exact}
-use Rattle.leaf_limits.specs.Limits.{is_long, leaf_max}
+use Rattle.leaf_limits.specs.Limits.{is_long, is_long_content}
 use Rattle.switch_names.specs.Names.{Name, has, is_name}
 use Rattle.unit_defs.specs.Taken.{NotesLong}
 
 -- a content is read
 pub one_noted :
     (leaves : Leaves) (at : Name) (content : Option (List ℕ)) (old new long : Bool) → content ≡ content_of leaves at →
-    long ≡ nat_lt leaf_max (length (unwrap_or content [])) → new ≡ (old || long) → NotesLong old new (λ q. is_name q at) leaves
+    long ≡ is_long_content content → new ≡ (old || long) → NotesLong old new (λ q. is_name q at) leaves
 one_noted leaves at content old new long is tested noted unset =
     let parts = or_parts old long (sym noted ∙ unset) in (
       parts.0,
-      λ q same. ap (is_long leaves) (name_exact q at same) ∙ ap (λ (o : Option (List ℕ)). nat_lt leaf_max (length (unwrap_or o []))) (sym is) ∙ sym tested ∙ parts.1,
+      λ q same. ap (is_long leaves) (name_exact q at same) ∙ ap is_long_content (sym is) ∙ sym tested ∙ parts.1,
     )
 
 -- nothing is taken

@@ -137,37 +137,15 @@ impl Defs {
         ensures reads { IsReadingOf (T.host host.old) (T.host host.new) (IsErrOf result (Host Device)) }
     {
         let none = Defs::none(alloc);
-        Defs::read_beside(alloc, host, system, &none)
+        let mut long = false;
+        Defs::read_beside(alloc, host, system, &none, &mut long)
     }
 
-    /// Reads the units of a system as `read` does, beside those of another system.
+    /// Reads the units of a system as `read` does, beside those of another system. Where a content that is read has more
+    /// than 16 MiB, that is noted.
     ///
     /// What was read of a unit's file there is shared where its bytes are the same here.
     pub fn read_beside<T: Tree>(
-        alloc: Global,
-        host: &mut T,
-        system: &SystemName,
-        other: &Defs,
-    ) -> Result<Defs, DefsFault>
-        ensures defs { IfOk result (λ defs. Told (T.host host.old) (λ w. AreDefsOf w.leaves system.now defs)) }
-        ensures many { (count : ℕ) → IsErrOf result (Many count) → Told (T.host host.old) (λ w. units_past w.leaves system.now ≡ Some count) }
-        ensures few { OnOk result (Told (T.host host.old) (λ w. units_past w.leaves system.now ≡ None)) }
-        ensures few_faulty { (unit : List ℕ) (line : ℕ) → IsErrOf result (Text unit line) → Told (T.host host.old) (λ w. units_past w.leaves system.now ≡ None) }
-        ensures sound { OnOk result (Told (T.host host.old) (λ w. HasNoFault w.leaves system.now)) }
-        ensures text { (unit : List ℕ) (line : ℕ) → IsErrOf result (Text unit line) → Told (T.host host.old) (λ w. IsFirstFault w.leaves system.now unit line) }
-
-        // By the law `first_faults_are_found` that is the first fault among the units with files.
-        ensures not_faulty { OnOk result (Told (T.host host.old) (λ w. first_fault_of w.leaves system.now ≡ None)) }
-        ensures faulty { (unit : List ℕ) (line : ℕ) → IsErrOf result (Text unit line) → Told (T.host host.old) (λ w. first_fault_of w.leaves system.now ≡ Some (unit, line)) }
-
-        ensures reads { IsReadingOf (T.host host.old) (T.host host.new) (IsErrOf result (Host Device)) }
-    {
-        let mut long = false;
-        Defs::read_beside_noted(alloc, host, system, other, &mut long)
-    }
-
-    /// Reads the units of a system as `read_beside` does. Where a content that is read has more than 16 MiB, that is noted.
-    pub fn read_beside_noted<T: Tree>(
         alloc: Global,
         host: &mut T,
         system: &SystemName,

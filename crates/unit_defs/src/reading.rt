@@ -17,7 +17,7 @@ mod units;
 
 use self::found::Found;
 use self::fstab::read_fstab;
-use self::noting::content_noted;
+use self::noting::content_measured;
 use self::units::units_of;
 use crate::defs::Defs;
 use crate::part::Part;
@@ -55,7 +55,7 @@ fn read_part<T: Tree>(
     if place.is_want() {
         return Ok(None);
     }
-    let bytes = content_noted(alloc, host, path, long)?;
+    let bytes = content_measured(alloc, host, path, long)?;
     Ok(Part::read(alloc, bytes.as_ref(), text_beside(place, beside))?)
 }
 

@@ -104,7 +104,7 @@ pub fn read_new<T: Tree>(
     ensures reads { IsReadingOf (T.host host.old) (T.host host.new) (IsErrOf result (Host Device)) }
 {
     let in_use = too_many(What::Units, old_past(old));
-    match Defs::read_beside_noted(alloc, host, system, old, long) {
+    match Defs::read_beside(alloc, host, system, old, long) {
         Ok(defs) => match in_use {
             Some(why) => Err(PlanFault::Refused(why)),
             None => Ok(defs),

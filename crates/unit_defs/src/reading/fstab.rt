@@ -10,7 +10,7 @@ ghost use Rattle.fstab_mounts.specs.Fstab.{fstab_units};
 ghost use Rattle.switch_names.specs.Names.{is_name};
 
 use super::found::Found;
-use super::noting::content_noted;
+use super::noting::content_measured;
 use crate::place::named;
 use fstab_mounts::{FsUnit, parse};
 use host_trait::{HostFault, Tree};
@@ -50,7 +50,7 @@ fn lines_of<T: Tree>(
     ensures reads { IsReading (T.host host.old) (T.host host.new) result }
 {
     let path = fstab_path(alloc, system)?;
-    let bytes = content_noted(alloc, host, &path, long)?;
+    let bytes = content_measured(alloc, host, &path, long)?;
     Ok(lines_in(alloc, bytes)?)
 }
 

@@ -1,29 +1,18 @@
 //! Notes where a content that is read is too long.
-ghost use Rattle.std.specs.Prelude.{◌≡◌, [], nat_lt, length, unwrap_or, IfOk, OnOk};
+ghost use Rattle.std.specs.Prelude.{◌≡◌, IfOk, OnOk};
 ghost use Rattle.host_trait.specs.Host.{Told};
 ghost use Rattle.host_trait.specs.Reading.{IsReading};
 ghost use Rattle.host_trait.specs.World.{content_of};
-ghost use Rattle.leaf_limits.specs.Limits.{leaf_max};
 ghost use Rattle.switch_names.specs.Names.{is_name};
 ghost use Rattle.unit_defs.specs.Taken.{NotesLong};
 
 use host_trait::{HostFault, Tree, content};
-use leaf_limits::LEAF_MAX;
+use leaf_limits::is_long;
 use std::alloc::Global;
 use switch_names::{Bytes, Path};
 
-/// Whether a content is too long.
-fn is_long(content: &Option<Bytes>) -> bool
-    ensures { result ≡ nat_lt leaf_max (length (unwrap_or content.now [])) }
-{
-    match content {
-        Some(bytes) => bytes.as_slice().len() as u64 > LEAF_MAX,
-        None => false,
-    }
-}
-
 /// The content at a path, as `host_trait::content` gives it. Where it has more than 16 MiB, that is noted.
-pub fn content_noted<T: Tree>(
+pub fn content_measured<T: Tree>(
     alloc: Global,
     host: &mut T,
     at: &Path,

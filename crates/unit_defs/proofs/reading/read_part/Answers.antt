@@ -16,14 +16,14 @@ returns-then-is_want-clause-short g c = record {
 pub returns-clause-short : goal.returns-clause-short
 returns-clause-short g c =
     told_as c.in_ok-bytes.ensures.short _ (λ w is.
-    noted_as w.leaves (λ q. is_name q c.args.path.now) (λ q. is_name q c.args.path.now && not (is_want c.args.place.now)) c.args.long.now c.content_noted.new.long
+    noted_as w.leaves (λ q. is_name q c.args.path.now) (λ q. is_name q c.args.path.now && not (is_want c.args.place.now)) c.args.long.now c.content_measured.new.long
     (λ q both. (and_parts (is_name q c.args.path.now) (not (is_want c.args.place.now)) both).0))
 
 pub returns-then-is_want-clause-reads : goal.returns-then-is_want-clause-reads
 returns-then-is_want-clause-reads g c = nothing_read_ok None
 
 pub returns-in_err-read-clause-reads : goal.returns-in_err-read-clause-reads
-returns-in_err-read-clause-reads g c = read_starved c.content_noted.ensures.reads _ c.from_residual-in_err-read.ensures.1
+returns-in_err-read-clause-reads g c = read_starved c.content_measured.ensures.reads _ c.from_residual-in_err-read.ensures.1
 
 pub returns-clause-reads : goal.returns-clause-reads
-returns-clause-reads g c = read_ok c.content_noted.ensures.reads _
+returns-clause-reads g c = read_ok c.content_measured.ensures.reads _

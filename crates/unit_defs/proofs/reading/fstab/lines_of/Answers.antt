@@ -11,7 +11,7 @@ use Rattle.unit_defs.proofs.reading.fstab.lines_of.Goals as goal
 pub returns-clause-short : goal.returns-clause-short
 returns-clause-short g c =
     told_as c.in_ok-bytes.ensures.short _
-    (λ w is. subst (λ (path : Name). NotesLong c.args.long.now c.content_noted.new.long (λ q. is_name q path) w.leaves) c.in_ok-path.ensures)
+    (λ w is. subst (λ (path : Name). NotesLong c.args.long.now c.content_measured.new.long (λ q. is_name q path) w.leaves) c.in_ok-path.ensures)
 
 pub returns-clause-lines : goal.returns-clause-lines
 returns-clause-lines g c = record {
@@ -24,7 +24,7 @@ pub returns-in_err-path-clause-reads : goal.returns-in_err-path-clause-reads
 returns-in_err-path-clause-reads g c = nothing_read _ (no_device _ c.from_residual.ensures.1)
 
 pub returns-in_err-lines_in-clause-reads : goal.returns-in_err-lines_in-clause-reads
-returns-in_err-lines_in-clause-reads g c = read_starved c.content_noted.ensures.reads _ c.from_residual-in_err-lines_in.ensures.1
+returns-in_err-lines_in-clause-reads g c = read_starved c.content_measured.ensures.reads _ c.from_residual-in_err-lines_in.ensures.1
 
 pub returns-clause-reads : goal.returns-clause-reads
-returns-clause-reads g c = read_ok c.content_noted.ensures.reads _
+returns-clause-reads g c = read_ok c.content_measured.ensures.reads _

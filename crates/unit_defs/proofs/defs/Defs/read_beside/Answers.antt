@@ -11,7 +11,7 @@ use Rattle.unit_defs.proofs.AgreeLemmas.{are_defs}
 use Rattle.unit_defs.proofs.CountLemmas.{past_read, same_count}
 use Rattle.unit_defs.proofs.FaultLemmas.{first_is, no_fault}
 use Rattle.unit_defs.proofs.FirstFaultLemmas.{first_is_found, none_is_found}
-use Rattle.unit_defs.proofs.defs.Defs.read_beside_noted.Goals as goal
+use Rattle.unit_defs.proofs.defs.Defs.read_beside.Goals as goal
 
 pub returns-in-Some-clause-many : goal.returns-in-Some-clause-many
 returns-in-Some-clause-many g c = λ count same.

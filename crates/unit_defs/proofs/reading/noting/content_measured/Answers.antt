@@ -1,7 +1,7 @@
 use Rattle.std.proofs.Common.{refl}
 use Rattle.host_trait.proofs.Moments.{told_as}
 use Rattle.unit_defs.proofs.NotingLemmas.{one_noted}
-use Rattle.unit_defs.proofs.reading.noting.content_noted.Goals as goal
+use Rattle.unit_defs.proofs.reading.noting.content_measured.Goals as goal
 
 pub returns-clause-short : goal.returns-clause-short
 returns-clause-short g c =
