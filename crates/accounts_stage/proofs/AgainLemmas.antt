@@ -5,9 +5,9 @@ use Rattle.switch_names.specs.Names.{Name}
 use Rattle.host_trait.specs.World.{WorldState, seen}
 use Rattle.switch_parts.proofs.Parts.{done_keeps, end_again}
 use Rattle.tree_put.specs.Sequence.{with_puts}
-use Rattle.accounts_stage.specs.AccountsPart.{accounts_part}
+use Rattle.accounts_stage.specs.AccountsPart.{accounts_part, puts_of}
 use Rattle.accounts_stage.specs.Laws.{AccountsAgainLaw}
-use Rattle.accounts_stage.specs.Plan.{AreAccountsSet, IsSettingAccounts, puts_of}
+use Rattle.accounts_stage.specs.Plan.{AreAccountsSet, IsSettingAccounts}
 use Rattle.accounts_stage.proofs.EndLemmas.{end_law}
 use Rattle.accounts_stage.proofs.MomentLemmas.{moment_law}
 use Rattle.accounts_stage.proofs.PartLemmas.{part_law}

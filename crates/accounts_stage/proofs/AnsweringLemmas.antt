@@ -1,13 +1,15 @@
 -- Faults that the steps of planning and of setting accounts hand on, and the answer of a merge.
-use Rattle.std.proofs.Common.{◌≡◌, Option, None, Result, Ok, Err, IfOk, OnOk, IsErrAnd, IsErrOf, ap, option_and_then, subst, sym}
+use Rattle.std.proofs.Common.{◌≡◌, Option, None, Result, Ok, Err, IfOk, OnOk, IsErrAnd, IsErrOf, ap, option_and_then, refl, subst, sym}
 use Rattle.std.specs.Option.{option_or}
 use Rattle.account_text.specs.declared.tables.Tables.{Tables}
+use Rattle.host_trait.specs.declared.tree.HostFault.{HostFault}
+use Rattle.host_trait.specs.declared.tree.HostFault.TheVariants.{Device}
 use Rattle.host_trait.specs.Host.{HostState, Told}
-use Rattle.host_trait.specs.World.{Leaves, WorldState}
+use Rattle.host_trait.specs.World.{WorldState}
 use Rattle.switch_parts.specs.declared.plan_fault.PlanFault.{PlanFault}
-use Rattle.switch_parts.specs.declared.plan_fault.PlanFault.TheVariants.{Refused}
+use Rattle.switch_parts.specs.declared.plan_fault.PlanFault.TheVariants.{Host, Refused}
 use Rattle.switch_parts.specs.declared.refusal.Refusal.{Refusal}
-use Rattle.switch_parts.proofs.Faults.{no_err}
+use Rattle.switch_parts.proofs.Faults.{host_device, no_err}
 use Rattle.users_merge.proofs.ExistLemmas.{one_merge, some_merge}
 use Rattle.users_merge.specs.declared.merged.Merged as answered
 use Rattle.users_merge.specs.Merge.{IsMerge, fault, kept, merge_of}
@@ -15,6 +17,7 @@ use Rattle.users_merge.specs.Order.{AreInOrder}
 use Rattle.users_merge.specs.Stored.{Stored, merged_of}
 use Rattle.users_spec.specs.Spec.{Accounts}
 use Rattle.accounts_stage.specs.Refusals.{maps_refusal, merge_refusal, stored_refusal, table_refusal}
+use Rattle.accounts_stage.specs.declared.memory.MemoryTexts.{MemoryTexts}
 use Rattle.accounts_stage.specs.declared.stored.Stored as read
 use Rattle.accounts_stage.specs.All.{all_in, all_of}
 use Rattle.accounts_stage.specs.Answer.{Answers, IsMergedBy}
@@ -25,6 +28,11 @@ module _ {Y : Type 0} where
   pub err_handed : {X : Type 0} (f y : PlanFault) (s : Result Y PlanFault) → IsErrAnd s (λ x. x ≡ f) → IsErrOf s y → IsErrOf {T = X} (Err f) y
   err_handed f y (Ok x) is e = absurd is
   err_handed f y (Err x) is e = cc
+
+-- a fault of the host that is handed on
+pub host_handed : {X Y : Type 0} (f : HostFault) (s : Result Y PlanFault) → IsErrAnd s (λ x. x ≡ Host f) → IsErrOf s (Host Device) → IsErrOf {T = X} (Err f) Device
+host_handed f (Ok x) is e = absurd is
+host_handed f (Err x) is e = host_device (Err x) x f refl is e
 
 -- the answer of a merge is the one merge that there is
 pub merge_made :
@@ -49,9 +57,15 @@ module _ {a : HostState} {X : Type 0} (refusal : WorldState → Option Refusal) 
   told_fine (Ok x) told = record { has = λ w is. (told.has w is).not_refused }
   told_fine (Err f) told = tt
 
--- tables that can be read, with what stands beside them
-pub with_tables : (leaves : Leaves) (tables : Tables) (result : Result read.Stored PlanFault) → tables ≡ tables_in leaves → table_refusal leaves ≡ None →
-    Answers (maps_refusal (memory_in leaves)) (λ stored. stored ≡ all_of tables (memory_in leaves)) result → Answers (stored_refusal leaves) (λ stored. stored ≡ all_in leaves) result
-with_tables leaves tables result same fine answers =
-    subst (λ (t : Tables). Answers (stored_refusal leaves) (λ stored. stored ≡ all_of t (memory_in leaves)) result) same
-    (subst (λ (o : Option Refusal). Answers (option_or o (maps_refusal (memory_in leaves))) (λ stored. stored ≡ all_of tables (memory_in leaves)) result) (sym fine) answers)
+-- tables that can be read, with the texts of what is remembered
+pub read_with :
+    {a : HostState} (tables : Tables) (texts : MemoryTexts) (result : Result read.Stored PlanFault) →
+    Told a (λ w. tables ≡ tables_in w.leaves) → Told a (λ w. table_refusal w.leaves ≡ None) → Told a (λ w. texts ≡ memory_in w.leaves) →
+    Answers (maps_refusal texts) (λ stored. stored ≡ all_of tables texts) result →
+    Told a (λ w. Answers (stored_refusal w.leaves) (λ stored. stored ≡ all_in w.leaves) result)
+read_with tables texts result same fine beside answers = record {
+  has = λ w is.
+      subst (λ (t : Tables). Answers (stored_refusal w.leaves) (λ stored. stored ≡ all_of t (memory_in w.leaves)) result) (same.has w is)
+      (subst (λ (o : Option Refusal). Answers (option_or o (maps_refusal (memory_in w.leaves))) (λ stored. stored ≡ all_of tables (memory_in w.leaves)) result) (sym (fine.has w is))
+      (subst (λ (m : MemoryTexts). Answers (maps_refusal m) (λ stored. stored ≡ all_of tables m) result) (beside.has w is) answers));
+}

@@ -15,11 +15,10 @@ use Rattle.tree_put.specs.declared.leaf_put.LeafPut.{LeafPut}
 use Rattle.tree_put.specs.Sequence.{with_puts}
 use Rattle.tree_put.proofs.LeftLemmas.{AreElsewhere, left_at, left_by, left_elsewhere, other_path}
 use Rattle.tree_put.proofs.SequenceLemmas.{all_take, puts_manager}
-use Rattle.accounts_stage.specs.AccountsPart.{accounts_part, end_by, merged_in}
+use Rattle.accounts_stage.specs.AccountsPart.{accounts_part, end_by, merged_in, puts_by}
 use Rattle.accounts_stage.specs.Files.{account_puts, merged_end}
 use Rattle.accounts_stage.specs.Laws.{AccountsEndLaw}
 use Rattle.accounts_stage.specs.Places.{account_names, gids_place, group_place, groups_place, owns_accounts, passwd_place, shadow_place, uids_place, users_place}
-use Rattle.accounts_stage.specs.Plan.{puts_by}
 use Rattle.accounts_stage.proofs.OwnLemmas.{not_stage, owned_read}
 
 -- ---- the puts of a merge

@@ -16,6 +16,7 @@ use Rattle.switch_parts.specs.declared.refusal.Refusal.TheVariants.{IdMap}
 use Rattle.switch_parts.specs.declared.refusal.TableFile.TheVariants.{Group, Passwd, Shadow}
 use Rattle.switch_parts.specs.declared.refusal.What.TheVariants.{LeafBytes, Rows}
 use Rattle.switch_parts.specs.Limits.{too_many}
+use Rattle.switch_parts.specs.Puts.{long_among}
 use Rattle.tree_put.specs.declared.written_place.WrittenPlace.{WrittenPlace}
 use Rattle.tree_put.specs.WrittenPlace.{in_the_way, lacks_content}
 use Rattle.users_merge.specs.Merge.{merge_of}
@@ -24,8 +25,8 @@ use Rattle.users_spec.specs.Fields.{Read}
 use Rattle.users_spec.specs.Spec.{Accounts, accounts_of}
 use Rattle.switch_parts.specs.Store.{is_in_store}
 use Rattle.switch_parts.proofs.StoreLemmas.{store_content_kept}
-use Rattle.accounts_stage.specs.AccountsPart.{accounts_end, accounts_refusal, end_by, merged_by, merged_in, reads_accounts, tables_after, tables_by}
-use Rattle.accounts_stage.specs.Lengths.{content_past, spec_too_long}
+use Rattle.accounts_stage.specs.AccountsPart.{accounts_end, accounts_long, accounts_refusal, end_by, merged_by, merged_in, puts_by, reads_accounts, tables_after, tables_by}
+use Rattle.accounts_stage.specs.Lengths.{accounts_too_long, texts_long}
 use Rattle.accounts_stage.specs.Refusals.{declared_refusal, maps_refusal, merging_refusal, refusal_of, table_refusal, wrong_table}
 use Rattle.accounts_stage.specs.Rows.{rows_too_many, texts_past}
 use Rattle.accounts_stage.specs.Places.{account_names, account_places, gids_place, group_place, groups_place, owns_accounts, passwd_place, shadow_place, spec_path, uids_place, users_place}
@@ -36,16 +37,13 @@ use Rattle.accounts_stage.proofs.WayLemmas.{AreReadAlike, all_free, each_free, s
 -- ---- what is read is the same where the store is
 
 module _ (w m : Leaves) (store : (q : Name) → is_in_store q ≡ true → get m q ≡ get w q) where
-  spec_kept : (system : Name) → IsSystemPath system → content_of m (spec_path system) ≡ content_of w (spec_path system)
+  -- what a system declares of accounts has the same content
+  pub spec_kept : (system : Name) → IsSystemPath system → content_of m (spec_path system) ≡ content_of w (spec_path system)
   spec_kept system named = store_content_kept w m store (spec_path system) (store (spec_path system) (spec_stored system named))
 
-  -- what a system declares is the same
+  -- and says the same
   pub declared_kept : (system : Name) → IsSystemPath system → declared_by system m ≡ declared_by system w
   declared_kept system named = ap (option_map accounts_of) (spec_kept system named)
-
-  -- and as long
-  pub length_kept : (system : Name) → IsSystemPath system → spec_too_long system m ≡ spec_too_long system w
-  length_kept system named = ap (λ (content : Option (List ℕ)). too_many LeafBytes (content_past content)) (spec_kept system named)
 
 -- ---- what is made of the contents of the places of accounts
 
@@ -135,6 +133,14 @@ module _ (w m : Leaves) (same : HaveSameContents w m) where
   tables_by_kept None = tables_kept
   tables_by_kept (Some one) = refl
 
+  -- where a system declares the same, as much is taken
+  pub length_kept : (system : Name) → content_of m (spec_path system) ≡ content_of w (spec_path system) → accounts_too_long system m ≡ accounts_too_long system w
+  length_kept system spec = λ i. too_many LeafBytes (texts_long (record {
+    spec = spec i;
+    tables = record { group = bytes_kept group_place own_group i; passwd = bytes_kept passwd_place own_passwd i; shadow = bytes_kept shadow_place own_shadow i };
+    memory = record { uids = same uids_place own_uids i; gids = same gids_place own_gids i; users = bytes_kept users_place own_users i; groups = bytes_kept groups_place own_groups i };
+  }))
+
   module _ (system : Name) (declared : declared_by system m ≡ declared_by system w) where
     pub merged_in_kept : merged_in system m ≡ merged_in system w
     merged_in_kept = ap (merged_by m) declared ∙ merged_kept (declared_by system w)
@@ -142,7 +148,11 @@ module _ (w m : Leaves) (same : HaveSameContents w m) where
     pub tables_after_kept : tables_after system m ≡ tables_after system w
     tables_after_kept = ap (λ (one : Option Merged). tables_by one m) merged_in_kept ∙ tables_by_kept (merged_in system w)
 
-    pub refusal_in_kept : spec_too_long system m ≡ spec_too_long system w → accounts_refusal system m ≡ accounts_refusal system w
+    -- what is put is the same, and so too long or not
+    pub long_kept : accounts_long system m ≡ accounts_long system w
+    long_kept = ap (λ (one : Option Merged). long_among (puts_by one)) merged_in_kept
+
+    pub refusal_in_kept : accounts_too_long system m ≡ accounts_too_long system w → accounts_refusal system m ≡ accounts_refusal system w
     refusal_in_kept length = λ i. option_or ((ap (refusal_of m) declared ∙ refusal_kept (declared_by system w)) i) (length i)
 
 -- ---- where the same stands wherever is looked
@@ -169,8 +179,8 @@ module _ (w m : Leaves) (same : (q : Name) → reads_accounts q ≡ true → get
     pub declared_same : declared_by system m ≡ declared_by system w
     declared_same = declared_kept w m store_same system named
 
-    pub length_same : spec_too_long system m ≡ spec_too_long system w
-    length_same = length_kept w m store_same system named
+    pub length_same : accounts_too_long system m ≡ accounts_too_long system w
+    length_same = length_kept w m contents_same system (spec_kept w m store_same system named)
 
     pub end_same : (q : Name) → owns_accounts q ≡ true → accounts_end system m q ≡ accounts_end system w q
     end_same q own = ap (λ (one : Option Merged). end_by one m q) (merged_in_kept w m contents_same system declared_same) ∙ by (merged_in system w)

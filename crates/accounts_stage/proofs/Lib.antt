@@ -25,7 +25,9 @@ pub mod QuietLemmas
 pub mod ReadLemmas
 pub mod RowCountLemmas
 pub mod RowTextLemmas
+pub mod ShortLemmas
 pub mod SpecTextLemmas
 pub mod TableBackLemmas
+pub mod TakenLemmas
 pub mod TextLemmas
 pub mod WayLemmas

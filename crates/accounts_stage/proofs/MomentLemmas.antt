@@ -12,6 +12,7 @@ use Rattle.host_trait.specs.World.{Leaves, WorldState, content_of, seen}
 use Rattle.host_trait.proofs.Seen.{seen_at}
 use Rattle.host_trait.specs.Ids.{Ids}
 use Rattle.leaf_limits.specs.Counts.{past, rows_max}
+use Rattle.leaf_limits.specs.Limits.{content_past}
 use Rattle.switch_names.specs.Names.{Name}
 use Rattle.switch_names.specs.SystemName.{IsSystemPath}
 use Rattle.switch_names.proofs.Outcomes.{none_mapped, option_or_parts, option_or_nothing}
@@ -21,15 +22,16 @@ use Rattle.switch_parts.specs.declared.refusal.TableFile.{TableFile}
 use Rattle.switch_parts.specs.declared.refusal.What.TheVariants.{Rows}
 use Rattle.switch_parts.specs.Limits.{too_many}
 use Rattle.switch_parts.specs.Part.{IsFree, IsSameFor}
+use Rattle.switch_parts.specs.Puts.{long_among}
 use Rattle.users_merge.specs.declared.merge_fault.MergeFault.{MergeFault}
 use Rattle.users_merge.specs.declared.merge_fault.MergeFault.TheVariants.{NoFreeId}
 use Rattle.users_merge.specs.Account.{first_without, group_accounts}
 use Rattle.users_merge.specs.Law.{IsSame, KeepsMerge, after_first, puts}
-use Rattle.users_merge.specs.Merge.{fault, gid_of, group_ids, merge_of, user_fault, user_ids}
+use Rattle.users_merge.specs.Merge.{IsMerge, fault, gid_of, group_ids, merge_of, user_fault, user_ids}
 use Rattle.users_merge.specs.Order.{in_order}
 use Rattle.users_merge.specs.Stored.{Merged, Stored}
 use Rattle.users_merge.proofs.ExistLemmas.{some_merge}
-use Rattle.users_merge.proofs.PutLemmas.{puts_law}
+use Rattle.users_merge.proofs.PutLemmas.{prefix_law, puts_law}
 use Rattle.users_spec.specs.declared.user_spec.UserSpec.{UserSpec}
 use Rattle.users_spec.specs.Fields.{Read}
 use Rattle.users_spec.specs.Spec.{Accounts, IsSound, accounts_of}
@@ -37,23 +39,23 @@ use Rattle.users_spec.proofs.Sound.{declared_are_sound}
 use Rattle.tree_put.specs.declared.leaf_put.LeafPut.{LeafPut}
 use Rattle.tree_put.specs.Sequence.{with_puts}
 use Rattle.switch_parts.specs.Store.{is_in_store}
-use Rattle.accounts_stage.specs.Lengths.{spec_too_long}
-use Rattle.accounts_stage.specs.AccountsPart.{KeepsAccounts, accounts_part, end_by, merged_by, merged_in, tables_by}
+use Rattle.accounts_stage.specs.Lengths.{accounts_too_long}
+use Rattle.accounts_stage.specs.AccountsPart.{AreAccountsFree, KeepsAccounts, accounts_part, end_by, merged_by, merged_in, puts_by, tables_by}
 use Rattle.accounts_stage.specs.Refusals.{ids_refusal, maps_refusal, merge_refusal, merging_refusal, refusal_of, table_refusal, wrong_table}
 use Rattle.accounts_stage.specs.Rows.{lines_of, merged_past, rows_past, rows_too_many}
 use Rattle.accounts_stage.specs.Files.{account_puts, merged_end}
 use Rattle.accounts_stage.specs.Laws.{AccountsMomentLaw}
 use Rattle.accounts_stage.specs.Places.{group_place, passwd_place, spec_path, uids_place}
-use Rattle.accounts_stage.specs.Plan.{puts_by}
 use Rattle.accounts_stage.specs.Standing.{bytes_at, declared_by, memory_in, stored_in}
 use Rattle.accounts_stage.proofs.BackLemmas.{read_back}
 use Rattle.accounts_stage.proofs.EndLemmas.{only_elsewhere, only_puts}
 use Rattle.tree_put.proofs.LeftLemmas.{left_at, left_elsewhere}
-use Rattle.accounts_stage.proofs.FrameLemmas.{declared_kept, length_kept}
+use Rattle.accounts_stage.proofs.FrameLemmas.{declared_kept, spec_kept}
 use Rattle.accounts_stage.proofs.FreeLemmas.{puts_free}
 use Rattle.accounts_stage.proofs.OwnLemmas.{not_stage, store_unowned}
 use Rattle.accounts_stage.proofs.PartLemmas.{frame, keeps_then}
 use Rattle.accounts_stage.proofs.ReadLemmas.{AreContentsOf, IsReadBack, first_puts_are, put_of, read_after_all}
+use Rattle.accounts_stage.proofs.ShortLemmas.{ArePutsShort, again_short, are_short, contents_after, none_too_long, puts_short, short_puts}
 
 -- ---- what isn't refused
 
@@ -187,11 +189,17 @@ module _ (system : Name) (named : IsSystemPath system) (w : WorldState) (spec : 
   contents : AreContentsOf stored (content_of then.leaves)
   contents = read_after_all merged back (take k puts) (stored_in w.leaves) w can.contents
 
+  is_merge : IsMerge spec (stored_in w.leaves) merged
+  is_merge = some_merge spec (stored_in w.leaves) can.fine
+
   keeps : KeepsMerge spec (stored_in w.leaves) merged stored
-  keeps = puts_law spec (stored_in w.leaves) merged k sound (some_merge spec (stored_in w.leaves) can.fine)
+  keeps = puts_law spec (stored_in w.leaves) merged k sound is_merge
+
+  merges_again : IsMerge spec stored (merge_of spec stored)
+  merges_again = some_merge spec stored keeps.fine
 
   same : IsSame merged (merge_of spec stored)
-  same = keeps.same (merge_of spec stored) (some_merge spec stored keeps.fine)
+  same = keeps.same (merge_of spec stored) merges_again
 
   store_stays : (q : Name) → is_in_store q ≡ true → get then.leaves q ≡ get w.leaves q
   store_stays q is =
@@ -207,19 +215,30 @@ module _ (system : Name) (named : IsSystemPath system) (w : WorldState) (spec : 
   merged_before : merged_in system w.leaves ≡ Some merged
   merged_before = ap (merged_by w.leaves) declared
 
+  -- no content is too long then: each was there, or is one that is put
+  then_short : ArePutsShort merged → accounts_too_long system w.leaves ≡ None → accounts_too_long system then.leaves ≡ None
+  then_short short none =
+      let before = are_short system w.leaves none in
+      none_too_long system then.leaves (contents_after merged short (take k puts) w before.0) (ap content_past (spec_kept w.leaves then.leaves store_stays system named) ∙ before.1)
+
+  then_free : AreAccountsFree system w.leaves → AreAccountsFree system then.leaves
+  then_free free =
+      let short = puts_short merged (sym (ap (λ (one : Option Merged). long_among (puts_by one)) merged_before) ∙ free.short) in
+      record {
+        way = puts_free merged (take k puts) w free.way;
+        refusal = option_or_nothing (refusal_of then.leaves (declared_by system then.leaves)) (accounts_too_long system then.leaves)
+            (ap (refusal_of then.leaves) declared_then ∙ not_refused stored then.leaves contents spec keeps.fine (same_rows merged (merge_of spec stored) same ∙ can.few))
+            (then_short short (option_or_parts (refusal_of w.leaves (declared_by system w.leaves)) (accounts_too_long system w.leaves) free.refusal).1);
+        short = ap (λ (one : Option Merged). long_among (puts_by one)) merged_then
+            ∙ short_puts (merge_of spec stored) (again_short spec (stored_in w.leaves) stored merged (merge_of spec stored) is_merge merges_again same (prefix_law spec (stored_in w.leaves) merged k is_merge) short);
+      }
+
   pub put_keeps : KeepsAccounts system w then
   put_keeps = record {
-    same = record {
-      ends = λ q own.
-          ap (λ (one : Option Merged). end_by one then.leaves q) merged_then ∙ same_end merged (merge_of spec stored) same q
-          ∙ sym (ap (λ (one : Option Merged). end_by one w.leaves q) merged_before);
-      free = λ way refusal. (
-        puts_free merged (take k puts) w way,
-        option_or_nothing (refusal_of then.leaves (declared_by system then.leaves)) (spec_too_long system then.leaves)
-            (ap (refusal_of then.leaves) declared_then ∙ not_refused stored then.leaves contents spec keeps.fine (same_rows merged (merge_of spec stored) same ∙ can.few))
-            (length_kept w.leaves then.leaves store_stays system named ∙ (option_or_parts (refusal_of w.leaves (declared_by system w.leaves)) (spec_too_long system w.leaves) refusal).1),
-      );
-    };
+    ends = λ q own.
+        ap (λ (one : Option Merged). end_by one then.leaves q) merged_then ∙ same_end merged (merge_of spec stored) same q
+        ∙ sym (ap (λ (one : Option Merged). end_by one w.leaves q) merged_before);
+    free = then_free;
     tables =
         ap (λ (one : Option Merged). tables_by one then.leaves) merged_then ∙ same_tables merged (merge_of spec stored) then.leaves w.leaves same
         ∙ sym (ap (λ (one : Option Merged). tables_by one w.leaves) merged_before);
@@ -237,7 +256,7 @@ is_declared (Some bytes) spec is = declared_are_sound bytes spec (let same : acc
 
 -- what is read isn't refused
 read_fine : (system : Name) (w : WorldState) → IsFree (accounts_part system) w.leaves → refusal_of w.leaves (declared_by system w.leaves) ≡ None
-read_fine system w free = (option_or_parts (refusal_of w.leaves (declared_by system w.leaves)) (spec_too_long system w.leaves) free.refusal).0
+read_fine system w free = (option_or_parts (refusal_of w.leaves (declared_by system w.leaves)) (accounts_too_long system w.leaves) free.refusal).0
 
 moment_keeps : (system : Name) (named : IsSystemPath system) (w m : WorldState) → IsFree (accounts_part system) w.leaves → (declared : Option (Read Accounts)) → declared_by system w.leaves ≡ declared → (k : ℕ) →
     seen m ≡ seen (with_puts (take k (puts_by (merged_by w.leaves declared))) w) → KeepsAccounts system w m

@@ -17,8 +17,8 @@ use Rattle.accounts_stage.specs.declared.judging.AccountTexts.{AccountTexts}
 use Rattle.accounts_stage.specs.declared.judging.Judged.{Judged}
 use Rattle.accounts_stage.specs.AccountsPart.{accounts_refusal}
 use Rattle.accounts_stage.specs.Answer.{Answers, spec_refusal}
-use Rattle.accounts_stage.specs.Judging.{IsJudged, account_texts, declared_in, first_refusal, later_refusal, plan_past}
-use Rattle.accounts_stage.specs.Lengths.{content_past, spec_too_long}
+use Rattle.accounts_stage.specs.Judging.{IsJudged, declared_in, first_refusal, later_refusal, plan_past}
+use Rattle.accounts_stage.specs.Lengths.{account_texts, accounts_too_long, texts_long}
 use Rattle.accounts_stage.specs.Plan.{ArePlanned, IsAccountsPlanOf, IsMergePlanned}
 use Rattle.accounts_stage.specs.Refusals.{maps_refusal, merge_refusal, refusal_of, table_refusal}
 use Rattle.accounts_stage.specs.Rows.{merged_too_many, rows_too_many, tables_past}
@@ -70,11 +70,15 @@ module _ (leaves : Leaves) where
 module _ (system : Name) (leaves : Leaves) (texts : AccountTexts) (same : texts ≡ account_texts system leaves) where
   -- texts that are refused are what is refused
   pub first_refused : (why : Refusal) → first_refusal texts ≡ Some why → accounts_refusal system leaves ≡ Some why
-  first_refused why is = ap (λ o. option_or o (spec_too_long system leaves)) (texts_refused leaves (declared_by system leaves) why (sym (ap first_refusal same) ∙ is))
+  first_refused why is = ap (λ o. option_or o (accounts_too_long system leaves)) (texts_refused leaves (declared_by system leaves) why (sym (ap first_refusal same) ∙ is))
 
-  -- a length that is told of the texts is that of the specification
-  pub length_is : too_many LeafBytes (content_past texts.spec) ≡ spec_too_long system leaves
-  length_is = ap (λ (t : AccountTexts). too_many LeafBytes (content_past t.spec)) same
+  -- a length that is told of the texts is that of what stands
+  pub length_is : too_many LeafBytes (texts_long texts) ≡ accounts_too_long system leaves
+  length_is = ap (λ (t : AccountTexts). too_many LeafBytes (texts_long t)) same
+
+  -- the texts of what is remembered are those that stand
+  pub memory_are : texts.memory ≡ memory_in leaves
+  memory_are = ap (λ (t : AccountTexts). t.memory) same
 
   module _ (judged : Judged) (is : IsJudged texts judged) (fine : first_refusal texts ≡ None) where
     declared_is : declared_by system leaves ≡ option_map Ok judged.spec
@@ -91,12 +95,12 @@ module _ (system : Name) (leaves : Leaves) (texts : AccountTexts) (same : texts 
         (sym (ap (λ o. option_or (rows_too_many leaves) (option_or o (table_refusal leaves))) (spec_read leaves (declared_by system leaves) judged.spec declared_is)) ∙ sym (ap first_refusal same) ∙ fine)
 
     pub later_refused : (why : Refusal) → later_refusal leaves judged.spec ≡ Some why → accounts_refusal system leaves ≡ Some why
-    later_refused why refused = ap (λ o. option_or o (spec_too_long system leaves)) (rest ∙ ap (λ o. option_or o (merged_last leaves judged.spec)) refused)
+    later_refused why refused = ap (λ o. option_or o (accounts_too_long system leaves)) (rest ∙ ap (λ o. option_or o (merged_last leaves judged.spec)) refused)
 
     module _ (plan : AccountsPlan) (planned : Answers (later_refusal leaves judged.spec) (ArePlanned leaves (option_map Ok judged.spec)) (Ok plan)) where
-      -- the merged rows come last, and then the length of the specification
-      pub rows_last : accounts_refusal system leaves ≡ option_or (too_many Rows (plan_past plan)) (spec_too_long system leaves)
-      rows_last = ap (λ o. option_or o (spec_too_long system leaves)) (rest ∙ ap (λ o. option_or o (merged_last leaves judged.spec)) planned.not_refused ∙ merged_rows leaves judged.spec plan.merged planned.ok.merged)
+      -- the merged rows come last, and then the lengths of what is taken
+      pub rows_last : accounts_refusal system leaves ≡ option_or (too_many Rows (plan_past plan)) (accounts_too_long system leaves)
+      rows_last = ap (λ o. option_or o (accounts_too_long system leaves)) (rest ∙ ap (λ o. option_or o (merged_last leaves judged.spec)) planned.not_refused ∙ merged_rows leaves judged.spec plan.merged planned.ok.merged)
 
       pub planned_for : IsAccountsPlanOf system leaves plan
       planned_for = subst (λ declared. ArePlanned leaves declared plan) (sym declared_is) planned.ok

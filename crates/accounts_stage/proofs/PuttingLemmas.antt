@@ -8,8 +8,11 @@ use Rattle.host_trait.specs.World.{IsClear, Leaves, WorldState, is_in_line, is_p
 use Rattle.host_trait.proofs.Sound.{line_turned}
 use Rattle.host_trait.proofs.Seen.{clear_seen, stage_clear_seen}
 use Rattle.switch_names.specs.Names.{Name}
+use Rattle.leaf_limits.specs.declared.too_long.TooLong.{TooLong}
 use Rattle.switch_parts.specs.Leaves.{is_among}
+use Rattle.switch_parts.specs.Puts.{long_with}
 use Rattle.switch_parts.proofs.LeafLemmas.{each_among}
+use Rattle.switch_parts.proofs.LongLemmas.{long_after}
 use Rattle.tree_put.specs.Put.{AreApart}
 use Rattle.tree_put.specs.WrittenPlace.{in_the_way}
 use Rattle.tree_put.proofs.WayLemmas.{all_clear}
@@ -27,9 +30,9 @@ use Rattle.tree_put.specs.Sequence.{ArePutsApart, CanPutAll, with_puts}
 use Rattle.tree_put.proofs.SequenceLemmas.{apart_by, clear_after, stage_after}
 use Rattle.accounts_stage.specs.Files.{account_puts, ids_puts, names_puts, nine_puts, table_puts}
 use Rattle.accounts_stage.specs.Places.{account_names, account_places, gids_place, group_place, groups_place, memory_places, owns_accounts, passwd_place, shadow_place, table_places, uids_place, users_place}
-use Rattle.accounts_stage.specs.Plan.{IsAccountsPlanOf, IsAnswerOf, IsMergePlanned, puts_by, puts_of}
-use Rattle.accounts_stage.specs.AccountsPart.{merged_by, tables_by}
-use Rattle.accounts_stage.specs.Puts.{AreAtAccounts, answer_puts, first_puts}
+use Rattle.accounts_stage.specs.Plan.{IsAccountsPlanOf, IsAnswerOf, IsMergePlanned}
+use Rattle.accounts_stage.specs.AccountsPart.{accounts_long, merged_by, puts_by, puts_of, tables_by}
+use Rattle.accounts_stage.specs.Puts.{AreAtAccounts, answer_puts, first_planned, first_puts, last_planned}
 use Rattle.accounts_stage.specs.Standing.{declared_by, stored_in, tables_in}
 
 -- ---- the places
@@ -63,11 +66,11 @@ module _ (p : Name) (own : owns_accounts p ≡ true) where
 
 pub first_at_places : (answer : answered.Merged) → AreAtAccounts (first_puts answer)
 unfolding account_names group_place passwd_place shadow_place groups_place users_place gids_place uids_place
-first_at_places answer = (refl, (refl, (refl, (refl, (refl, (refl, (refl, tt)))))))
+first_at_places answer = refl
 
 pub names_at_places : (names : Declared) → AreAtAccounts (names_puts names)
 unfolding account_names group_place passwd_place shadow_place groups_place users_place gids_place uids_place
-names_at_places names = (refl, (refl, tt))
+names_at_places names = refl
 
 -- the nine puts are those before the names that are declared now, and then these
 pub answer_parts : (answer : answered.Merged) (first last : List LeafPut) → first ≡ first_puts answer → last ≡ names_puts answer.declared → answer_puts answer ≡ first ++ last
@@ -103,6 +106,12 @@ abbrev puts_if_any : Option answered.Merged → List LeafPut
 puts_if_any None = []
 puts_if_any (Some answer) = answer_puts answer
 
+-- they are those before the names that are declared now, and then these
+planned_parts : (answer : Option answered.Merged) → first_planned answer ++ last_planned answer ≡ puts_if_any answer
+unfolding answer_puts
+planned_parts None = refl
+planned_parts (Some answer) = refl
+
 plan_puts_are : (leaves : Leaves) (declared : Option (Read Accounts)) (answer : Option answered.Merged) → IsMergePlanned leaves declared answer → puts_if_any answer ≡ puts_by (merged_by leaves declared)
 plan_puts_are leaves None answer is = ap puts_if_any is
 plan_puts_are leaves (Some (Err why)) answer is = absurd is
@@ -110,9 +119,19 @@ plan_puts_are leaves (Some (Ok spec)) None is = absurd is
 plan_puts_are leaves (Some (Ok spec)) (Some answer) is = answer_is (merge_of spec (stored_in leaves)) answer is.0
 
 module _ (system : Name) (leaves : Leaves) (plan : AccountsPlan) (is : IsAccountsPlanOf system leaves plan) where
-  -- a merge that is planned makes the puts of the switch
-  pub merge_puts : (answer : answered.Merged) → plan.merged ≡ Some answer → answer_puts answer ≡ puts_of system leaves
-  merge_puts answer some = ap puts_if_any (sym some) ∙ plan_puts_are leaves (declared_by system leaves) plan.merged is.merged
+  -- what is planned to be put are the puts of the switch
+  pub plan_puts : plan.first ++ plan.last ≡ puts_of system leaves
+  plan_puts =
+      (λ i. is.first i ++ is.last i) ∙ planned_parts plan.merged
+      ∙ plan_puts_are leaves (declared_by system leaves) plan.merged is.merged
+
+  pub slice_puts : (first last : List LeafPut) → first ≡ plan.first → last ≡ plan.last → first ++ last ≡ puts_of system leaves
+  slice_puts first last is_first is_last = (λ i. is_first i ++ is_last i) ∙ plan_puts
+
+  -- of the files that are put too long the first in byte order is found in two steps
+  pub plan_long : (found long : Option TooLong) → found ≡ long_with None plan.last → long ≡ long_with found plan.first → long ≡ accounts_long system leaves
+  plan_long found long is_found is_long =
+      is_long ∙ ap (λ (o : Option TooLong). long_with o plan.first) is_found ∙ sym (long_after None plan.first plan.last) ∙ ap (long_with None) plan_puts
 
   -- and without one there are none
   pub no_puts : plan.merged ≡ None → puts_of system leaves ≡ []
@@ -134,32 +153,38 @@ way_clear w none =
       places = each_among (IsClear w.leaves) account_names (clear.0, (clear.1.0, (clear.1.1.0, (clear.1.1.1.1.0, (clear.1.1.1.1.1.0, (clear.1.1.1.1.1.1.0, (clear.1.1.1.1.1.1.1.0, tt)))))));
     }
 
-each_clear : (w : WorldState) → CanPutAccounts w → (puts : List LeafPut) → AreAtAccounts puts → AllByRecursion (λ (put : LeafPut). IsClear w.leaves put.at) puts
+each_at : (puts : List LeafPut) → AreAtAccounts puts → AllByRecursion (λ (put : LeafPut). owns_accounts put.at ≡ true) puts
+each_at [] at = tt
+each_at (put ∷ puts) at = let parts = and_parts (owns_accounts put.at) (list_all (λ (other : LeafPut). owns_accounts other.at) puts) at in (parts.0, each_at puts parts.1)
+
+each_clear : (w : WorldState) → CanPutAccounts w → (puts : List LeafPut) → AllByRecursion (λ (put : LeafPut). owns_accounts put.at ≡ true) puts →
+    AllByRecursion (λ (put : LeafPut). IsClear w.leaves put.at) puts
 each_clear w can [] at = tt
 each_clear w can (put ∷ puts) at = (can.places put.at at.0, each_clear w can puts at.1)
 
 pub can_put : (w : WorldState) (puts : List LeafPut) → AreAtAccounts puts → in_the_way account_places w.leaves ≡ None → CanPutAll puts w
-can_put w puts at none = let clear = way_clear w none in record { stage = clear.stage; places = each_clear w clear puts at }
+can_put w puts at none = let clear = way_clear w none in record { stage = clear.stage; places = each_clear w clear puts (each_at puts at) }
 
 pub accounts_apart : (puts : List LeafPut) → AreAtAccounts puts → ArePutsApart puts
-accounts_apart puts at = apart_by (λ p. owns_accounts p ≡ true) (λ p own. place_apart p own) (λ p q one other. places_apart p one q other) puts at
+accounts_apart puts at = apart_by (λ p. owns_accounts p ≡ true) (λ p own. place_apart p own) (λ p q one other. places_apart p one q other) puts (each_at puts at)
 
 -- puts at places of accounts leave these clear
-lines_apart : (q : Name) → owns_accounts q ≡ true → (puts : List LeafPut) → AreAtAccounts puts → AllByRecursion (λ (put : LeafPut). is_in_line put.at q ≡ false) puts
+lines_apart : (q : Name) → owns_accounts q ≡ true → (puts : List LeafPut) → AllByRecursion (λ (put : LeafPut). owns_accounts put.at ≡ true) puts →
+    AllByRecursion (λ (put : LeafPut). is_in_line put.at q ≡ false) puts
 lines_apart q own [] at = tt
 lines_apart q own (put ∷ puts) at = (places_apart put.at at.0 q own, lines_apart q own puts at.1)
 
 clear_then : (w v : WorldState) (puts : List LeafPut) → AreAtAccounts puts → CanPutAccounts w → seen v ≡ seen (with_puts puts w) → CanPutAccounts v
 clear_then w v puts at can came = record {
   stage = stage_clear_seen v (with_puts puts w) came (stage_after puts w (accounts_apart puts at).stage can.stage);
-  places = λ q own. clear_seen v (with_puts puts w) q (line_turned q stage (place_apart q own).line) came (clear_after puts q w (lines_apart q own puts at) (can.places q own));
+  places = λ q own. clear_seen v (with_puts puts w) q (line_turned q stage (place_apart q own).line) came (clear_after puts q w (lines_apart q own puts (each_at puts at)) (can.places q own));
 }
 
 pub can_put_then :
     (w v : WorldState) (first last : List LeafPut) → AreAtAccounts first → AreAtAccounts last → in_the_way account_places w.leaves ≡ None →
     seen v ≡ seen (with_puts first w) → CanPutAll last v
 can_put_then w v first last at_first at_last none came =
-    let clear = clear_then w v first at_first (way_clear w none) came in record { stage = clear.stage; places = each_clear v clear last at_last }
+    let clear = clear_then w v first at_first (way_clear w none) came in record { stage = clear.stage; places = each_clear v clear last (each_at last at_last) }
 
 -- ---- the tables that a plan leaves
 

@@ -19,11 +19,10 @@ use Rattle.tree_put.specs.Sequence.{AreWritten, WritesOthers}
 use Rattle.tree_put.proofs.LeftLemmas.{AreElsewhere}
 use Rattle.users_merge.specs.Order.{group_rows, passwd_rows, shadow_rows}
 use Rattle.users_merge.specs.Stored.{Merged}
-use Rattle.accounts_stage.specs.AccountsPart.{accounts_part, end_by, merged_in}
+use Rattle.accounts_stage.specs.AccountsPart.{accounts_part, end_by, merged_in, puts_by, puts_of}
 use Rattle.accounts_stage.specs.Files.{account_puts, closed_file, merged_end, names_text, open_file}
 use Rattle.accounts_stage.specs.OnTheWay.{first_by, merged_first, names_first}
 use Rattle.accounts_stage.specs.Places.{account_names, gids_place, group_place, groups_place, owns_accounts, passwd_place, shadow_place, uids_place, users_place}
-use Rattle.accounts_stage.specs.Plan.{puts_by, puts_of}
 use Rattle.accounts_stage.proofs.EndLemmas.{puts_elsewhere}
 
 -- the leaf of a place's end is put there last, and only the names of old before it

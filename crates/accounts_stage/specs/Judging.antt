@@ -1,8 +1,7 @@
 -- What is judged of accounts before the maps of ids are read, and after that: nixpkgs, update-users-groups.pl.
 use Rattle.std.specs.Prelude.{◌≡◌, ℕ, Option, None, Some, Ok, option_and_then, option_map}
 use Rattle.std.specs.Option.{option_or}
-use Rattle.host_trait.specs.World.{Leaves, content_of}
-use Rattle.switch_names.specs.Names.{Name}
+use Rattle.host_trait.specs.World.{Leaves}
 use Rattle.switch_parts.specs.declared.refusal.Refusal.{Refusal}
 use Rattle.switch_parts.specs.declared.refusal.What.TheVariants.{Rows}
 use Rattle.switch_parts.specs.Limits.{too_many}
@@ -13,14 +12,9 @@ use Rattle.accounts_stage.specs.declared.accounts_plan.AccountsPlan.{AccountsPla
 use Rattle.accounts_stage.specs.declared.judging.AccountTexts.{AccountTexts}
 use Rattle.accounts_stage.specs.declared.judging.Judged.{Judged}
 use Rattle.accounts_stage.specs.Answer.{spec_refusal}
-use Rattle.accounts_stage.specs.Places.{spec_path}
 use Rattle.accounts_stage.specs.Refusals.{maps_refusal, merge_refusal, texts_refusal}
 use Rattle.accounts_stage.specs.Rows.{tables_past, texts_past}
-use Rattle.accounts_stage.specs.Standing.{memory_in, stored_in, tables_of, texts_in}
-
--- the texts that are read before anything is judged
-abbrev pub account_texts : Name → Leaves → AccountTexts
-account_texts system leaves = record { spec = content_of leaves (spec_path system); tables = texts_in leaves }
+use Rattle.accounts_stage.specs.Standing.{memory_in, stored_in, tables_of}
 
 -- what texts declare of accounts, where they do, or the first fault of that
 abbrev pub declared_in : AccountTexts → Option (Read Accounts)

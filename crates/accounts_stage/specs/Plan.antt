@@ -1,5 +1,5 @@
 -- What is planned for accounts, and the steps in which they are set: nixpkgs, update-users-groups.pl.
-use Rattle.std.specs.Prelude.{◌≡◌, List, [], Option, None, Some, Ok, Err}
+use Rattle.std.specs.Prelude.{◌≡◌, Option, None, Some, Ok, Err}
 use Rattle.host_trait.specs.World.{Leaves, WorldState, seen}
 use Rattle.switch_names.specs.Names.{Name}
 use Rattle.switch_parts.specs.Part.{IsFree}
@@ -10,10 +10,9 @@ use Rattle.users_merge.specs.Stored.{Merged, merged_of}
 use Rattle.users_spec.specs.Fields.{Read}
 use Rattle.users_spec.specs.Spec.{Accounts}
 use Rattle.accounts_stage.specs.declared.accounts_plan.AccountsPlan.{AccountsPlan}
-use Rattle.tree_put.specs.declared.leaf_put.LeafPut.{LeafPut}
 use Rattle.tree_put.specs.Sequence.{IsPutting, with_puts}
-use Rattle.accounts_stage.specs.AccountsPart.{accounts_part, merged_in}
-use Rattle.accounts_stage.specs.Files.{account_puts}
+use Rattle.accounts_stage.specs.AccountsPart.{accounts_part, puts_of}
+use Rattle.accounts_stage.specs.Puts.{first_planned, last_planned}
 use Rattle.accounts_stage.specs.Standing.{declared_by, stored_in, tables_in}
 
 -- an answer of a merge is this merge, with its rows in order
@@ -28,10 +27,12 @@ IsMergePlanned leaves (Some (Err why)) answer = ⊥
 IsMergePlanned leaves (Some (Ok spec)) None = ⊥
 IsMergePlanned leaves (Some (Ok spec)) (Some answer) = IsAnswerOf (merge_of spec (stored_in leaves)) answer × (answer.kept ≡ kept spec (stored_in leaves))
 
--- the plan for accounts that are declared so: the tables as they stand, and the merge where accounts are declared
+-- the plan for accounts that are declared so: the tables as they stand, and the merge with its puts where accounts are declared
 pub record ArePlanned (leaves : Leaves) (declared : Option (Read Accounts)) (plan : AccountsPlan) : Type 0 where
   pub tables : plan.tables ≡ tables_in leaves
   pub merged : IsMergePlanned leaves declared plan.merged
+  pub first : plan.first ≡ first_planned plan.merged
+  pub last : plan.last ≡ last_planned plan.merged
 
 -- the plan for the accounts that a system declares
 abbrev pub IsAccountsPlanOf : Name → Leaves → AccountsPlan → Type 0
@@ -41,15 +42,6 @@ IsAccountsPlanOf system leaves plan = ArePlanned leaves (declared_by system leav
 pub record CanSetAccounts (system : Name) (plan : AccountsPlan) (w : WorldState) : Type 0 where
   pub planned : IsAccountsPlanOf system w.leaves plan
   pub free : IsFree (accounts_part system) w.leaves
-
--- the puts of a merge, and none without one
-abbrev pub puts_by : Option Merged → List LeafPut
-puts_by None = []
-puts_by (Some m) = account_puts m
-
--- the puts that a switch to a system makes
-abbrev pub puts_of : Name → Leaves → List LeafPut
-puts_of system leaves = puts_by (merged_in system leaves)
 
 -- a moment of setting the accounts of a system is exactly at one of its puts
 abbrev pub IsSettingAccounts : Name → WorldState → WorldState → Type 0

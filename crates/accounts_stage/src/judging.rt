@@ -1,5 +1,5 @@
 //! What is judged of accounts before the maps of ids are read.
-ghost use Rattle.std.specs.Prelude.{◌≡◌, ⊤, [], length, unwrap_or, Ok, Some, IfOk, IsErrOf, option_map};
+ghost use Rattle.std.specs.Prelude.{◌≡◌, ⊤, Ok, Some, IfOk, IsErrOf, option_map};
 ghost use Rattle.host_trait.specs.declared.tree.HostFault.TheVariants.{Device};
 ghost use Rattle.host_trait.specs.Host.{Told};
 ghost use Rattle.host_trait.specs.Reading.{IsReading};
@@ -7,28 +7,26 @@ ghost use Rattle.switch_parts.specs.declared.plan_fault.PlanFault.TheVariants.{H
 ghost use Rattle.users_spec.specs.Spec.{accounts_of};
 ghost use Rattle.accounts_stage.specs.All.{AreSoundTables};
 ghost use Rattle.accounts_stage.specs.Answer.{Answers, spec_fault, spec_refusal};
-ghost use Rattle.accounts_stage.specs.Judging.{IsJudged, account_texts, first_refusal};
-ghost use Rattle.accounts_stage.specs.Lengths.{content_past};
+ghost use Rattle.accounts_stage.specs.Judging.{IsJudged, first_refusal};
+ghost use Rattle.accounts_stage.specs.Lengths.{account_texts, text_past, texts_long};
 
+use crate::memory::{MemoryTexts, read_memory};
 use crate::places::spec_path;
 use crate::reading::{TableTexts, read_texts, tables_of};
 use crate::rows::texts_past;
 use account_text::Tables;
 use host_trait::{HostFault, Tree, content};
-use leaf_limits::{LEAF_MAX, past};
+use leaf_limits::{LEAF_MAX, content_past, past};
 use std::alloc::Global;
 use switch_names::{Bytes, SystemName};
 use switch_parts::{PlanFault, Refusal, What, too_many};
 use users_spec::{Spec, SpecFault};
 
-/// How many bytes a content has: none where there is none.
-fn length_of(content: &Option<Bytes>) -> u64
-    ensures { result ≡ length (unwrap_or content.now []) }
+/// How many bytes a text has, where it has too many.
+fn text_past(text: &Bytes) -> Option<u64>
+    ensures { result ≡ text_past text.now }
 {
-    match content {
-        Some(bytes) => bytes.as_slice().len() as u64,
-        None => 0,
-    }
+    past(LEAF_MAX, text.as_slice().len() as u64)
 }
 
 /// The texts that are read of accounts before anything is judged.
@@ -37,21 +35,34 @@ pub struct AccountTexts {
     pub spec: Option<Bytes>,
     /// The texts of the three tables.
     pub tables: TableTexts,
+    /// The texts of what is remembered of accounts.
+    pub memory: MemoryTexts,
 }
 
 /// One call: a derived drop is proved anew in each function that lets one go.
 impl Drop for AccountTexts {
     fn drop(self) {
-        let AccountTexts { spec: _, tables: _ } = self;
+        let AccountTexts {
+            spec: _,
+            tables: _,
+            memory: _,
+        } = self;
     }
 }
 
 impl AccountTexts {
-    /// How long the specification is, where it is too long.
-    pub fn spec_past(&self) -> Option<u64>
-        ensures { result ≡ content_past self.now.spec }
+    /// How long the first of them is that is too long, in the byte order of their places.
+    pub fn long(&self) -> Option<u64>
+        ensures { result ≡ texts_long self.now }
     {
-        past(LEAF_MAX, length_of(&self.spec))
+        let gids = content_past(&self.memory.gids);
+        let maps = gids.or(content_past(&self.memory.uids));
+        let users = text_past(&self.memory.users).or(maps);
+        let memory = text_past(&self.memory.groups).or(users);
+        let spec = content_past(&self.spec).or(memory);
+        let shadow = text_past(&self.tables.shadow).or(spec);
+        let passwd = text_past(&self.tables.passwd).or(shadow);
+        text_past(&self.tables.group).or(passwd)
     }
 }
 
@@ -80,7 +91,7 @@ impl Judged {
     }
 }
 
-/// Reads the specification of a system and the three tables, each once.
+/// Reads the specification of a system, the three tables and what is remembered of accounts, each once.
 pub fn read_account_texts<T: Tree>(
     alloc: Global,
     host: &mut T,
@@ -92,7 +103,12 @@ pub fn read_account_texts<T: Tree>(
     let at = spec_path(alloc, system)?;
     let spec = content(alloc, host, &at)?;
     let tables = read_texts(alloc, host)?;
-    Ok(AccountTexts { spec, tables })
+    let memory = read_memory(alloc, host)?;
+    Ok(AccountTexts {
+        spec,
+        tables,
+        memory,
+    })
 }
 
 /// What comes of a fault of a specification.
@@ -139,8 +155,8 @@ pub fn refuse(why: Option<Refusal>) -> Result<(), PlanFault>
 }
 
 /// What texts say: the lines of the tables are counted first, then the specification is read, and then the tables.
-pub fn judge(alloc: Global, texts: AccountTexts) -> Result<Judged, PlanFault>
-    ensures judged { Answers (first_refusal texts) (IsJudged texts) result }
+pub fn judge(alloc: Global, texts: &AccountTexts) -> Result<Judged, PlanFault>
+    ensures judged { Answers (first_refusal texts.now) (IsJudged texts.now) result }
     ensures sound { IfOk result (λ judged. AreSoundTables judged.tables) }
     ensures cause { IsErrOf result (Host Device) → ⊥ }
 {

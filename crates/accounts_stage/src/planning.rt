@@ -3,6 +3,7 @@ ghost use Rattle.std.specs.Prelude.{◌≡◌, None, Ok, Some, IfOk, IsErrOf, On
 ghost use Rattle.host_trait.specs.declared.tree.HostFault.TheVariants.{Device};
 ghost use Rattle.host_trait.specs.Host.{Told};
 ghost use Rattle.host_trait.specs.Reading.{IsReadingOf};
+ghost use Rattle.host_trait.specs.World.{Leaves};
 ghost use Rattle.switch_parts.specs.declared.plan_fault.PlanFault.TheVariants.{Host, Refused};
 ghost use Rattle.switch_parts.specs.declared.refusal.Refusal.{Refusal};
 ghost use Rattle.users_merge.specs.Merge.{fault};
@@ -12,16 +13,18 @@ ghost use Rattle.accounts_stage.specs.Answer.{Answers, IsMergedBy, merge_fault};
 ghost use Rattle.accounts_stage.specs.Judging.{later_refusal, plan_past};
 ghost use Rattle.accounts_stage.specs.Plan.{ArePlanned, IsAccountsPlanOf};
 ghost use Rattle.accounts_stage.specs.Refusals.{merge_refusal};
-ghost use Rattle.accounts_stage.specs.Standing.{tables_in};
+ghost use Rattle.accounts_stage.specs.Standing.{memory_in, tables_in};
 
 use crate::accounts_plan::AccountsPlan;
 use crate::judging::{Judged, judge, read_account_texts, refuse};
+use crate::memory::MemoryTexts;
+use crate::puts::{first_puts, last_puts};
 use crate::rows::tables_past;
-use crate::stored::{Stored, read_beside};
+use crate::stored::{Stored, with_texts};
 use account_text::Tables;
 use host_trait::{HostFault, Tree};
 use std::alloc::Global;
-use switch_names::SystemName;
+use switch_names::{Listed, SystemName};
 use switch_parts::{PlanFault, Refusal, What, too_many};
 use users_merge::{MergeFault, Merged, merge};
 use users_spec::Spec;
@@ -57,41 +60,49 @@ fn merge_stored(alloc: Global, spec: &Spec, stored: &Stored) -> Result<Merged, P
     }
 }
 
-/// Plans accounts that are declared so: what else stands is read, and all is merged with them.
-fn plan_merge<T: Tree>(
+/// Plans accounts that are declared so: what stands is merged with them.
+fn plan_merge(
     alloc: Global,
-    host: &mut T,
     spec: &Spec,
     tables: Tables,
+    memory: &MemoryTexts,
 ) -> Result<AccountsPlan, PlanFault>
     requires { AreSoundTables tables }
-    ensures plan { Told (T.host host.old) (λ w. tables ≡ tables_in w.leaves → Answers (later_refusal w.leaves (Some spec.now)) (ArePlanned w.leaves (Some (Ok spec.now))) result) }
-    ensures reads { IsReadingOf (T.host host.old) (T.host host.new) (IsErrOf result (Host Device)) }
+    ensures plan { (leaves : Leaves) → tables ≡ tables_in leaves → memory.now ≡ memory_in leaves
+        → Answers (later_refusal leaves (Some spec.now)) (ArePlanned leaves (Some (Ok spec.now))) result }
+    ensures cause { IsErrOf result (Host Device) → ⊥ }
 {
-    let stored = read_beside(alloc, host, tables)?;
+    let stored = with_texts(alloc, tables, memory)?;
     let merged = merge_stored(alloc, spec, &stored)?;
+    let first = first_puts(alloc, &merged)?;
+    let last = last_puts(alloc, &merged)?;
     Ok(AccountsPlan {
         tables: stored.into_tables(),
         merged: Some(merged),
+        first,
+        last,
     })
 }
 
 /// Plans accounts of what was judged. Where none are declared the tables stay as they stand.
-fn plan_judged<T: Tree>(
+fn plan_judged(
     alloc: Global,
-    host: &mut T,
     judged: Judged,
+    memory: &MemoryTexts,
 ) -> Result<AccountsPlan, PlanFault>
     requires { AreSoundTables judged.tables }
-    ensures plan { Told (T.host host.old) (λ w. judged.tables ≡ tables_in w.leaves → Answers (later_refusal w.leaves judged.spec) (ArePlanned w.leaves (option_map Ok judged.spec)) result) }
-    ensures reads { IsReadingOf (T.host host.old) (T.host host.new) (IsErrOf result (Host Device)) }
+    ensures plan { (leaves : Leaves) → judged.tables ≡ tables_in leaves → memory.now ≡ memory_in leaves
+        → Answers (later_refusal leaves judged.spec) (ArePlanned leaves (option_map Ok judged.spec)) result }
+    ensures cause { IsErrOf result (Host Device) → ⊥ }
 {
     let (spec, tables) = judged.into_parts();
     match &spec {
-        Some(spec) => plan_merge(alloc, host, spec, tables),
+        Some(spec) => plan_merge(alloc, spec, tables, memory),
         None => Ok(AccountsPlan {
             tables,
             merged: None,
+            first: Listed::new(alloc),
+            last: Listed::new(alloc),
         }),
     }
 }
@@ -108,11 +119,11 @@ fn plan_past(plan: &AccountsPlan) -> Option<u64>
 
 /// Plans the accounts of a system, and changes nothing.
 ///
-/// It reads the specification and the tables before it judges anything, and then, where there is a
-/// specification, the maps of ids and the names that were declared. The refusals are sought in this
-/// order: a table with more than `ROWS_MAX` lines that aren't empty, those of the specification, of
-/// the tables, of the maps, and of the merge, more than `ROWS_MAX` merged groups or users, and a
-/// specification of more than `LEAF_MAX` bytes.
+/// It reads the specification, the tables, the names that were declared and the maps of ids, each once, before it judges
+/// anything. The refusals are sought in this order: a table with more than `ROWS_MAX` lines that aren't empty, those of the
+/// specification, of the tables, of the maps, and of the merge, more than `ROWS_MAX` merged groups or users, and a content
+/// of more than `LEAF_MAX` bytes among all that was read, the first in byte order. That a file would be put so long is
+/// for `AccountsPlan::long` to say.
 ///
 /// Source: nixpkgs, update-users-groups.pl; NixOS manual, "User Management".
 pub fn plan_accounts<T: Tree>(
@@ -126,10 +137,9 @@ pub fn plan_accounts<T: Tree>(
     ensures reads { IsReadingOf (T.host host.old) (T.host host.new) (IsErrOf result (Host Device)) }
 {
     let texts = read_account_texts(alloc, host, system)?;
-    let long = texts.spec_past();
-    let judged = judge(alloc, texts)?;
-    let plan = plan_judged(alloc, host, judged)?;
+    let judged = judge(alloc, &texts)?;
+    let plan = plan_judged(alloc, judged, &texts.memory)?;
     let many = too_many(What::Rows, plan_past(&plan));
-    refuse(many.or(too_many(What::LeafBytes, long)))?;
+    refuse(many.or(too_many(What::LeafBytes, texts.long())))?;
     Ok(plan)
 }

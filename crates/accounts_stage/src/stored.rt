@@ -8,7 +8,6 @@ ghost use Rattle.switch_parts.specs.declared.refusal.Refusal.{Refusal};
 ghost use Rattle.accounts_stage.specs.Refusals.{maps_refusal, stored_refusal};
 ghost use Rattle.accounts_stage.specs.Answer.{Answers};
 ghost use Rattle.accounts_stage.specs.All.{AreSoundTables, all_in, all_of};
-ghost use Rattle.accounts_stage.specs.Standing.{memory_in};
 
 use crate::memory::{MemoryTexts, declared_of, read_memory, remembered_of};
 use crate::reading::read_tables;
@@ -54,7 +53,7 @@ impl Stored {
 }
 
 /// These tables, with what these texts say.
-fn with_texts(alloc: Global, tables: Tables, texts: &MemoryTexts) -> Result<Stored, PlanFault>
+pub fn with_texts(alloc: Global, tables: Tables, texts: &MemoryTexts) -> Result<Stored, PlanFault>
     ensures stored { Answers (maps_refusal texts.now) (λ stored. stored ≡ all_of tables texts.now) result }
     ensures cause { IsErrOf result (Host Device) → ⊥ }
 {
@@ -65,20 +64,6 @@ fn with_texts(alloc: Global, tables: Tables, texts: &MemoryTexts) -> Result<Stor
         remembered,
         declared,
     })
-}
-
-/// Reads the ids that accounts had and the names that were declared, beside these tables.
-pub fn read_beside<T: Tree>(
-    alloc: Global,
-    host: &mut T,
-    tables: Tables,
-) -> Result<Stored, PlanFault>
-    ensures stored { Told (T.host host.old) (λ w. Answers (maps_refusal (memory_in w.leaves)) (λ stored. stored ≡ all_of tables (memory_in w.leaves)) result) }
-    ensures tables { IfOk result (λ stored. stored.tables ≡ tables) }
-    ensures reads { IsReadingOf (T.host host.old) (T.host host.new) (IsErrOf result (Host Device)) }
-{
-    let memory = read_memory(alloc, host)?;
-    with_texts(alloc, tables, &memory)
 }
 
 /// Reads the tables, the ids that accounts had and the names that were declared, and changes nothing.
@@ -95,5 +80,6 @@ pub fn read_all<T: Tree>(alloc: Global, host: &mut T) -> Result<Stored, PlanFaul
     ensures reads { IsReadingOf (T.host host.old) (T.host host.new) (IsErrOf result (Host Device)) }
 {
     let tables = read_tables(alloc, host)?;
-    read_beside(alloc, host, tables)
+    let memory = read_memory(alloc, host)?;
+    with_texts(alloc, tables, &memory)
 }

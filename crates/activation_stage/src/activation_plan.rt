@@ -1,6 +1,13 @@
 //! What is done to the accounts and to `/etc`.
+ghost use Rattle.std.specs.Prelude.{◌≡◌, IfOk};
+ghost use Rattle.host_trait.specs.World.{Leaves};
+ghost use Rattle.switch_names.specs.Names.{Name};
+ghost use Rattle.activation_stage.specs.ActivationPart.{IsActivationPlanOf, activation_in};
+
 use accounts_stage::AccountsPlan;
 use etc_farm::EtcPlan;
+use leaf_limits::{TooLong, first_long};
+use std::alloc::{AllocError, Global};
 
 /// What is done to the accounts and to `/etc`.
 pub struct ActivationPlan {
@@ -17,5 +24,17 @@ impl Drop for ActivationPlan {
             accounts: _,
             etc: _,
         } = self;
+    }
+}
+
+impl ActivationPlan {
+    /// The first file in byte order that the plan puts with more than 16 MiB and that is read again, where there is one.
+    pub fn long(&self, alloc: Global) -> Result<Option<TooLong>, AllocError>
+        ensures { (system : Name) (leaves : Leaves) → IsActivationPlanOf system leaves self.now
+            → IfOk result (λ long. long ≡ (activation_in system leaves).long leaves) }
+    {
+        let accounts = self.accounts.long(alloc)?;
+        let etc = self.etc.long(alloc)?;
+        Ok(first_long(accounts, etc))
     }
 }

@@ -21,8 +21,8 @@ one_list list other P one also =
 -- of the same leaves the same is told of /etc
 same_lines : (items : List Item) (leaves : Leaves) (one other : Sorted) → IsSortedOf items leaves one → IsSortedOf items leaves other → etc_lines one ≡ etc_lines other
 same_lines items leaves one other is also =
-    ap (λ names. etc_lines (record { gone = names; blocked = one.blocked; standing = one.standing; clean = one.clean })) (one_list one.gone other.gone _ is.gone also.gone)
-    ∙ ap (λ names. etc_lines (record { gone = other.gone; blocked = names; standing = one.standing; clean = one.clean })) (one_list one.blocked other.blocked _ is.blocked also.blocked)
+    ap (λ names. etc_lines (record { gone = names; blocked = one.blocked; standing = one.standing; clean = one.clean; past = one.past })) (one_list one.gone other.gone _ is.gone also.gone)
+    ∙ ap (λ names. etc_lines (record { gone = other.gone; blocked = names; standing = one.standing; clean = one.clean; past = one.past })) (one_list one.blocked other.blocked _ is.blocked also.blocked)
 
 pub one_report : (system : Name) (leaves : Leaves) (one other : List ℕ) → IsActivationReport system leaves one → IsActivationReport system leaves other → one ≡ other
 one_report system leaves one other is also =

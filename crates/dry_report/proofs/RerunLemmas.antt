@@ -12,7 +12,6 @@ use Rattle.generations.specs.declared.gens.Gens.{Gens}
 use Rattle.generations.specs.declared.moving.Move.{Move}
 use Rattle.generations.specs.declared.moving.Move.TheVariants.{Point, Set}
 use Rattle.generations.specs.Goal.{goal_leaf, goal_place}
-use Rattle.generations.specs.GoalPart.{goal_part}
 use Rattle.generations.specs.Move.{move_world}
 use Rattle.generations.specs.Places.{link_name, number_after, profile}
 use Rattle.generations.specs.ProfilePart.{profile_part}
@@ -36,7 +35,7 @@ use Rattle.etc_manifest.specs.Owners.{OwnerIds}
 use Rattle.switch_engine.specs.Carried.{IsSwitchMomentIf, IsSwitchedIf, cleared_by}
 use Rattle.switch_engine.specs.Moments.{IsMomentOf, IsStepIf, LeadsBy, record_world, set_world}
 use Rattle.switch_engine.specs.Owing.{IsSteadyTo, IsUnderway}
-use Rattle.switch_engine.specs.Rows.{final, part_if, parts, parts_in, refusal, switch_in}
+use Rattle.switch_engine.specs.Rows.{final, goal_by, part_if, parts, parts_in, refusal, switch_in}
 use Rattle.switch_engine.proofs.CarryLemmas.{IsCarriedFrom, ends}
 use Rattle.switch_engine.proofs.LawLemmas.{never_back}
 use Rattle.switch_engine.proofs.MovedPart.{default_in}
@@ -88,7 +87,7 @@ module _ (command : Command) (its : Row) (on : its.changes ≡ true) (off : its.
     small_number : (leaves : Leaves) → row command leaves ≡ its → refusal command leaves ≡ None → number_after leaves system < 2 ^ 64
     small_number leaves is none =
         let free = subst (λ mv. IsFree (default_in mv system leaves) leaves) named (subst (λ (r : Row). IsFree (default_in r.moves r.system leaves) leaves) is (move_free command leaves none)) in
-        let further = number_of_free system leaves (first_free (profile_part system) (boot_part (gens_after system leaves)) leaves (first_free (boot_default_in Set system leaves) goal_part leaves free)) in
+        let further = number_of_free system leaves (first_free (profile_part system) (boot_part (gens_after system leaves)) leaves (first_free (boot_default_in Set system leaves) (goal_by Set) leaves free)) in
         let below = below_bound (number_after leaves system) (number_is leaves system further) in
         omega arith
 

@@ -10,17 +10,18 @@ use Rattle.std.specs.List.Sorted.{IsStrictlySortedBy}
 use Rattle.std.specs.Cmp.{both_ways as same_test}
 use Rattle.switch_names.specs.Names.{IsListOf, Name, has}
 use Rattle.host_trait.specs.declared.leaf.LeafKind.{LeafKind}
-use Rattle.host_trait.specs.World.{Leaves, bytes_cmp, is_in_line}
+use Rattle.host_trait.specs.World.{Leaves, bytes_cmp, content_of, is_in_line}
+use Rattle.leaf_limits.specs.Limits.{content_past}
 use Rattle.host_trait.proofs.NameOrder.{has_filter}
 use Rattle.etc_manifest.specs.declared.item.Item.{Item}
 use Rattle.etc_manifest.specs.declared.item.ItemKind.{ItemKind}
 use Rattle.etc_manifest.specs.Manifest.{entry, places}
 use Rattle.etc_manifest.specs.Place.{is_reserved}
 use Rattle.etc_clean.specs.declared.found.Found.{Found}
-use Rattle.etc_clean.specs.CleanList.{clean_of}
+use Rattle.etc_clean.specs.CleanList.{clean_name, clean_of}
 use Rattle.etc_clean.specs.Farm.{at, is_blocked, is_entry, is_farm_link, is_foreign, is_gone, is_ours}
 use Rattle.etc_clean.specs.Found.{AreFound, TakesPath, is_foreign_by, is_free, is_gone_by}
-use Rattle.etc_clean.specs.Names.{etc_names, is_in_etc, name_of, names_below}
+use Rattle.etc_clean.specs.Names.{etc_names, is_in_etc, name_of, names_below, place}
 use Rattle.etc_clean.specs.Obsolete.{IsSortedOf}
 use Rattle.etc_clean.specs.Standing.{is_leaf_of, is_standing}
 use Rattle.etc_clean.proofs.FarmLemmas.{entry_is}
@@ -254,15 +255,16 @@ blocked_next test items i item old new inside is before added =
 
 -- all that is found in etc
 pub sorted_all :
-    (items : List Item) (leaves : Leaves) (clean : List Name) (found : Found) (gone blocked standing : List Name) → IsStrictlySortedBy bytes_cmp (places items) →
+    (items : List Item) (leaves : Leaves) (clean : List Name) (found : Found) (gone blocked standing : List Name) (past : Option ℕ) → IsStrictlySortedBy bytes_cmp (places items) →
     IsListOf clean (λ q. has (clean_of leaves) q ≡ true) → AreFound items clean leaves (etc_names leaves) found → gone ≡ found.gone → standing ≡ found.standing →
     (IsStrictlySortedBy bytes_cmp found.foreign → blocked ≡ filter (λ q. list_any (λ p. is_in_line p q) found.foreign) (places items)) →
-    IsSortedOf items leaves (record { gone = gone; blocked = blocked; standing = standing; clean = clean })
-sorted_all items leaves clean found gone blocked standing sorted list are is stands by =
+    past ≡ content_past (content_of leaves (place clean_name)) → IsSortedOf items leaves (record { gone = gone; blocked = blocked; standing = standing; clean = clean; past = past })
+sorted_all items leaves clean found gone blocked standing past sorted list are is stands by long =
     let listed = λ (q : Name). same_test (has clean q) (has (clean_of leaves) q) (λ there. (list.exact q).0 there) (λ there. (list.exact q).1 there) in
     record {
       gone = subst (λ (names : List Name). IsListOf names (λ q. is_gone items leaves q ≡ true)) (sym is) (gone_list items clean leaves listed found are);
       blocked = blocked_list items clean leaves listed found blocked sorted are (by (foreign_sorted items clean leaves listed found are));
       standing = subst (λ (names : List Name). IsListOf names (λ q. is_standing items leaves q ≡ true)) (sym stands) (standing_list items clean leaves found are);
       clean = list;
+      past = long;
     }

@@ -3,8 +3,9 @@ ghost use Rattle.std.specs.Prelude.{◌≡◌, ◌++◌, ◌∷◌, [], true, fa
 ghost use Rattle.std.specs.List.{AllByRecursion};
 ghost use Rattle.host_trait.specs.Host.{Told};
 ghost use Rattle.host_trait.specs.Reading.{IsReading};
+ghost use Rattle.host_trait.specs.World.{content_of};
 ghost use Rattle.etc_manifest.specs.Place.{is_reserved};
-ghost use Rattle.etc_clean.specs.CleanList.{clean_name, clean_names, clean_of, clean_text, is_clean_name, is_path_text, names_in};
+ghost use Rattle.etc_clean.specs.CleanList.{clean_name, clean_names, clean_text, is_clean_name, is_path_text, names_in};
 ghost use Rattle.etc_clean.specs.Names.{place};
 
 use etc_manifest::is_reserved;
@@ -106,21 +107,20 @@ pub fn write_clean(alloc: Global, names: &Listed<Path>) -> Result<Bytes, AllocEr
 }
 
 /// The names that a content says.
-fn names_in(alloc: Global, content: Option<Bytes>) -> Result<Listed<Path>, AllocError>
-    ensures { IfOk result (λ names. names ≡ names_in content) }
+pub fn names_in(alloc: Global, content: &Option<Bytes>) -> Result<Listed<Path>, AllocError>
+    ensures { IfOk result (λ names. names ≡ names_in content.now) }
 {
-    let Some(bytes) = content else {
-        return Ok(Listed::new(alloc));
-    };
-    read_clean(alloc, bytes.as_slice())
+    match content {
+        Some(bytes) => read_clean(alloc, bytes.as_slice()),
+        None => Ok(Listed::new(alloc)),
+    }
 }
 
-/// The names of the clean list that stands.
-pub fn read_old<T: Tree>(alloc: Global, host: &mut T) -> Result<Listed<Path>, HostFault>
-    ensures names { IfOk result (λ names. Told (T.host host.old) (λ w. names ≡ clean_of w.leaves)) }
+/// The content of the clean list that stands.
+pub fn read_old<T: Tree>(alloc: Global, host: &mut T) -> Result<Option<Bytes>, HostFault>
+    ensures content { IfOk result (λ bytes. Told (T.host host.old) (λ w. bytes ≡ content_of w.leaves (place clean_name))) }
     ensures reads { IsReading (T.host host.old) (T.host host.new) result }
 {
     let at = clean_path(alloc)?;
-    let bytes = content(alloc, host, &at)?;
-    Ok(names_in(alloc, bytes)?)
+    content(alloc, host, &at)
 }

@@ -7,20 +7,21 @@ ghost use Rattle.host_trait.specs.Host.{Told};
 ghost use Rattle.host_trait.specs.Reading.{IsReading};
 ghost use Rattle.host_trait.specs.World.{bytes_cmp, is_in_line};
 ghost use Rattle.etc_manifest.specs.Manifest.{places};
-ghost use Rattle.etc_clean.specs.CleanList.{clean_of};
+ghost use Rattle.etc_clean.specs.CleanList.{names_in};
 ghost use Rattle.etc_clean.specs.Found.{AreFound};
 ghost use Rattle.etc_clean.specs.Names.{etc_names};
 ghost use Rattle.etc_clean.specs.Obsolete.{IsSortedOf};
 
-use crate::clean_list::read_old;
+use crate::clean_list::{names_in, read_old};
 use crate::found::{Found, find};
 use crate::names::etc_folder;
 use crate::order::in_order;
 use crate::search::has_in_line;
 use etc_manifest::{Item, Manifest};
 use host_trait::{HostFault, Tree};
+use leaf_limits::content_past;
 use std::alloc::{AllocError, Global};
-use switch_names::{Listed, Path};
+use switch_names::{Bytes, Listed, Path};
 
 /// What a switch finds in `/etc`: names below it, each list in byte order.
 pub struct Sorted {
@@ -32,6 +33,8 @@ pub struct Sorted {
     pub standing: Listed<Path>,
     /// The names of the clean list that stands.
     pub clean: Listed<Path>,
+    /// How many bytes that list has, where it has more than 16 MiB.
+    pub past: Option<u64>,
 }
 
 /// One call: a derived drop is proved anew in each function that lets one go.
@@ -42,18 +45,18 @@ impl Drop for Sorted {
             blocked: _,
             standing: _,
             clean: _,
+            past: _,
         } = self;
     }
 }
 
-/// The names of the clean list that stands, in byte order.
-fn read_clean_set<T: Tree>(alloc: Global, host: &mut T) -> Result<Listed<Path>, HostFault>
-    ensures clean { IfOk result (λ clean. Told (T.host host.old) (λ w. IsListOf clean (λ q. has (clean_of w.leaves) q ≡ true))) }
+/// The names that the content of a clean list says, in byte order.
+fn clean_set(alloc: Global, content: &Option<Bytes>) -> Result<Listed<Path>, AllocError>
+    ensures clean { IfOk result (λ clean. IsListOf clean (λ q. has (names_in content.now) q ≡ true)) }
     ensures sorted { IfOk result (λ clean. IsStrictlySortedBy bytes_cmp clean) }
-    ensures reads { IsReading (T.host host.old) (T.host host.new) result }
 {
-    let names = read_old(alloc, host)?;
-    Ok(in_order(alloc, names.as_slice())?)
+    let names = names_in(alloc, content)?;
+    in_order(alloc, names.as_slice())
 }
 
 /// Sorts the leaves below `etc`.
@@ -114,7 +117,8 @@ pub fn obsolete<T: Tree>(
     ensures reads { IsReading (T.host host.old) (T.host host.new) result }
 {
     let items = manifest.items().as_slice();
-    let clean = read_clean_set(alloc, host)?;
+    let content = read_old(alloc, host)?;
+    let clean = clean_set(alloc, &content)?;
     let found = find_all(alloc, host, items, clean.as_slice())?;
     let blocked = blocked_by(alloc, items, found.foreign.as_slice())?;
     let (gone, standing) = found.into_names();
@@ -123,5 +127,6 @@ pub fn obsolete<T: Tree>(
         blocked,
         standing,
         clean,
+        past: content_past(&content),
     })
 }

@@ -3,13 +3,15 @@ use Rattle.std.proofs.Common.{◌≡◌, ◌&&◌, Bool, true, false, cond, List
 use Rattle.std.proofs.lemmas.Bool.{both_ways, cases_Bool, false_from_ne_true}
 use Rattle.std.specs.Option.{option_or}
 use Rattle.leaf_limits.specs.Counts.{entries_max, past}
+use Rattle.leaf_limits.specs.Limits.{content_past}
 use Rattle.switch_names.specs.Names.{IsListOf, Name, has}
 use Rattle.switch_names.specs.SystemName.{IsSystemPath}
+use Rattle.switch_names.proofs.Outcomes.{none_mapped, option_or_nothing, option_or_parts}
 use Rattle.std.specs.List.Sorted.{IsStrictlySortedBy}
-use Rattle.host_trait.specs.World.{Leaves, WorldState, bytes_cmp}
-use Rattle.switch_parts.specs.declared.refusal.What.TheVariants.{Entries}
+use Rattle.host_trait.specs.World.{Leaves, WorldState, bytes_cmp, content_of}
+use Rattle.switch_parts.specs.declared.refusal.What.TheVariants.{Entries, LeafBytes}
 use Rattle.switch_parts.specs.Limits.{too_many}
-use Rattle.switch_parts.specs.Part.{IsAtEnd, IsMomentOf, IsPart, IsSameFor}
+use Rattle.switch_parts.specs.Part.{IsAtEnd, IsFree, IsMomentOf, IsPart, IsSameFor}
 use Rattle.etc_manifest.specs.declared.item.Item.{Item}
 use Rattle.etc_manifest.specs.declared.item.ItemKind.{ItemKind}
 use Rattle.etc_manifest.specs.declared.manifest_fault.ManifestFault.{ManifestFault}
@@ -22,11 +24,11 @@ use Rattle.etc_manifest.specs.Place.{etc_folder, is_reserved}
 use Rattle.etc_manifest.proofs.LeafLemmas.{entries_sorted}
 use Rattle.etc_manifest.proofs.WantedLemmas.{entry_is, places_are}
 use Rattle.etc_clean.specs.declared.sorting.Sorted.{Sorted}
-use Rattle.etc_clean.specs.CleanList.{clean_of}
+use Rattle.etc_clean.specs.CleanList.{clean_name, clean_of}
 use Rattle.etc_clean.specs.Etc.{etc}
 use Rattle.etc_clean.specs.Farm.{at, is_blocked, is_entry, is_gone}
 use Rattle.etc_clean.specs.Keeps.{AreFree}
-use Rattle.etc_clean.specs.Names.{name_of}
+use Rattle.etc_clean.specs.Names.{name_of, place}
 use Rattle.etc_clean.specs.Obsolete.{IsSortedOf}
 use Rattle.etc_clean.specs.Standing.{is_leaf_of, is_standing}
 use Rattle.etc_clean.proofs.FarmLemmas as farm
@@ -34,15 +36,17 @@ use Rattle.etc_clean.proofs.FarmLemmas.{blocked_kept}
 use Rattle.etc_clean.proofs.KeepsLemmas.{alike_law, end_law, owned_name}
 use Rattle.etc_clean.proofs.SearchLemmas.{none_wanted}
 use Rattle.etc_farm.specs.declared.etc_plan.EtcPlan.{EtcPlan}
-use Rattle.etc_farm.specs.EtcPart.{CanPutEtc, EtcPartLaw, EtcPlanLaw, KeepsEtc, etc_part, etc_refusal, items_in, items_of, refusal_in}
+use Rattle.etc_farm.specs.EtcPart.{CanPutEtc, EtcPartLaw, EtcPlanLaw, KeepsEtc, clean_too_long, entries_too_many, etc_part, etc_refusal, items_in, items_of, refusal_in}
 use Rattle.etc_farm.specs.FarmPart.{CanApply, KeepsFarm, farm_of, farm_part}
+use Rattle.etc_farm.specs.Lists.{is_clean_long, list_long}
 use Rattle.etc_farm.specs.Making.{IsMaking}
 use Rattle.etc_farm.specs.Runs.{EtcRunLaw}
 use Rattle.etc_farm.proofs.ClearLemmas.{gone_same, reserved_not_gone}
 use Rattle.etc_farm.proofs.MomentLemmas.{making_law}
 use Rattle.etc_farm.proofs.StageLemmas.{all_free}
-use Rattle.etc_farm.proofs.PartLemmas.{farm_is, frame_alike, keeps_farm_self, keeps_farm_then}
+use Rattle.etc_farm.proofs.PartLemmas.{farm_is, frame_alike, frame_content, keeps_farm_self, keeps_farm_then}
 use Rattle.etc_farm.proofs.PlaceLemmas.{owned_read, place_of_owned, stage_unread, store_read}
+use Rattle.etc_farm.proofs.ShortLemmas.{content_short, short_content}
 use Rattle.switch_parts.proofs.StoreLemmas.{store_not_stage}
 use Rattle.etc_farm.proofs.StoreLemmas.{entries_same, manifest_same, store_not_owned}
 
@@ -76,6 +80,16 @@ free_in : (leaves : Leaves) (system : Name) (owners : OwnerIds) (r : Result (Lis
 free_in leaves system owners (Ok items) is = wanted_free leaves system owners items is
 free_in leaves system owners (Err why) is = λ q known. absurd (both_ways false refl known)
 
+-- ---- the clean list that stands
+
+pub list_within : (leaves : Leaves) → clean_too_long leaves ≡ None → is_clean_long leaves ≡ false
+list_within leaves none = content_short (content_of leaves (place clean_name)) (none_mapped _ (content_past (content_of leaves (place clean_name))) none)
+
+list_not_long : (leaves : Leaves) → is_clean_long leaves ≡ false → clean_too_long leaves ≡ None
+list_not_long leaves short = ap (too_many LeafBytes) (short_content (content_of leaves (place clean_name)) short)
+
+-- ---- the part
+
 module _ (system : Name) (owners : OwnerIds) where
   pub items_free : (leaves : Leaves) → AreFree (items_of system owners leaves)
   items_free leaves = free_in leaves system owners (manifest_of leaves system owners) refl
@@ -88,9 +102,21 @@ module _ (system : Name) (owners : OwnerIds) where
       farm = (farm_is (farm_of system (items_of system owners w.leaves)) (items_free w.leaves)).frame w m (record { leaves = same.leaves; manager = same.manager });
     }
 
-    -- what is counted and wanted is the same, so that the same is refused
-    etc_refusal_kept : (w m : WorldState) → KeepsEtc system owners w m → etc_refusal system owners m.leaves ≡ etc_refusal system owners w.leaves
-    etc_refusal_kept w m keeps = λ i. option_or (too_many Entries (past entries_max (length (keeps.entries i)))) (refusal_in (keeps.manifest i))
+    long_there : (w m : WorldState) → KeepsEtc system owners w m → list_long (items_of system owners m.leaves) m.leaves ≡ list_long (items_of system owners w.leaves) m.leaves
+    long_there w m keeps = ap (λ items. list_long items m.leaves) (ap items_in keeps.manifest)
+
+    -- what is counted and wanted is the same, and the clean list that stands can be read again, so that nothing is refused
+    none_refused : (w m : WorldState) → KeepsEtc system owners w m → IsFree (etc_part system owners) w.leaves → etc_refusal system owners m.leaves ≡ None
+    none_refused w m keeps free =
+        let count = entries_too_many w.leaves system in
+        let wanted = refusal_in (manifest_of w.leaves system owners) in
+        let first = option_or_parts count (option_or wanted (clean_too_long w.leaves)) free.refusal in
+        let then = option_or_parts wanted (clean_too_long w.leaves) first.1 in
+        option_or_nothing (entries_too_many m.leaves system) (option_or (refusal_in (manifest_of m.leaves system owners)) (clean_too_long m.leaves))
+        ((λ i. too_many Entries (past entries_max (length (keeps.entries i)))) ∙ first.0)
+        (option_or_nothing (refusal_in (manifest_of m.leaves system owners)) (clean_too_long m.leaves)
+        (ap refusal_in keeps.manifest ∙ then.0)
+        (list_not_long m.leaves (keeps.farm.short.stands free.short (list_within w.leaves then.1))))
 
     pub etc_is : IsPart (etc_part system owners)
     etc_is = record {
@@ -103,7 +129,11 @@ module _ (system : Name) (owners : OwnerIds) where
       same_end = λ w m keeps q own.
           ap (λ items. etc (farm_of system items) m.leaves (name_of q)) (ap items_in keeps.manifest)
           ∙ end_law (farm_of system (items_of system owners w.leaves)) w.leaves m.leaves keeps.farm.keeps (name_of q) (place_of_owned q own).1;
-      stays_free = λ w m keeps free. record { way = keeps.farm.free free.way; refusal = etc_refusal_kept w m keeps ∙ free.refusal };
+      stays_free = λ w m keeps free. record {
+        way = keeps.farm.free free.way;
+        refusal = none_refused w m keeps free;
+        short = long_there w m keeps ∙ keeps.farm.short.puts free.short;
+      };
       frame = etc_frame;
       reads_own = owned_read;
       no_stage = stage_unread;
@@ -148,6 +178,7 @@ module _ (items : List Item) (free : AreFree items) (w u : WorldState) (system :
     standing = list_as sorted.standing (is_standing items u.leaves) (is_standing items w.leaves) standing_there are.standing;
     clean = list_as sorted.clean (λ q. has (clean_of u.leaves) q) (λ q. has (clean_of w.leaves) q)
         (λ q. ap (λ (names : List Name). has names q) (frame_alike (farm_of system items) w u free same).clean) are.clean;
+    past = are.past ∙ sym (ap content_past (frame_content (farm_of system items) w u free same));
   }
 
 pub etc_plan_law : EtcPlanLaw
@@ -155,20 +186,21 @@ etc_plan_law system w u plan named same is = record {
   wanted = manifest_same w.leaves u.leaves (λ path inside. same.leaves path (store_read path inside)) system named plan.owners ∙ is.wanted;
   apart = is.apart;
   sorted = sorted_alike plan.manifest (wanted_free w.leaves system plan.owners plan.manifest is.wanted) w u system (record { leaves = same.leaves; manager = same.manager }) plan.sorted is.sorted;
+  prepared = is.prepared;
 }
 
 -- ---- a plan is carried out
 
 module _ (system : Name) (plan : EtcPlan) (w : WorldState) (can : CanPutEtc system plan w) where
+  wanted_is : items_of system plan.owners w.leaves ≡ plan.manifest
+  wanted_is = ap items_in can.planned.wanted
+
   pub can_apply : CanApply (farm_of system plan.manifest) plan.sorted w
   can_apply = record {
-    free = record { way = can.free.way; refusal = refl };
+    free = record { way = can.free.way; refusal = refl; short = refl };
     apart = can.planned.apart;
     sorted = can.planned.sorted;
   }
-
-  wanted_is : items_of system plan.owners w.leaves ≡ plan.manifest
-  wanted_is = ap items_in can.planned.wanted
 
   pub end_as : (v : WorldState) → IsAtEnd (farm_part (farm_of system plan.manifest)) w v → IsAtEnd (etc_part system plan.owners) w v
   end_as v end q own = end q own ∙ sym (ap (λ items. etc (farm_of system items) w.leaves (name_of q)) wanted_is)

@@ -1,11 +1,12 @@
 -- The last clean list is put, and a farm is at its end.
-use Rattle.std.proofs.Common.{◌≡◌, ◌≢◌, ℕ, Bool, true, false, cond, List, Option, None, Some, refl, sym, ap, ◌∙◌}
+use Rattle.std.proofs.Common.{◌≡◌, ◌≢◌, ℕ, Bool, true, false, cond, List, Option, None, Some, refl, sym, ap, subst, ◌∙◌}
 use Rattle.std.proofs.lemmas.Bool.{both_ways}
 use Rattle.std.specs.FinMap.{get}
+use Rattle.std.specs.List.Sorted.{IsStrictlySortedBy}
 use Rattle.switch_names.specs.Names.{Name, has, is_name}
 use Rattle.host_trait.specs.declared.leaf.LeafKind.{LeafKind}
 use Rattle.host_trait.specs.declared.leaf.LeafKind.TheVariants.{Link}
-use Rattle.host_trait.specs.World.{WorldState, seen, with_leaf}
+use Rattle.host_trait.specs.World.{WorldState, bytes_cmp, seen, with_leaf}
 use Rattle.host_trait.proofs.Places.{at_same}
 use Rattle.host_trait.proofs.NameOrder.{name_exact}
 use Rattle.switch_parts.specs.Part.{IsAtEnd}
@@ -25,6 +26,7 @@ use Rattle.etc_farm.specs.Steps.{CanPutEntries, IsNoneGone, placed_but}
 use Rattle.etc_farm.proofs.FarmMoment.{ArePut, IsFarmMoment}
 use Rattle.etc_farm.proofs.ClearLemmas.{gone_last}
 use Rattle.etc_farm.proofs.EntryLemmas.{at_seen, manifest_free, none_gone_seen}
+use Rattle.etc_farm.proofs.OrderLemmas.{placed_sorted}
 use Rattle.etc_farm.proofs.PlaceLemmas.{place_of_owned}
 use Rattle.etc_farm.proofs.StageLemmas.{end_from, placed_as}
 use Rattle.etc_farm.proofs.StepLemmas.{moment_seen, put_last}
@@ -46,7 +48,7 @@ module _ (items : List Item) (blocked : List Name) (v : WorldState) (can : CanPu
   }
 
   pub last_finished : IsFarmMoment items v last_world
-  last_finished = put_last items free v (placed_but blocked items) is_last
+  last_finished = put_last items free v (placed_but blocked items) placed_is read (subst (IsStrictlySortedBy bytes_cmp) (sym placed_is) (placed_sorted items v.leaves can.manifest.sorted)) is_last
 
   module _ (target : List ℕ) (m : WorldState) (new : seen m ≡ seen last_world) (put : ArePut items v.leaves) (fixed : at v.leaves static_name ≡ Some (Link target)) where
     last_seen : IsFarmMoment items v m

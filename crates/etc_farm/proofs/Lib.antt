@@ -9,6 +9,7 @@ pub mod LineLemmas
 pub mod LongLemmas
 pub mod MakingLemmas
 pub mod MomentLemmas
+pub mod OrderLemmas
 pub mod PartLemmas
 pub mod PlaceLemmas
 pub mod PlanLemmas
@@ -18,10 +19,12 @@ pub mod QuietLemmas
 pub mod QuietStageLemmas
 pub mod RemovalLemmas
 pub mod RunLemmas
+pub mod ShortLemmas
 pub mod SkippedLemmas
 pub mod StageLemmas
 pub mod StandingLemmas
 pub mod StepLemmas
 pub mod StoreLemmas
 pub mod TimesLemmas
+pub mod ToldLemmas
 pub mod WrittenLemmas

@@ -1,13 +1,21 @@
--- Where making /etc isn't refused, no content that is taken of the system's etc is too long.
-use Rattle.std.proofs.Common.{◌≡◌, ℕ, Bool, true, false, cond, List, Option, None, Some, option_and_then, Result, Ok, Err, codes, refl, ap}
+-- Where making /etc isn't refused, no content that is taken for it is too long, and a plan tells the list that is put too long.
+use Rattle.std.proofs.Common.{◌≡◌, ◌&&◌, ◌||◌, ℕ, Bool, true, false, cond, List, Option, None, Some, option_and_then, option_map, Result, Ok, Err, codes, refl, sym, ap, ◌∙◌}
+use Rattle.std.specs.FinMap.{keys}
 use Rattle.std.specs.Option.{option_or}
-use Rattle.switch_names.specs.Names.{Name}
+use Rattle.switch_names.specs.Names.{Name, is_name}
+use Rattle.switch_names.proofs.Outcomes.{option_or_parts}
 use Rattle.switch_names.specs.SystemName.{IsSystemPath}
 use Rattle.host_trait.specs.declared.tree.HostFault.{HostFault}
 use Rattle.host_trait.specs.World.{Leaves}
-use Rattle.switch_parts.specs.declared.refusal.Refusal.{Refusal}
+use Rattle.host_trait.proofs.NameOrder.{name_exact}
+use Rattle.leaf_limits.specs.Limits.{first_long, is_long, length_at}
+use Rattle.leaf_limits.proofs.PastLemmas.{none_found}
+use Rattle.tree_put.specs.declared.leaf_put.LeafPut.{LeafPut}
+use Rattle.tree_put.specs.Sequence.{put_at}
 use Rattle.switch_parts.specs.declared.refusal.What.TheVariants.{LeafBytes}
 use Rattle.switch_parts.specs.Limits.{too_many}
+use Rattle.switch_parts.specs.Puts.{long_put, long_with}
+use Rattle.switch_parts.proofs.LongLemmas.{long_alone}
 use Rattle.etc_manifest.specs.declared.item.Item.{Item}
 use Rattle.etc_manifest.specs.declared.item.ItemKind.{ItemKind}
 use Rattle.etc_manifest.specs.declared.manifest_fault.ManifestFault.{ManifestFault}
@@ -20,8 +28,16 @@ use Rattle.etc_manifest.specs.Kind.{copied_by, direct_kind, kind_by, kind_of, ki
 use Rattle.etc_manifest.specs.Owners.{OwnerIds, owner_id}
 use Rattle.etc_manifest.specs.Place.{etc_folder, is_reserved, path_in}
 use Rattle.etc_manifest.proofs.FirstLemmas.{first_refused}
-use Rattle.etc_manifest.proofs.TakenLemmas.{none_past}
-use Rattle.etc_farm.specs.EtcPart.{entries_too_long, entries_too_many, etc_part, refusal_in}
+use Rattle.etc_manifest.specs.Taken.{takes_entries}
+use Rattle.etc_manifest.proofs.TakenLemmas.{taken_short}
+use Rattle.etc_clean.specs.CleanList.{clean_leaf, clean_name}
+use Rattle.etc_clean.specs.Farm.{placed}
+use Rattle.etc_clean.specs.Names.{place}
+use Rattle.etc_farm.specs.declared.etc_plan.EtcPlan.{EtcPlan}
+use Rattle.etc_farm.specs.EtcPart.{IsEtcPlanOf, clean_too_long, entries_too_many, etc_part, etc_too_long, items_in, items_of, refusal_in, takes_etc}
+use Rattle.etc_farm.specs.Lists.{first_list, is_clean_long, list_long}
+use Rattle.etc_farm.proofs.EtcLemmas.{list_within}
+use Rattle.etc_farm.proofs.OrderLemmas.{first_is}
 
 -- ---- what is wrong with an entry is no fault of the host
 
@@ -73,17 +89,49 @@ manifest_fault leaves system owners why is =
 
 -- ---- so that a manifest is read where nothing is refused
 
-second_none : (first second : Option Refusal) → option_or first second ≡ None → second ≡ None
-second_none None second is = is
-second_none (Some why) second is = absurd (cc)
-
-pub none_too_long : (leaves : Leaves) (system : Name) (owners : OwnerIds) → IsSystemPath system → (etc_part system owners).refusal leaves ≡ None → entries_too_long leaves system ≡ None
-none_too_long leaves system owners named free = by (manifest_of leaves system owners) refl (second_none (entries_too_many leaves system) (refusal_in (manifest_of leaves system owners)) free)
+-- neither is a content that is taken
+none_taken : (leaves : Leaves) (system : Name) (owners : OwnerIds) (items : List Item) → IsSystemPath system → manifest_of leaves system owners ≡ Ok items → is_clean_long leaves ≡ false →
+    (q : Name) → (takes_etc leaves system q && is_long leaves q) ≡ false
+none_taken leaves system owners items named is short q = by (takes_entries leaves system q) (is_name q (place clean_name)) refl refl
   where
-    by : (wanted : Result (List Item) ManifestFault) → manifest_of leaves system owners ≡ wanted → refusal_in wanted ≡ None → entries_too_long leaves system ≡ None
-    by (Ok items) is none = ap (too_many LeafBytes) (none_past leaves system owners items named is)
-    by (Err (Many count)) is none = absurd (cc)
-    by (Err (Reserved place)) is none = absurd (cc)
-    by (Err (Entry place)) is none = absurd (cc)
-    by (Err (Owner place)) is none = absurd (cc)
-    by (Err (Host why)) is none = absurd (manifest_fault leaves system owners why is)
+    by : (entry list : Bool) → takes_entries leaves system q ≡ entry → is_name q (place clean_name) ≡ list → ((entry || list) && is_long leaves q) ≡ false
+    by true list taken at = taken_short leaves system owners items named is q taken
+    by false true none at = ap (is_long leaves) (name_exact q (place clean_name) at) ∙ short
+    by false false none at = refl
+
+pub none_too_long : (leaves : Leaves) (system : Name) (owners : OwnerIds) → IsSystemPath system → (etc_part system owners).refusal leaves ≡ None → etc_too_long leaves system ≡ None
+none_too_long leaves system owners named free =
+    let rest = (option_or_parts (entries_too_many leaves system) (option_or (refusal_in (manifest_of leaves system owners)) (clean_too_long leaves)) free).1 in
+    let parts = option_or_parts (refusal_in (manifest_of leaves system owners)) (clean_too_long leaves) rest in
+    by (manifest_of leaves system owners) refl parts.0 (list_within leaves parts.1)
+  where
+    by : (wanted : Result (List Item) ManifestFault) → manifest_of leaves system owners ≡ wanted → refusal_in wanted ≡ None → is_clean_long leaves ≡ false → etc_too_long leaves system ≡ None
+    by (Ok items) is none short =
+        ap (λ o. too_many LeafBytes (option_map (length_at leaves) o))
+        (none_found (λ q. takes_etc leaves system q && is_long leaves q) (keys leaves) (none_taken leaves system owners items named is short))
+    by (Err (Many count)) is none short = absurd (cc)
+    by (Err (Reserved place)) is none short = absurd (cc)
+    by (Err (Entry place)) is none short = absurd (cc)
+    by (Err (Owner place)) is none short = absurd (cc)
+    by (Err (Host why)) is none short = absurd (manifest_fault leaves system owners why is)
+
+-- ---- what a plan puts too long
+
+module _ (system : Name) (leaves : Leaves) (plan : EtcPlan) (is : IsEtcPlanOf system leaves plan) where
+  items_are : items_of system plan.owners leaves ≡ plan.manifest
+  items_are = ap items_in is.wanted
+
+  first_put : put_at (place clean_name) (clean_leaf is.prepared.names) ≡ put_at (place clean_name) (first_list plan.manifest leaves)
+  first_put = ap (put_at (place clean_name)) (first_is plan.manifest leaves is.prepared.names (is.prepared.names_are leaves is.sorted))
+
+  last_put : plan.prepared.last ≡ put_at (place clean_name) (clean_leaf (placed plan.manifest leaves))
+  last_put = let leaf = is.prepared.last leaves is.sorted in let at = is.prepared.last_at in λ i. record { at = at i; leaf = leaf i }
+
+  -- the link at `static` has no content, so that the lists alone can be too long
+  pub plan_long : (last : LeafPut) (first : List LeafPut) → last ≡ plan.prepared.last → first ≡ plan.prepared.first → long_with (long_put last) first ≡ list_long (items_of system plan.owners leaves) leaves
+  plan_long last first is_last is_first =
+      (λ i. long_with (long_put (is_last i)) (is_first i))
+      ∙ ap (long_with (long_put plan.prepared.last)) is.prepared.first
+      ∙ (λ i. first_long (long_put (first_put i)) (long_put (last_put i)))
+      ∙ ap (first_long (long_put (put_at (place clean_name) (first_list plan.manifest leaves)))) (sym (long_alone (long_put (put_at (place clean_name) (clean_leaf (placed plan.manifest leaves))))))
+      ∙ ap (λ (items : List Item). list_long items leaves) (sym items_are)

@@ -19,11 +19,11 @@ use Rattle.etc_clean.specs.CleanList.{clean_leaf, clean_name}
 use Rattle.etc_clean.specs.Etc.{Farm}
 use Rattle.etc_clean.specs.Farm.{placed}
 use Rattle.etc_clean.specs.Names.{place}
-use Rattle.etc_farm.specs.declared.prepared.Prepared.{Prepared}
 use Rattle.etc_farm.specs.FarmPart.{CanApply, farm_part}
 use Rattle.etc_farm.specs.Making.{IsAtStep, IsClearing, IsMaking, begun, cleared, entry_puts, last_puts}
 use Rattle.etc_farm.specs.Making.IsAtStep.{Beginning, Clearing, Ending}
 use Rattle.etc_farm.specs.Making.IsMaking.{Since}
+use Rattle.etc_farm.specs.Prepared.{PreparedPuts}
 use Rattle.etc_farm.specs.Steps.{AreStanding, CanPutEntries, IsPrepared, item_put, puts_but}
 use Rattle.etc_farm.proofs.EntryLemmas.{entries_seen}
 use Rattle.etc_farm.proofs.MomentLemmas.{can_entries, ended}
@@ -106,14 +106,14 @@ last_led puts last led step = leads_then led step (λ w v. seen v ≡ seen (with
 
 -- ---- the whole
 
-module _ {farm : Farm} {found : Sorted} {prepared : Prepared} (is_prepared : IsPrepared farm found prepared) where
+module _ {farm : Farm} {found : Sorted} {prepared : PreparedPuts} (is_prepared : IsPrepared farm found prepared) where
   making : (w m : WorldState) → CanApply farm found w → IsAtStep farm is_prepared.names found.gone w m → IsMaking farm w m
-  making w m can step = Since is_prepared.names found.gone (is_prepared.names_are w can) can.sorted.gone step
+  making w m can step = Since is_prepared.names found.gone (is_prepared.names_are w.leaves can.sorted) can.sorted.gone step
 
   pub last_as : (w : WorldState) → CanApply farm found w → prepared.last ≡ put_at (place clean_name) (clean_leaf (placed farm.items w.leaves))
   last_as w can =
       let leaf : prepared.last.leaf ≡ clean_leaf (placed farm.items w.leaves) =
-      is_prepared.last w can in
+      is_prepared.last w.leaves can.sorted in
       let at = is_prepared.last_at in
       λ i. record { at = at i; leaf = leaf i }
 
@@ -169,7 +169,7 @@ module _ {farm : Farm} {found : Sorted} {prepared : Prepared} (is_prepared : IsP
           cleared_can {items = items} {blocked = blocked} are_items are_blocked = told_after clear_steps cleared_led (CanPutEntries items blocked) (λ w u is before.
               let can_apply = can.has w is in
               let there = entries_seen farm.items found.blocked (cleared is_prepared.names farm.target found.gone w) u before
-              (can_entries farm is_prepared.manifest found w can_apply is_prepared.names found.gone (is_prepared.names_are w can_apply) can_apply.sorted.gone) in
+              (can_entries farm is_prepared.manifest found w can_apply is_prepared.names found.gone (is_prepared.names_are w.leaves can_apply.sorted) can_apply.sorted.gone) in
               subst (λ (list : List Item). CanPutEntries list blocked u) (sym are_items) (subst (λ (names : List Name). CanPutEntries farm.items names u) (sym are_blocked) there))
 
           -- what stood at the beginning stands once what is gone has been removed
@@ -182,6 +182,6 @@ module _ {farm : Farm} {found : Sorted} {prepared : Prepared} (is_prepared : IsP
               Leads c d (λ u v. seen v ≡ seen (with_puts (puts_but blocked items ++ prepared.last ∷ []) u)) → Leads a d (IsAtEnd (farm_part farm))
           ended_led {items = items} {blocked = blocked} are_items are_blocked led = leads_then cleared_led led (IsAtEnd (farm_part farm)) (λ w u v is_w is_u before now.
               let can_apply = can.has w is_w in
-              ended farm is_prepared.manifest found w can_apply is_prepared.names found.gone (is_prepared.names_are w can_apply) can_apply.sorted.gone v
+              ended farm is_prepared.manifest found w can_apply is_prepared.names found.gone (is_prepared.names_are w.leaves can_apply.sorted) can_apply.sorted.gone v
               (now ∙ ap (λ (ps : List LeafPut). seen (with_puts ps u)) (last_puts_as items blocked w can_apply are_items are_blocked)
               ∙ seen_with_puts (last_puts farm.items w.leaves) u (cleared is_prepared.names farm.target found.gone w) before))

@@ -2,7 +2,6 @@
 use Rattle.std.proofs.Common.{◌≡◌, ◌||◌, ℕ, zero, suc, true, false, List, [], ◌∷◌, ◌++◌, map, take, Some, refl, sym, ap, subst, ◌∙◌, inl, inr, ⊎_elim, arith}
 use Rattle.std.proofs.lemmas.Bool.{both_ways, or_right}
 use Rattle.std.specs.List.{AllByRecursion}
-use Rattle.std.specs.Cmp.{both_ways as same_test}
 use Rattle.switch_names.specs.Names.{IsListOf, Name, has}
 use Rattle.host_trait.specs.declared.leaf.LeafKind.TheVariants.{Link}
 use Rattle.host_trait.specs.World.{WorldState, seen, with_leaf}
@@ -16,7 +15,7 @@ use Rattle.etc_clean.specs.declared.sorting.Sorted.{Sorted}
 use Rattle.etc_clean.specs.CleanList.{AreCleanNames, clean_leaf, clean_name, clean_names, clean_of, clean_text, is_clean_name}
 use Rattle.etc_clean.specs.Etc.{Farm, static_name}
 use Rattle.etc_clean.specs.Farm.{at, is_gone, placed}
-use Rattle.etc_clean.specs.Keeps.{AreFree, IsFirstList}
+use Rattle.etc_clean.specs.Keeps.{AreFree}
 use Rattle.etc_clean.specs.Names.{place}
 use Rattle.etc_clean.proofs.CleanLemmas.{read_back_law}
 use Rattle.etc_farm.specs.FarmPart.{CanApply, KeepsFarm, farm_part}
@@ -68,27 +67,22 @@ module _
   items = farm.items
 
   abbrev found : Sorted
-  found = record { gone = gone; blocked = other.blocked; standing = other.standing; clean = other.clean }
+  found = record { gone = gone; blocked = other.blocked; standing = other.standing; clean = other.clean; past = other.past }
 
   can : CanApply farm found w
-  can = record { free = can_other.free; apart = can_other.apart; sorted = record { gone = gone_are; blocked = can_other.sorted.blocked; standing = can_other.sorted.standing; clean = can_other.sorted.clean } }
+  can = record { free = can_other.free; apart = can_other.apart; sorted = record { gone = gone_are; blocked = can_other.sorted.blocked; standing = can_other.sorted.standing; clean = can_other.sorted.clean; past = can_other.sorted.past } }
 
   free : AreFree items
   free = manifest_free items manifest
-
-  starts : IsFirstList items w.leaves names
-  starts q =
-      ap (λ (ns : List Name). has ns q) (read_back_law names names_are.clean)
-      ∙ same_test (has names q) (has (clean_of w.leaves) q || has (placed items w.leaves) q) (λ there. (names_are.list.exact q).0 there) (λ is. (names_are.list.exact q).1 is)
 
   abbrev begun_world : WorldState
   begun_world = begun names farm.target w
 
   begun_is : IsFarmMoment items w begun_world
-  begun_is = first_moment farm manifest found w can names starts begun_world (record { count = 2; some = omega arith; world = refl })
+  begun_is = first_moment farm manifest found w can names names_are begun_world (record { count = 2; some = omega arith; world = refl })
 
   has_begun : IsBegun farm gone begun_world
-  has_begun = first_begun farm manifest found w can names starts begun_world refl
+  has_begun = first_begun farm manifest found w can names names_are begun_world refl
 
   own : AllByRecursion (IsOwn items begun_world.leaves) gone
   own = own_here farm manifest found w can begun_world begun_is
@@ -148,7 +142,7 @@ module _
       (entries_are.0.fixed_link ∙ fixed_link))
 
   at_step : (m : WorldState) → IsAtStep farm names gone w m → IsFarmMoment items w m
-  at_step m (Beginning step) = first_moment farm manifest found w can names starts m step
+  at_step m (Beginning step) = first_moment farm manifest found w can names names_are m step
   at_step m (Clearing step) = moment_seen items free w (without_places (take step.count (map place gone)) begun_world) m step.world (clearing_is step.count)
   at_step m (Ending step) = moment_seen items free w (with_puts (take step.count (last_puts items w.leaves)) cleared_world) m step.world (ending_is step.count)
 

@@ -16,6 +16,7 @@ use Rattle.etc_clean.proofs.KeepsLemmas.{alike_law, clean_owned, end_law, keeps_
 use Rattle.etc_farm.specs.FarmPart.{AreListed, KeepsFarm, farm_part}
 use Rattle.switch_parts.proofs.StoreLemmas.{store_content_kept}
 use Rattle.etc_farm.proofs.PlaceLemmas.{IsWayFree, free_way, near_clean, near_read, near_stage, near_static, owned_place, owned_read, place_of_owned, stage_unread, store_read, way_free}
+use Rattle.etc_farm.proofs.ShortLemmas.{short_beside, short_self, short_then}
 
 -- ---- what is listed
 
@@ -48,7 +49,7 @@ module _ (farm : Farm) (w m : WorldState) (free : AreFree farm.items) (same : Is
         (same.leaves (place clean_name) (owned_read (place clean_name) (owned_place clean_name clean_owned))));
   }
 
-  frame_content : content_of m.leaves (place clean_name) ≡ content_of w.leaves (place clean_name)
+  pub frame_content : content_of m.leaves (place clean_name) ≡ content_of w.leaves (place clean_name)
   frame_content =
       store_content_kept w.leaves m.leaves (λ p is. same.leaves p (store_read p is)) (place clean_name)
       (same.leaves (place clean_name) (owned_read (place clean_name) (owned_place clean_name clean_owned)))
@@ -71,16 +72,18 @@ module _ (farm : Farm) (w m : WorldState) (free : AreFree farm.items) (same : Is
       changed = λ q is. inl (frame_alike.leaves q (placed_owned farm.items w.leaves free q is));
     };
     free = λ none. free_way m.leaves (frame_way (way_free w.leaves none));
+    short = short_beside farm.items w.leaves m.leaves (alike_law farm.items w.leaves m.leaves free frame_alike) frame_content;
   }
 
 pub keeps_farm_self : (items : List Item) (w : WorldState) → KeepsFarm items w w
-keeps_farm_self items w = record { keeps = keeps_self items w.leaves; listed = listed_self items w.leaves; free = λ none. none }
+keeps_farm_self items w = record { keeps = keeps_self items w.leaves; listed = listed_self items w.leaves; free = λ none. none; short = short_self items w.leaves }
 
 pub keeps_farm_then : (items : List Item) (w v m : WorldState) → KeepsFarm items w v → KeepsFarm items v m → KeepsFarm items w m
 keeps_farm_then items w v m first then = record {
   keeps = steps_law items w.leaves v.leaves m.leaves first.keeps then.keeps;
   listed = listed_then items w.leaves v.leaves m.leaves first.keeps first.listed then.listed;
   free = λ none. then.free (first.free none);
+  short = short_then items w.leaves v.leaves m.leaves first.short then.short;
 }
 
 pub farm_is : (farm : Farm) → AreFree farm.items → IsPart (farm_part farm)
@@ -88,7 +91,7 @@ farm_is farm free = record {
   keeps_self = λ w. keeps_farm_self farm.items w;
   keeps_then = λ w v m first then. keeps_farm_then farm.items w v m first then;
   same_end = λ w m keeps q own. end_law farm w.leaves m.leaves keeps.keeps (name_of q) (place_of_owned q own).1;
-  stays_free = λ w m keeps none. record { way = keeps.free none.way; refusal = refl };
+  stays_free = λ w m keeps none. record { way = keeps.free none.way; refusal = refl; short = refl };
   frame = λ w m same. frame_keeps farm w m free same;
   reads_own = owned_read;
   no_stage = stage_unread;

@@ -4,7 +4,7 @@ use Rattle.std.proofs.lemmas.Bool.{and_parts, both_ways, or_left, or_right}
 use Rattle.std.specs.List.{AllByRecursion, slice_split}
 use Rattle.std.specs.List.Sorted.{IsStrictlySortedBy}
 use Rattle.switch_names.specs.Names.{Name, has, is_name}
-use Rattle.host_trait.specs.World.{WorldState, bytes_cmp}
+use Rattle.host_trait.specs.World.{Leaves, bytes_cmp}
 use Rattle.host_trait.proofs.NameOrder.{has_filter}
 use Rattle.host_trait.proofs.Places.{itself}
 use Rattle.etc_manifest.specs.declared.item.Item.{Item}
@@ -14,7 +14,7 @@ use Rattle.etc_clean.specs.declared.sorting.Sorted.{Sorted}
 use Rattle.etc_clean.specs.CleanList.{AreCleanNames, clean_names, clean_text, is_clean_name, names_in}
 use Rattle.etc_clean.specs.Etc.{Farm}
 use Rattle.etc_clean.specs.Farm.{placed}
-use Rattle.etc_farm.specs.FarmPart.{CanApply}
+use Rattle.etc_clean.specs.Obsolete.{IsSortedOf}
 use Rattle.etc_farm.specs.Steps.{IsFirstNames, placed_but}
 use Rattle.etc_farm.proofs.StageLemmas.{first_free, first_names, placed_is}
 
@@ -35,20 +35,21 @@ clean_read names read = all_clean names (λ q there. clean_in (Some (clean_text 
 -- ---- the names of the first list and of the last are those that they have to be
 
 pub record AreLists (farm : Farm) (found : Sorted) (first last : List Name) : Type 0 where
-  pub names_are : (w : WorldState) → CanApply farm found w → IsFirstNames farm.items w.leaves first
-  pub last_are : (w : WorldState) → CanApply farm found w → last ≡ placed farm.items w.leaves
+  pub names_are : (leaves : Leaves) → IsSortedOf farm.items leaves found → IsFirstNames farm.items leaves first
+  pub last_are : (leaves : Leaves) → IsSortedOf farm.items leaves found → last ≡ placed farm.items leaves
 
 pub lists_of :
     (farm : Farm) (manifest : IsManifest farm.items) (found : Sorted) (items : List Item) (blocked clean more first last : List Name) → items ≡ farm.items → blocked ≡ found.blocked →
     clean ≡ found.clean → more ≡ last → (IsStrictlySortedBy bytes_cmp blocked → last ≡ placed_but blocked items) → ((q : Name) → has first q ≡ (has clean q || has more q)) → IsStrictlySortedBy bytes_cmp first →
     (AllByRecursion (λ name. is_reserved name ≡ false) first → clean_names (clean_text first) ≡ first) → AreLists farm found first last
-lists_of farm manifest found items blocked clean more first last is_items is_blocked is_clean is_more last_by joined_by sorted read =
-    let open_are = λ (w : WorldState) (can : CanApply farm found w).
-    last_by (subst (IsStrictlySortedBy bytes_cmp) (sym is_blocked) can.sorted.blocked.sorted)
+lists_of farm manifest found items blocked clean more first last is_items is_blocked is_clean is_more last_by joined_by in_order read =
+    let open_are = λ (leaves : Leaves) (sorted : IsSortedOf farm.items leaves found).
+    last_by (subst (IsStrictlySortedBy bytes_cmp) (sym is_blocked) sorted.blocked.sorted)
     ∙ ap (λ (names : List Name). placed_but names items) is_blocked ∙ ap (placed_but found.blocked) is_items in
-    let joined = λ (w : WorldState) (can : CanApply farm found w) (q : Name).
-    joined_by q ∙ ap (λ (names : List Name). has names q || has more q) is_clean ∙ ap (λ (names : List Name). has found.clean q || has names q) (is_more ∙ open_are w can) in
+    let joined = λ (leaves : Leaves) (sorted : IsSortedOf farm.items leaves found) (q : Name).
+    joined_by q ∙ ap (λ (names : List Name). has names q || has more q) is_clean ∙ ap (λ (names : List Name). has found.clean q || has names q) (is_more ∙ open_are leaves sorted) in
     record {
-      names_are = λ w can. first_names farm manifest found w can first (joined w can) sorted (clean_read first (read (first_free farm manifest found w can first (joined w can))));
-      last_are = λ w can. open_are w can ∙ placed_is farm manifest found w can;
+      names_are = λ leaves sorted.
+          first_names farm manifest found leaves sorted first (joined leaves sorted) in_order (clean_read first (read (first_free farm manifest found leaves sorted first (joined leaves sorted))));
+      last_are = λ leaves sorted. open_are leaves sorted ∙ placed_is farm manifest found leaves sorted;
     }

@@ -35,13 +35,15 @@ use Rattle.etc_clean.proofs.StandingLemmas.{told_same}
 use Rattle.etc_farm.specs.FarmPart.{CanApply, farm_part, owns_farm}
 use Rattle.etc_farm.specs.Making.{begun, cleared}
 use Rattle.etc_farm.specs.Steps.{IsFirstNames, first_puts}
-use Rattle.etc_farm.specs.Written.{first_list, list_first, open_names}
+use Rattle.etc_farm.specs.Lists.{first_list}
+use Rattle.etc_farm.specs.Written.{list_first, open_names}
 use Rattle.etc_farm.proofs.EntryLemmas.{at_seen, manifest_free}
+use Rattle.etc_farm.proofs.OrderLemmas.{first_is}
 use Rattle.etc_farm.proofs.PlaceLemmas.{name_of_place, owned_place}
 use Rattle.etc_farm.proofs.RemovalLemmas.{gone_parts_of}
 use Rattle.etc_farm.proofs.StageLemmas.{blocked_are}
 use Rattle.etc_farm.proofs.StandingLemmas.{without_other}
-use Rattle.etc_farm.proofs.TimesLemmas.{among_place, first_is, never_among, once_among, once_written, other_unwritten, standing_unput}
+use Rattle.etc_farm.proofs.TimesLemmas.{among_place, never_among, once_among, once_written, other_unwritten, standing_unput}
 
 -- ---- the places of a farm
 

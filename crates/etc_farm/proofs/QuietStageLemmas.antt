@@ -23,12 +23,13 @@ use Rattle.etc_clean.specs.Farm.{placed}
 use Rattle.etc_clean.specs.Names.{place}
 use Rattle.etc_clean.proofs.FarmLemmas.{placed_kept}
 use Rattle.etc_clean.proofs.KeepsLemmas.{clean_owned}
-use Rattle.etc_farm.specs.declared.prepared.Prepared.{Prepared}
 use Rattle.etc_farm.specs.declared.etc_plan.EtcPlan.{EtcPlan}
 use Rattle.etc_farm.specs.EtcPart.{CanPutEtc, etc_part, items_in, items_of}
 use Rattle.etc_farm.specs.FarmPart.{CanApply, farm_of, farm_part, owns_farm}
+use Rattle.etc_farm.specs.Prepared.{PreparedPuts}
 use Rattle.etc_farm.specs.Steps.{IsPrepared, first_puts}
-use Rattle.etc_farm.specs.Written.{WritesLast, clean_first, first_list, in_order, list_first, open_names}
+use Rattle.etc_farm.specs.Lists.{first_list, in_order}
+use Rattle.etc_farm.specs.Written.{WritesLast, clean_first, list_first, open_names}
 use Rattle.etc_farm.proofs.EtcLemmas.{etc_frame, items_free}
 use Rattle.etc_farm.proofs.MakingLemmas.{last_as}
 use Rattle.etc_farm.proofs.PartLemmas.{frame_alike}
@@ -44,7 +45,7 @@ record IsClearedBy (puts : List LeafPut) (gone : List Name) (w u : WorldState) :
   pub world : seen u ≡ seen (without_places gone (with_puts puts w))
   pub written : u.written ≡ w.written ++ (places ++ gone)
 
-module _ {farm : Farm} {found : Sorted} {prepared : Prepared} (is_prepared : IsPrepared farm found prepared) {a : HostState} {puts : List LeafPut} (are : puts ≡ prepared.first) {b : HostState}
+module _ {farm : Farm} {found : Sorted} {prepared : PreparedPuts} (is_prepared : IsPrepared farm found prepared) {a : HostState} {puts : List LeafPut} (are : puts ≡ prepared.first) {b : HostState}
     (led : Leads a b (λ w v. seen v ≡ seen (with_puts puts w))) (wrote : Leads a b (WritesOthers puts))
     {c : HostState} {gone : List Name} (are_gone : gone ≡ prepared.gone) (dropped : Leads b c (λ w v. v ≡ without_places gone w)) where
   cleared_by : Leads a c (IsClearedBy (first_puts is_prepared.names farm.target) (map place found.gone))
@@ -77,7 +78,7 @@ module _ {farm : Farm} {found : Sorted} {prepared : Prepared} (is_prepared : IsP
         let names = is_prepared.names in
         let then = wrote_last w u v can_apply now in
         let rest = map place (open_names found.blocked found.standing farm.items) ++ written_if then.put (place clean_name) in
-        farm_quiet farm is_prepared.manifest found w can_apply names (is_prepared.names_are w can_apply) one.places one.are then.put u then.other
+        farm_quiet farm is_prepared.manifest found w can_apply names (is_prepared.names_are w.leaves can_apply.sorted) one.places one.are then.put u then.other
         (list_there farm is_prepared.manifest found w can_apply names u one.world) v
         (then.written ∙ ap (λ (ps : List Name). ps ++ rest) one.written ∙ append_assoc w.written (one.places ++ map place found.gone) rest))
 

@@ -23,6 +23,7 @@ use Rattle.etc_clean.specs.Etc.{Farm, static_name}
 use Rattle.etc_clean.specs.Farm.{at, is_blocked, is_entry, is_made, placed}
 use Rattle.etc_clean.specs.Keeps.{AreFree, IsFirstList}
 use Rattle.etc_clean.specs.Names.{name_of, place}
+use Rattle.etc_clean.specs.Obsolete.{IsSortedOf}
 use Rattle.etc_clean.proofs.FarmLemmas.{blocked_kept, placed_kept, placed_known}
 use Rattle.etc_clean.proofs.KeepsLemmas.{end_law, listed_there, static_owned}
 use Rattle.etc_farm.specs.FarmPart.{CanApply, farm_part, fixed_places}
@@ -32,6 +33,7 @@ use Rattle.etc_farm.proofs.FarmMoment.{AreGone, IsFarmMoment, IsOwn}
 use Rattle.etc_farm.proofs.ClearLemmas.{gone_first, gone_static}
 use Rattle.etc_farm.proofs.EntryLemmas.{all_listed_then, are_gone_seen, at_seen, manifest_free}
 use Rattle.etc_farm.proofs.LineLemmas.{clean_static, static_clean}
+use Rattle.etc_farm.proofs.OrderLemmas.{first_starts}
 use Rattle.etc_farm.proofs.PlaceLemmas.{place_apart, place_of_owned, way_free}
 use Rattle.etc_farm.proofs.RemovalLemmas.{all_own, none_left, own_at, own_free}
 use Rattle.etc_farm.proofs.StepLemmas.{moment_seen, moment_self, moment_then, put_first, put_static}
@@ -95,6 +97,36 @@ and_by a b is = ap (λ x. x && b) is
 pub placed_as : (items : List Item) (blocked : List Name) (leaves : Leaves) → ((q : Name) → is_entry items q ≡ true → has blocked q ≡ is_blocked items leaves q) → placed_but blocked items ≡ placed items leaves
 placed_as items blocked leaves are = ap (map (λ (item : Item). item.place)) (items_agree _ _ items (λ item there. ap (λ b. is_made item.kind && not b) (are item.place there)))
 
+module _ (farm : Farm) (manifest : IsManifest farm.items) (found : Sorted) (leaves : Leaves) (sorted : IsSortedOf farm.items leaves found) where
+  pub blocked_in : (q : Name) → is_entry farm.items q ≡ true → has found.blocked q ≡ is_blocked farm.items leaves q
+  blocked_in q known =
+      same_test (has found.blocked q) (is_entry farm.items q && is_blocked farm.items leaves q) (λ there. (sorted.blocked.exact q).0 there) (λ is. (sorted.blocked.exact q).1 is)
+      ∙ and_by (is_entry farm.items q) (is_blocked farm.items leaves q) known
+
+  pub placed_is : placed_but found.blocked farm.items ≡ placed farm.items leaves
+  placed_is = placed_as farm.items found.blocked leaves blocked_in
+
+  listed_free : (q : Name) → (has found.clean q || has (placed farm.items leaves) q) ≡ true → is_reserved q ≡ false
+  listed_free q there = ⊎_elim
+      (λ clean. clean_free_of (content_of leaves (place clean_name)) q ((sorted.clean.exact q).0 clean))
+      (λ also. manifest_free farm.items manifest q (placed_known farm.items leaves q also))
+      (or_cases (has found.clean q) (has (placed farm.items leaves) q) there)
+
+  module _ (first : List Name) (joined : (q : Name) → has first q ≡ (has found.clean q || has (placed_but found.blocked farm.items) q)) where
+    first_has : (q : Name) → has first q ≡ (has found.clean q || has (placed farm.items leaves) q)
+    first_has q = joined q ∙ ap (λ (names : List Name). has found.clean q || has names q) placed_is
+
+    joined_is : (q : Name) → has first q ≡ (has (clean_of leaves) q || has (placed farm.items leaves) q)
+    joined_is q =
+        first_has q
+        ∙ ap (λ b. b || has (placed farm.items leaves) q) (same_test (has found.clean q) (has (clean_of leaves) q) (λ there. (sorted.clean.exact q).0 there) (λ there. (sorted.clean.exact q).1 there))
+
+    pub first_names : IsStrictlySortedBy bytes_cmp first → AreCleanNames first → IsFirstNames farm.items leaves first
+    first_names in_order clean = record { list = record { sorted = in_order; exact = λ q. ((λ there. sym (joined_is q) ∙ there), (λ is. joined_is q ∙ is)) }; clean = clean }
+
+    pub first_free : AllByRecursion (λ name. is_reserved name ≡ false) first
+    first_free = all_free first (λ q there. listed_free q (sym (first_has q) ∙ there))
+
 module _ (farm : Farm) (manifest : IsManifest farm.items) (found : Sorted) (w : WorldState) (can : CanApply farm found w) where
   abbrev items : List Item
   items = farm.items
@@ -103,36 +135,10 @@ module _ (farm : Farm) (manifest : IsManifest farm.items) (found : Sorted) (w : 
   free = manifest_free items manifest
 
   pub blocked_are : (q : Name) → is_entry items q ≡ true → has found.blocked q ≡ is_blocked items w.leaves q
-  blocked_are q known =
-      same_test (has found.blocked q) (is_entry items q && is_blocked items w.leaves q) (λ there. (can.sorted.blocked.exact q).0 there) (λ is. (can.sorted.blocked.exact q).1 is)
-      ∙ and_by (is_entry items q) (is_blocked items w.leaves q) known
-
-  pub placed_is : placed_but found.blocked items ≡ placed items w.leaves
-  placed_is = placed_as items found.blocked w.leaves blocked_are
+  blocked_are = blocked_in farm manifest found w.leaves can.sorted
 
   pub open_as : puts_but found.blocked items ≡ entry_puts items w.leaves
   open_as = ap (λ (list : List Item). map item_put list) (items_agree _ _ items (λ item there. ap (λ b. not b) (blocked_are item.place there)))
-
-  listed_free : (q : Name) → (has found.clean q || has (placed items w.leaves) q) ≡ true → is_reserved q ≡ false
-  listed_free q there = ⊎_elim
-      (λ clean. clean_free_of (content_of w.leaves (place clean_name)) q ((can.sorted.clean.exact q).0 clean))
-      (λ also. free q (placed_known items w.leaves q also))
-      (or_cases (has found.clean q) (has (placed items w.leaves) q) there)
-
-  module _ (first : List Name) (joined : (q : Name) → has first q ≡ (has found.clean q || has (placed_but found.blocked items) q)) where
-    first_has : (q : Name) → has first q ≡ (has found.clean q || has (placed items w.leaves) q)
-    first_has q = joined q ∙ ap (λ (names : List Name). has found.clean q || has names q) placed_is
-
-    joined_is : (q : Name) → has first q ≡ (has (clean_of w.leaves) q || has (placed items w.leaves) q)
-    joined_is q =
-        first_has q
-        ∙ ap (λ b. b || has (placed items w.leaves) q) (same_test (has found.clean q) (has (clean_of w.leaves) q) (λ there. (can.sorted.clean.exact q).0 there) (λ there. (can.sorted.clean.exact q).1 there))
-
-    pub first_names : IsStrictlySortedBy bytes_cmp first → AreCleanNames first → IsFirstNames items w.leaves first
-    first_names sorted clean = record { list = record { sorted = sorted; exact = λ q. ((λ there. sym (joined_is q) ∙ there), (λ is. joined_is q ∙ is)) }; clean = clean }
-
-    pub first_free : AllByRecursion (λ name. is_reserved name ≡ false) first
-    first_free = all_free first (λ q there. listed_free q (sym (first_has q) ∙ there))
 
   gone_are : AreGone items found.gone w.leaves
   gone_are q gone = (can.sorted.gone.exact q).1 gone
@@ -142,7 +148,10 @@ module _ (farm : Farm) (manifest : IsManifest farm.items) (found : Sorted) (w : 
 
   -- ---- what is put first
 
-  module _ (first : List Name) (starts : IsFirstList items w.leaves first) where
+  module _ (first : List Name) (names_are : IsFirstNames items w.leaves first) where
+    starts : IsFirstList items w.leaves first
+    starts = first_starts items w.leaves first names_are
+
     abbrev listed_world : WorldState
     listed_world = with_leaf (place clean_name) (clean_leaf first) w
 
@@ -150,7 +159,7 @@ module _ (farm : Farm) (manifest : IsManifest farm.items) (found : Sorted) (w : 
     begun_world = with_leaf (place static_name) (Link farm.target) listed_world
 
     listed_moment : IsFarmMoment items w listed_world
-    listed_moment = put_first items free w first starts
+    listed_moment = put_first items free w first names_are
 
     linked_moment : IsFarmMoment items listed_world begun_world
     linked_moment = put_static items free listed_world (Link farm.target)

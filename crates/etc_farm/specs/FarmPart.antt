@@ -17,6 +17,7 @@ use Rattle.etc_clean.specs.Farm.{at, placed}
 use Rattle.etc_clean.specs.Keeps.{AreFree, AreLines, Keeps}
 use Rattle.etc_clean.specs.Names.{is_in_etc, name_of, place}
 use Rattle.etc_clean.specs.Obsolete.{IsSortedOf}
+use Rattle.etc_farm.specs.Lists.{AreListsShort}
 
 -- where `/etc/static` leads: to a system's own etc
 unfoldable pub static_target : Name → List ℕ
@@ -43,11 +44,13 @@ pub record AreListed (items : List Item) (w m : Leaves) : Type 0 where
   pub stays : (q : Name) → has (placed items w) q ≡ true → has (clean_of w) q ≡ true → has (clean_of m) q ≡ true
   pub changed : (q : Name) → has (placed items w) q ≡ true → (at m q ≡ at w q) ⊎ (has (clean_of m) q ≡ true)
 
--- what each moment keeps: what the farm's end is made of, that its copies are listed, and that nothing is in its way
+-- what each moment keeps: what the farm's end is made of, that its copies are listed, that nothing is in its way, and that its lists
+-- can be read again
 pub record KeepsFarm (items : List Item) (w m : WorldState) : Type 0 where
   pub keeps : Keeps items w.leaves m.leaves
   pub listed : AreListed items w.leaves m.leaves
   pub free : in_the_way fixed_places w.leaves ≡ None → in_the_way fixed_places m.leaves ≡ None
+  pub short : AreListsShort items w.leaves m.leaves
 
 -- the part that puts a farm
 abbrev pub farm_part : Farm → Part
@@ -57,6 +60,7 @@ farm_part farm = record {
   calls = false;
   places = λ leaves. fixed_places;
   refusal = λ leaves. None;
+  long = λ leaves. None;
   end = λ leaves path. etc farm leaves (name_of path);
   Keeps = λ w m. KeepsFarm farm.items w m;
 }

@@ -14,9 +14,10 @@ use Rattle.etc_clean.specs.CleanList.{AreCleanNames, clean_leaf, clean_name, cle
 use Rattle.etc_clean.specs.Etc.{Farm, leaf_of, static_name}
 use Rattle.etc_clean.specs.Farm.{is_blocked, is_entry, is_gone, is_made, placed}
 use Rattle.etc_clean.specs.Names.{place}
+use Rattle.etc_clean.specs.Obsolete.{IsSortedOf}
 use Rattle.etc_clean.specs.Standing.{is_standing}
-use Rattle.etc_farm.specs.declared.prepared.Prepared.{Prepared}
-use Rattle.etc_farm.specs.FarmPart.{CanApply, fixed_places}
+use Rattle.etc_farm.specs.FarmPart.{fixed_places}
+use Rattle.etc_farm.specs.Prepared.{PreparedPuts}
 
 -- nothing is gone
 abbrev pub IsNoneGone : List Item → Leaves → Type 0
@@ -66,12 +67,12 @@ pub record AreStanding (items : List Item) (names : List Name) (w : WorldState) 
 abbrev pub first_puts : List Name → List ℕ → List LeafPut
 first_puts names target = put_at (place clean_name) (clean_leaf names) ∷ put_at (place static_name) (Link target) ∷ []
 
--- what is put and removed for a farm beside its entries, wherever the farm can be put
-pub record IsPrepared (farm : Farm) (found : Sorted) (prepared : Prepared) : Type 0 where
+-- what is put and removed for a farm beside its entries, wherever the same is gone and blocked
+pub record IsPrepared (farm : Farm) (found : Sorted) (prepared : PreparedPuts) : Type 0 where
   pub manifest : IsManifest farm.items
   pub names : List Name
   pub first : prepared.first ≡ first_puts names farm.target
-  pub names_are : (w : WorldState) → CanApply farm found w → IsFirstNames farm.items w.leaves names
+  pub names_are : (leaves : Leaves) → IsSortedOf farm.items leaves found → IsFirstNames farm.items leaves names
   pub gone : prepared.gone ≡ map place found.gone
   pub last_at : prepared.last.at ≡ place clean_name
-  pub last : (w : WorldState) → CanApply farm found w → prepared.last.leaf ≡ clean_leaf (placed farm.items w.leaves)
+  pub last : (leaves : Leaves) → IsSortedOf farm.items leaves found → prepared.last.leaf ≡ clean_leaf (placed farm.items leaves)

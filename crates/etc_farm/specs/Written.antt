@@ -1,18 +1,17 @@
 -- What putting a farm writes, and what it puts on the way: setup-etc.pl of nixpkgs.
 use Rattle.std.specs.Prelude.{◌≡◌, ◌||◌, ◌∷◌, ◌++◌, [], Bool, not, List, filter, map, if◌then◌else◌}
-use Rattle.std.specs.FinMap.{from_entries, keys}
 use Rattle.switch_names.specs.Names.{Name, has, is_name}
 use Rattle.host_trait.specs.declared.leaf.LeafKind.{LeafKind}
-use Rattle.host_trait.specs.World.{Leaves, WorldState, bytes_cmp}
+use Rattle.host_trait.specs.World.{Leaves, WorldState}
 use Rattle.tree_put.specs.declared.leaf_put.LeafPut.{LeafPut}
 use Rattle.tree_put.specs.Put.{IsPutIfOther, written_if}
 use Rattle.etc_manifest.specs.declared.item.Item.{Item}
 use Rattle.etc_manifest.specs.Manifest.{places}
 use Rattle.etc_manifest.specs.Owners.{OwnerIds}
-use Rattle.etc_clean.specs.CleanList.{clean_leaf, clean_name, clean_of}
-use Rattle.etc_clean.specs.Farm.{placed}
+use Rattle.etc_clean.specs.CleanList.{clean_name}
 use Rattle.etc_clean.specs.Names.{place}
 use Rattle.etc_farm.specs.EtcPart.{items_of}
+use Rattle.etc_farm.specs.Lists.{first_list}
 
 -- the names of the entries that are neither blocked nor stand
 abbrev pub open_names : List Name → List Name → List Item → List Name
@@ -27,14 +26,6 @@ pub record WritesLast (items : List Item) (blocked standing : List Name) (last :
   pub put : Bool
   pub other : IsPutIfOther last.at last.leaf put w
   pub written : v.written ≡ w.written ++ (map place (open_names blocked standing items) ++ written_if put last.at)
-
--- names in byte order, each once
-abbrev pub in_order : List Name → List Name
-in_order names = keys (from_entries {R = bytes_cmp} (map (λ name. (name, tt {0})) names))
-
--- the first clean list: the names of the list that stands, and of the copied and direct entries that aren't blocked
-abbrev pub first_list : List Item → Leaves → LeafKind
-first_list items leaves = clean_leaf (in_order (clean_of leaves ++ placed items leaves))
 
 -- the leaves that a farm puts at a place before its end
 abbrev pub list_first : List Item → Leaves → Name → List LeafKind

@@ -8,11 +8,11 @@ ghost use Rattle.etc_clean.specs.CleanList.{clean_name};
 ghost use Rattle.etc_clean.specs.Names.{place};
 ghost use Rattle.etc_farm.specs.FarmPart.{CanApply, farm_of, farm_part};
 ghost use Rattle.etc_farm.specs.Making.{IsMaking};
-ghost use Rattle.etc_farm.specs.Steps.{AreStanding, CanPutEntries, puts_but};
+ghost use Rattle.etc_farm.specs.Steps.{AreStanding, CanPutEntries, IsPrepared, puts_but};
 ghost use Rattle.etc_farm.specs.Written.{WritesEntries, WritesLast, list_first};
 
 use crate::entries::put_entries;
-use crate::prepared::prepare;
+use crate::prepared::{Prepared, prepare};
 use etc_clean::Sorted;
 use etc_manifest::{Item, Manifest};
 use host_trait::{HostFault, Tree};
@@ -66,6 +66,30 @@ fn finish<T: Tree>(
     Ok(())
 }
 
+/// Puts the farm of a system with what is prepared for it.
+pub fn apply_prepared<T: Tree>(
+    alloc: Global,
+    host: &mut T,
+    system: &SystemName,
+    manifest: &Manifest,
+    sorted: &Sorted,
+    prepared: &Prepared,
+) -> Result<(), HostFault>
+    requires prepared { Told (T.host host.old) (λ w. IsPrepared (farm_of system.now manifest.now) sorted.now prepared.now) }
+    requires can { Told (T.host host.old) (CanApply (farm_of system.now manifest.now) sorted.now) }
+    ensures ok { OnOk result (Leads (T.host host.old) (T.host host.new) (IsAtEnd (farm_part (farm_of system.now manifest.now)))) }
+    ensures quiet { OnOk result (Leads (T.host host.old) (T.host host.new) (IsQuiet (list_first manifest.now) (final_leaf (farm_part (farm_of system.now manifest.now))))) }
+    ensures steps { Passes (T.host host.old) (T.host host.new) (IsMaking (farm_of system.now manifest.now)) }
+    ensures cause { HasCause (T.host host.old) (T.host host.new) result }
+{
+    let items = manifest.items().as_slice();
+    let blocked = sorted.blocked.as_slice();
+    let standing = sorted.standing.as_slice();
+    put_all(alloc, host, prepared.first())?;
+    drop_all(alloc, host, prepared.gone())?;
+    finish(alloc, host, items, blocked, standing, prepared.last())
+}
+
 /// Puts the farm of a system: the first clean list, the link at `static`, the removal of what is
 /// gone, the entries that aren't blocked, and the last clean list.
 ///
@@ -91,11 +115,6 @@ pub fn apply<T: Tree>(
     ensures steps { Passes (T.host host.old) (T.host host.new) (IsMaking (farm_of system.now manifest.now)) }
     ensures cause { HasCause (T.host host.old) (T.host host.new) result }
 {
-    let items = manifest.items().as_slice();
-    let blocked = sorted.blocked.as_slice();
-    let standing = sorted.standing.as_slice();
     let prepared = prepare(alloc, system, manifest, sorted)?;
-    put_all(alloc, host, prepared.first.as_slice())?;
-    drop_all(alloc, host, prepared.gone.as_slice())?;
-    finish(alloc, host, items, blocked, standing, &prepared.last)
+    apply_prepared(alloc, host, system, manifest, sorted, &prepared)
 }

@@ -11,6 +11,7 @@ mod planning;
 mod prepared;
 mod putting;
 mod removal;
+mod taking;
 
 pub use etc_plan::EtcPlan;
 pub use farm::apply;
@@ -21,3 +22,4 @@ pub use laws::{
 pub use places::add_farm_places;
 pub use planning::{plan_etc, too_many_entries};
 pub use putting::put_etc;
+pub use taking::taken;

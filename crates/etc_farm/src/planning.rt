@@ -5,6 +5,8 @@ ghost use Rattle.host_trait.specs.Host.{Told};
 ghost use Rattle.host_trait.specs.Reading.{IsReading, IsReadingOf};
 ghost use Rattle.switch_parts.specs.declared.plan_fault.PlanFault.TheVariants.{Host, Refused};
 ghost use Rattle.switch_parts.specs.declared.refusal.Refusal.{Refusal};
+ghost use Rattle.switch_parts.specs.declared.refusal.What.TheVariants.{LeafBytes};
+ghost use Rattle.switch_parts.specs.Limits.{too_many};
 ghost use Rattle.etc_manifest.specs.declared.manifest_fault.ManifestFault.TheVariants as faults;
 ghost use Rattle.etc_manifest.specs.Count.{entries_past};
 ghost use Rattle.etc_manifest.specs.Entries.{manifest_of};
@@ -14,6 +16,7 @@ ghost use Rattle.etc_farm.specs.EtcPart.{IsEtcPlanOf, entries_too_many, etc_refu
 
 use crate::etc_plan::EtcPlan;
 use crate::places::static_path;
+use crate::prepared::prepare;
 use etc_clean::{Sorted, obsolete};
 use etc_manifest::{Manifest, ManifestFault, Owners, count};
 use host_trait::{HostFault, Tree};
@@ -69,6 +72,18 @@ fn look<T: Tree>(alloc: Global, host: &mut T, manifest: &Manifest) -> Result<Sor
     obsolete(alloc, host, manifest)
 }
 
+/// Refuses the clean list that stands, given how many bytes it has where it has more than 16 MiB.
+fn check_list(past: Option<u64>) -> Result<(), PlanFault>
+    ensures short { OnOk result (too_many LeafBytes past ≡ None) }
+    ensures refused { (why : Refusal) → IsErrOf result (Refused why) → too_many LeafBytes past ≡ Some why }
+    ensures no_host { IsErrOf result (Host Device) → ⊥ }
+{
+    match too_many(What::LeafBytes, past) {
+        Some(why) => Err(PlanFault::Refused(why)),
+        None => Ok(()),
+    }
+}
+
 /// The refusal of a system whose etc has too many entries, where it has. It lists the folder once, and reads no leaf.
 pub fn too_many_entries<T: Tree>(
     alloc: Global,
@@ -86,7 +101,8 @@ pub fn too_many_entries<T: Tree>(
 ///
 /// That there are too many entries is sought before any of them is read. They are read in byte order,
 /// and the first that is refused is named. Of an entry that it is reserved is sought first, then that it
-/// can't be placed, and then that an owner is unknown.
+/// can't be placed, and then that an owner is unknown. Last of all it is refused where the clean list that
+/// stands has more than 16 MiB. That it would be put so long is for `EtcPlan::long` to say.
 /// Source: setup-etc.pl of nixpkgs.
 pub fn plan_etc<T: Tree>(
     alloc: Global,
@@ -102,9 +118,12 @@ pub fn plan_etc<T: Tree>(
 {
     let manifest = read_manifest(alloc, host, system, &owners)?;
     let sorted = look(alloc, host, &manifest)?;
+    check_list(sorted.past)?;
+    let prepared = prepare(alloc, system, &manifest, &sorted)?;
     Ok(EtcPlan {
         owners,
         manifest,
         sorted,
+        prepared,
     })
 }

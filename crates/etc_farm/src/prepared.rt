@@ -2,7 +2,8 @@
 ghost use Rattle.std.specs.Prelude.{◌≡◌, ◌∷◌, [], IfOk};
 ghost use Rattle.host_trait.specs.declared.leaf.LeafKind.TheVariants.{Link};
 ghost use Rattle.tree_put.specs.declared.leaf_put.LeafPut.{LeafPut};
-ghost use Rattle.tree_put.specs.Sequence.{put_at};
+ghost use Rattle.tree_put.specs.Sequence.{ArePutsApart, put_at};
+ghost use Rattle.etc_clean.specs.CleanList.{clean_name};
 ghost use Rattle.etc_clean.specs.Etc.{static_name};
 ghost use Rattle.etc_clean.specs.Names.{place};
 ghost use Rattle.etc_farm.specs.FarmPart.{farm_of, static_target};
@@ -15,17 +16,18 @@ use etc_clean::{Sorted, link_leaf};
 use etc_manifest::Manifest;
 use host_trait::Leaf;
 use std::alloc::{AllocError, Global};
+use std::marker::Model;
 use switch_names::{Listed, Path, SystemName};
 use tree_put::LeafPut;
 
 /// What is put and removed for a farm beside its entries.
+///
+/// Contracts see the puts that come first, the places of what is gone and the last put. Those that come first are apart, and
+/// the last is at the place of the clean list, whether or not a host tells its world.
 pub struct Prepared {
-    /// The first clean list, and the link at `static`.
-    pub first: Listed<LeafPut>,
-    /// The places of what is gone.
-    pub gone: Listed<Path>,
-    /// The last clean list.
-    pub last: LeafPut,
+    first: Listed<LeafPut>,
+    gone: Listed<Path>,
+    last: LeafPut,
 }
 
 /// One call: a derived drop is proved anew in each function that lets one go.
@@ -36,6 +38,41 @@ impl Drop for Prepared {
             gone: _,
             last: _,
         } = self;
+    }
+}
+
+impl Model for Prepared {
+    ghost use Rattle.etc_farm.specs.Prepared.{AreAtPlaces, PreparedPuts};
+
+    ghost Value = { PreparedPuts };
+
+    ghost view = { λ prepared. record { first = prepared.first; gone = prepared.gone; last = prepared.last } };
+
+    ghost invariant = { λ prepared. AreAtPlaces (record { first = prepared.first; gone = prepared.gone; last = prepared.last }) };
+}
+
+impl Prepared {
+    /// The first clean list, and the link at `static`.
+    pub fn first(&self) -> &[LeafPut]
+        ensures first { result.now ≡ self.now.first }
+        ensures apart { ArePutsApart result.now }
+    {
+        self.first.as_slice()
+    }
+
+    /// The places of what is gone.
+    pub fn gone(&self) -> &[Path]
+        ensures { result.now ≡ self.now.gone }
+    {
+        self.gone.as_slice()
+    }
+
+    /// The last clean list.
+    pub fn last(&self) -> &LeafPut
+        ensures last { result.now ≡ self.now.last }
+        ensures place { result.now.at ≡ place clean_name }
+    {
+        &self.last
     }
 }
 

@@ -8,14 +8,15 @@ ghost use Rattle.etc_farm.specs.Making.{IsMakingEtc};
 ghost use Rattle.etc_farm.specs.Written.{clean_first};
 
 use crate::etc_plan::EtcPlan;
-use crate::farm::apply;
+use crate::farm::apply_prepared;
 use host_trait::{HostFault, Tree};
 use std::alloc::Global;
 use switch_names::SystemName;
 
 /// Makes `/etc` what a system wants, as planned.
 ///
-/// A cut leaves `/etc` in the making: planned again, it has the same end.
+/// A cut leaves `/etc` in the making: planned again, it has the same end. The memory for what is put and removed beside the
+/// entries was taken in the plan.
 /// Source: setup-etc.pl of nixpkgs.
 pub fn put_etc<T: Tree>(
     alloc: Global,
@@ -32,5 +33,12 @@ pub fn put_etc<T: Tree>(
 {
     // The moments hold of a path of the store alone.
     let _path = system.path();
-    apply(alloc, host, system, &plan.manifest, &plan.sorted)
+    apply_prepared(
+        alloc,
+        host,
+        system,
+        &plan.manifest,
+        &plan.sorted,
+        &plan.prepared,
+    )
 }

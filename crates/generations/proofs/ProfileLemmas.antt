@@ -183,6 +183,6 @@ profile_is system =
     leaf_is_part owns_profile (λ leaves. profile_places leaves system) (λ leaves. cond (has_number leaves system) None (Some GenerationsFull)) (profile_end system) reads_profile
     (λ w m same. record {
       ends = λ q own. frame_end system w m same q own;
-      free = λ way refusal. let free = frame_free system w m same (record { way = way; refusal = refusal }) in (free.way, free.refusal);
+      free = λ way refusal. let free = frame_free system w m same (record { way = way; refusal = refusal; short = refl }) in (free.way, free.refusal);
     })
     (λ q own. owned_read q own) stage_unread

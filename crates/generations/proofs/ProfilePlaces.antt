@@ -72,4 +72,5 @@ pub free_of : (system : Name) (w : WorldState) → CanSet system w → has_numbe
 free_of system w can further = record {
   way = free_of_can system w can;
   refusal = ap (λ b. cond b None (Some GenerationsFull)) further;
+  short = refl;
 }

@@ -1,5 +1,5 @@
 //! The profile and the goal of a rollback as parts of a switch.
-ghost use Rattle.std.specs.Prelude.{◌≡◌, ◌↔◌, ℕ, true};
+ghost use Rattle.std.specs.Prelude.{◌≡◌, ◌↔◌, ◌<◌, ◌^◌, ℕ, Bool, true};
 ghost use Rattle.host_trait.specs.World.{WorldState, seen, without_leaf};
 ghost use Rattle.switch_names.specs.Names.{Name};
 ghost use Rattle.switch_names.specs.SystemName.{IsSystemPath};
@@ -70,11 +70,11 @@ pub fn the_goal_stays()
     ensures { GoalLaw }
 {}
 
-/// The part that leaves no goal is one. Each moment of recording a goal and of removing it is one of the
-/// part, and the last leaves the part at its end.
+/// The part that leaves no goal is one, whether or not the profile goes back. Each moment of recording a goal
+/// and of removing it is one of the part, and the last leaves the part at its end.
 pub fn the_goal_is_a_part()
-    ensures part { IsPart goal_part }
-    ensures recording { (n : ℕ) (w m : WorldState) → IsOldOrNew goal_place (goal_leaf n) w m → IsMomentOf goal_part w m }
-    ensures clearing { (w m : WorldState) → IsOldOrGone goal_place w m → IsMomentOf goal_part w m }
-    ensures end { (w v : WorldState) → v ≡ without_leaf goal_place w → IsAtEnd goal_part w v }
+    ensures part { (back : Bool) → IsPart (goal_part back) }
+    ensures recording { (back : Bool) (n : ℕ) (w m : WorldState) → n < 2 ^ 32 → IsOldOrNew goal_place (goal_leaf n) w m → IsMomentOf (goal_part back) w m }
+    ensures clearing { (back : Bool) (w m : WorldState) → IsOldOrGone goal_place w m → IsMomentOf (goal_part back) w m }
+    ensures end { (back : Bool) (w v : WorldState) → v ≡ without_leaf goal_place w → IsAtEnd (goal_part back) w v }
 {}

@@ -22,5 +22,5 @@ pub use laws::{
 pub use link_number::{number_of_name, number_of_path};
 pub use listing::{all, target_of};
 pub use moving::{Move, add_goal_place, add_move_places, after_move, move_profile, number_to};
-pub use rollback_goal::{GoalFault, clear_goal, goal, goal_path, record_goal};
+pub use rollback_goal::{GoalFault, clear_goal, goal, goal_past, goal_path, record_goal};
 pub use setting::{SetFault, generation_path, point, profile_path, set, set_number};

@@ -8,6 +8,7 @@ ghost use Rattle.host_trait.specs.Reading.{IsReading, IsReadingOf};
 ghost use Rattle.host_trait.specs.World.{content_of, with_leaf, without_leaf};
 ghost use Rattle.tree_put.specs.Put.{CanPut, IsOldOrGone, IsOldOrNew};
 ghost use Rattle.tree_put.specs.Written.{WritesOnly};
+ghost use Rattle.leaf_limits.specs.Limits.{content_past};
 ghost use Rattle.generations.specs.declared.rollback_goal.GoalFault.TheVariants.{Host, NoPrevious};
 ghost use Rattle.generations.specs.Digits.{BearsNumber};
 ghost use Rattle.generations.specs.Gens.{IsGensOf};
@@ -17,6 +18,7 @@ ghost use Rattle.generations.specs.GoalPart.{owns_goal};
 use crate::digits::number_between;
 use crate::gens::{Gen, Gens, previous};
 use host_trait::{HostFault, Leaf, Tree, content, fixed_path};
+use leaf_limits::content_past;
 use std::alloc::{AllocError, Global};
 use switch_names::{Bytes, Path};
 use thiserror::Error;
@@ -123,6 +125,16 @@ pub fn goal<T: Tree>(alloc: Global, host: &mut T, gens: &Gens) -> Result<u32, Go
         Some(number) => Ok(number),
         None => Err(GoalFault::NoPrevious),
     }
+}
+
+/// How many bytes the goal that is recorded has, where it has more than 16 MiB.
+pub fn goal_past<T: Tree>(alloc: Global, host: &mut T) -> Result<Option<u64>, HostFault>
+    ensures past { IfOk result (λ past. Told (T.host host.old) (λ w. past ≡ content_past (content_of w.leaves goal_place))) }
+    ensures reads { IsReading (T.host host.old) (T.host host.new) result }
+{
+    let at = goal_path(alloc)?;
+    let bytes = content(alloc, host, &at)?;
+    Ok(content_past(&bytes))
 }
 
 /// The leaf that records a goal.

@@ -80,7 +80,7 @@ module _ (empty host : HostState) (w : WorldState) (stands : empty.world ≡ Som
   pub can_apply : (farm : Farm) (sorted : Sorted) → AreApart (places farm.items) → Told empty (λ w. IsSortedOf farm.items w.leaves sorted) → Told host (CanApply farm sorted)
   can_apply farm sorted apart are = record {
     has = λ v is. record {
-      free = record { way = none_in_the_way v (told.has v is) ((farm_part farm).places v.leaves); refusal = refl };
+      free = record { way = none_in_the_way v (told.has v is) ((farm_part farm).places v.leaves); refusal = refl; short = refl };
       apart = apart;
       sorted = subst (λ (leaves : Leaves). IsSortedOf farm.items leaves sorted) (same_leaves v is) (are.has w stands);
     };
@@ -91,6 +91,6 @@ module _ (empty host : HostState) (w : WorldState) (stands : empty.world ≡ Som
     has = λ v is. record {
       gens = gens;
       planned = are.has w stands ∙ ap (menu_of gens) (same_leaves v is);
-      free = record { way = none_in_the_way v (told.has v is) ((boot_part gens).places v.leaves); refusal = none_too_long v (told.has v is) gens };
+      free = record { way = none_in_the_way v (told.has v is) ((boot_part gens).places v.leaves); refusal = none_too_long v (told.has v is) gens; short = refl };
     };
   }

@@ -139,7 +139,7 @@ module _ (keep : ℕ) (one : Collection) (w m : WorldState) (is : IsCollectionOf
     none_too_long = ap (too_many LeafBytes) (none_past (long_past (has (taken_of kept)) w.leaves) refl)
 
     free_before : IsFree (boot_part kept) w.leaves
-    free_before = record { way = (none_as_listed (boot_places kept.list) w.leaves).0 (none_before (first_in_the_way (boot_places kept.list) w.leaves) refl); refusal = none_too_long }
+    free_before = record { way = (none_as_listed (boot_places kept.list) w.leaves).0 (none_before (first_in_the_way (boot_places kept.list) w.leaves) refl); refusal = none_too_long; short = refl }
 
     menu_free : (v : WorldState) → IsBootMoment one.texts w v → first_in_the_way (boot_places kept.list) v.leaves ≡ None
     menu_free v boot =

@@ -41,12 +41,12 @@ use Rattle.switch_engine.specs.declared.outcome.Outcome.{Outcome}
 use Rattle.switch_engine.specs.declared.plan.Plan.{Plan}
 use Rattle.switch_engine.specs.declared.row.Row.{Row}
 use Rattle.switch_engine.specs.Carried.{CanRecordBy, CanSetBy, CanSwitchBy, IsSwitchMomentIf, IsSwitchedIf, cleared_by, moves_of}
-use Rattle.switch_engine.specs.Commands.{IsQuery, brought_to, if_moved, if_so, lacks_system, new_system, row, set_to}
+use Rattle.switch_engine.specs.Commands.{IsQuery, brought_to, if_moved, if_so, is_back, lacks_system, new_system, row, set_to}
 use Rattle.switch_engine.specs.Final.{AreEntries, AreFinalUnits, HasBegunToEnter, HasFailed, IsEndOf, LeavesFailedAt}
 use Rattle.switch_engine.specs.Moments.{IsClearStep, IsMomentOf, IsOnItsWay, IsRecordStep, IsSetStep, IsStepIf, IsStepOf, IsStepTo, NamesOneOf, record_world, set_world}
 use Rattle.switch_engine.specs.Owing.{IsSteadyFor, IsUnderway}
 use Rattle.switch_engine.specs.Plan.{ArePlanned, AreUnitsPlanned, IsActivationPlanned, IsPlanOf, IsProfilePlanned}
-use Rattle.switch_engine.specs.Rows.{default_if, gens_to, part_if, part_of, switch_in, switch_part}
+use Rattle.switch_engine.specs.Rows.{default_if, gens_to, goal_by, part_if, part_of, switch_in, switch_part}
 use Rattle.activation_stage.proofs.ActivationLemmas.{activation_part_law, activation_plan_law, owners_law}
 use Rattle.boot_entries.proofs.DefaultLemmas.{default_part_law, default_plan_law, default_stays_law}
 use Rattle.boot_entries.proofs.GensLemmas.{gens_after_law}
@@ -59,7 +59,7 @@ use Rattle.switch_engine.proofs.MovedPart.{default_in}
 use Rattle.switch_engine.proofs.PartsLemmas.{are_parted, default_if_is, default_parted, gens_to_law, goal_parted, parts_are, switch_if_is}
 use Rattle.switch_engine.proofs.GoalApart.{goal_not_stage, goal_unread_default}
 use Rattle.switch_engine.proofs.GoalKeptLemmas.{IsGoalKept, IsMoveToBy, IsProfileKept, IsRecorded, system_still, kept_recorded, move_to_kept, moves_to, recorded_at, recorded_same, row_same}
-use Rattle.switch_engine.proofs.StepLeaves.{IsDefaultLeft, IsUnitsEnd, brought_from, default_kept, goal_menu, goal_names_same, goal_not_own, goal_profile, goal_store, link_not_stage, names_since, names_then, of_goal, profile_not_own, profile_not_stage, record_kept, record_last, record_only, record_part_moment, set_end, set_goal, set_menu, set_names, set_part_moment, set_step, switch_end, switch_final, switch_if_moment, switch_menu, switch_names, switch_step, units_end}
+use Rattle.switch_engine.proofs.StepLeaves.{IsDefaultLeft, IsUnitsEnd, brought_from, default_kept, goal_menu, goal_names_same, goal_not_own, goal_profile, goal_store, link_not_stage, names_since, names_then, of_goal, profile_not_own, profile_not_stage, record_kept, record_last, record_only, record_part_moment, set_end, set_goal, set_menu, set_names, set_part_moment, set_step, small_row, switch_end, switch_final, switch_if_moment, switch_menu, switch_names, switch_step, units_end}
 use Rattle.switch_engine.proofs.UnderwayLemmas.{IsFreeCommand, free_command, has_a_system, underway}
 use Rattle.switch_names.specs.Names.{Name}
 use Rattle.switch_names.specs.SystemName.{IsSystemPath}
@@ -123,20 +123,20 @@ pub can_record : (moves : Option Move) (system : Name) (gens : Gens) (w : WorldS
 can_record None system gens w free = tt
 can_record (Some Set) system gens w free = tt
 can_record (Some (Point n)) system gens w free = record {
-  stage = (can_point n system w (first_free (move_part (Point n) system) (boot_part gens) w.leaves (first_free (boot_default_part (Point n) system gens) goal_part w.leaves free))).stage;
-  place = goal_clear w (second_free (boot_default_part (Point n) system gens) goal_part w.leaves free);
+  stage = (can_point n system w (first_free (move_part (Point n) system) (boot_part gens) w.leaves (first_free (boot_default_part (Point n) system gens) (goal_by (Point n)) w.leaves free))).stage;
+  place = goal_clear true w (second_free (boot_default_part (Point n) system gens) (goal_by (Point n)) w.leaves free);
 }
 
 -- a boot default that is planned can be made once the goal is recorded
-pub can_set : (moves : Option Move) (system : Name) → IsSystemPath system → (w r : WorldState) (o : Option BootDefaultPlan) → IsProfilePlanned moves system w o → IsOnly goal_part w r → IsFree (default_in moves system r.leaves) r.leaves →
+pub can_set : (moves : Option Move) (system : Name) → IsSystemPath system → (w r : WorldState) (o : Option BootDefaultPlan) → IsProfilePlanned moves system w o → IsOnly (goal_part false) w r → IsFree (default_in moves system r.leaves) r.leaves →
     CanSetBy system o r
 can_set moves system named w r None planned only free = tt
 can_set moves system named w r (Some plan) planned only free = record {
   named = named;
   planned = default_plan_law plan.to system w r plan named
-      (only_beside goal_part (boot_default_in plan.to system w.leaves) (default_part_law plan.to system (gens_moved plan.to system w.leaves) (gens_after_law plan.to system w.leaves named))
+      (only_beside (goal_part false) (boot_default_in plan.to system w.leaves) (default_part_law plan.to system (gens_moved plan.to system w.leaves) (gens_after_law plan.to system w.leaves named))
       (goal_parted plan.to system (gens_moved plan.to system w.leaves)).second refl w r only) planned.1;
-  free = first_free (boot_default_in plan.to system r.leaves) goal_part r.leaves (subst (λ mv. IsFree (default_in mv system r.leaves) r.leaves) planned.0 free);
+  free = first_free (boot_default_in plan.to system r.leaves) (goal_by plan.to) r.leaves (subst (λ mv. IsFree (default_in mv system r.leaves) r.leaves) planned.0 free);
 }
 
 -- the units are switched where an activation is planned
@@ -200,14 +200,14 @@ verdict start_up false system plan w u v outcome planned same end states failed 
 
 -- ---- the goal is removed, where the profile is moved
 
-pub clear_only : (moves : Option Move) (v m : WorldState) → IsClearStep moves v m → IsOnly goal_part v m
+pub clear_only : (moves : Option Move) (v m : WorldState) → IsClearStep moves v m → IsOnly (goal_part false) v m
 clear_only None v m same = record { leaves = λ q none ne. ap (λ (x : WorldState). get x.leaves q) same; manager = λ call. ap (λ (x : WorldState). x.manager) same }
-clear_only (Some move) v m step = (cleared_moment v m step).only
+clear_only (Some move) v m step = (cleared_moment false v m step).only
 
 clear_part_moment : (moves : Option Move) (system : Name) (gens : Gens) → IsBootGens gens → (v m : WorldState) → IsClearStep moves v m → IsPartMoment (default_if moves system gens) v m
 clear_part_moment None system gens are v m same =
     record { keeps = tt; only = record { leaves = λ q none ne. ap (λ (x : WorldState). get x.leaves q) same; manager = λ call. ap (λ (x : WorldState). x.manager) same } }
-clear_part_moment (Some move) system gens are v m step = of_goal move system gens are v m (cleared_moment v m step)
+clear_part_moment (Some move) system gens are v m step = of_goal move system gens are v m (cleared_moment (is_back (Some move)) v m step)
 
 -- at the beginning it stands as it was
 pub clear_begins : (moves : Option Move) (w m : WorldState) → m ≡ w → IsClearStep moves w m
@@ -237,7 +237,7 @@ second_left : (moves : Option Move) (system : Name) (gens : Gens) → IsBootGens
     IsPartMoment (default_if moves system gens) r u → get v.leaves q ≡ get u.leaves q → e ≡ cleared_by moves v → get e.leaves q ≡ final_leaf (default_if moves system gens) w.leaves q
 second_left None system gens are w r u v e q ne at left set same is_e = ap (λ (x : WorldState). get x.leaves q) is_e ∙ same ∙ set.only.leaves q refl ne ∙ at.only.leaves q refl ne
 second_left (Some move) system gens are w r u v e q ne at left set same is_e =
-    let clear = cleared_moment v e (inr is_e) in
+    let clear = cleared_moment false v e (inr is_e) in
     let default = boot_default_part move system gens in
     elim (cases_Bool (default.owns q)) [
       | inl own ↦
@@ -245,7 +245,7 @@ second_left (Some move) system gens are w r u v e q ne at left set same is_e =
           ∙ sym (ap (λ b. cond (b || owns_goal q) (cond b (default.end w.leaves q) None) (get w.leaves q)) own)
       | inr beside ↦ elim (cases_Bool (owns_goal q)) [
         | inl own ↦
-            cleared_at_end v e is_e q own
+            cleared_at_end false v e is_e q own
             ∙ sym (ap (λ b. cond (b || owns_goal q) (cond b (default.end w.leaves q) None) (get w.leaves q)) beside ∙ ap (λ b. cond b None (get w.leaves q)) own)
         | inr neither ↦
             clear.only.leaves q neither ne ∙ same ∙ set.only.leaves q (or_from _ _ beside neither) ne ∙ at.only.leaves q (or_from _ _ beside neither) ne
@@ -254,7 +254,7 @@ second_left (Some move) system gens are w r u v e q ne at left set same is_e =
     ]
   where
     not_the_goal : (at : Name) → owns_profile at || owns_boot at ≡ true → owns_goal at ≡ false
-    not_the_goal at own = false_by (owns_goal at) (reads_goal at) (λ is. goal_is.reads_own at is) (goal_unread_default at own)
+    not_the_goal at own = false_by (owns_goal at) (reads_goal at) (λ is. (goal_is false).reads_own at is) (goal_unread_default at own)
 
 -- ---- the moments and the end of a command
 
@@ -332,7 +332,7 @@ module _ (command : Command) (owed : Owed) (order : List Name) (w : WorldState) 
   -- ---- the goal is recorded
 
   record_alone : (m : WorldState) → IsRecordStep moves w m → IsPartMoment second w m
-  record_alone m step = record_part_moment moves system gens are_gens w m step
+  record_alone m step = record_part_moment moves system gens (small_row command w.leaves) are_gens w m step
 
   -- each moment of recording it is one of the command
   pub record_moment : (m : WorldState) → IsRecordStep moves w m → IsMomentOf command w m
@@ -354,7 +354,7 @@ module _ (command : Command) (owed : Owed) (order : List Name) (w : WorldState) 
     last_record : IsRecordStep moves w r
     last_record = record_last moves w r is_r
 
-    pub only_goal : IsOnly goal_part w r
+    pub only_goal : IsOnly (goal_part false) w r
     only_goal = record_only moves w r last_record
 
     at_record : IsPartMoment second w r

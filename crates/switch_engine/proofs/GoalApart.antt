@@ -33,20 +33,20 @@ use Rattle.unit_stage.specs.System.{current_place}
 
 -- ---- the goal's part doesn't look at what others own
 
-unread : (q : Name) → is_path q goal_place ≡ false → BeginApart q goal_place → reads_goal q ≡ false
-unread q other apart = or_from _ _ other (or_from _ _ (not_line q goal_place apart) refl)
+unread : (q : Name) → is_path q goal_place ≡ false → is_in_store q ≡ false → BeginApart q goal_place → reads_goal q ≡ false
+unread q other outside apart = or_from _ _ other (or_from _ _ outside (or_from _ _ (not_line q goal_place apart) refl))
 
 units_unread : AllByRecursion (λ q. reads_goal q ≡ false) owned_places
-unfolding current_place log_place reloads_place restarts_place starts_place goal_place
+unfolding current_place log_place reloads_place restarts_place starts_place goal_place is_in_store
 units_unread = (refl, (refl, (refl, (refl, (refl, tt)))))
 
 accounts_unread : AllByRecursion (λ q. reads_goal q ≡ false) account_names
-unfolding account_names group_place passwd_place shadow_place groups_place users_place gids_place uids_place goal_place
+unfolding account_names group_place passwd_place shadow_place groups_place users_place gids_place uids_place goal_place is_in_store
 accounts_unread = (refl, (refl, (refl, (refl, (refl, (refl, (refl, tt)))))))
 
 etc_unread : (q : Name) → reads_goal (place q) ≡ false
-unfolding place goal_place
-etc_unread q = unread (codes "etc/" ++ q) refl (record { first = refl; second = refl })
+unfolding place goal_place is_in_store
+etc_unread q = unread (codes "etc/" ++ q) refl refl (record { first = refl; second = refl })
 
 pub goal_unread_activation : (q : Name) → owns_accounts q || owns_farm q ≡ true → reads_goal q ≡ false
 goal_unread_activation = fails reads_goal (record { accounts = accounts_unread; etc = etc_unread })
@@ -58,12 +58,12 @@ goal_unread_switch q own = elim (cases_Bool (owns_units q)) [
 ]
 
 profile_unread : (rest : Name) → reads_goal (codes "nix/var/nix/profiles/system" ++ rest) ≡ false
-unfolding goal_place
-profile_unread rest = unread (codes "nix/var/nix/profiles/system" ++ rest) refl (record { first = refl; second = refl })
+unfolding goal_place is_in_store
+profile_unread rest = unread (codes "nix/var/nix/profiles/system" ++ rest) refl refl (record { first = refl; second = refl })
 
 menu_unread : (rest : Name) → reads_goal (codes "boot/loader/" ++ rest) ≡ false
-unfolding goal_place
-menu_unread rest = unread (codes "boot/loader/" ++ rest) refl (record { first = refl; second = refl })
+unfolding goal_place is_in_store
+menu_unread rest = unread (codes "boot/loader/" ++ rest) refl refl (record { first = refl; second = refl })
 
 pub goal_unread_default : (q : Name) → owns_profile q || owns_boot q ≡ true → reads_goal q ≡ false
 goal_unread_default q own = elim (cases_Bool (owns_profile q)) [

@@ -3,7 +3,7 @@ use Rattle.std.proofs.Common.{◌≡◌, Bool, true, false, List, [], ◌++◌, 
 use Rattle.std.proofs.lemmas.List.{map-append, take-append-drop}
 use Rattle.activation_stage.specs.ActivationPart.{IsActivating}
 use Rattle.activation_stage.specs.ActivationPart.IsActivating.{Making, Setting}
-use Rattle.accounts_stage.specs.Plan.{puts_of}
+use Rattle.accounts_stage.specs.AccountsPart.{puts_of}
 use Rattle.host_trait.specs.declared.entry.Entry.{Entry}
 use Rattle.host_trait.specs.declared.manager_state.ManagerState.{ManagerState}
 use Rattle.host_trait.specs.Manager.{loading}
@@ -17,7 +17,6 @@ use Rattle.owed_log.proofs.BesideLemmas.{clearing_manager, record_manager, recor
 use Rattle.owed_plan.specs.Calls.{reload_calls, restart_calls, start_calls, stop_calls}
 use Rattle.owed_plan.specs.declared.duty.Duty.{Duty}
 use Rattle.owed_plan.specs.declared.owed.Owed.{Owed}
-use Rattle.owed_plan.specs.Law.{lists_of}
 use Rattle.switch_engine.specs.declared.command.Command.{Command}
 use Rattle.switch_engine.specs.Carried.{IsSwitchMomentIf}
 use Rattle.switch_engine.specs.Commands.{brought_to, if_so, row}

@@ -9,6 +9,7 @@ pub mod GoalApart
 pub mod GoalKeptLemmas
 pub mod JournalLemmas
 pub mod LawLemmas
+pub mod LongLemmas
 pub mod MenuApart
 pub mod MovedPart
 pub mod MovedQuiet

@@ -14,7 +14,7 @@ use Rattle.generations.specs.Places.{profiles}
 use Rattle.generations.specs.declared.gens.Gens.{Gens}
 use Rattle.generations.specs.declared.moving.Move.{Move}
 use Rattle.generations.specs.declared.moving.Move.TheVariants.{Set}
-use Rattle.generations.specs.GoalPart.{goal_part, owns_goal, reads_goal}
+use Rattle.generations.specs.GoalPart.{owns_goal, reads_goal}
 use Rattle.generations.proofs.GoalPartLemmas.{goal_is}
 use Rattle.generations.specs.ProfilePart.{owns_profile, reads_profile}
 use Rattle.generations.proofs.ProfileApart.{owned_fails}
@@ -22,7 +22,8 @@ use Rattle.host_trait.specs.World.{Leaves, stage}
 use Rattle.owed_lists.specs.Lists.{reloads_place, restarts_place, starts_place}
 use Rattle.owed_log.specs.Places.{log_place}
 use Rattle.owed_plan.specs.Store.{IsInStore}
-use Rattle.switch_engine.specs.Rows.{default_if, default_part, gens_to, part_if, parts, switch_part}
+use Rattle.switch_engine.specs.Commands.{is_back}
+use Rattle.switch_engine.specs.Rows.{default_if, default_part, gens_to, goal_by, part_if, parts, switch_part}
 use Rattle.switch_engine.proofs.ActivationApart.{activation_apart, not_owns_store, profile_unread, profile_path}
 use Rattle.boot_entries.proofs.DefaultLemmas.{default_part_law}
 use Rattle.boot_entries.proofs.GensLemmas.{gens_after_law}
@@ -49,7 +50,7 @@ none_is = record {
   keeps_self = λ w. tt;
   keeps_then = λ w v m one then. tt;
   same_end = λ w m keeps q own. absurd (both_ways false refl own);
-  stays_free = λ w m keeps free. record { way = refl; refusal = refl };
+  stays_free = λ w m keeps free. record { way = refl; refusal = refl; short = refl };
   frame = λ w m same. tt;
   reads_own = λ q own. absurd (both_ways false refl own);
   no_stage = refl;
@@ -116,11 +117,11 @@ default_unread q own = or_from _ _ (switch_unread q own) (menu_unread q own)
 
 -- ---- what a move of the profile is about
 
-pub goal_parted : (move : Move) (system : Name) (gens : Gens) → AreParted (boot_default_part move system gens) goal_part
+pub goal_parted : (move : Move) (system : Name) (gens : Gens) → AreParted (boot_default_part move system gens) (goal_by move)
 goal_parted move system gens = record { first = goal_unread_default; second = default_unread_goal; manager = refl }
 
 pub default_is : (move : Move) (system : Name) (gens : Gens) → IsBootGens gens → IsPart (default_part move system gens)
-default_is move system gens are = both_part (boot_default_part move system gens) goal_part (default_part_law move system gens are) goal_is
+default_is move system gens are = both_part (boot_default_part move system gens) (goal_by move) (default_part_law move system gens are) (goal_is (is_back (Some move)))
 
 -- what it owns is of the boot default or the goal
 of_moved : (P : Name → Type 0) → ((q : Name) → owns_profile q || owns_boot q ≡ true → P q) → ((q : Name) → owns_goal q ≡ true → P q) → (q : Name) → (owns_profile q || owns_boot q) || owns_goal q ≡ true → P q

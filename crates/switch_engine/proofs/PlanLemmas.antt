@@ -1,5 +1,5 @@
 -- Why the parts of a command are refused, by what is read of a world.
-use Rattle.std.proofs.Common.{◌≡◌, ◌↔◌, IsTrue, Bool, true, false, cond, Option, None, Some, is_none, is_some, option_map, refl, sym, ap, subst, ◌∙◌, if◌then◌else◌}
+use Rattle.std.proofs.Common.{◌≡◌, ◌↔◌, IsTrue, Bool, true, false, cond, Option, None, Some, is_none, option_map, refl, sym, ap, subst, ◌∙◌}
 use Rattle.std.proofs.lemmas.Bool.{both_ways}
 use Rattle.std.specs.Option.{option_or}
 use Rattle.activation_stage.specs.ActivationPart.{IsActivationPlanOf, activation_in}
@@ -17,7 +17,7 @@ use Rattle.switch_engine.specs.declared.row.Row.{Row}
 use Rattle.switch_engine.specs.Owing.{IsSteadyTo}
 use Rattle.switch_engine.specs.Plan.{AreGensBy, AreUnitsPlanned, IsActivationPlanned, IsProfilePlanned}
 use Rattle.switch_engine.specs.Lengths.{too_long_by}
-use Rattle.switch_engine.specs.Rows.{gens_to, part_if, parts_in, parts_refusal, refusal, refusal_in_parts, switch_in, system_refusal, too_many_by, version_refusal}
+use Rattle.switch_engine.specs.Rows.{gens_to, goal_by, part_if, parts_in, parts_refusal, refusal, refusal_before_length, refusal_in_parts, switch_in, system_refusal, too_many_by, version_refusal}
 use Rattle.switch_engine.specs.System.{version_path}
 use Rattle.switch_engine.proofs.MovedPart.{default_in}
 use Rattle.switch_names.specs.Names.{Name}
@@ -44,7 +44,7 @@ module _ (start_up switches : Bool) (moves : Option Move) (system : Name) (leave
   profile_reason = (default_in moves system leaves).refusal leaves
 
   -- the reasons in their order
-  reasons : refusal_in_parts start_up switches moves system leaves ≡ option_or (option_map InTheWay way) (option_or (option_or units_reason activation_reason) profile_reason)
+  reasons : refusal_before_length start_up switches moves system leaves ≡ option_or (option_map InTheWay way) (option_or (option_or units_reason activation_reason) profile_reason)
   reasons = by switches
     where
       by : (b : Bool) →
@@ -54,24 +54,24 @@ module _ (start_up switches : Bool) (moves : Option Move) (system : Name) (leave
       by false = refl
 
   -- something is in the way
-  pub way_refused : (why : Refusal) → option_map InTheWay way ≡ Some why → refusal_in_parts start_up switches moves system leaves ≡ Some why
+  pub way_refused : (why : Refusal) → option_map InTheWay way ≡ Some why → refusal_before_length start_up switches moves system leaves ≡ Some why
   way_refused why is = reasons ∙ ap (λ o. option_or o (option_or (option_or units_reason activation_reason) profile_reason)) is
 
   module _ (free : way ≡ None) where
-    free_reasons : refusal_in_parts start_up switches moves system leaves ≡ option_or (option_or units_reason activation_reason) profile_reason
+    free_reasons : refusal_before_length start_up switches moves system leaves ≡ option_or (option_or units_reason activation_reason) profile_reason
     free_reasons = reasons ∙ ap (λ o. option_or (option_map InTheWay o) (option_or (option_or units_reason activation_reason) profile_reason)) free
 
     -- nothing is, and so the units are refused
-    pub units_refused : (why : Refusal) → units_reason ≡ Some why → refusal_in_parts start_up switches moves system leaves ≡ Some why
+    pub units_refused : (why : Refusal) → units_reason ≡ Some why → refusal_before_length start_up switches moves system leaves ≡ Some why
     units_refused why is = free_reasons ∙ ap (λ o. option_or (option_or o activation_reason) profile_reason) is
 
     module _ (none : units_reason ≡ None) where
       -- or they aren't, and so the activation is
-      pub activation_refused : (why : Refusal) → activation_reason ≡ Some why → refusal_in_parts start_up switches moves system leaves ≡ Some why
+      pub activation_refused : (why : Refusal) → activation_reason ≡ Some why → refusal_before_length start_up switches moves system leaves ≡ Some why
       activation_refused why is = free_reasons ∙ ap (λ o. option_or (option_or o activation_reason) profile_reason) none ∙ ap (λ o. option_or o profile_reason) is
 
       -- or it isn't, and so the parts are refused for what the profile is refused for
-      pub profile_refused : (why : Option Refusal) → activation_reason ≡ None → profile_reason ≡ why → refusal_in_parts start_up switches moves system leaves ≡ why
+      pub profile_refused : (why : Option Refusal) → activation_reason ≡ None → profile_reason ≡ why → refusal_before_length start_up switches moves system leaves ≡ why
       profile_refused why other is = free_reasons ∙ ap (λ o. option_or (option_or o activation_reason) profile_reason) none ∙ ap (λ o. option_or o profile_reason) other ∙ is
 
 -- what is told before a call that changes nothing is told after it
@@ -82,14 +82,16 @@ told_still {P = P} same told = told_after same same.tells P (λ w v is there. su
 pub unmoved_free : (system : Name) (moves : Option Move) (leaves : Leaves) → moves ≡ None → (default_in moves system leaves).refusal leaves ≡ None
 unmoved_free system moves leaves none = ap (λ mv. (default_in mv system leaves).refusal leaves) none
 
--- with one, what is said of the boot default
-either_none : (o : Option Refusal) → option_or o None ≡ o
-either_none None = refl
-either_none (Some why) = refl
-
-pub default_refused : (moves : Option Move) (move : Move) (system : Name) (leaves : Leaves) (why : Option Refusal) → moves ≡ Some move → (boot_default_in move system leaves).refusal leaves ≡ why → (default_in moves system leaves).refusal leaves ≡ why
+-- with one, the boot default is refused
+pub default_refused : (moves : Option Move) (move : Move) (system : Name) (leaves : Leaves) (why : Refusal) → moves ≡ Some move → (boot_default_in move system leaves).refusal leaves ≡ Some why → (default_in moves system leaves).refusal leaves ≡ Some why
 default_refused moves move system leaves why on refused =
-    ap (λ mv. (default_in mv system leaves).refusal leaves) on ∙ either_none ((boot_default_in move system leaves).refusal leaves) ∙ refused
+    ap (λ mv. (default_in mv system leaves).refusal leaves) on ∙ ap (λ o. option_or o ((goal_by move).refusal leaves)) refused
+
+-- or it isn't, and so what is said of the goal
+pub goal_refused : (moves : Option Move) (move : Move) (system : Name) (leaves : Leaves) (why : Option Refusal) → moves ≡ Some move → (boot_default_in move system leaves).refusal leaves ≡ None → (goal_by move).refusal leaves ≡ why →
+    (default_in moves system leaves).refusal leaves ≡ why
+goal_refused moves move system leaves why on free refused =
+    ap (λ mv. (default_in mv system leaves).refusal leaves) on ∙ ap (λ o. option_or o ((goal_by move).refusal leaves)) free ∙ refused
 
 pub default_on : (moves : Option Move) (move : Move) (system : Name) (w : WorldState) (plan : BootDefaultPlan) → moves ≡ Some move → IsDefaultPlanOf move system w.leaves plan → IsProfilePlanned moves system w (Some plan)
 default_on moves move system w plan on planned = (

@@ -5,19 +5,19 @@ use Rattle.generations.specs.declared.moving.Move.{Move}
 use Rattle.host_trait.specs.World.{Leaves}
 use Rattle.leaf_limits.specs.Limits.{AreTaken}
 use Rattle.leaf_limits.proofs.LongLemmas.{taken_both}
-use Rattle.switch_engine.specs.Lengths.{takes_by, takes_menu, takes_switch}
+use Rattle.switch_engine.specs.Lengths.{takes_by, takes_moved, takes_switch}
 use Rattle.switch_engine.specs.System.{version_path}
 use Rattle.switch_names.specs.Names.{Name, is_name}
 
 -- the file that each system has, what its parts take, and nothing else
 pub all_taken :
-    (switches : Bool) (moves : Option Move) (system : Name) (gens : Gens) (leaves : Leaves) (others menu whole : List Name) → whole ≡ version_path system ∷ (others ++ menu) →
-    AreTaken others (takes_switch switches system leaves) leaves → AreTaken menu (takes_menu moves gens) leaves → AreTaken whole (takes_by switches moves system gens leaves) leaves
-all_taken switches moves system gens leaves others menu whole same first second =
+    (switches : Bool) (moves : Option Move) (system : Name) (gens : Gens) (leaves : Leaves) (others moved whole : List Name) → whole ≡ version_path system ∷ (others ++ moved) →
+    AreTaken others (takes_switch switches system leaves) leaves → AreTaken moved (takes_moved moves gens) leaves → AreTaken whole (takes_by switches moves system gens leaves) leaves
+all_taken switches moves system gens leaves others moved whole same first second =
     subst (λ (ps : List Name). AreTaken ps (takes_by switches moves system gens leaves) leaves) (sym same)
-    (taken_both (version_path system ∷ []) (others ++ menu) (λ q. is_name q (version_path system)) (λ q. takes_switch switches system leaves q || takes_menu moves gens q) leaves
+    (taken_both (version_path system ∷ []) (others ++ moved) (λ q. is_name q (version_path system)) (λ q. takes_switch switches system leaves q || takes_moved moves gens q) leaves
     (λ q there. alone (is_name q (version_path system)))
-    (taken_both others menu (takes_switch switches system leaves) (takes_menu moves gens) leaves first second))
+    (taken_both others moved (takes_switch switches system leaves) (takes_moved moves gens) leaves first second))
   where
     alone : (b : Bool) → (b || false) ≡ b
     alone true = refl

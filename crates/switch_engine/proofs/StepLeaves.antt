@@ -1,5 +1,5 @@
 -- What each step of a command leaves: the goal of a rollback, the boot default, the units, and what the profile names.
-use Rattle.std.proofs.Common.{◌≡◌, ◌≢◌, ◌↔◌, ◌||◌, Bool, IsSome, true, false, Option, None, Some, List, ℕ, [], ◌++◌, refl, sym, ap, subst, ◌∙◌, inl, inr, ⊎_elim}
+use Rattle.std.proofs.Common.{◌≡◌, ◌≢◌, ◌↔◌, ◌||◌, ◌<◌, ◌^◌, arith, Bool, IsSome, true, false, Option, None, Some, option_map, List, ℕ, [], ◌++◌, refl, sym, ap, subst, ◌∙◌, inl, inr, ⊎_elim}
 use Rattle.std.proofs.lemmas.Bool.{both_ways, cases_Bool, or_left, or_right}
 use Rattle.std.proofs.lemmas.List.{append-nil}
 use Rattle.std.specs.Cmp.Lexicographic.{nat_list_eq_equiv, same_text}
@@ -13,11 +13,11 @@ use Rattle.boot_entries.specs.Places.{owns_boot}
 use Rattle.generations.specs.declared.gens.Gens.{Gens}
 use Rattle.generations.specs.declared.moving.Move.{Move}
 use Rattle.generations.specs.declared.moving.Move.TheVariants.{Point, Set}
-use Rattle.generations.specs.Goal.{goal_leaf, goal_place}
+use Rattle.generations.specs.Goal.{goal, goal_place}
 use Rattle.generations.specs.GoalPart.{goal_part, owns_goal, reads_goal}
 use Rattle.generations.specs.Move.{gens_moved}
 use Rattle.generations.specs.Places.{Names, link_path, profile}
-use Rattle.generations.proofs.GoalPartLemmas.{goal_is, recorded_moment}
+use Rattle.generations.proofs.GoalPartLemmas.{goal_is, goal_short, goal_small, recorded_moment, recorded_only}
 use Rattle.generations.specs.ProfilePart.{owns_profile}
 use Rattle.generations.proofs.ProfileApart.{link_owned, owned_other, profile_owned, stage_not_owned}
 use Rattle.generations.proofs.SetLaws.{generation_of}
@@ -30,10 +30,12 @@ use Rattle.host_trait.proofs.Seen.{seen_at}
 use Rattle.owed_plan.specs.declared.owed.Owed.{Owed}
 use Rattle.owed_plan.specs.FinalStates.{final_state}
 use Rattle.switch_engine.specs.Carried.{IsSwitchMomentIf, IsSwitchedIf}
-use Rattle.switch_engine.specs.Commands.{if_moved, if_so}
+use Rattle.switch_engine.specs.declared.command.Command.{Command}
+use Rattle.switch_engine.specs.declared.command.Command.TheVariants.{Switch, Test, Boot, DryActivate, Rollback, StartUp}
+use Rattle.switch_engine.specs.Commands.{if_moved, if_so, is_back, row}
 use Rattle.switch_engine.specs.Final.{AreEntries, AreFinalUnits}
 use Rattle.switch_engine.specs.Moments.{IsRecordStep, IsSetStep, IsSwitchEnd, IsSwitchStep, NamesOneOf, record_world, set_world}
-use Rattle.switch_engine.specs.Rows.{default_if, default_part, part_if, switch_in, switch_part}
+use Rattle.switch_engine.specs.Rows.{default_if, default_part, goal_by, part_if, switch_in, switch_part}
 use Rattle.boot_entries.proofs.DefaultLemmas.{default_end_law, default_moment_law, default_names_law, default_part_law, default_stays_law}
 use Rattle.boot_entries.proofs.GensLemmas.{gens_after_law}
 use Rattle.boot_entries.proofs.MenuLemmas.{menu_begins_law, menu_law, menu_stays_law}
@@ -68,10 +70,10 @@ profile_not_stage same = both_ways _ profile_apart_stage (subst (λ x. is_path p
 
 module _ (move : Move) (system : Name) (gens : Gens) (are : IsBootGens gens) (w m : WorldState) where
   of_default : IsPartMoment (boot_default_part move system gens) w m → IsPartMoment (default_part move system gens) w m
-  of_default moment = first_moment (boot_default_part move system gens) goal_part (default_part_law move system gens are) goal_is (goal_parted move system gens) w m moment
+  of_default moment = first_moment (boot_default_part move system gens) (goal_by move) (default_part_law move system gens are) (goal_is (is_back (Some move))) (goal_parted move system gens) w m moment
 
-  pub of_goal : IsPartMoment goal_part w m → IsPartMoment (default_part move system gens) w m
-  of_goal moment = second_moment (boot_default_part move system gens) goal_part (default_part_law move system gens are) goal_is (goal_parted move system gens) w m moment
+  pub of_goal : IsPartMoment (goal_by move) w m → IsPartMoment (default_part move system gens) w m
+  of_goal moment = second_moment (boot_default_part move system gens) (goal_by move) (default_part_law move system gens are) (goal_is (is_back (Some move))) (goal_parted move system gens) w m moment
 
 -- the part is the same at each of its moments
 pub default_kept : (moves : Option Move) (system : Name) (w m : WorldState) → (default_in moves system w.leaves).Keeps w m → default_in moves system m.leaves ≡ default_in moves system w.leaves
@@ -85,7 +87,7 @@ not_of_default = elim (cases_Bool (owns_profile goal_place || owns_boot goal_pla
 ]
   where
     goal_read : reads_goal goal_place ≡ true
-    goal_read = goal_is.reads_own goal_place goal_owned
+    goal_read = (goal_is false).reads_own goal_place goal_owned
 
 -- the same by the leaves of a world, with these generations
 abbrev pub IsDefaultLeft : Option Move → Name → Gens → WorldState → WorldState → Type 0
@@ -100,20 +102,38 @@ IsSetEnd (Some move) system w u = IsAtEnd (boot_default_in move system w.leaves)
 -- ---- the goal is recorded, where the profile goes back to a generation
 
 -- nothing has changed but the goal
-pub record_only : (moves : Option Move) (w m : WorldState) → IsRecordStep moves w m → IsOnly goal_part w m
+pub record_only : (moves : Option Move) (w m : WorldState) → IsRecordStep moves w m → IsOnly (goal_part false) w m
 record_only None w m same = record { leaves = λ q none ne. seen_at m w same q ne; manager = λ call. manager_seen m w same }
 record_only (Some Set) w m same = record { leaves = λ q none ne. seen_at m w same q ne; manager = λ call. manager_seen m w same }
-record_only (Some (Point n)) w m step = (recorded_moment (goal_leaf n) w m step).only
+record_only (Some (Point n)) w m step = recorded_only false n w m step
 
 pub record_last : (moves : Option Move) (w r : WorldState) → seen r ≡ record_world moves w → IsRecordStep moves w r
 record_last None w r is = is
 record_last (Some Set) w r is = is
 record_last (Some (Point n)) w r is = inr is
 
-pub record_part_moment : (moves : Option Move) (system : Name) (gens : Gens) → IsBootGens gens → (w m : WorldState) → IsRecordStep moves w m → IsPartMoment (default_if moves system gens) w m
-record_part_moment None system gens are w m same = record { keeps = tt; only = record { leaves = λ q none ne. seen_at m w same q ne; manager = λ none. manager_seen m w same } }
-record_part_moment (Some Set) system gens are w m same = of_goal Set system gens are w m (recorded_moment (goal_leaf 0) w m (inl same))
-record_part_moment (Some (Point n)) system gens are w m step = of_goal (Point n) system gens are w m (recorded_moment (goal_leaf n) w m step)
+-- the number to which the profile goes back is one of a generation
+abbrev pub IsSmallMove : Option Move → Type 0
+IsSmallMove None = Prim.Unit {0}
+IsSmallMove (Some Set) = Prim.Unit {0}
+IsSmallMove (Some (Point n)) = n < 2 ^ 32
+
+pub small_row : (command : Command) (leaves : Leaves) → IsSmallMove (row command leaves).moves
+small_row (Switch system) leaves = tt
+small_row (Test system) leaves = tt
+small_row (Boot system) leaves = tt
+small_row (DryActivate system) leaves = tt
+small_row Rollback leaves = by (goal leaves) refl
+  where
+    by : (number : Option ℕ) → goal leaves ≡ number → IsSmallMove (option_map Point number)
+    by None is = tt
+    by (Some n) is = goal_small leaves n is
+small_row StartUp leaves = tt
+
+pub record_part_moment : (moves : Option Move) (system : Name) (gens : Gens) → IsSmallMove moves → IsBootGens gens → (w m : WorldState) → IsRecordStep moves w m → IsPartMoment (default_if moves system gens) w m
+record_part_moment None system gens small are w m same = record { keeps = tt; only = record { leaves = λ q none ne. seen_at m w same q ne; manager = λ none. manager_seen m w same } }
+record_part_moment (Some Set) system gens small are w m same = of_goal Set system gens are w m (recorded_moment false 0 w m (inl same) (goal_short 0 (omega arith)))
+record_part_moment (Some (Point n)) system gens small are w m step = of_goal (Point n) system gens are w m (recorded_moment true n w m step (goal_short n small))
 
 pub record_kept : (moves : Option Move) (w m : WorldState) → IsRecordStep moves w m → IsGoalKept moves w.leaves m.leaves
 record_kept None w m step = tt
@@ -129,22 +149,22 @@ module _ (system : Name) (named : IsSystemPath system) (w : WorldState) where
   pub set_part_moment : (moves : Option Move) → IsFree (default_in moves system w.leaves) w.leaves → (m : WorldState) → IsSetStep moves system w m → IsPartMoment (default_in moves system w.leaves) w m
   set_part_moment (Some move) free m step =
       of_default move system (gens_moved move system w.leaves) (gens_after_law move system w.leaves named) w m
-      (default_moment_law move system w m named (first_free (boot_default_in move system w.leaves) goal_part w.leaves free) step)
+      (default_moment_law move system w m named (first_free (boot_default_in move system w.leaves) (goal_by move) w.leaves free) step)
   set_part_moment None free m step = record { keeps = tt; only = record { leaves = λ q none ne. seen_at m w step q ne; manager = λ none. manager_seen m w step } }
 
   -- the goal stays as it is
   pub set_goal : (moves : Option Move) → IsFree (default_in moves system w.leaves) w.leaves → (m : WorldState) → IsSetStep moves system w m → get m.leaves goal_place ≡ get w.leaves goal_place
   set_goal (Some move) free m step =
-      (default_moment_law move system w m named (first_free (boot_default_in move system w.leaves) goal_part w.leaves free) step).only.leaves goal_place not_of_default goal_not_stage
+      (default_moment_law move system w m named (first_free (boot_default_in move system w.leaves) (goal_by move) w.leaves free) step).only.leaves goal_place not_of_default goal_not_stage
   set_goal None free m step = seen_at m w step goal_place goal_not_stage
 
   pub set_step : (moves : Option Move) → IsFree (default_in moves system w.leaves) w.leaves → (u : WorldState) → seen u ≡ set_world moves system w → IsSetStep moves system w u
-  set_step (Some move) free u is = (default_end_law move system w u named (first_free (boot_default_in move system w.leaves) goal_part w.leaves free) is).0
+  set_step (Some move) free u is = (default_end_law move system w u named (first_free (boot_default_in move system w.leaves) (goal_by move) w.leaves free) is).0
   set_step None free u is = is
 
   -- what the boot default owns is at its end
   pub set_end : (moves : Option Move) → IsFree (default_in moves system w.leaves) w.leaves → (u : WorldState) → seen u ≡ set_world moves system w → IsSetEnd moves system w u
-  set_end (Some move) free u is = (default_end_law move system w u named (first_free (boot_default_in move system w.leaves) goal_part w.leaves free) is).1
+  set_end (Some move) free u is = (default_end_law move system w u named (first_free (boot_default_in move system w.leaves) (goal_by move) w.leaves free) is).1
   set_end None free u is = tt
 
   set_calls : (moves : Option Move) → IsFree (default_in moves system w.leaves) w.leaves → (u : WorldState) → seen u ≡ set_world moves system w → u.manager ≡ w.manager
@@ -153,7 +173,7 @@ module _ (system : Name) (named : IsSystemPath system) (w : WorldState) where
 
   -- the boot menu at each of its moments
   pub set_menu : (moves : Option Move) → IsMoveToBy moves system w.leaves → IsFree (default_in moves system w.leaves) w.leaves → (m : WorldState) → IsSetStep moves system w m → IsMenuBetween w.leaves m.leaves
-  set_menu (Some move) to free m step = menu_law move system w m named to (first_free (boot_default_in move system w.leaves) goal_part w.leaves free) step
+  set_menu (Some move) to free m step = menu_law move system w m named to (first_free (boot_default_in move system w.leaves) (goal_by move) w.leaves free) step
   set_menu None to free m step = menu_begins_law w.leaves m.leaves (λ q own. seen_at m w step q (menu_not_stage q own))
 
 -- ---- a switch of the units
@@ -237,7 +257,7 @@ module _ (start_up switches : Bool) (system : Name) (named : IsSystemPath system
 
 pub set_names : (moves : Option Move) (system : Name) → IsSystemPath system → (w m : WorldState) → IsMoveToBy moves system w.leaves → IsFree (default_in moves system w.leaves) w.leaves → IsSetStep moves system w m →
     NamesOneOf (if_moved moves system) w m
-set_names (Some move) system named w m to free step = default_names_law move system w m named to (first_free (boot_default_in move system w.leaves) goal_part w.leaves free) step
+set_names (Some move) system named w m to free step = default_names_law move system w m named to (first_free (boot_default_in move system w.leaves) (goal_by move) w.leaves free) step
 set_names None system named w m to free step = seen_names w m step
 
 -- ---- nothing but the goal has changed
@@ -259,9 +279,9 @@ goal_not_stored q stored = elim (cases_Bool (owns_goal q)) [
 stored_not_stage : (q : Name) → is_in_store q ≡ true → q ≢ stage
 stored_not_stage q stored same = both_ways _ stage_stored (subst (λ x. is_in_store x ≡ true) same stored)
 
-module _ (w m : WorldState) (only : IsOnly goal_part w m) where
+module _ (w m : WorldState) (only : IsOnly (goal_part false) w m) where
   not_the_goal : (q : Name) → owns_profile q || owns_boot q ≡ true → owns_goal q ≡ false
-  not_the_goal q own = false_by (owns_goal q) (reads_goal q) (λ is. goal_is.reads_own q is) (goal_unread_default q own)
+  not_the_goal q own = false_by (owns_goal q) (reads_goal q) (λ is. (goal_is false).reads_own q is) (goal_unread_default q own)
 
   pub goal_profile : (q : Name) → owns_profile q ≡ true → get m.leaves q ≡ get w.leaves q
   goal_profile q own = only.leaves q (not_the_goal q (or_left (owns_profile q) (owns_boot q) own)) (owned_other q stage own stage_not_owned)

@@ -22,7 +22,7 @@ use Rattle.switch_engine.specs.declared.row.Row.{Row}
 use Rattle.switch_engine.specs.Commands.{brought_by, brought_to, if_so, lacks_system, missing, new_system, row, switched_by, switched_to}
 use Rattle.switch_engine.specs.Final.{AreFinalUnits}
 use Rattle.switch_engine.specs.Owing.{IsPaidBy, IsSteadyFor, IsSteadyTo, IsUnderway, OwesActTo}
-use Rattle.switch_engine.specs.Rows.{default_if, final, gens_to, part_of, parts, parts_in, refusal, refusal_by, refusal_in_parts, switch_part, system_refusal, too_many_by, too_much_by}
+use Rattle.switch_engine.specs.Rows.{default_if, final, gens_to, part_of, parts, parts_in, refusal, refusal_before_length, refusal_by, refusal_in_parts, switch_part, system_refusal, too_many_by, too_much_by}
 use Rattle.leaf_limits.specs.Limits.{is_long, leaf_max}
 use Rattle.switch_engine.specs.Lengths.{too_long_by}
 use Rattle.switch_engine.specs.System.{version_path}
@@ -41,6 +41,8 @@ use Rattle.switch_names.proofs.StorePaths.{IsStorePath-from_named, store_path_is
 use Rattle.switch_names.proofs.Outcomes.{option_or_parts, option_or_nothing, none_mapped}
 use Rattle.switch_parts.specs.declared.refusal.Refusal.{Refusal}
 use Rattle.switch_parts.specs.declared.refusal.Refusal.TheVariants.{InTheWay, NoSystem}
+use Rattle.switch_engine.proofs.LongLemmas.{none_refused}
+use Rattle.switch_parts.specs.Limits.{long_refusal}
 use Rattle.switch_parts.specs.Part.{IsFree, IsMomentOf, IsPart, final_leaf}
 use Rattle.switch_parts.proofs.Parts.{ends_alike, first_free}
 use Rattle.unit_stage.specs.Units.{AreUnitsUnderway, units_part}
@@ -60,11 +62,12 @@ free_by : (start_up switches : Bool) (moves : Option Move) (system : Name) (leav
 free_by start_up switches moves system leaves none =
     let first = split (is_none (content_of leaves (version_path system))) (refusal_by start_up switches moves system leaves) none in
     let within = option_or_parts (too_much_by switches moves system leaves) (refusal_in_parts start_up switches moves system leaves) first.1 in
-    let second = option_or_parts (option_map InTheWay (first_in_the_way ((parts_in start_up switches moves system leaves).places leaves) leaves)) ((parts_in start_up switches moves system leaves).refusal leaves) within.1 in
+    let before = option_or_parts (refusal_before_length start_up switches moves system leaves) (long_refusal ((parts_in start_up switches moves system leaves).long leaves)) within.1 in
+    let second = option_or_parts (option_map InTheWay (first_in_the_way ((parts_in start_up switches moves system leaves).places leaves) leaves)) ((parts_in start_up switches moves system leaves).refusal leaves) before.0 in
     record {
       version = first.0;
       short = version_short switches moves system leaves (option_or_parts (too_long_by switches moves system (gens_to moves system leaves) leaves) (too_many_by switches system leaves) within.0).0;
-      parts = record { way = (none_as_listed ((parts_in start_up switches moves system leaves).places leaves) leaves).0 (none_mapped InTheWay (first_in_the_way ((parts_in start_up switches moves system leaves).places leaves) leaves) second.0); refusal = second.1 };
+      parts = record { way = (none_as_listed ((parts_in start_up switches moves system leaves).places leaves) leaves).0 (none_mapped InTheWay (first_in_the_way ((parts_in start_up switches moves system leaves).places leaves) leaves) second.0); refusal = second.1; short = none_refused ((parts_in start_up switches moves system leaves).long leaves) before.1 };
     }
   where
     split : (b : Bool) (o : Option Refusal) → cond b (Some NoSystem) o ≡ None → (b ≡ false) × (o ≡ None)
@@ -75,8 +78,10 @@ by_free : (start_up switches : Bool) (moves : Option Move) (system : Name) (leav
 by_free start_up switches moves system leaves named free =
     ap (λ b. cond b (Some NoSystem) (refusal_by start_up switches moves system leaves)) free.version
     ∙ option_or_nothing (too_much_by switches moves system leaves) (refusal_in_parts start_up switches moves system leaves) (parts_little start_up moves system named leaves free.short switches free.parts.refusal)
+    (option_or_nothing (refusal_before_length start_up switches moves system leaves) (long_refusal ((parts_in start_up switches moves system leaves).long leaves))
     (option_or_nothing (option_map InTheWay (first_in_the_way ((parts_in start_up switches moves system leaves).places leaves) leaves)) ((parts_in start_up switches moves system leaves).refusal leaves)
     (ap (option_map InTheWay) ((none_as_listed ((parts_in start_up switches moves system leaves).places leaves) leaves).1 free.parts.way)) free.parts.refusal)
+    (ap long_refusal free.parts.short))
 
 abbrev pub IsFreeCommand : Command → Leaves → Type 0
 IsFreeCommand command leaves = IsFreeBy (row command leaves).start_up (row command leaves).switches (row command leaves).moves (new_system command leaves) leaves

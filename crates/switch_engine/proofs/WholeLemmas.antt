@@ -10,7 +10,7 @@ use Rattle.boot_entries.specs.Places.{entry_path, owns_boot}
 use Rattle.boot_entries.specs.Steps.{with_menu}
 use Rattle.boot_entries.proofs.EndLemmas.{boot_owned}
 use Rattle.generations.specs.declared.moving.Move.{Move}
-use Rattle.generations.specs.GoalPart.{goal_part, owns_goal}
+use Rattle.generations.specs.GoalPart.{owns_goal}
 use Rattle.generations.specs.Move.{IsMoveTo, gens_moved, move_world}
 use Rattle.generations.specs.Places.{link_path}
 use Rattle.generations.specs.ProfilePart.{owns_profile}
@@ -21,7 +21,7 @@ use Rattle.switch_engine.specs.declared.command.Command.{Command}
 use Rattle.switch_engine.specs.declared.row.Row.{Row}
 use Rattle.switch_engine.specs.Commands.{if_moved, new_system, row, set_by, set_to}
 use Rattle.switch_engine.specs.Final.{IsFinalOf}
-use Rattle.switch_engine.specs.Rows.{part_if, part_of, refusal, switch_in}
+use Rattle.switch_engine.specs.Rows.{goal_by, part_if, part_of, refusal, switch_in}
 use Rattle.boot_entries.proofs.DefaultLemmas.{default_end_law}
 use Rattle.boot_entries.proofs.MenuLemmas.{menu_end_law}
 use Rattle.switch_engine.proofs.StepLeaves.{not_own}
@@ -63,7 +63,7 @@ module _ (command : Command) (w : WorldState) (named : IsSystemPath (new_system 
   end = with_menu (menu_after move system w.leaves) (move_world move system w)
 
   free : IsFree default w.leaves
-  free = first_free default goal_part w.leaves
+  free = first_free default (goal_by move) w.leaves
       (subst (λ moves. IsFree (default_in moves system w.leaves) w.leaves) moved (second_free first (default_in (row command w.leaves).moves system w.leaves) w.leaves (free_command command w.leaves none).parts))
 
   to : IsMoveTo move system w.leaves

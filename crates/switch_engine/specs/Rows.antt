@@ -16,12 +16,13 @@ use Rattle.generations.specs.Move.{gens_moved}
 use Rattle.host_trait.specs.declared.leaf.LeafKind.{LeafKind}
 use Rattle.host_trait.specs.World.{Leaves, content_of}
 use Rattle.switch_engine.specs.declared.command.Command.{Command}
-use Rattle.switch_engine.specs.Commands.{lacks_system, missing, new_system, row}
+use Rattle.switch_engine.specs.Commands.{is_back, lacks_system, missing, new_system, row}
 use Rattle.switch_engine.specs.Lengths.{too_long_by}
 use Rattle.switch_engine.specs.System.{version_path}
 use Rattle.switch_names.specs.Names.{Name}
 use Rattle.switch_parts.specs.declared.refusal.Refusal.{Refusal}
 use Rattle.switch_parts.specs.declared.refusal.Refusal.TheVariants.{InTheWay, NoSystem}
+use Rattle.switch_parts.specs.Limits.{long_refusal}
 use Rattle.switch_parts.specs.Part.{Part, both, final_leaf, no_part}
 use Rattle.tree_put.specs.First.{first_in_the_way}
 use Rattle.unit_stage.specs.System.{units_too_many}
@@ -45,10 +46,13 @@ abbrev pub part_if : Bool → Part → Part
 part_if true part = part
 part_if false part = no_part
 
--- what a move of the profile is about: the boot default, where the boot menu is that of these generations, and the goal of a
--- rollback, which goes
+-- the part of the goal of a rollback with a move of the profile: it goes, and where the profile goes back it is taken
+abbrev pub goal_by : Move → Part
+goal_by move = goal_part (is_back (Some move))
+
+-- what a move of the profile is about: the boot default, where the boot menu is that of these generations, and that goal
 abbrev pub default_part : Move → Name → Gens → Part
-default_part move system gens = both (boot_default_part move system gens) goal_part
+default_part move system gens = both (boot_default_part move system gens) (goal_by move)
 
 -- the same, where the profile is moved
 abbrev pub default_if : Option Move → Name → Gens → Part
@@ -78,10 +82,15 @@ abbrev pub too_many_by : Bool → Name → Leaves → Option Refusal
 too_many_by true system leaves = option_or (units_too_many leaves system) (option_or (entries_too_many leaves system) (rows_too_many leaves))
 too_many_by false system leaves = None
 
--- why the parts of such a command are refused, or nothing: something is in the way, or a part is refused
+-- why the parts of such a command are refused, or nothing, however long what they put is: something is in the way, or a part is refused
+abbrev pub refusal_before_length : Bool → Bool → Option Move → Name → Leaves → Option Refusal
+refusal_before_length start_up switches moves system leaves =
+    let part = parts_in start_up switches moves system leaves in option_or (option_map InTheWay (first_in_the_way (part.places leaves) leaves)) (part.refusal leaves)
+
+-- why they are refused, or nothing: for that, or last because a file would be put longer than can be read again
 abbrev pub refusal_in_parts : Bool → Bool → Option Move → Name → Leaves → Option Refusal
 refusal_in_parts start_up switches moves system leaves =
-    let part = parts_in start_up switches moves system leaves in option_or (option_map InTheWay (first_in_the_way (part.places leaves) leaves)) (part.refusal leaves)
+    option_or (refusal_before_length start_up switches moves system leaves) (long_refusal ((parts_in start_up switches moves system leaves).long leaves))
 
 -- what there is too much of for such a command, or nothing: bytes of a content that it takes, and then what is counted
 abbrev pub too_much_by : Bool → Option Move → Name → Leaves → Option Refusal

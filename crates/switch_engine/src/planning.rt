@@ -8,17 +8,18 @@ ghost use Rattle.generations.specs.Gens.{IsGensOf};
 ghost use Rattle.host_trait.specs.declared.tree.HostFault.TheVariants.{Device};
 ghost use Rattle.host_trait.specs.Host.{Told};
 ghost use Rattle.host_trait.specs.Reading.{IsReading, IsReadingOf};
-ghost use Rattle.host_trait.specs.World.{content_of};
+ghost use Rattle.host_trait.specs.World.{WorldState, content_of};
 ghost use Rattle.leaf_limits.specs.Limits.{is_long};
 ghost use Rattle.owed_log.specs.Writing.{IsFilled};
 ghost use Rattle.switch_engine.specs.Commands.{switched_by};
 ghost use Rattle.switch_engine.specs.Owing.{IsSteadyFor, IsSteadyTo};
 ghost use Rattle.switch_engine.specs.Plan.{AreGensBy, ArePlanned, AreUnitsPlanned, IsActivationPlanned, IsPlanOf, IsProfilePlanned, IsSound};
-ghost use Rattle.switch_engine.specs.Rows.{default_if, gens_to, part_if, parts_in, refusal, refusal_by, refusal_in_parts, too_many_by, too_much_by, version_refusal};
+ghost use Rattle.switch_engine.specs.Rows.{default_if, gens_to, goal_by, part_if, parts_in, refusal, refusal_before_length, refusal_by, refusal_in_parts, too_many_by, too_much_by, version_refusal};
 ghost use Rattle.switch_engine.specs.System.{version_path};
 ghost use Rattle.switch_parts.specs.declared.plan_fault.PlanFault.TheVariants.{Host, Refused};
 ghost use Rattle.switch_parts.specs.declared.refusal.Refusal.{Refusal};
 ghost use Rattle.switch_parts.specs.declared.refusal.Refusal.TheVariants.{InTheWay};
+ghost use Rattle.switch_parts.specs.Limits.{long_refusal};
 ghost use Rattle.tree_put.specs.First.{first_in_the_way};
 ghost use Rattle.unit_stage.specs.Units.{units_part};
 
@@ -32,11 +33,11 @@ use accounts_stage::too_many_rows;
 use activation_stage::{ActivationPlan, plan_activation};
 use boot_entries::{BootDefaultPlan, plan_boot_default};
 use etc_farm::too_many_entries;
-use generations::{Gens, all};
+use generations::{Gens, Move, all, goal_past};
 use host_trait::{HostFault, Manager, Tree};
 use leaf_limits::LEAF_MAX;
 use std::alloc::Global;
-use switch_parts::{PlanFault, Refusal};
+use switch_parts::{PlanFault, Refusal, What, long_refusal, too_many as too_many_of};
 use unit_stage::{UnitPlan, plan_units, too_many_units};
 
 /// The generations that stand, where a row moves the profile: those that are known, else they are read.
@@ -116,6 +117,22 @@ fn plan_accounts_and_etc<T: Tree>(
     Ok(Some(plan))
 }
 
+/// Refuses where the profile goes back and the goal that is recorded is longer than may be read.
+fn check_goal<T: Tree>(alloc: Global, host: &mut T, to: Move) -> Result<(), PlanFault>
+    ensures short { OnOk result (Told (T.host host.old) (λ w. (goal_by to).refusal w.leaves ≡ None)) }
+    ensures refused { (why : Refusal) → IsErrOf result (Refused why) → Told (T.host host.old) (λ w. (goal_by to).refusal w.leaves ≡ Some why) }
+    ensures reads { IsReadingOf (T.host host.old) (T.host host.new) (IsErrOf result (Host Device)) }
+{
+    let Move::Point(_number) = to else {
+        return Ok(());
+    };
+    let past = goal_past(alloc, host)?;
+    match too_many_of(What::LeafBytes, past) {
+        Some(why) => Err(PlanFault::Refused(why)),
+        None => Ok(()),
+    }
+}
+
 /// Plans to make the system of a command the boot default, or nothing where the profile isn't moved.
 fn plan_profile<T: Tree>(
     alloc: Global,
@@ -138,11 +155,59 @@ fn plan_profile<T: Tree>(
         return Ok(None);
     };
     let plan = plan_boot_default(alloc, host, &row.system, to, gens)?;
+    check_goal(alloc, host, to)?;
     Ok(Some(plan))
 }
 
-/// Plans the parts of a row, however much there is of anything.
+/// Plans the parts of a row, however much there is of anything, and however long what they put is.
 fn plan_parts<H: Manager>(
+    alloc: Global,
+    host: &mut H,
+    command: &Command,
+    row: &Row,
+    known: Option<Gens>,
+) -> Result<Plan, PlanFault>
+    requires { Told (H.host host.old) (λ w. IfSome known (IsGensOf w.leaves)) }
+    ensures command { IfOk result (λ plan. plan.command ≡ command.now) }
+    ensures row { IfOk result (λ plan. plan.row ≡ row.now) }
+    ensures plan { IfOk result (λ plan. Told (H.host host.old) (λ w. ArePlanned row.now w plan)) }
+    ensures steady { IfOk result (λ plan. Told (H.host host.old) (λ w. IsTrue plan.units.steady ↔ IsSteadyTo row.now.start_up (switched_by row.now) w)) }
+    ensures sound { IfOk result IsSound }
+    ensures not_refused { OnOk result (Told (H.host host.old) (λ w. refusal_before_length row.now.start_up row.now.switches row.now.moves row.now.system w.leaves ≡ None)) }
+    ensures refused { (why : Refusal) → IsErrOf result (Refused why)
+        → Told (H.host host.old) (λ w. refusal_before_length row.now.start_up row.now.switches row.now.moves row.now.system w.leaves ≡ Some why) }
+    ensures reads { IsReadingOf (H.host host.old) (H.host host.new) (IsErrOf result (Host Device)) }
+{
+    let planned = command.copy(alloc)?;
+    let its = row.copy(alloc)?;
+    let gens = gens_for(alloc, host, row, known)?;
+    check_places(alloc, host, row, gens.as_ref())?;
+    let units = plan_switch(alloc, host, row)?;
+    let activation = plan_accounts_and_etc(alloc, host, row)?;
+    let profile = plan_profile(alloc, host, row, gens)?;
+    Ok(Plan::new(planned, its, units, activation, profile))
+}
+
+/// Refuses a plan that puts a file longer than can be read again.
+fn check_length(alloc: Global, plan: &Plan) -> Result<(), PlanFault>
+    ensures short { OnOk result ((w : WorldState) → IsActivationPlanned plan.now.row.switches plan.now.row.system w plan.now.activation
+        → (parts_in plan.now.row.start_up plan.now.row.switches plan.now.row.moves plan.now.row.system w.leaves).long w.leaves ≡ None) }
+    ensures refused { (why : Refusal) → IsErrOf result (Refused why) → (w : WorldState) → IsActivationPlanned plan.now.row.switches plan.now.row.system w plan.now.activation
+        → long_refusal ((parts_in plan.now.row.start_up plan.now.row.switches plan.now.row.moves plan.now.row.system w.leaves).long w.leaves) ≡ Some why }
+    ensures cause { IsErrOf result (Host Device) → ⊥ }
+{
+    let Some(activation) = plan.activation() else {
+        return Ok(());
+    };
+    let long = activation.long(alloc)?;
+    match long_refusal(&long) {
+        Some(why) => Err(PlanFault::Refused(why)),
+        None => Ok(()),
+    }
+}
+
+/// Plans the parts of a row, however much there is of anything.
+fn plan_short<H: Manager>(
     alloc: Global,
     host: &mut H,
     command: &Command,
@@ -160,14 +225,9 @@ fn plan_parts<H: Manager>(
         → Told (H.host host.old) (λ w. refusal_in_parts row.now.start_up row.now.switches row.now.moves row.now.system w.leaves ≡ Some why) }
     ensures reads { IsReadingOf (H.host host.old) (H.host host.new) (IsErrOf result (Host Device)) }
 {
-    let planned = command.copy(alloc)?;
-    let its = row.copy(alloc)?;
-    let gens = gens_for(alloc, host, row, known)?;
-    check_places(alloc, host, row, gens.as_ref())?;
-    let units = plan_switch(alloc, host, row)?;
-    let activation = plan_accounts_and_etc(alloc, host, row)?;
-    let profile = plan_profile(alloc, host, row, gens)?;
-    Ok(Plan::new(planned, its, units, activation, profile))
+    let plan = plan_parts(alloc, host, command, row, known)?;
+    check_length(alloc, &plan)?;
+    Ok(plan)
 }
 
 /// What there is too much of for a row that switches the units: units, then entries below `/etc`, and then rows of account
@@ -237,7 +297,7 @@ fn plan_row<H: Manager>(
     ensures reads { IsReadingOf (H.host host.old) (H.host host.new) (IsErrOf result (Host Device)) }
 {
     let _path = row.system.path();
-    match plan_parts(alloc, host, command, row, known) {
+    match plan_short(alloc, host, command, row, known) {
         Ok(plan) => Ok(plan),
         Err(PlanFault::Refused(why)) => Err(refused_first(alloc, host, row, why)),
         Err(PlanFault::Host(fault)) => Err(PlanFault::Host(fault)),
@@ -267,11 +327,12 @@ fn check_version<T: Tree>(alloc: Global, host: &mut T, row: &Row) -> Result<(), 
 /// Plans what a command does, before anything is put or changed, and changes nothing.
 ///
 /// The refusals are sought in this order: `NoPrevious` of a rollback or `NoProfile` of a start-up, `NoSystem`; `TooMany` of
-/// bytes of a content that the command takes, the first in byte order; of a switch of the units `TooMany` of units (of its system, then of the one in use), of entries below `/etc` and of rows of account tables;
-/// `InTheWay`; of a switch of the units `UnitText`, `UsersSpec`, `Table`, `IdMap`, then the first of `NoFreeId` and
-/// `UnknownGroup`, `TooMany` of rows after the merge, and then the first of `Reserved`, `EtcEntry` and `Owner`; and of a set of
-/// the profile `GenerationsFull`. The boot menu after a set is planned last, and is refused for nothing but what is in the way
-/// of its places.
+/// bytes of a content that the command takes, the first in byte order; of a switch of the units `TooMany` of units (of its
+/// system, then of the one in use), of entries below `/etc` and of rows of account tables; `InTheWay`; of a switch of the units
+/// `UnitText`, `UsersSpec`, `Table`, `IdMap`, then the first of `NoFreeId` and `UnknownGroup`, `TooMany` of rows after the
+/// merge, and then the first of `Reserved`, `EtcEntry` and `Owner`; of a set of the profile `GenerationsFull`; and of a switch
+/// of the units `TooMany` of bytes of a file of accounts or of the clean list, which would be put longer than can be read
+/// again, the first in byte order.
 /// Source: NixOS manual, "What happens during a system switch?".
 pub fn plan_all<H: Manager>(
     alloc: Global,

@@ -2,13 +2,14 @@
 ghost use Rattle.std.specs.Prelude.{◌≡◌, ◌++◌, IfOk, OnOk};
 ghost use Rattle.host_trait.specs.Host.{Told};
 ghost use Rattle.host_trait.specs.Reading.{IsReading};
+ghost use Rattle.host_trait.specs.World.{Leaves};
 ghost use Rattle.leaf_limits.specs.Limits.{AreTaken};
-ghost use Rattle.switch_engine.specs.Lengths.{takes_by, takes_menu, takes_switch, too_long_by};
+ghost use Rattle.switch_engine.specs.Lengths.{takes_by, takes_goal, takes_menu, takes_moved, takes_switch, too_long_by};
 ghost use Rattle.switch_engine.specs.Rows.{gens_to};
 
 use crate::row::Row;
 use crate::system::version_path;
-use generations::{after_move, all};
+use generations::{Move, after_move, all, goal_path};
 use host_trait::{HostFault, Tree};
 use leaf_limits::long_past;
 use std::alloc::{AllocError, Global};
@@ -39,7 +40,7 @@ fn switch_sources<T: Tree>(
     }
     let mut places = unit_stage::taken(alloc, host, &row.system)?;
     let mut others = accounts_stage::taken(alloc, &row.system)?;
-    let entries = etc_manifest::taken(alloc, host, &row.system)?;
+    let entries = etc_farm::taken(alloc, host, &row.system)?;
     add_paths(alloc, &mut others, entries.as_slice())?;
     add_paths(alloc, &mut places, others.as_slice())?;
     Ok(places)
@@ -58,6 +59,28 @@ fn menu_sources<T: Tree>(alloc: Global, host: &mut T, row: &Row) -> Result<Liste
     Ok(boot_entries::taken(alloc, &after)?)
 }
 
+/// The path of the goal of a rollback, where the profile goes back.
+fn goal_sources(alloc: Global, row: &Row) -> Result<Listed<Path>, AllocError>
+    ensures taken { IfOk result (λ places. (leaves : Leaves) → AreTaken places (takes_goal row.now.moves) leaves) }
+{
+    let mut places = Listed::new(alloc);
+    if let Some(Move::Point(_number)) = row.moves {
+        places.push(goal_path(alloc)?)?;
+    }
+    Ok(places)
+}
+
+/// The paths of what a move of the profile takes, where it is moved.
+fn move_sources<T: Tree>(alloc: Global, host: &mut T, row: &Row) -> Result<Listed<Path>, HostFault>
+    ensures taken { IfOk result (λ places. Told (T.host host.old) (λ w. AreTaken places (takes_moved row.now.moves (gens_to row.now.moves row.now.system w.leaves)) w.leaves)) }
+    ensures reads { IsReading (T.host host.old) (T.host host.new) result }
+{
+    let mut places = menu_sources(alloc, host, row)?;
+    let goal = goal_sources(alloc, row)?;
+    add_paths(alloc, &mut places, goal.as_slice())?;
+    Ok(places)
+}
+
 /// The paths of what a row takes.
 fn sources<T: Tree>(alloc: Global, host: &mut T, row: &Row) -> Result<Listed<Path>, HostFault>
     ensures taken { IfOk result (λ places. Told (T.host host.old) (λ w. AreTaken places (takes_by row.now.switches row.now.moves row.now.system (gens_to row.now.moves row.now.system w.leaves) w.leaves) w.leaves)) }
@@ -66,8 +89,8 @@ fn sources<T: Tree>(alloc: Global, host: &mut T, row: &Row) -> Result<Listed<Pat
     let mut places = Listed::new(alloc);
     places.push(version_path(alloc, &row.system)?)?;
     let mut others = switch_sources(alloc, host, row)?;
-    let menu = menu_sources(alloc, host, row)?;
-    add_paths(alloc, &mut others, menu.as_slice())?;
+    let moved = move_sources(alloc, host, row)?;
+    add_paths(alloc, &mut others, moved.as_slice())?;
     add_paths(alloc, &mut places, others.as_slice())?;
     Ok(places)
 }

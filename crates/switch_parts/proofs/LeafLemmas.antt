@@ -58,7 +58,7 @@ module _ (owns : Name → Bool) (places : Leaves → List WrittenPlace) (refusal
     keeps_self = ends_self;
     keeps_then = ends_then;
     same_end = λ w m keeps q own. keeps.ends q own;
-    stays_free = λ w m keeps free. let again = keeps.free free.way free.refusal in record { way = again.0; refusal = again.1 };
+    stays_free = λ w m keeps free. let again = keeps.free free.way free.refusal in record { way = again.0; refusal = again.1; short = refl };
     frame = frame;
     reads_own = reads_own;
     no_stage = no_stage;

@@ -1,5 +1,6 @@
 pub mod Faults
 pub mod LeafLemmas
+pub mod LongLemmas
 pub mod Parts
 pub mod QuietLemmas
 pub mod StoreLemmas

@@ -8,6 +8,7 @@ use Rattle.switch_names.specs.Names.{Name}
 use Rattle.switch_names.proofs.Outcomes.{option_or_parts, option_or_nothing, none_mapped}
 use Rattle.std.specs.List.{find}
 use Rattle.tree_put.specs.WrittenPlace.{is_in_the_way}
+use Rattle.switch_parts.proofs.LongLemmas.{long_parts, none_long}
 use Rattle.switch_parts.specs.Part.{AreParted, IsAtEnd, IsDone, IsFree, IsMomentOf, IsOnly, IsPart, IsSameFor, Part, both, final_leaf}
 
 pub left_false : (a b : Bool) → a || b ≡ false → a ≡ false
@@ -61,18 +62,21 @@ module _ (p q : Part) where
   first_free leaves free = record {
     way = ap (option_map (λ place. place.at)) (find_none (is_in_the_way leaves) (p.places leaves) (q.places leaves) (none_mapped _ _ free.way)).0;
     refusal = (option_or_parts (p.refusal leaves) (q.refusal leaves) free.refusal).0;
+    short = (long_parts (p.long leaves) (q.long leaves) free.short).0;
   }
 
   pub second_free : (leaves : Leaves) → IsFree (both p q) leaves → IsFree q leaves
   second_free leaves free = record {
     way = ap (option_map (λ place. place.at)) (find_none (is_in_the_way leaves) (p.places leaves) (q.places leaves) (none_mapped _ _ free.way)).1;
     refusal = (option_or_parts (p.refusal leaves) (q.refusal leaves) free.refusal).1;
+    short = (long_parts (p.long leaves) (q.long leaves) free.short).1;
   }
 
   pub both_free : (leaves : Leaves) → IsFree p leaves → IsFree q leaves → IsFree (both p q) leaves
   both_free leaves first second = record {
     way = ap (option_map (λ place. place.at)) (find_none_both (is_in_the_way leaves) (p.places leaves) (q.places leaves) (none_mapped _ _ first.way) (none_mapped _ _ second.way));
     refusal = option_or_nothing (p.refusal leaves) (q.refusal leaves) first.refusal second.refusal;
+    short = none_long (p.long leaves) (q.long leaves) first.short second.short;
   }
 
 module _ (p q : Part) (first : IsPart p) (second : IsPart q) where

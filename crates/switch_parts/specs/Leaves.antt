@@ -26,7 +26,8 @@ pub record EndsSame (owns : Name → Bool) (places : Leaves → List WrittenPlac
   pub ends : (q : Name) → owns q ≡ true → end m.leaves q ≡ end w.leaves q
   pub free : in_the_way (places w.leaves) w.leaves ≡ None → refusal w.leaves ≡ None → (in_the_way (places m.leaves) m.leaves ≡ None) × (refusal m.leaves ≡ None)
 
--- the part that owns places, looks at some, writes some of them by way of the stage, and leaves this there
+-- the part that owns places, looks at some, writes some of them by way of the stage, and leaves this there, nothing of which is too
+-- long to be read again
 abbrev pub leaf_part : (Name → Bool) → (Name → Bool) → (Leaves → List WrittenPlace) → (Leaves → Option Refusal) → End → Part
 leaf_part owns reads places refusal end = record {
   owns = owns;
@@ -34,6 +35,7 @@ leaf_part owns reads places refusal end = record {
   calls = false;
   places = places;
   refusal = refusal;
+  long = λ leaves. None;
   end = end;
   Keeps = λ w m. EndsSame owns places refusal end w m;
 }

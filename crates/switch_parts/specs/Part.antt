@@ -4,6 +4,8 @@ use Rattle.std.specs.FinMap.{get}
 use Rattle.std.specs.Option.{option_or}
 use Rattle.host_trait.specs.declared.leaf.LeafKind.{LeafKind}
 use Rattle.host_trait.specs.World.{Leaves, WorldState, stage}
+use Rattle.leaf_limits.specs.declared.too_long.TooLong.{TooLong}
+use Rattle.leaf_limits.specs.Limits.{first_long}
 use Rattle.switch_names.specs.Names.{Name}
 use Rattle.switch_parts.specs.declared.refusal.Refusal.{Refusal}
 use Rattle.tree_put.specs.declared.written_place.WrittenPlace.{WrittenPlace}
@@ -19,17 +21,20 @@ pub record Part : Type 1 where
   pub calls : Bool
   -- the places that it writes
   pub places : Leaves → List WrittenPlace
-  -- why it is refused, but for what is in the way
+  -- why it is refused, but for what is in the way and for what it puts
   pub refusal : Leaves → Option Refusal
+  -- the first in byte order of what it puts longer than can be read again, where there is any
+  pub long : Leaves → Option TooLong
   -- what it leaves at a place that it owns
   pub end : Leaves → Name → Option LeafKind
   -- what each moment of its work keeps of the world at its beginning
   pub Keeps : WorldState → WorldState → Type 0
 
--- nothing is in its way, and it isn't refused
+-- nothing is in its way, it isn't refused, and nothing that it puts is too long to be read again
 pub record IsFree (part : Part) (leaves : Leaves) : Type 0 where
   pub way : in_the_way (part.places leaves) leaves ≡ None
   pub refusal : part.refusal leaves ≡ None
+  pub short : part.long leaves ≡ None
 
 -- two worlds have the same wherever a part looks
 pub record IsSameFor (part : Part) (w m : WorldState) : Type 0 where
@@ -79,11 +84,13 @@ no_part = record {
   calls = false;
   places = λ leaves. [];
   refusal = λ leaves. None;
+  long = λ leaves. None;
   end = λ leaves at. get leaves at;
   Keeps = λ w m. Unit {0};
 }
 
--- two parts together: each place has the end of its owner, and the first refusal counts
+-- two parts together: each place has the end of its owner, the first refusal counts, and of what is put too long the first in
+-- byte order
 abbrev pub both : Part → Part → Part
 both p q = record {
   owns = λ at. p.owns at || q.owns at;
@@ -91,6 +98,7 @@ both p q = record {
   calls = p.calls || q.calls;
   places = λ leaves. p.places leaves ++ q.places leaves;
   refusal = λ leaves. option_or (p.refusal leaves) (q.refusal leaves);
+  long = λ leaves. first_long (p.long leaves) (q.long leaves);
   end = λ leaves at. if p.owns at then p.end leaves at else q.end leaves at;
   Keeps = λ w m. p.Keeps w m × q.Keeps w m;
 }

@@ -4,8 +4,10 @@
 
 mod keeping;
 mod plan_fault;
+mod puts;
 mod refusal;
 
 pub use keeping::put_kept;
 pub use plan_fault::PlanFault;
-pub use refusal::{MapFile, Refusal, TableFile, What, too_many};
+pub use puts::{long_put, long_with};
+pub use refusal::{MapFile, Refusal, TableFile, What, long_refusal, too_many};

@@ -1,7 +1,8 @@
 //! Why a command is refused.
 ghost use Rattle.std.specs.Prelude.{◌≡◌};
-ghost use Rattle.switch_parts.specs.Limits.{too_many};
+ghost use Rattle.switch_parts.specs.Limits.{long_refusal, too_many};
 
+use leaf_limits::{TooLong, count_noted};
 use switch_names::{Path, Text, UnitName};
 use thiserror::Error;
 use users_spec::SpecFault;
@@ -118,4 +119,11 @@ pub fn too_many(what: What, past: Option<u64>) -> Option<Refusal>
     ensures { result ≡ too_many what past }
 {
     past.map(|count| Refusal::TooMany { what, count })
+}
+
+/// The refusal of a content that is too long, where there is one.
+pub fn long_refusal(long: &Option<TooLong>) -> Option<Refusal>
+    ensures { result ≡ long_refusal long.now }
+{
+    too_many(What::LeafBytes, count_noted(long))
 }

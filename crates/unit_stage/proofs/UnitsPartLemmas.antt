@@ -136,7 +136,7 @@ units_part_law start_up system is_system = record {
   keeps_self = λ w. kept_same start_up system w w is_system (record { leaves = λ q read. refl; manager = λ call. refl });
   keeps_then = kept_then start_up system;
   same_end = λ w m keeps q own. refl;
-  stays_free = λ w m keeps free. let kept = keeps.free (record { way = free.way; refusal = free.refusal }) in record { way = kept.way; refusal = kept.refusal };
+  stays_free = λ w m keeps free. let kept = keeps.free (record { way = free.way; refusal = free.refusal }) in record { way = kept.way; refusal = kept.refusal; short = refl };
   frame = λ w m same. kept_same start_up system w m is_system same;
   reads_own = reads_own;
   no_stage = not_reads_stage;

@@ -52,6 +52,7 @@ units_part start_up system = record {
   calls = true;
   places = λ leaves. unit_places;
   refusal = λ leaves. unit_refusal leaves system;
+  long = λ leaves. None;
   end = units_end system;
   Keeps = AreUnitsKept start_up system;
 }

@@ -7,5 +7,9 @@ returns-in_err-at-clause-reads g c = nothing_read _ (no_device _ c.from_residual
 pub returns-in_err-tables-clause-reads : goal.returns-in_err-tables-clause-reads
 returns-in_err-tables-clause-reads g c = read_handed (read_then c.content.ensures.reads c.in_err-tables.ensures.reads) _ c.from_residual-in_err-tables.ensures.1
 
+pub returns-in_err-memory-clause-reads : goal.returns-in_err-memory-clause-reads
+returns-in_err-memory-clause-reads g c =
+    read_handed (read_then (read_then c.content.ensures.reads c.read_texts.ensures.reads) c.in_err-memory.ensures.reads) _ c.from_residual-in_err-memory.ensures.1
+
 pub returns-clause-reads : goal.returns-clause-reads
-returns-clause-reads g c = read_ok (read_then c.content.ensures.reads c.read_texts.ensures.reads) _
+returns-clause-reads g c = read_ok (read_then (read_then c.content.ensures.reads c.read_texts.ensures.reads) c.read_memory.ensures.reads) _

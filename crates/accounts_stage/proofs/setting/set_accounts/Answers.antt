@@ -8,30 +8,30 @@ use Rattle.switch_parts.specs.Quiet.{IsQuiet}
 use Rattle.tree_put.specs.Sequence.{IsPutting, WritesOthers, with_puts}
 use Rattle.tree_put.specs.WrittenPlace.{in_the_way}
 use Rattle.tree_put.proofs.SequenceLemmas.{none_written, putting_none}
-use Rattle.accounts_stage.specs.AccountsPart.{accounts_part}
+use Rattle.accounts_stage.specs.AccountsPart.{accounts_part, puts_of}
 use Rattle.accounts_stage.specs.OnTheWay.{names_first}
 use Rattle.accounts_stage.specs.Places.{account_places}
-use Rattle.accounts_stage.specs.Plan.{AreAccountsSet, IsSettingAccounts, puts_of}
-use Rattle.accounts_stage.proofs.PuttingLemmas.{merge_puts, no_puts}
+use Rattle.accounts_stage.specs.Plan.{AreAccountsSet, IsSettingAccounts}
+use Rattle.accounts_stage.proofs.PuttingLemmas.{no_puts, slice_puts}
 use Rattle.accounts_stage.proofs.QuietLemmas.{set_quiet}
 use Rattle.accounts_stage.proofs.setting.set_accounts.Goals as goal
 
-pub apply-requires : goal.apply-requires
-apply-requires g c = told_as c.requires (λ w. in_the_way account_places w.leaves ≡ None) (λ w is can. can.free.way)
+pub put_accounts-requires-clause-way : goal.put_accounts-requires-clause-way
+put_accounts-requires-clause-way g c = told_as c.requires (λ w. in_the_way account_places w.leaves ≡ None) (λ w is can. can.free.way)
 
 pub returns-in-Some-clause-ok : goal.returns-in-Some-clause-ok
 returns-in-Some-clause-ok g c =
     let system = c.args.system.now in
-    on_ok_weaker c.apply.result
+    on_ok_weaker c.put_accounts.result
     (λ led. leads_as led (AreAccountsSet system)
-    (λ w v is now. now ∙ ap (λ (ps : List LeafPut). seen (with_puts ps w)) (merge_puts system w.leaves c.args.plan.now (c.requires.has w is).planned c.in-Some.merged c.in-Some.is)))
-    c.apply.ensures.ok
+    (λ w v is now. now ∙ ap (λ (ps : List LeafPut). seen (with_puts ps w)) (slice_puts system w.leaves c.args.plan.now (c.requires.has w is).planned _ _ c.as_slice.ensures c.as_slice-in-Some.ensures)))
+    c.put_accounts.ensures.ok
 
 pub returns-in-Some-clause-moments : goal.returns-in-Some-clause-moments
 returns-in-Some-clause-moments g c =
     let system = c.args.system.now in
-    passes_as c.apply.ensures.moments (IsSettingAccounts system)
-    (λ w m is moment. subst (λ (ps : List LeafPut). IsPutting ps w m) (merge_puts system w.leaves c.args.plan.now (c.requires.has w is).planned c.in-Some.merged c.in-Some.is) moment)
+    passes_as c.put_accounts.ensures.moments (IsSettingAccounts system)
+    (λ w m is moment. subst (λ (ps : List LeafPut). IsPutting ps w m) (slice_puts system w.leaves c.args.plan.now (c.requires.has w is).planned _ _ c.as_slice.ensures c.as_slice-in-Some.ensures) moment)
 
 pub returns-in-None-clause-ok : goal.returns-in-None-clause-ok
 returns-in-None-clause-ok g c = record {
@@ -44,11 +44,11 @@ returns-in-None-clause-moments g c = started (IsSettingAccounts c.args.system.no
 pub returns-in-Some-clause-quiet : goal.returns-in-Some-clause-quiet
 returns-in-Some-clause-quiet g c =
     let system = c.args.system.now in
-    on_ok_weaker c.apply.result
+    on_ok_weaker c.put_accounts.result
     (λ led. leads_as led (IsQuiet (names_first system) (final_leaf (accounts_part system)))
     (λ w v is wrote. set_quiet system w v
-    (subst (λ (ps : List LeafPut). WritesOthers ps w v) (merge_puts system w.leaves c.args.plan.now (c.requires.has w is).planned c.in-Some.merged c.in-Some.is) wrote)))
-    c.apply.ensures.written
+    (subst (λ (ps : List LeafPut). WritesOthers ps w v) (slice_puts system w.leaves c.args.plan.now (c.requires.has w is).planned _ _ c.as_slice.ensures c.as_slice-in-Some.ensures) wrote)))
+    c.put_accounts.ensures.written
 
 pub returns-in-None-clause-quiet : goal.returns-in-None-clause-quiet
 returns-in-None-clause-quiet g c =

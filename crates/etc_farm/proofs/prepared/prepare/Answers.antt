@@ -1,13 +1,22 @@
-use Rattle.std.proofs.Common.{◌∷◌, [], map, ap, ◌∙◌}
+use Rattle.std.proofs.Common.{◌∷◌, [], map, sym, ap, subst, ◌∙◌}
 use Rattle.host_trait.specs.declared.leaf.LeafKind.TheVariants.{Link}
 use Rattle.tree_put.specs.declared.leaf_put.LeafPut.{LeafPut}
-use Rattle.tree_put.specs.Sequence.{put_at}
+use Rattle.tree_put.specs.Sequence.{ArePutsApart, put_at}
 use Rattle.etc_clean.specs.CleanList.{clean_leaf}
 use Rattle.etc_clean.specs.Etc.{static_name}
 use Rattle.etc_clean.specs.Names.{place}
 use Rattle.etc_farm.specs.FarmPart.{farm_of, static_target}
 use Rattle.etc_farm.proofs.PrepareLemmas.{lists_of}
+use Rattle.etc_farm.proofs.StageLemmas.{first_apart}
 use Rattle.etc_farm.proofs.prepared.prepare.Goals as goal
+
+pub invariant_of-result : goal.invariant_of-result
+invariant_of-result c = record {
+  apart =
+      subst ArePutsApart (sym (c.in_ok-puts.ensures ∙ ap (λ (list : LeafPut). list ∷ put_at (place static_name) (Link (static_target c.args.system.now)) ∷ []) c.in_ok-first_list.ensures.put))
+      (first_apart c.in_ok-first.first (static_target c.args.system.now));
+  last = ap (λ (put : LeafPut). put.at) c.in_ok-last.ensures.put;
+}
 
 pub returns : goal.returns
 returns c =
@@ -22,5 +31,5 @@ returns c =
       names_are = lists.names_are;
       gone = c.in_ok-gone.ensures ∙ ap (map place) c.as_slice-4.ensures;
       last_at = ap (λ (put : LeafPut). put.at) c.in_ok-last.ensures.put;
-      last = λ w can. ap (λ (put : LeafPut). put.leaf) c.in_ok-last.ensures.put ∙ ap clean_leaf (lists.last_are w can);
+      last = λ leaves sorted. ap (λ (put : LeafPut). put.leaf) c.in_ok-last.ensures.put ∙ ap clean_leaf (lists.last_are leaves sorted);
     }

@@ -53,6 +53,7 @@ returns-clause-can g c =
             (sym (first_past (taken_of kept) (has (taken_of kept)) w.leaves (λ q there. refl) None
             (subst (λ (gens : Gens). AreWithin (taken_of gens) w.leaves) c.in_ok-kept.ensures
             (subst (λ (found : Option TooLong). IsFirstOf (taken_of c.in_ok-kept.kept) w.leaves found) c.in_default.is (noted.has w world (none_before w.leaves))))));
+        short = refl;
       };
     })
 

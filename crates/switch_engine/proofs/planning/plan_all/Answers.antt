@@ -3,7 +3,7 @@ use Rattle.std.proofs.lemmas.Result.{err_from_is_err_and}
 use Rattle.generations.specs.Gens.{IsGensOf}
 use Rattle.host_trait.specs.declared.tree.HostFault.TheVariants.{Device}
 use Rattle.host_trait.proofs.Moments.{told_as, told_before}
-use Rattle.host_trait.proofs.Readings.{read_of, reads_of, reads_then, told_read}
+use Rattle.host_trait.proofs.Readings.{reads_of, reads_then}
 use Rattle.std.specs.Option.{IfSome}
 use Rattle.switch_engine.specs.declared.command.Command.{Command}
 use Rattle.switch_engine.specs.declared.row.Row.{Row}
@@ -14,8 +14,7 @@ use Rattle.switch_engine.specs.Rows.{refusal, refusal_by}
 use Rattle.switch_engine.proofs.PlanLemmas.{has_system, told_still, version_refused}
 use Rattle.switch_names.specs.SystemName.{IsSystemPath}
 use Rattle.switch_parts.specs.declared.plan_fault.PlanFault.TheVariants.{Host, Refused}
-use Rattle.switch_parts.specs.declared.refusal.Refusal.TheVariants.{NoSystem}
-use Rattle.switch_parts.proofs.Faults.{handed, host_device, no_err, refused_is, refused_no_device}
+use Rattle.switch_parts.proofs.Faults.{handed, no_err}
 use Rattle.unit_stage.proofs.KnownLemmas.{same_fault}
 use Rattle.switch_engine.proofs.planning.plan_all.Goals as goal
 

@@ -9,7 +9,7 @@ use Rattle.switch_engine.specs.declared.plan.Plan.{Plan}
 use Rattle.switch_engine.specs.declared.row.Row.{Row}
 use Rattle.switch_engine.specs.Owing.{IsSteadyTo}
 use Rattle.switch_engine.specs.Plan.{ArePlanned, IsSound}
-use Rattle.switch_engine.specs.Rows.{refusal_in_parts}
+use Rattle.switch_engine.specs.Rows.{refusal_before_length}
 use Rattle.switch_engine.proofs.PlanLemmas.{activation_refused, profile_refused, told_still, units_refused, way_refused}
 use Rattle.switch_parts.specs.declared.plan_fault.PlanFault.TheVariants.{Host, Refused}
 use Rattle.switch_parts.proofs.Faults.{handed, no_err, memory_no_device}
@@ -25,7 +25,7 @@ returns-in_err-check_places-clause-refused g c why e =
     let p = err_from_is_err_and c.from_residual-in_err-check_places.result c.from_residual-in_err-check_places.ensures.1 in
     let its = c.args.row.now in
     told_as (told_read c.gens_for.ensures.reads (c.in_err-check_places.ensures.refused why (ap (λ f. Err f) (sym p.2 ∙ same_fault p.0 (Refused why) (sym p.1 ∙ e)))))
-    (λ w. refusal_in_parts its.start_up its.switches its.moves its.system w.leaves ≡ Some why)
+    (λ w. refusal_before_length its.start_up its.switches its.moves its.system w.leaves ≡ Some why)
     (λ w is way. way_refused its.start_up its.switches its.moves its.system w.leaves why way)
 
 pub returns-in_err-check_places-clause-reads : goal.returns-in_err-check_places-clause-reads
@@ -39,7 +39,7 @@ returns-in_err-units-clause-refused g c why e =
     let its = c.args.row.now in
     let refused = c.in_err-units.ensures.refused why (ap (λ f. Err f) (sym p.2 ∙ same_fault p.0 (Refused why) (sym p.1 ∙ e))) in
     let way = told_read c.gens_for.ensures.reads c.in_ok-check_places.ensures.free in
-    told_as (told_read c.gens_for.ensures.reads (told_before c.check_places.ensures.reads.moments refused)) (λ w. refusal_in_parts its.start_up its.switches its.moves its.system w.leaves ≡ Some why)
+    told_as (told_read c.gens_for.ensures.reads (told_before c.check_places.ensures.reads.moments refused)) (λ w. refusal_before_length its.start_up its.switches its.moves its.system w.leaves ≡ Some why)
     (λ w is units. units_refused its.start_up its.switches its.moves its.system w.leaves (way.has w is) why units)
 
 pub returns-in_err-units-clause-reads : goal.returns-in_err-units-clause-reads
@@ -54,7 +54,7 @@ returns-in_err-activation-clause-refused g c why e =
     let refused = c.in_err-activation.ensures.refused why (ap (λ f. Err f) (sym p.2 ∙ same_fault p.0 (Refused why) (sym p.1 ∙ e))) in
     let way = told_read c.gens_for.ensures.reads c.in_ok-check_places.ensures.free in
     let units = told_read c.gens_for.ensures.reads (told_before c.check_places.ensures.reads.moments c.in_ok-units.ensures.not_refused) in
-    told_as (told_read c.gens_for.ensures.reads (told_before c.check_places.ensures.reads.moments (told_before c.plan_switch.ensures.reads.moments refused))) (λ w. refusal_in_parts its.start_up its.switches its.moves its.system w.leaves ≡ Some why)
+    told_as (told_read c.gens_for.ensures.reads (told_before c.check_places.ensures.reads.moments (told_before c.plan_switch.ensures.reads.moments refused))) (λ w. refusal_before_length its.start_up its.switches its.moves its.system w.leaves ≡ Some why)
     (λ w is activation. activation_refused its.start_up its.switches its.moves its.system w.leaves (way.has w is) (units.has w is) why activation)
 
 pub returns-in_err-activation-clause-reads : goal.returns-in_err-activation-clause-reads
@@ -82,7 +82,7 @@ returns-in_err-profile-clause-refused g c why e =
     let way = told_read c.gens_for.ensures.reads c.in_ok-check_places.ensures.free in
     let units = told_read c.gens_for.ensures.reads (told_before c.check_places.ensures.reads.moments c.in_ok-units.ensures.not_refused) in
     let activation = told_read c.gens_for.ensures.reads (told_before c.check_places.ensures.reads.moments (told_before c.plan_switch.ensures.reads.moments c.in_ok-activation.ensures.not_refused)) in
-    told_as (told_read c.gens_for.ensures.reads (told_before c.check_places.ensures.reads.moments (told_before c.plan_switch.ensures.reads.moments (told_before c.plan_accounts_and_etc.ensures.reads.moments refused)))) (λ w. refusal_in_parts its.start_up its.switches its.moves its.system w.leaves ≡ Some why)
+    told_as (told_read c.gens_for.ensures.reads (told_before c.check_places.ensures.reads.moments (told_before c.plan_switch.ensures.reads.moments (told_before c.plan_accounts_and_etc.ensures.reads.moments refused)))) (λ w. refusal_before_length its.start_up its.switches its.moves its.system w.leaves ≡ Some why)
     (λ w is profile. profile_refused its.start_up its.switches its.moves its.system w.leaves (way.has w is) (units.has w is) (Some why) (activation.has w is) profile)
 
 pub returns-clause-plan : goal.returns-clause-plan
@@ -100,7 +100,7 @@ returns-clause-not_refused g c =
     let way = told_read c.gens_for.ensures.reads c.in_ok-check_places.ensures.free in
     let units = told_read c.gens_for.ensures.reads (told_before c.check_places.ensures.reads.moments c.in_ok-units.ensures.not_refused) in
     let activation = told_read c.gens_for.ensures.reads (told_before c.check_places.ensures.reads.moments (told_before c.plan_switch.ensures.reads.moments c.in_ok-activation.ensures.not_refused)) in
-    told_as (told_read c.gens_for.ensures.reads (told_before c.check_places.ensures.reads.moments (told_before c.plan_switch.ensures.reads.moments (told_before c.plan_accounts_and_etc.ensures.reads.moments c.in_ok-profile.ensures.not_refused)))) (λ w. refusal_in_parts its.start_up its.switches its.moves its.system w.leaves ≡ None)
+    told_as (told_read c.gens_for.ensures.reads (told_before c.check_places.ensures.reads.moments (told_before c.plan_switch.ensures.reads.moments (told_before c.plan_accounts_and_etc.ensures.reads.moments c.in_ok-profile.ensures.not_refused)))) (λ w. refusal_before_length its.start_up its.switches its.moves its.system w.leaves ≡ None)
     (λ w is profile. profile_refused its.start_up its.switches its.moves its.system w.leaves (way.has w is) (units.has w is) None (activation.has w is) profile)
 
 pub returns-clause-sound : goal.returns-clause-sound
