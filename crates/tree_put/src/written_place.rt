@@ -6,7 +6,7 @@ ghost use Rattle.host_trait.specs.World.{is_in_line, stage};
 ghost use Rattle.tree_put.specs.WrittenPlace.{is_in_the_way, lacks_content, written};
 
 use crate::blocked::is_blocked;
-use host_trait::{HostFault, Tree, content, stage_path};
+use host_trait::{HostFault, LeafKind, Tree, content, stage_path};
 use std::alloc::{AllocError, Global};
 use switch_names::{Listed, Path};
 
@@ -50,11 +50,16 @@ fn lacks_content<T: Tree>(alloc: Global, host: &mut T, at: &Path) -> Result<bool
     ensures lacks { IfOk result (λ lacks. Told (T.host host.old) (λ w. lacks ≡ lacks_content w.leaves at.now)) }
     ensures reads { IsReading (T.host host.old) (T.host host.new) result }
 {
-    if content(alloc, host, at)?.is_some() {
+    let Some(leaf) = host.read(alloc, at)? else {
         return Ok(false);
+    };
+    match leaf.kind() {
+        LeafKind::File { .. } => Ok(false),
+        LeafKind::Link { .. } => {
+            let content = content(alloc, host, at)?;
+            Ok(content.is_none())
+        }
     }
-    let leaf = host.read(alloc, at)?;
-    Ok(leaf.is_some())
 }
 
 /// Whether a leaf stands in the way of a place: one strictly above or below it, or one without
