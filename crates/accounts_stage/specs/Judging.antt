@@ -1,4 +1,4 @@
--- What is judged of accounts before the maps of ids are read, and after that: nixpkgs, update-users-groups.pl.
+-- What is judged of the texts of accounts, and in which order: nixpkgs, update-users-groups.pl.
 use Rattle.std.specs.Prelude.{◌≡◌, ℕ, Option, None, Some, Ok, option_and_then, option_map}
 use Rattle.std.specs.Option.{option_or}
 use Rattle.host_trait.specs.World.{Leaves}

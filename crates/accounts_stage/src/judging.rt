@@ -1,5 +1,5 @@
-//! What is judged of accounts before the maps of ids are read.
-ghost use Rattle.std.specs.Prelude.{◌≡◌, ⊤, Ok, Some, IfOk, IsErrOf, option_map};
+//! The texts that are read of accounts, and what is judged of them before what is remembered.
+ghost use Rattle.std.specs.Prelude.{◌≡◌, Ok, Some, IfOk, IsErrOf, option_map};
 ghost use Rattle.host_trait.specs.declared.tree.HostFault.TheVariants.{Device};
 ghost use Rattle.host_trait.specs.Host.{Told};
 ghost use Rattle.host_trait.specs.Reading.{IsReading};
@@ -19,7 +19,7 @@ use host_trait::{HostFault, Tree, content};
 use leaf_limits::{LEAF_MAX, content_past, past};
 use std::alloc::Global;
 use switch_names::{Bytes, SystemName};
-use switch_parts::{PlanFault, Refusal, What, too_many};
+use switch_parts::{PlanFault, Refusal, What, refuse, too_many};
 use users_spec::{Spec, SpecFault};
 
 /// How many bytes a text has, where it has too many.
@@ -140,17 +140,6 @@ fn spec_in(alloc: Global, bytes: &Option<Bytes>) -> Result<Option<Spec>, PlanFau
     match bytes {
         Some(bytes) => Ok(Some(spec_of(alloc, bytes)?)),
         None => Ok(None),
-    }
-}
-
-/// Refuses what there is a reason to refuse.
-pub fn refuse(why: Option<Refusal>) -> Result<(), PlanFault>
-    ensures refused { Answers why (λ nothing. ⊤) result }
-    ensures cause { IsErrOf result (Host Device) → ⊥ }
-{
-    match why {
-        Some(why) => Err(PlanFault::Refused(why)),
-        None => Ok(()),
     }
 }
 

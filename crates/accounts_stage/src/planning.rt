@@ -16,7 +16,7 @@ ghost use Rattle.accounts_stage.specs.Refusals.{merge_refusal};
 ghost use Rattle.accounts_stage.specs.Standing.{memory_in, tables_in};
 
 use crate::accounts_plan::AccountsPlan;
-use crate::judging::{Judged, judge, read_account_texts, refuse};
+use crate::judging::{Judged, judge, read_account_texts};
 use crate::memory::MemoryTexts;
 use crate::puts::{first_puts, last_puts};
 use crate::rows::tables_past;
@@ -25,7 +25,7 @@ use account_text::Tables;
 use host_trait::{HostFault, Tree};
 use std::alloc::Global;
 use switch_names::{Listed, SystemName};
-use switch_parts::{PlanFault, Refusal, What, too_many};
+use switch_parts::{PlanFault, Refusal, What, refuse, too_many};
 use users_merge::{MergeFault, Merged, merge};
 use users_spec::Spec;
 

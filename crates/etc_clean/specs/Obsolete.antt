@@ -10,8 +10,8 @@ use Rattle.etc_clean.specs.Farm.{is_blocked, is_entry, is_gone}
 use Rattle.etc_clean.specs.Names.{place}
 use Rattle.etc_clean.specs.Standing.{is_standing}
 
--- what is gone, the entries that are blocked, those whose leaf stands already, and the names of the clean list that stands, each in byte order and once; and how long
--- that list is, where it is too long
+-- what is gone, the entries that are blocked, those whose leaf stands already, and the names of the clean list that stands, each in
+-- byte order and once; and how long that list is, where it is too long
 pub record IsSortedOf (items : List Item) (leaves : Leaves) (sorted : Sorted) : Type 0 where
   pub gone : IsListOf sorted.gone (λ q. is_gone items leaves q ≡ true)
   pub blocked : IsListOf sorted.blocked (λ q. (is_entry items q && is_blocked items leaves q) ≡ true)

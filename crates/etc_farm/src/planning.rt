@@ -5,8 +5,6 @@ ghost use Rattle.host_trait.specs.Host.{Told};
 ghost use Rattle.host_trait.specs.Reading.{IsReading, IsReadingOf};
 ghost use Rattle.switch_parts.specs.declared.plan_fault.PlanFault.TheVariants.{Host, Refused};
 ghost use Rattle.switch_parts.specs.declared.refusal.Refusal.{Refusal};
-ghost use Rattle.switch_parts.specs.declared.refusal.What.TheVariants.{LeafBytes};
-ghost use Rattle.switch_parts.specs.Limits.{too_many};
 ghost use Rattle.etc_manifest.specs.declared.manifest_fault.ManifestFault.TheVariants as faults;
 ghost use Rattle.etc_manifest.specs.Count.{entries_past};
 ghost use Rattle.etc_manifest.specs.Entries.{manifest_of};
@@ -23,7 +21,7 @@ use host_trait::{HostFault, Tree};
 use leaf_limits::{ENTRIES_MAX, past};
 use std::alloc::Global;
 use switch_names::SystemName;
-use switch_parts::{PlanFault, Refusal, What, too_many};
+use switch_parts::{PlanFault, Refusal, What, refuse, too_many};
 
 /// A fault of a manifest as one of a plan.
 fn plan_fault(fault: ManifestFault) -> PlanFault
@@ -72,18 +70,6 @@ fn look<T: Tree>(alloc: Global, host: &mut T, manifest: &Manifest) -> Result<Sor
     obsolete(alloc, host, manifest)
 }
 
-/// Refuses the clean list that stands, given how many bytes it has where it has more than 16 MiB.
-fn check_list(past: Option<u64>) -> Result<(), PlanFault>
-    ensures short { OnOk result (too_many LeafBytes past ≡ None) }
-    ensures refused { (why : Refusal) → IsErrOf result (Refused why) → too_many LeafBytes past ≡ Some why }
-    ensures no_host { IsErrOf result (Host Device) → ⊥ }
-{
-    match too_many(What::LeafBytes, past) {
-        Some(why) => Err(PlanFault::Refused(why)),
-        None => Ok(()),
-    }
-}
-
 /// The refusal of a system whose etc has too many entries, where it has. It lists the folder once, and reads no leaf.
 pub fn too_many_entries<T: Tree>(
     alloc: Global,
@@ -118,7 +104,7 @@ pub fn plan_etc<T: Tree>(
 {
     let manifest = read_manifest(alloc, host, system, &owners)?;
     let sorted = look(alloc, host, &manifest)?;
-    check_list(sorted.past)?;
+    refuse(too_many(What::LeafBytes, sorted.past))?;
     let prepared = prepare(alloc, system, &manifest, &sorted)?;
     Ok(EtcPlan {
         owners,

@@ -8,6 +8,6 @@ mod puts;
 mod refusal;
 
 pub use keeping::put_kept;
-pub use plan_fault::PlanFault;
+pub use plan_fault::{PlanFault, refuse};
 pub use puts::{long_put, long_with};
 pub use refusal::{MapFile, Refusal, TableFile, What, long_refusal, too_many};

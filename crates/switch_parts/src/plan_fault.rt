@@ -1,7 +1,8 @@
 //! Why a plan isn't made.
-ghost use Rattle.std.specs.Prelude.{◌≡◌};
-ghost use Rattle.host_trait.specs.declared.tree.HostFault.TheVariants.{Memory};
-ghost use Rattle.switch_parts.specs.declared.plan_fault.PlanFault.TheVariants.{Host};
+ghost use Rattle.std.specs.Prelude.{◌≡◌, None, Some, IsErrOf, OnOk};
+ghost use Rattle.host_trait.specs.declared.tree.HostFault.TheVariants.{Device, Memory};
+ghost use Rattle.switch_parts.specs.declared.plan_fault.PlanFault.TheVariants.{Host, Refused};
+ghost use Rattle.switch_parts.specs.declared.refusal.Refusal.{Refusal};
 
 use crate::refusal::Refusal;
 use host_trait::HostFault;
@@ -32,5 +33,17 @@ impl From<AllocError> for PlanFault {
 
     fn from(_error: AllocError) -> PlanFault {
         PlanFault::Host(HostFault::Memory)
+    }
+}
+
+/// Refuses for a reason, where there is one.
+pub fn refuse(refusal: Option<Refusal>) -> Result<(), PlanFault>
+    ensures not_refused { OnOk result (refusal ≡ None) }
+    ensures refused { (why : Refusal) → IsErrOf result (Refused why) → refusal ≡ Some why }
+    ensures no_host { IsErrOf result (Host Device) → ⊥ }
+{
+    match refusal {
+        Some(why) => Err(PlanFault::Refused(why)),
+        None => Ok(()),
     }
 }

@@ -41,11 +41,11 @@ returns-in_err-refuse-clause-refused g c why e =
     rows_last system w.leaves texts.texts same judged.judged ok fine c.in_ok-plan.plan
     (c.in_ok-plan.ensures.plan w.leaves (tables_are system w.leaves texts.texts same judged.judged ok fine) (memory_are system w.leaves texts.texts same))
     ∙ sym (c.or.ensures ∙ (λ i. option_or ((c.too_many-many.ensures ∙ ap (too_many Rows) c.plan_past.ensures) i)
-    ((c.too_many.ensures ∙ ap (too_many LeafBytes) c.long.ensures ∙ length_is system w.leaves texts.texts same) i))) ∙ c.in_err-refuse.ensures.refused.refused why (err_handed _ (Refused why) _ c.from_residual-in_err-refuse.ensures.1 e))
+    ((c.too_many.ensures ∙ ap (too_many LeafBytes) c.long.ensures ∙ length_is system w.leaves texts.texts same) i))) ∙ c.in_err-refuse.ensures.refused why (err_handed _ (Refused why) _ c.from_residual-in_err-refuse.ensures.1 e))
 
 pub returns-in_err-refuse-clause-reads : goal.returns-in_err-refuse-clause-reads
 returns-in_err-refuse-clause-reads g c =
-    read_of c.read_account_texts.ensures.reads _ (λ e. absurd (c.in_err-refuse.ensures.cause (err_handed _ (Host Device) _ c.from_residual-in_err-refuse.ensures.1 e)))
+    read_of c.read_account_texts.ensures.reads _ (λ e. absurd (c.in_err-refuse.ensures.no_host (err_handed _ (Host Device) _ c.from_residual-in_err-refuse.ensures.1 e)))
 
 pub returns-clause-plan : goal.returns-clause-plan
 returns-clause-plan g c =
@@ -65,7 +65,7 @@ returns-clause-not_refused g c =
     rows_last system w.leaves texts.texts same judged.judged ok fine c.in_ok-plan.plan
     (c.in_ok-plan.ensures.plan w.leaves (tables_are system w.leaves texts.texts same judged.judged ok fine) (memory_are system w.leaves texts.texts same))
     ∙ sym (c.or.ensures ∙ (λ i. option_or ((c.too_many-many.ensures ∙ ap (too_many Rows) c.plan_past.ensures) i)
-    ((c.too_many.ensures ∙ ap (too_many LeafBytes) c.long.ensures ∙ length_is system w.leaves texts.texts same) i))) ∙ c.in_ok-refuse.ensures.refused.not_refused)
+    ((c.too_many.ensures ∙ ap (too_many LeafBytes) c.long.ensures ∙ length_is system w.leaves texts.texts same) i))) ∙ c.in_ok-refuse.ensures.not_refused)
 
 pub returns-clause-reads : goal.returns-clause-reads
 returns-clause-reads g c = read_of c.read_account_texts.ensures.reads _ (λ e. absurd (no_err c.in_ok-plan.plan (Host Device) e))

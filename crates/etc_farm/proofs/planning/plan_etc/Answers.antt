@@ -1,4 +1,4 @@
-use Rattle.std.proofs.Common.{None, Some}
+use Rattle.std.proofs.Common.{◌∙◌, None, Some, sym}
 use Rattle.std.proofs.lemmas.Result.{err_from_is_err_and}
 use Rattle.host_trait.specs.declared.tree.HostFault.TheVariants.{Device}
 use Rattle.host_trait.proofs.Moments.{told_before}
@@ -19,17 +19,17 @@ returns-in_err-sorted-clause-reads g c =
     reads_of (reads_then c.in_ok-manifest.ensures.reads (read_of c.in_err-sorted.ensures.reads _ (λ e. e))) _
     (λ e. host_device c.from_residual-in_err-sorted.result p.0 _ p.1 p.2 e)
 
-pub returns-in_err-check_list-clause-refused : goal.returns-in_err-check_list-clause-refused
-returns-in_err-check_list-clause-refused g c why e =
-    let p = err_from_is_err_and c.from_residual-in_err-check_list.result c.from_residual-in_err-check_list.ensures.1 in
+pub returns-in_err-refuse-clause-refused : goal.returns-in_err-refuse-clause-refused
+returns-in_err-refuse-clause-refused g c why e =
+    let p = err_from_is_err_and c.from_residual-in_err-refuse.result c.from_residual-in_err-refuse.ensures.1 in
     told_past (g.T.Tree.host c.args.host.now) c.args.system.now c.args.owners c.in_ok-manifest.manifest c.in_ok-sorted.sorted (Some why) c.in_ok-manifest.ensures.few c.in_ok-manifest.ensures.manifest
-    (told_before c.in_ok-manifest.ensures.reads.moments c.in_ok-sorted.ensures.sorted) (c.in_err-check_list.ensures.refused why (handed _ p.0 _ _ p.1 p.2 e))
+    (told_before c.in_ok-manifest.ensures.reads.moments c.in_ok-sorted.ensures.sorted) (sym c.too_many.ensures ∙ c.in_err-refuse.ensures.refused why (handed _ p.0 _ _ p.1 p.2 e))
 
-pub returns-in_err-check_list-clause-reads : goal.returns-in_err-check_list-clause-reads
-returns-in_err-check_list-clause-reads g c =
-    let p = err_from_is_err_and c.from_residual-in_err-check_list.result c.from_residual-in_err-check_list.ensures.1 in
+pub returns-in_err-refuse-clause-reads : goal.returns-in_err-refuse-clause-reads
+returns-in_err-refuse-clause-reads g c =
+    let p = err_from_is_err_and c.from_residual-in_err-refuse.result c.from_residual-in_err-refuse.ensures.1 in
     reads_of (reads_then c.in_ok-manifest.ensures.reads (read_of c.in_ok-sorted.ensures.reads _ (λ e. e))) _
-    (λ e. absurd (c.in_err-check_list.ensures.no_host (handed _ p.0 _ _ p.1 p.2 e)))
+    (λ e. absurd (c.in_err-refuse.ensures.no_host (handed _ p.0 _ _ p.1 p.2 e)))
 
 pub returns-in_err-prepared-clause-reads : goal.returns-in_err-prepared-clause-reads
 returns-in_err-prepared-clause-reads g c =
@@ -50,7 +50,7 @@ returns-clause-plan g c = record {
 pub returns-clause-not_refused : goal.returns-clause-not_refused
 returns-clause-not_refused g c =
     told_past (g.T.Tree.host c.args.host.now) c.args.system.now c.args.owners c.in_ok-manifest.manifest c.in_ok-sorted.sorted None c.in_ok-manifest.ensures.few c.in_ok-manifest.ensures.manifest
-    (told_before c.in_ok-manifest.ensures.reads.moments c.in_ok-sorted.ensures.sorted) c.in_ok-check_list.ensures.short
+    (told_before c.in_ok-manifest.ensures.reads.moments c.in_ok-sorted.ensures.sorted) (sym c.too_many.ensures ∙ c.in_ok-refuse.ensures.not_refused)
 
 pub returns-clause-reads : goal.returns-clause-reads
 returns-clause-reads g c =
