@@ -354,6 +354,28 @@ for at in owed-log start-list; do
     owing && printf 'F 0644 0 0\nstart 1\nno unit\n\377\nend\n' >"$lists/$at"
     run_owing "a text that names no unit at run/nixos/$at"
 done
+
+# long PATH NUMBER: a file of so many bytes.
+long() {
+    { printf 'F 0644 0 0\n' && head -c "$2" /dev/zero | tr '\0' a; } >"$1"
+}
+
+# What a switch reads has a greatest length.
+for at in etc/.clean etc/group etc/passwd etc/shadow nix/store/a-sys/etc/fstab nix/store/a-sys/etc/systemd/system/b.service \
+    nix/store/a-sys/nixos-version nix/store/a-sys/users-groups.json nix/store/b-sys/etc/systemd/system/a.service \
+    run/nixos/owed-log run/nixos/reload-list run/nixos/restart-list run/nixos/start-list var/lib/nixos/declarative-groups \
+    var/lib/nixos/declarative-users var/lib/nixos/gid-map var/lib/nixos/uid-map; do
+    owing && mkdir -p "$(dirname "$tree/$at")" && long "$tree/$at" 16777217
+    refused "longer than 16 MiB: $at" "too many: bytes 16777217"
+done
+for at in owed-log reload-list restart-list start-list; do
+    owing && long "$lists/$at" 16777216
+    run_owing "as long as may be: run/nixos/$at"
+done
+for at in etc/.clean nix/store/a-sys/nixos-version; do
+    owing && long "$tree/$at" 16777216
+    run "as long as may be: $at" 0
+done
 owing && printf 'F 0644 0 0\n' >"$lists/owed-log"
 run_owing "an empty log"
 owing && printf 'F 0644 0 0\nstart 0\nend\nstart 18446744073709551616\n' >"$lists/owed-log"
@@ -479,7 +501,11 @@ run_back "a goal that names no system"
 generations 2 && printf 'F 0644 0 0\n02\n' >"$recorded"
 run_back "a goal with a zero before it"
 generations 2 && { printf 'F 0644 0 0\n2' && head -c 70000000 /dev/zero | tr '\0' 0; } >"$recorded"
-run_back "a goal of seventy megabytes"
+refused "a goal of seventy megabytes" "too many: bytes 70000001"
+generations 2 && long "$recorded" 16777217
+refused "longer than 16 MiB: run/nixos/rollback-goal" "too many: bytes 16777217"
+generations 2 && long "$recorded" 16777216
+run_back "as long as may be: run/nixos/rollback-goal"
 generations 2 && printf 'L ../../outside/file\n' >"$recorded"
 run_back "a goal that leads out of the tree"
 generations 2 && mkdir -p "$recorded/a/b"
@@ -503,11 +529,6 @@ run "a test where a goal is recorded" 0
 if [ -e "$recorded" ]; then judge "it leaves the goal" ok; else judge "it leaves the goal" "it doesn't"; fi
 
 # A collection, and what stands where it looks.
-
-# long PATH NUMBER: a file of so many bytes.
-long() {
-    { printf 'F 0644 0 0\n' && head -c "$2" /dev/zero | tr '\0' a; } >"$1"
-}
 
 command=collect
 argument=1
@@ -575,18 +596,18 @@ command=test
 argument=nix/store/a-sys
 
 # What is written can be read again, however long it is. What no host wrote isn't read to its end.
-long() {
-    head -c 70000000 /dev/zero | tr '\0' "$1"
+seventy() {
+    head -c 70000000 /dev/zero | tr '\0' x
     echo
 }
-fresh && { printf 'loaded ' && long x; } >"$work/root/manager"
+fresh && { printf 'loaded ' && seventy; } >"$work/root/manager"
 run "a manager's state of seventy megabytes" 0
 run "the same state again" 0
-fresh && mkdir -p "$lists" && { printf 'F 0644 0 0\n' && long x; } >"$lists/start-list"
-run "a list of seventy megabytes" 0
-fresh && mkdir -p "$lists" && { printf 'F 0644 0 0\n' && long x; } >"$lists/owed-log"
-run "a log of seventy megabytes" 0
-fresh && { printf 'loaded \n' && long x; } >"$work/root/manager"
+fresh && mkdir -p "$lists" && { printf 'F 0644 0 0\n' && seventy; } >"$lists/start-list"
+refused "a list of seventy megabytes" "too many: bytes 70000001"
+fresh && mkdir -p "$lists" && { printf 'F 0644 0 0\n' && seventy; } >"$lists/owed-log"
+refused "a log of seventy megabytes" "too many: bytes 70000001"
+fresh && { printf 'loaded \n' && seventy; } >"$work/root/manager"
 run "seventy megabytes that are no manager's state" 3 "manager: not a manager's state"
 # How much address space a program may take, in KiB.
 space=$((2 * 1024 * 1024))

@@ -64,7 +64,7 @@ inside_no_stage rest same =
     let p = codes "nix/store/" ++ rest in
     both_ways (is_path p stage) refl (subst (λ x. is_path p x ≡ true) same (nat_list_eq_equiv.refl p))
 
-store_no_stage : (target p : Name) → store_place target ≡ Some p → p ≢ stage
+pub store_no_stage : (target p : Name) → store_place target ≡ Some p → p ≢ stage
 store_no_stage target p is same = inside_no_stage (drop (length (codes "/nix/store/")) target) (sym (store_place_begins target p is) ∙ same)
 
 inside_not_old : (count : ℕ) (rest : List ℕ) → list_any (is_name (codes "nix/store/" ++ rest)) (take count old_places) ≡ false

@@ -42,7 +42,7 @@ none_listed = record { sorted = tt; exact = λ unit. refl }
 gone_list : (leaves : Leaves) (at : Name) → get leaves at ≡ None → IsListOf (content_of leaves at) []
 gone_list leaves at none = subst (λ (o : Option (List ℕ)). IsListOf o []) (sym (content_none leaves at none)) none_listed
 
-removed : (count : ℕ) (u : WorldState) (at : Name) → list_any (is_name at) (take count old_places) ≡ true → get (without_places (take count old_places) u).leaves at ≡ None
+pub removed : (count : ℕ) (u : WorldState) (at : Name) → list_any (is_name at) (take count old_places) ≡ true → get (without_places (take count old_places) u).leaves at ≡ None
 removed count u at gone = gone_at (take count old_places) u at ∙ ap (λ b. cond b None (get u.leaves at)) gone
 
 kept_list : (count : ℕ) (u : WorldState) (at : Name) (list : List Name) → list_any (is_name at) (take count old_places) ≡ false → IsListOf (content_of u.leaves at) list →

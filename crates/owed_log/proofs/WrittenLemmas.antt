@@ -8,7 +8,7 @@ use Rattle.tree_put.specs.Written.{WritesOnly}
 use Rattle.tree_put.proofs.WrittenLemmas.{writes_one, writes_removed, writes_then}
 use Rattle.owed_log.specs.Places.{is_owed_place, log_place, old_places}
 
-log_is_owed : is_owed_place log_place ≡ true
+pub log_is_owed : is_owed_place log_place ≡ true
 unfolding log_place
 log_is_owed = refl
 

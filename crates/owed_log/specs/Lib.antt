@@ -1,4 +1,5 @@
 pub mod Laws
+pub mod Lengths
 pub mod Places
 pub mod Standing
 pub mod Writing

@@ -1,4 +1,5 @@
 //! What holds of the lists of a tree.
+ghost use Rattle.owed_log.specs.Lengths.{RoomyClearLaw, RoomyRecordLaw, ShortRecordLaw};
 ghost use Rattle.owed_log.specs.Laws.{ClearLaw, ClearedLaw, FileLaw, OneListsLaw, PreparedLaw, RecordLaw, RecordedLaw, SomeListsLaw};
 
 /// Each world has its lists, whatever stands in their places.
@@ -40,4 +41,19 @@ pub fn the_others_stay()
 /// Where something is recorded, the log is a file.
 pub fn what_is_recorded_has_a_file()
     ensures { FileLaw }
+{}
+
+/// At whatever moment a record is cut, nothing is too long to be read again that wasn't.
+pub fn a_record_stays_short()
+    ensures { ShortRecordLaw }
+{}
+
+/// Once lists are recorded, the log leaves room for the blocks that clear two of them.
+pub fn a_record_leaves_room()
+    ensures { RoomyRecordLaw }
+{}
+
+/// At whatever moment a list is cleared, the log takes no more than 16 bytes of its room.
+pub fn a_clear_takes_little_room()
+    ensures { RoomyClearLaw }
 {}

@@ -3,6 +3,7 @@
 
 mod clearing;
 pub mod laws;
+mod lengths;
 mod log_write;
 mod places;
 mod recording;
@@ -11,6 +12,7 @@ mod standing;
 mod tests;
 
 pub use clearing::clear;
+pub use lengths::{long_log, owed_paths};
 pub use log_write::{LOG_MAX, LogWrite};
 pub use places::log_path;
 pub use recording::record;

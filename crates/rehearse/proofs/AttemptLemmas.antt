@@ -11,8 +11,8 @@ use Rattle.switch_engine.specs.declared.command.Command.{Command}
 use Rattle.switch_engine.specs.declared.plan.Plan.{Plan}
 use Rattle.switch_engine.specs.Final.{IsEndOf, LeavesFailed}
 use Rattle.switch_engine.specs.Moments.{IsMomentOf}
+use Rattle.switch_engine.specs.Owing.{Refuses}
 use Rattle.switch_engine.specs.Plan.{IsPlanOf}
-use Rattle.switch_engine.specs.Rows.{refusal}
 use Rattle.switch_names.specs.SystemName.{IsSystemPath}
 use Rattle.switch_parts.specs.declared.refusal.Refusal.{Refusal}
 use Rattle.rehearse.proofs.HeldLemmas.{held_begins, held_moment}
@@ -24,7 +24,7 @@ differ is = cc
 pub held_same : {a b : HostState} (command : Command) → Passes a b IsSame → Passes a b (IsHeld command)
 held_same command way = same_as way (IsHeld command) (λ w is. held_begins command w)
 
-pub refused_end : {a b : HostState} (command : Command) (why : Refusal) → Passes a b IsSame → Told a (λ w. refusal command w.leaves ≡ Some why) → Leads a b (HasEnded command (Refused why))
+pub refused_end : {a b : HostState} (command : Command) (why : Refusal) → Passes a b IsSame → Told a (λ w. Refuses command w (Some why)) → Leads a b (HasEnded command (Refused why))
 refused_end command why way told = record { to = λ w is. let there = way.tells.to w is in (there.0, there.1, (told.has w is, there.2)) }
 
 module _ {a b c : HostState} (command : Command) (repeatable : IsRepeatable command) (plan : Plan) (same : plan.command ≡ command) (reads : Passes a b IsSame) (planned : Told a (λ w. IsPlanOf w plan)) where
@@ -34,7 +34,7 @@ module _ {a b c : HostState} (command : Command) (repeatable : IsRepeatable comm
       same_then reads way (IsHeld command) (λ w is. held_begins command w)
       (λ w m is moment.
       held_moment command repeatable w m
-      (subst (λ (x : Command). refusal x w.leaves ≡ None) same (planned.has w is).not_refused)
+      (subst (λ (x : Command). Refuses x w None) same (planned.has w is).not_refused)
       (subst (λ (x : Command). IsMomentOf x w m) same moment))
 
   complete : (how : End) → Leads b c (IsEndOf plan.command) → Told b (λ w. IsVerdict plan.command how w) → Leads a c (IsComplete command how)

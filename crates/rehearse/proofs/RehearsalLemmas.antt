@@ -15,14 +15,14 @@ use Rattle.rehearse.specs.Rehearsal.{IsLeftBy, IsRehearsed}
 use Rattle.rehearse.specs.Through.{IsRunThrough, IsThrough}
 use Rattle.switch_engine.specs.declared.command.Command.{Command}
 use Rattle.switch_engine.specs.declared.command.Command.TheVariants.{Switch}
-use Rattle.switch_engine.specs.Owing.{IsSteadyFor}
-use Rattle.switch_engine.specs.Rows.{refusal}
+use Rattle.switch_engine.specs.Owing.{IsSteadyFor, Refuses}
+use Rattle.switch_engine.proofs.RefusesLemmas.{refused_by_leaves_law}
 use Rattle.switch_names.specs.Names.{Name}
 
-left_through : (command : Command) (how : End) (w v : WorldState) → refusal command w.leaves ≡ None → IsSteadyFor command w → IsThrough command how w v → IsLeftBy command how w v
-left_through command Done w v none steady is = (none, (is.over none steady).final, is.verdict none steady)
-left_through command UnitsFailed w v none steady is = (none, (is.over none steady).final, is.verdict none steady)
-left_through command (Refused why) w v none steady is = absurd (is.verdict none steady)
+left_through : (command : Command) (how : End) (w v : WorldState) → Refuses command w None → IsSteadyFor command w → IsThrough command how w v → IsLeftBy command how w v
+left_through command Done w v none steady is = let free = refused_by_leaves_law command w none in (none, (is.over free steady).final, is.verdict free steady)
+left_through command UnitsFailed w v none steady is = let free = refused_by_leaves_law command w none in (none, (is.over free steady).final, is.verdict free steady)
+left_through command (Refused why) w v none steady is = absurd (is.verdict (refused_by_leaves_law command w none) steady)
 
 left_at_once : (command : Command) (how : End) (w v : WorldState) → HasEnded command how w v → IsLeftBy command how w v
 left_at_once command Done w v is = (is.not_refused, is.end.final, is.verdict)
@@ -31,7 +31,7 @@ left_at_once command (Refused why) w v is = is
 
 module _ {a b c : HostState} (command : Command) (summary : Summary) (way : Passes a b IsSame) where
   -- under cuts, from a world where runs may be cut
-  pub rehearsed_cut : (cuts : List Cut) → length cuts ≤ 64 → Told a (λ w. refusal command w.leaves ≡ None) → Told a (IsSteadyFor command) → IsRunThrough command b c cuts summary →
+  pub rehearsed_cut : (cuts : List Cut) → length cuts ≤ 64 → Told a (λ w. Refuses command w None) → Told a (IsSteadyFor command) → IsRunThrough command b c cuts summary →
       Leads a c (λ w v. IsRehearsed command w v summary)
   rehearsed_cut cuts few none steady is = record {
     to = λ w at.

@@ -6,8 +6,7 @@ use Rattle.rehearse.specs.declared.summary.End.TheVariants.{Done, UnitsFailed, R
 use Rattle.switch_engine.specs.declared.command.Command.{Command}
 use Rattle.switch_engine.specs.Commands.{IsQuery, goes_back, new_system}
 use Rattle.switch_engine.specs.Final.{IsEndOf, LeavesFailed}
-use Rattle.switch_engine.specs.Owing.{IsSteadyFor, IsUnderway}
-use Rattle.switch_engine.specs.Rows.{refusal}
+use Rattle.switch_engine.specs.Owing.{IsSteadyFor, IsUnderway, Refuses}
 use Rattle.switch_names.specs.SystemName.{IsSystemPath}
 use Rattle.switch_parts.specs.declared.refusal.Refusal.{Refusal}
 
@@ -24,7 +23,7 @@ IsHeldBy (Some why) command w m = m ≡ w
 
 -- what each moment of the runs of a command has of the world where the first began
 abbrev pub IsHeld : Command → WorldState → WorldState → Type 0
-IsHeld command w m = IsHeldBy (refusal command w.leaves) command w m
+IsHeld command w m = (why : Option Refusal) → Refuses command w why → IsHeldBy why command w m
 
 -- what a run that comes to its end says of the units that it leaves
 abbrev pub IsVerdict : Command → End → WorldState → Type 0
@@ -35,12 +34,12 @@ IsVerdict command (Refused why) w = ⊥
 -- a run came to its end, and says so
 pub record IsComplete (command : Command) (how : End) (w v : WorldState) : Type 0 where
   pub named : IsSystemPath (new_system command w.leaves)
-  pub not_refused : refusal command w.leaves ≡ None
+  pub not_refused : Refuses command w None
   pub end : IsEndOf command w v
   pub verdict : IsVerdict command how w
 
 -- a run ended: it came to its end, or it was refused and changed nothing
 abbrev pub HasEnded : Command → End → WorldState → WorldState → Type 0
-HasEnded command (Refused why) w v = (refusal command w.leaves ≡ Some why) × (v ≡ w)
+HasEnded command (Refused why) w v = Refuses command w (Some why) × (v ≡ w)
 HasEnded command Done w v = IsComplete command Done w v
 HasEnded command UnitsFailed w v = IsComplete command UnitsFailed w v

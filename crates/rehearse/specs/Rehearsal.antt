@@ -13,13 +13,13 @@ use Rattle.rehearse.specs.Generated.{IsGenerated}
 use Rattle.switch_engine.specs.declared.command.Command.{Command}
 use Rattle.switch_engine.specs.declared.command.Command.TheVariants.{Switch}
 use Rattle.switch_engine.specs.Final.{IsFinalOf, is_failed}
-use Rattle.switch_engine.specs.Rows.{refusal}
+use Rattle.switch_engine.specs.Owing.{Refuses}
 
 -- what a command that ended so has left of a world: what it leaves that isn't cut, or all as it was
 abbrev pub IsLeftBy : Command → End → WorldState → WorldState → Type 0
-IsLeftBy command (Refused why) w v = (refusal command w.leaves ≡ Some why) × (v ≡ w)
-IsLeftBy command Done w v = (refusal command w.leaves ≡ None) × IsFinalOf command w v × IsVerdict command Done w
-IsLeftBy command UnitsFailed w v = (refusal command w.leaves ≡ None) × IsFinalOf command w v × IsVerdict command UnitsFailed w
+IsLeftBy command (Refused why) w v = Refuses command w (Some why) × (v ≡ w)
+IsLeftBy command Done w v = Refuses command w None × IsFinalOf command w v × IsVerdict command Done w
+IsLeftBy command UnitsFailed w v = Refuses command w None × IsFinalOf command w v × IsVerdict command UnitsFailed w
 
 -- a command was rehearsed in a world, under 64 cuts at most
 pub record IsRehearsed (command : Command) (w v : WorldState) (summary : Summary) : Type 0 where

@@ -10,7 +10,7 @@ use Rattle.rehearse.specs.declared.trouble.Trouble.{Trouble}
 use Rattle.rehearse.specs.Ends.{HasEnded, IsVerdict}
 use Rattle.rehearse.specs.Troubles.{AreCuts, allowed, allowed_by_all}
 use Rattle.switch_engine.specs.declared.command.Command.{Command}
-use Rattle.switch_engine.specs.Owing.{IsOver, IsSteadyFor}
+use Rattle.switch_engine.specs.Owing.{IsOver, IsSteadyFor, Refuses}
 use Rattle.switch_engine.specs.Rows.{refusal}
 use Rattle.switch_parts.specs.declared.refusal.Refusal.{Refusal}
 
@@ -19,8 +19,8 @@ use Rattle.switch_parts.specs.declared.refusal.Refusal.{Refusal}
 pub record IsThrough (command : Command) (how : End) (first v : WorldState) : Type 0 where
   pub over : refusal command first.leaves ≡ None → IsSteadyFor command first → IsOver first command v
   pub verdict : refusal command first.leaves ≡ None → IsSteadyFor command first → IsVerdict command how first
-  pub refused : (why : Refusal) → refusal command first.leaves ≡ Some why → how ≡ Refused why
-  pub left_refused : (why : Refusal) → how ≡ Refused why → refusal command v.leaves ≡ Some why
+  pub refused : (why : Refusal) → Refuses command first (Some why) → how ≡ Refused why
+  pub left_refused : (why : Refusal) → how ≡ Refused why → Refuses command v (Some why)
 
 -- A command was run until it ended, and so many troubles were there for its runs: a call has failed in each run but the last,
 -- and where there was one run alone, it ended so from the world where it began, steady or not.

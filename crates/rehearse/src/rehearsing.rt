@@ -5,8 +5,7 @@ ghost use Rattle.host_trait.specs.Host.{Leads, Passes, Told};
 ghost use Rattle.rehearse.specs.Rehearsal.{active_units, end_word, failed_units, IsRehearsal, IsRehearsed, left_text, made_text, units_text};
 ghost use Rattle.rehearse.specs.Ends.{IsRepeatable};
 ghost use Rattle.switch_engine.specs.Final.{is_failed};
-ghost use Rattle.switch_engine.specs.Owing.{IsSteadyFor};
-ghost use Rattle.switch_engine.specs.Rows.{refusal};
+ghost use Rattle.switch_engine.specs.Owing.{IsSteadyFor, Refuses};
 
 use crate::cut::Cut;
 use crate::generated::generate_of;
@@ -25,7 +24,7 @@ pub(crate) fn may_be_cut<H: Troubled>(
     host: &mut H,
     command: &Command,
 ) -> Result<bool, AllocError>
-    ensures none { IfOk result (λ may. IsTrue may → Told (H.host host.old) (λ w. refusal command.now w.leaves ≡ None)) }
+    ensures none { IfOk result (λ may. IsTrue may → Told (H.host host.old) (λ w. Refuses command.now w None)) }
     ensures steady { IfOk result (λ may. IsTrue may → Told (H.host host.old) (IsSteadyFor command.now)) }
     ensures same { Passes (H.host host.old) (H.host host.new) IsSame }
 {

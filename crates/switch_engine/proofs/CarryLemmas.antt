@@ -59,6 +59,7 @@ use Rattle.switch_engine.proofs.MovedPart.{default_in}
 use Rattle.switch_engine.proofs.PartsLemmas.{are_parted, default_if_is, default_parted, gens_to_law, goal_parted, parts_are, switch_if_is}
 use Rattle.switch_engine.proofs.GoalApart.{goal_not_stage, goal_unread_default}
 use Rattle.switch_engine.proofs.GoalKeptLemmas.{IsGoalKept, IsMoveToBy, IsProfileKept, IsRecorded, system_still, kept_recorded, move_to_kept, moves_to, recorded_at, recorded_same, row_same}
+use Rattle.switch_engine.proofs.RefusesLemmas.{refused_by_leaves_law}
 use Rattle.switch_engine.proofs.StepLeaves.{IsDefaultLeft, IsUnitsEnd, brought_from, default_kept, goal_menu, goal_names_same, goal_not_own, goal_profile, goal_store, link_not_stage, names_since, names_then, of_goal, profile_not_own, profile_not_stage, record_kept, record_last, record_only, record_part_moment, set_end, set_goal, set_menu, set_names, set_part_moment, set_step, small_row, switch_end, switch_final, switch_if_moment, switch_menu, switch_names, switch_step, units_end}
 use Rattle.switch_engine.proofs.UnderwayLemmas.{IsFreeCommand, free_command, has_a_system, underway}
 use Rattle.switch_names.specs.Names.{Name}
@@ -106,9 +107,9 @@ module _ (plan : Plan) (w : WorldState) (is : IsPlanOf w plan) (changes : IsQuer
   pub carried_from : IsCarriedFrom plan.command (owed_of plan.units) plan.units.ordered.units w
   carried_from = record {
     on = changes_on plan.command w.leaves changes;
-    has = has_a_system plan.command w.leaves is.not_refused;
+    has = has_a_system plan.command w.leaves (refused_by_leaves_law plan.command w is.not_refused);
     named = subst (λ (r : Row). IsSystemPath r.system) is.resolved is.named;
-    free = free_command plan.command w.leaves is.not_refused;
+    free = free_command plan.command w.leaves (refused_by_leaves_law plan.command w is.not_refused);
     is_owed = owed_planned (row plan.command w.leaves).start_up (row plan.command w.leaves).switches (new_system plan.command w.leaves) w plan.units planned_parts.units;
     is_ordered = order_planned (row plan.command w.leaves).start_up (row plan.command w.leaves).switches (new_system plan.command w.leaves) w plan.units planned_parts.units;
   }

@@ -21,6 +21,7 @@ pub mod QuietCommand
 pub mod QuietLemmas
 pub mod QuietWay
 pub mod RebootLemmas
+pub mod RefusesLemmas
 pub mod ResolveLemmas
 pub mod ShortLemmas
 pub mod SourceLemmas

@@ -1,5 +1,5 @@
 -- What a rollback or a start-up does, by the generations that are read.
-use Rattle.std.proofs.Common.{◌≡◌, ℕ, [], true, false, cond, Option, None, Some, is_none, unwrap_or, sym, ap, ◌∙◌, inl, inr}
+use Rattle.std.proofs.Common.{◌≡◌, ℕ, [], true, false, Option, None, Some, unwrap_or, sym, ap, ◌∙◌, inl, inr}
 use Rattle.std.proofs.lemmas.Option.{same_Some}
 use Rattle.std.specs.Option.{option_and_then}
 use Rattle.generations.specs.declared.gens.Gens.{Gens}
@@ -14,10 +14,8 @@ use Rattle.switch_engine.specs.declared.command.Command.{Command}
 use Rattle.switch_engine.specs.declared.command.Command.TheVariants.{Rollback, StartUp}
 use Rattle.switch_engine.specs.Commands.{named_by, row}
 use Rattle.switch_engine.specs.Resolved.{IsRowOf}
-use Rattle.switch_engine.specs.Rows.{refusal, system_refusal}
 use Rattle.switch_engine.proofs.GoalKeptLemmas.{back, names_it}
 use Rattle.switch_names.specs.Names.{Name}
-use Rattle.switch_parts.specs.declared.refusal.Refusal.TheVariants.{NoProfile}
 
 -- the system that is found for the goal is the one that its generation names
 module _ (leaves : Leaves) (gens : Gens) (n : ℕ) (are : IsGensOf leaves gens) (is : goal leaves ≡ Some n) where
@@ -37,10 +35,6 @@ module _ (leaves : Leaves) (gens : Gens) (n : ℕ) (are : IsGensOf leaves gens) 
 -- what a machine boots into is the system of its row
 pub start_row : (leaves : Leaves) (system : Name) → Some system ≡ boot_system leaves → record { system = system; moves = None; switches = true; start_up = true; changes = true } ≡ row StartUp leaves
 start_row leaves system is = ap (λ o. record { system = unwrap_or o []; moves = None; switches = true; start_up = true; changes = true }) is
-
--- without one it is refused
-pub no_profile : (leaves : Leaves) (found : Option Name) → found ≡ boot_system leaves → found ≡ None → refusal StartUp leaves ≡ Some NoProfile
-no_profile leaves found is none = ap (λ o. cond (is_none o) (Some NoProfile) (system_refusal StartUp leaves)) (sym is ∙ none)
 
 -- ---- a command that goes by the generations
 

@@ -1,7 +1,7 @@
 -- Where the work of a command's parts has come to a moment, the command is underway.
 use Rattle.std.proofs.Common.{◌≡◌, ◌≢◌, ◌⊎◌, ◌↔◌, ◌&&◌, ℕ, Bool, true, false, cond, ◌++◌, List, [], length, nat_lt, unwrap_or, codes, append_assoc, Option, None, Some, is_none, option_map, refl, sym, ap, subst, ◌∙◌}
 use Rattle.std.proofs.lemmas.List.{append-nil}
-use Rattle.std.proofs.lemmas.Option.{none-some}
+use Rattle.std.proofs.lemmas.Bool.{both_ways}
 use Rattle.std.specs.FinMap.{get}
 use Rattle.std.specs.List.{AllByRecursion}
 use Rattle.activation_stage.specs.ActivationPart.{activation_part}
@@ -15,6 +15,7 @@ use Rattle.host_trait.specs.declared.entry.Entry.{Entry}
 use Rattle.host_trait.specs.declared.manager_state.ManagerState.{ManagerState}
 use Rattle.host_trait.specs.States.{state_of}
 use Rattle.host_trait.specs.World.{Leaves, WorldState, content_of, stage}
+use Rattle.owed_log.specs.Lengths.{AreOwedShort}
 use Rattle.owed_plan.specs.Store.{AreSameInStore, IsInStore}
 use Rattle.owed_plan.proofs.StoreLemmas.{content_same}
 use Rattle.switch_engine.specs.declared.command.Command.{Command}
@@ -28,7 +29,7 @@ use Rattle.switch_engine.specs.Lengths.{too_long_by}
 use Rattle.switch_engine.specs.System.{version_path}
 use Rattle.activation_stage.proofs.ActivationLemmas.{owners_law}
 use Rattle.boot_entries.proofs.DefaultLemmas.{default_stays_law}
-use Rattle.switch_engine.proofs.ShortLemmas.{parts_little, version_short}
+use Rattle.switch_engine.proofs.ShortLemmas.{owed_short, parts_little, version_short}
 use Rattle.switch_engine.proofs.PartsLemmas.{gens_to_law, not_in_store, parts_are}
 use Rattle.switch_engine.proofs.StoreApart.{store_not_stage}
 use Rattle.tree_put.specs.First.{first_in_the_way}
@@ -41,43 +42,44 @@ use Rattle.switch_names.proofs.StorePaths.{IsStorePath-from_named, store_path_is
 use Rattle.switch_names.proofs.Outcomes.{option_or_parts, option_or_nothing, none_mapped}
 use Rattle.switch_parts.specs.declared.refusal.Refusal.{Refusal}
 use Rattle.switch_parts.specs.declared.refusal.Refusal.TheVariants.{InTheWay, NoSystem}
-use Rattle.switch_engine.proofs.LongLemmas.{none_refused}
+use Rattle.switch_engine.proofs.LongLemmas.{none_refused, unless}
 use Rattle.switch_parts.specs.Limits.{long_refusal}
 use Rattle.switch_parts.specs.Part.{IsFree, IsMomentOf, IsPart, final_leaf}
 use Rattle.switch_parts.proofs.Parts.{ends_alike, first_free}
+use Rattle.unit_stage.specs.Owes.{IsSteadyWorld}
 use Rattle.unit_stage.specs.Units.{AreUnitsUnderway, units_part}
 
 -- ---- why a command isn't refused
 
--- what a command has that isn't refused: its system's file stands and isn't too long, and its parts are free
+-- what a command has that isn't refused: its system's file stands and isn't too long, nor is what is read of what is owed, and its parts
+-- are free
 pub record IsFreeBy (start_up switches : Bool) (moves : Option Move) (system : Name) (leaves : Leaves) : Type 0 where
   pub version : is_none (content_of leaves (version_path system)) ≡ false
   pub short : is_long leaves (version_path system) ≡ false
+  pub owed : switches ≡ true → AreOwedShort leaves
   pub parts : IsFree (parts_in start_up switches moves system leaves) leaves
 
 abbrev refused_by : Bool → Bool → Option Move → Name → Leaves → Option Refusal
-refused_by start_up switches moves system leaves = cond (is_none (content_of leaves (version_path system))) (Some NoSystem) (refusal_by start_up switches moves system leaves)
+refused_by start_up switches moves system leaves = cond (is_none (content_of leaves (version_path system))) (Some NoSystem) (refusal_by None start_up switches moves system leaves)
 
 free_by : (start_up switches : Bool) (moves : Option Move) (system : Name) (leaves : Leaves) → refused_by start_up switches moves system leaves ≡ None → IsFreeBy start_up switches moves system leaves
 free_by start_up switches moves system leaves none =
-    let first = split (is_none (content_of leaves (version_path system))) (refusal_by start_up switches moves system leaves) none in
-    let within = option_or_parts (too_much_by switches moves system leaves) (refusal_in_parts start_up switches moves system leaves) first.1 in
+    let first = unless (is_none (content_of leaves (version_path system))) NoSystem (refusal_by None start_up switches moves system leaves) none in
+    let within = option_or_parts (too_much_by switches moves system leaves) (refusal_in_parts None start_up switches moves system leaves) first.1 in
+    let taken = (option_or_parts (too_long_by switches moves system (gens_to moves system leaves) leaves) (too_many_by switches system leaves) within.0).0 in
     let before = option_or_parts (refusal_before_length start_up switches moves system leaves) (long_refusal ((parts_in start_up switches moves system leaves).long leaves)) within.1 in
     let second = option_or_parts (option_map InTheWay (first_in_the_way ((parts_in start_up switches moves system leaves).places leaves) leaves)) ((parts_in start_up switches moves system leaves).refusal leaves) before.0 in
     record {
       version = first.0;
-      short = version_short switches moves system leaves (option_or_parts (too_long_by switches moves system (gens_to moves system leaves) leaves) (too_many_by switches system leaves) within.0).0;
+      short = version_short switches moves system leaves taken;
+      owed = owed_short switches moves system leaves taken;
       parts = record { way = (none_as_listed ((parts_in start_up switches moves system leaves).places leaves) leaves).0 (none_mapped InTheWay (first_in_the_way ((parts_in start_up switches moves system leaves).places leaves) leaves) second.0); refusal = second.1; short = none_refused ((parts_in start_up switches moves system leaves).long leaves) before.1 };
     }
-  where
-    split : (b : Bool) (o : Option Refusal) → cond b (Some NoSystem) o ≡ None → (b ≡ false) × (o ≡ None)
-    split true o is = absurd (none-some NoSystem (sym is))
-    split false o is = (refl, is)
 
 by_free : (start_up switches : Bool) (moves : Option Move) (system : Name) (leaves : Leaves) → IsSystemPath system → IsFreeBy start_up switches moves system leaves → refused_by start_up switches moves system leaves ≡ None
 by_free start_up switches moves system leaves named free =
-    ap (λ b. cond b (Some NoSystem) (refusal_by start_up switches moves system leaves)) free.version
-    ∙ option_or_nothing (too_much_by switches moves system leaves) (refusal_in_parts start_up switches moves system leaves) (parts_little start_up moves system named leaves free.short switches free.parts.refusal)
+    ap (λ b. cond b (Some NoSystem) (refusal_by None start_up switches moves system leaves)) free.version
+    ∙ option_or_nothing (too_much_by switches moves system leaves) (refusal_in_parts None start_up switches moves system leaves) (parts_little start_up moves system named leaves free.short switches free.owed free.parts.refusal)
     (option_or_nothing (refusal_before_length start_up switches moves system leaves) (long_refusal ((parts_in start_up switches moves system leaves).long leaves))
     (option_or_nothing (option_map InTheWay (first_in_the_way ((parts_in start_up switches moves system leaves).places leaves) leaves)) ((parts_in start_up switches moves system leaves).refusal leaves)
     (ap (option_map InTheWay) ((none_as_listed ((parts_in start_up switches moves system leaves).places leaves) leaves).1 free.parts.way)) free.parts.refusal)
@@ -87,16 +89,12 @@ abbrev pub IsFreeCommand : Command → Leaves → Type 0
 IsFreeCommand command leaves = IsFreeBy (row command leaves).start_up (row command leaves).switches (row command leaves).moves (new_system command leaves) leaves
 
 -- what it has of its goal too
-split_lacks : (why : Refusal) (b : Bool) (o : Option Refusal) → cond b (Some why) o ≡ None → (b ≡ false) × (o ≡ None)
-split_lacks why true o is = absurd (none-some why (sym is))
-split_lacks why false o is = (refl, is)
-
 pub has_a_system : (command : Command) (leaves : Leaves) → refusal command leaves ≡ None → lacks_system command leaves ≡ false
-has_a_system command leaves none = (split_lacks (missing command) (lacks_system command leaves) (system_refusal command leaves) none).0
+has_a_system command leaves none = (unless (lacks_system command leaves) (missing command) (system_refusal None command leaves) none).0
 
 pub free_command : (command : Command) (leaves : Leaves) → refusal command leaves ≡ None → IsFreeCommand command leaves
 free_command command leaves none =
-    free_by (row command leaves).start_up (row command leaves).switches (row command leaves).moves (new_system command leaves) leaves (split_lacks (missing command) (lacks_system command leaves) (system_refusal command leaves) none).1
+    free_by (row command leaves).start_up (row command leaves).switches (row command leaves).moves (new_system command leaves) leaves (unless (lacks_system command leaves) (missing command) (system_refusal None command leaves) none).1
 
 -- ---- the file that each system has
 
@@ -154,12 +152,22 @@ since_none start_up w m same = record {
   steady = tt;
 }
 
-since_by : (start_up switches : Bool) (moves : Option Move) (system : Name) (owners : OwnerIds) (gens : Gens) (w m : WorldState) → IsFree (parts start_up switches moves system owners gens) w.leaves → IsMomentOf (parts start_up switches moves system owners gens) w m → IsSteadyTo start_up (if_so switches system) w →
-    IsSince start_up (if_so switches system) w m
-since_by start_up true moves system owners gens w m free moment steady =
+units_by : (start_up : Bool) (moves : Option Move) (system : Name) (owners : OwnerIds) (gens : Gens) (w m : WorldState) → IsFree (parts start_up true moves system owners gens) w.leaves → IsMomentOf (parts start_up true moves system owners gens) w m → IsSteadyWorld start_up w system →
+    AreUnitsUnderway start_up system w m
+units_by start_up moves system owners gens w m free moment steady =
     let both = first_free (switch_part start_up system owners) (default_if moves system gens) w.leaves free in
     let units = first_free (units_part start_up system) (activation_part system owners) w.leaves both in
-    since_units start_up system w m (moment.keeps.0.0.underway (record { way = units.way; refusal = units.refusal }) steady)
+    moment.keeps.0.0.underway (record { way = units.way; refusal = units.refusal }) steady
+
+-- what is read of what is owed is short enough, where it was and the units are switched
+short_by : (start_up switches : Bool) (moves : Option Move) (system : Name) (owners : OwnerIds) (gens : Gens) (w m : WorldState) → IsFree (parts start_up switches moves system owners gens) w.leaves → IsMomentOf (parts start_up switches moves system owners gens) w m → IsSteadyTo start_up (if_so switches system) w →
+    (switches ≡ true → AreOwedShort w.leaves) → switches ≡ true → AreOwedShort m.leaves
+short_by start_up true moves system owners gens w m free moment steady owed on = (units_by start_up moves system owners gens w m free moment steady).short (owed refl)
+short_by start_up false moves system owners gens w m free moment steady owed on = absurd (both_ways false refl on)
+
+since_by : (start_up switches : Bool) (moves : Option Move) (system : Name) (owners : OwnerIds) (gens : Gens) (w m : WorldState) → IsFree (parts start_up switches moves system owners gens) w.leaves → IsMomentOf (parts start_up switches moves system owners gens) w m → IsSteadyTo start_up (if_so switches system) w →
+    IsSince start_up (if_so switches system) w m
+since_by start_up true moves system owners gens w m free moment steady = since_units start_up system w m (units_by start_up moves system owners gens w m free moment steady)
 since_by start_up false (Some move) system owners gens w m free moment steady = since_none start_up w m (moment.only.manager refl)
 since_by start_up false None system owners gens w m free moment steady = since_none start_up w m (moment.only.manager refl)
 
@@ -234,17 +242,18 @@ module _ (command : Command) (w m : WorldState) (on : (row command w.leaves).cha
       ∙ ends_alike (parts_in start_up switches moves system w.leaves) parts_is w m moment q ne
       ∙ sym (ap (λ b. cond b (final_leaf (part_of command w.leaves) w.leaves q) (get w.leaves q)) on)
 
-  still_free : IsFreeBy start_up switches moves system m.leaves
-  still_free = record {
+  still_free : IsSteadyFor command w → IsFreeBy start_up switches moves system m.leaves
+  still_free steady = record {
     version = ap is_none (content_same m.leaves w.leaves same_store (version_path system) (version_inside system named)) ∙ free.version;
     short = ap (λ (content : Option (List ℕ)). nat_lt leaf_max (length (unwrap_or content []))) (content_same m.leaves w.leaves same_store (version_path system) (version_inside system named)) ∙ free.short;
+    owed = short_by start_up switches moves system (owners_after system w.leaves) (gens_to moves system w.leaves) w m free.parts moment steady free.owed;
     parts = free_owners start_up system w m switches moves moment (free_gens start_up system w m switches moves moment (parts_is.stays_free w m moment.keeps free.parts));
   }
 
-  still_not_refused : refusal command m.leaves ≡ None
-  still_not_refused =
-      ap (λ b. cond b (Some (missing command)) (system_refusal command m.leaves)) has
-      ∙ ap (λ (r : Row). refused_by r.start_up r.switches r.moves r.system m.leaves) same ∙ by_free start_up switches moves system m.leaves named still_free
+  still_not_refused : IsSteadyFor command w → refusal command m.leaves ≡ None
+  still_not_refused steady =
+      ap (λ b. cond b (Some (missing command)) (system_refusal None command m.leaves)) has
+      ∙ ap (λ (r : Row). refused_by r.start_up r.switches r.moves r.system m.leaves) same ∙ by_free start_up switches moves system m.leaves named (still_free steady)
 
   pub underway : IsSteadyFor command w → IsUnderway w command m
   underway steady =
@@ -266,6 +275,6 @@ module _ (command : Command) (w m : WorldState) (on : (row command w.leaves).cha
         since = record { entered = since.entered; journal = since.journal; owed_alone = since.owed_alone; others = since.others };
         paid_or_owed = λ act unit owed. subst (λ (r : Row). IsPaidBy (switched_to command w.leaves) act unit since.entered ⊎ OwesActTo r.start_up (switched_by r) m act unit) (sym same) (since.paid_or_owed act unit owed);
         no_more_owed = λ unit owed. since.no_more_owed unit (owed.0, subst (λ (r : Row). OwesActTo r.start_up (switched_by r) m owed.0 unit) same owed.1);
-        not_refused = still_not_refused;
+        not_refused = still_not_refused steady;
         steady = subst (λ (r : Row). IsSteadyTo r.start_up (switched_by r) m) (sym same) since.steady;
       }

@@ -22,6 +22,7 @@ use Rattle.generations.specs.declared.moving.Move.{Move}
 use Rattle.switch_engine.proofs.CarryLemmas.{IsCarriedFrom, activation_same, can_record, can_set, can_switch, carried_from, clear_moment, ends, moves_same, none_failed, only_goal, ordered_still, written_still, owed_still, planned_parts, record_free, record_moment, same_manager, set_free, set_moment, switch_free, switch_moment, switches_same, verdict}
 use Rattle.switch_engine.proofs.FlagLemmas.{changes_on, switches_on}
 use Rattle.switch_engine.proofs.LawLemmas.{begins_moment}
+use Rattle.switch_engine.proofs.RefusesLemmas.{refused_by_leaves_law}
 use Rattle.switch_engine.proofs.QuietCommand.{carried_quietly}
 use Rattle.switch_engine.proofs.WayOfSwitch.{leads_both}
 use Rattle.switch_names.specs.Names.{Name}
@@ -90,7 +91,7 @@ module _ (plan : Plan) (changes : IsQuery plan.command → ⊥) {a : HostState} 
   parts w is = planned_parts plan w (planned.has w is) changes
 
   pub begins : Passes a a (IsMomentOf plan.command)
-  begins = started (IsMomentOf plan.command) (λ w is. begins_moment plan.command w (planned.has w is).not_refused)
+  begins = started (IsMomentOf plan.command) (λ w is. begins_moment plan.command w (refused_by_leaves_law plan.command w (planned.has w is).not_refused))
 
   same_moves : (w : WorldState) → a.world ≡ Some w → planned_moves ≡ moves w
   same_moves w is = moves_same (moves w) (named w) w plan.profile (parts w is).profile

@@ -8,6 +8,7 @@ use Rattle.generations.specs.declared.moving.Move.{Move}
 use Rattle.generations.specs.Goal.{goal_place}
 use Rattle.host_trait.specs.World.{Leaves}
 use Rattle.leaf_limits.specs.Limits.{long_past}
+use Rattle.owed_log.specs.Places.{is_owed_place}
 use Rattle.switch_engine.specs.Commands.{is_back}
 use Rattle.switch_engine.specs.System.{version_path}
 use Rattle.switch_names.specs.Names.{Name, has, is_name}
@@ -16,9 +17,10 @@ use Rattle.switch_parts.specs.declared.refusal.What.TheVariants.{LeafBytes}
 use Rattle.switch_parts.specs.Limits.{too_many}
 use Rattle.unit_stage.specs.System.{takes_switched}
 
--- a switch to a system, where the units are switched, takes the content at a place: for the units, the accounts or /etc
+-- a switch to a system, where the units are switched, takes the content at a place: the log or a list of an older program, or for the
+-- units, the accounts or /etc
 abbrev pub takes_switch : Bool → Name → Leaves → Name → Bool
-takes_switch true system leaves q = takes_switched leaves system q || (takes_accounts system q || takes_etc leaves system q)
+takes_switch true system leaves q = is_owed_place q || (takes_switched leaves system q || (takes_accounts system q || takes_etc leaves system q))
 takes_switch false system leaves q = false
 
 -- the boot menu of these generations, where the profile is moved, takes it

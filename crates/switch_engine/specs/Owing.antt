@@ -5,12 +5,17 @@ use Rattle.host_trait.specs.declared.entry.Act.{Act}
 use Rattle.host_trait.specs.declared.entry.Entry.{Entry}
 use Rattle.host_trait.specs.States.{state_of}
 use Rattle.host_trait.specs.World.{WorldState}
+use Rattle.leaf_limits.specs.declared.too_long.TooLong.{TooLong}
+use Rattle.leaf_limits.specs.Limits.{first_long}
 use Rattle.switch_engine.specs.declared.command.Command.{Command}
-use Rattle.switch_engine.specs.Commands.{row, switched_to}
+use Rattle.switch_engine.specs.declared.row.Row.{Row}
+use Rattle.switch_engine.specs.Commands.{row, switched_by, switched_to}
 use Rattle.switch_engine.specs.Final.{IsFinalOf}
-use Rattle.switch_engine.specs.Rows.{refusal}
+use Rattle.switch_engine.specs.Rows.{parts_in, refusal, refusal_by, refusal_with}
 use Rattle.switch_names.specs.Names.{Name}
+use Rattle.switch_parts.specs.declared.refusal.Refusal.{Refusal}
 use Rattle.unit_stage.specs.Owes.{IsPaid, IsSteadyWorld, Owes}
+use Rattle.unit_stage.specs.Plan.{IsLongLog}
 
 -- a switch of the units to a system, where there is one, owes a unit of a world an act of this kind
 abbrev pub OwesActTo : Bool → Option Name → WorldState → Act → Name → Type 0
@@ -30,7 +35,7 @@ abbrev pub IsPaidBy : Option Name → Act → Name → List Entry → Type 0
 IsPaidBy None act unit entries = ⊥
 IsPaidBy (Some system) act unit entries = IsPaid system act unit entries
 
--- a world whose marks and lists don't contradict each other, as far as a switch of the units looks at them
+-- a steady world, as far as a switch of the units looks at it
 abbrev pub IsSteadyTo : Bool → Option Name → WorldState → Type 0
 IsSteadyTo start_up None w = Unit {0}
 IsSteadyTo start_up (Some system) w = IsSteadyWorld start_up w system
@@ -38,6 +43,24 @@ IsSteadyTo start_up (Some system) w = IsSteadyWorld start_up w system
 -- such a world for a command
 abbrev pub IsSteadyFor : Command → WorldState → Type 0
 IsSteadyFor command w = IsSteadyTo (row command w.leaves).start_up (switched_to command w.leaves) w
+
+-- the log that a switch of the units to a system, where there is one, records what it owes in, where that would be too long
+abbrev pub IsLongLogTo : Bool → Option Name → WorldState → Option TooLong → Type 0
+IsLongLogTo start_up None w long = long ≡ None
+IsLongLogTo start_up (Some system) w long = IsLongLog start_up w system long
+
+-- the first in byte order of that log and of what the parts of a row put, where one would be too long
+abbrev pub IsLongBy : Row → WorldState → Option TooLong → Type 0
+IsLongBy its w long =
+    (log : Option TooLong) × IsLongLogTo its.start_up (switched_by its) w log × (long ≡ first_long log ((parts_in its.start_up its.switches its.moves its.system w.leaves).long w.leaves))
+
+-- why a world refuses a row whose system is there, or nothing
+abbrev pub RefusesBy : Row → WorldState → Option Refusal → Type 0
+RefusesBy its w why = (long : Option TooLong) × IsLongLogTo its.start_up (switched_by its) w long × (why ≡ refusal_by long its.start_up its.switches its.moves its.system w.leaves)
+
+-- why a world refuses a command, or nothing
+abbrev pub Refuses : Command → WorldState → Option Refusal → Type 0
+Refuses command w why = (long : Option TooLong) × IsLongLogTo (row command w.leaves).start_up (switched_to command w.leaves) w long × (why ≡ refusal_with long command w.leaves)
 
 -- What a run of a command has entered since it began in a world: only units that were owed something have been called,
 -- and every other is in the state that it was in.

@@ -12,7 +12,7 @@ use Rattle.owed_log.specs.Writing.{IsFilled}
 use Rattle.switch_engine.specs.declared.plan.Plan.{Plan}
 use Rattle.switch_engine.specs.declared.row.Row.{Row}
 use Rattle.switch_engine.specs.Commands.{row}
-use Rattle.switch_engine.specs.Rows.{refusal}
+use Rattle.switch_engine.specs.Owing.{Refuses}
 use Rattle.switch_names.specs.SystemName.{IsSystemPath}
 use Rattle.switch_names.specs.Names.{Name}
 use Rattle.unit_stage.specs.declared.unit_plan.UnitPlan.{UnitPlan}
@@ -59,4 +59,4 @@ pub record IsPlanOf (w : WorldState) (plan : Plan) : Type 0 where
   pub resolved : plan.row ≡ row plan.command w.leaves
   pub planned : ArePlanned plan.row w plan
   pub named : IsSystemPath plan.row.system
-  pub not_refused : refusal plan.command w.leaves ≡ None
+  pub not_refused : Refuses plan.command w None

@@ -1,12 +1,13 @@
 -- What a command does, resolved in the world where it begins: NixOS manual, "Changing the configuration".
-use Rattle.std.specs.Prelude.{◌≡◌, ◌⊎◌, false, Option, None, Some, IfSome}
+use Rattle.std.specs.Prelude.{◌≡◌, ◌⊎◌, true, false, Option, None, Some, IfSome}
 use Rattle.generations.specs.Gens.{IsGensOf}
 use Rattle.host_trait.specs.World.{Leaves}
 use Rattle.switch_engine.specs.declared.command.Command.{Command}
 use Rattle.switch_engine.specs.declared.command.Command.TheVariants.{Rollback, StartUp}
 use Rattle.switch_engine.specs.declared.row.Resolved.{Resolved}
 use Rattle.switch_engine.specs.declared.row.Row.{Row}
-use Rattle.switch_engine.specs.Commands.{lacks_system, row}
+use Rattle.switch_engine.specs.Commands.{lacks_system, missing, row}
+use Rattle.switch_parts.specs.declared.refusal.Refusal.{Refusal}
 
 -- the row of a command that has the same wherever it begins; that of a rollback or a start-up hangs on the generations
 abbrev pub IsRowOf : Command → Option Row → Type 0
@@ -18,3 +19,7 @@ pub record IsResolved (command : Command) (leaves : Leaves) (its : Resolved) : T
   pub row : its.row ≡ row command leaves
   pub has_one : lacks_system command leaves ≡ false
   pub gens : IfSome its.gens (IsGensOf leaves)
+
+-- the generations give a command no system, and this is why it is refused
+abbrev pub Lacks : Command → Leaves → Refusal → Type 0
+Lacks command leaves why = (lacks_system command leaves ≡ true) × (why ≡ missing command)

@@ -15,6 +15,8 @@ use Rattle.generations.specs.GoalPart.{goal_part}
 use Rattle.generations.specs.Move.{gens_moved}
 use Rattle.host_trait.specs.declared.leaf.LeafKind.{LeafKind}
 use Rattle.host_trait.specs.World.{Leaves, content_of}
+use Rattle.leaf_limits.specs.declared.too_long.TooLong.{TooLong}
+use Rattle.leaf_limits.specs.Limits.{first_long}
 use Rattle.switch_engine.specs.declared.command.Command.{Command}
 use Rattle.switch_engine.specs.Commands.{is_back, lacks_system, missing, new_system, row}
 use Rattle.switch_engine.specs.Lengths.{too_long_by}
@@ -87,22 +89,23 @@ abbrev pub refusal_before_length : Bool → Bool → Option Move → Name → Le
 refusal_before_length start_up switches moves system leaves =
     let part = parts_in start_up switches moves system leaves in option_or (option_map InTheWay (first_in_the_way (part.places leaves) leaves)) (part.refusal leaves)
 
--- why they are refused, or nothing: for that, or last because a file would be put longer than can be read again
-abbrev pub refusal_in_parts : Bool → Bool → Option Move → Name → Leaves → Option Refusal
-refusal_in_parts start_up switches moves system leaves =
-    option_or (refusal_before_length start_up switches moves system leaves) (long_refusal ((parts_in start_up switches moves system leaves).long leaves))
+-- why they are refused, or nothing, where this is the log that would be too long: for that, or last because the log or another file
+-- would be put longer than can be read again
+abbrev pub refusal_in_parts : Option TooLong → Bool → Bool → Option Move → Name → Leaves → Option Refusal
+refusal_in_parts log start_up switches moves system leaves =
+    option_or (refusal_before_length start_up switches moves system leaves) (long_refusal (first_long log ((parts_in start_up switches moves system leaves).long leaves)))
 
 -- what there is too much of for such a command, or nothing: bytes of a content that it takes, and then what is counted
 abbrev pub too_much_by : Bool → Option Move → Name → Leaves → Option Refusal
 too_much_by switches moves system leaves = option_or (too_long_by switches moves system (gens_to moves system leaves) leaves) (too_many_by switches system leaves)
 
 -- why such a command is refused, or nothing: there is too much of something, or its parts are refused
-abbrev pub refusal_by : Bool → Bool → Option Move → Name → Leaves → Option Refusal
-refusal_by start_up switches moves system leaves = option_or (too_much_by switches moves system leaves) (refusal_in_parts start_up switches moves system leaves)
+abbrev pub refusal_by : Option TooLong → Bool → Bool → Option Move → Name → Leaves → Option Refusal
+refusal_by log start_up switches moves system leaves = option_or (too_much_by switches moves system leaves) (refusal_in_parts log start_up switches moves system leaves)
 
 -- the same for a command
-abbrev pub parts_refusal : Command → Leaves → Option Refusal
-parts_refusal command leaves = refusal_by (row command leaves).start_up (row command leaves).switches (row command leaves).moves (new_system command leaves) leaves
+abbrev pub parts_refusal : Option TooLong → Command → Leaves → Option Refusal
+parts_refusal log command leaves = refusal_by log (row command leaves).start_up (row command leaves).switches (row command leaves).moves (new_system command leaves) leaves
 
 -- why the system of such a command is refused before its parts are looked at, or nothing: it isn't there, or a content that is taken
 -- is too long
@@ -111,13 +114,18 @@ version_refusal switches moves system leaves =
     if is_none (content_of leaves (version_path system)) then Some NoSystem else too_long_by switches moves system (gens_to moves system leaves) leaves
 
 -- why the system of a command is refused, or nothing: it isn't there, or its parts are refused
-abbrev pub system_refusal : Command → Leaves → Option Refusal
-system_refusal command leaves =
-    if is_none (content_of leaves (version_path (new_system command leaves))) then Some NoSystem else parts_refusal command leaves
+abbrev pub system_refusal : Option TooLong → Command → Leaves → Option Refusal
+system_refusal log command leaves =
+    if is_none (content_of leaves (version_path (new_system command leaves))) then Some NoSystem else parts_refusal log command leaves
 
--- why a command is refused, or nothing: the generations give it no system, or its system is refused
+-- why a command is refused, or nothing, where this is the log that would be too long: the generations give it no system, or its
+-- system is refused
+abbrev pub refusal_with : Option TooLong → Command → Leaves → Option Refusal
+refusal_with log command leaves = if lacks_system command leaves then Some (missing command) else system_refusal log command leaves
+
+-- why a command is refused, or nothing, however long a log it would put
 abbrev pub refusal : Command → Leaves → Option Refusal
-refusal command leaves = if lacks_system command leaves then Some (missing command) else system_refusal command leaves
+refusal command leaves = refusal_with None command leaves
 
 -- the leaf that a command leaves at a place: its owner's end, else as it was
 abbrev pub final : Command → Leaves → Name → Option LeafKind

@@ -1,15 +1,36 @@
 //! The laws by which the promise for one cut becomes that for any number of cuts.
-ghost use Rattle.std.specs.Prelude.{◌≡◌, ◌⊎◌, ◌↔◌, IsSome, List, None, false};
+ghost use Rattle.std.specs.Prelude.{◌≡◌, ◌⊎◌, ◌↔◌, IsSome, List, None, Option, false};
 ghost use Rattle.boot_entries.specs.Menu.{IsMenuWhole};
 ghost use Rattle.host_trait.specs.World.{WorldState};
 ghost use Rattle.switch_engine.specs.declared.command.Command.{Command};
 ghost use Rattle.switch_engine.specs.Commands.{IsQuery, goes_back, new_system, set_to};
 ghost use Rattle.switch_engine.specs.Final.{IsEndOf, IsFinalOf, LeavesFailed};
 ghost use Rattle.switch_engine.specs.Moments.{HasComeBackIn, IsMomentOf, LeadsBy};
-ghost use Rattle.switch_engine.specs.Owing.{IsOver, IsSteadyFor, IsUnderway};
+ghost use Rattle.switch_engine.specs.Owing.{IsOver, IsSteadyFor, IsUnderway, Refuses};
 ghost use Rattle.switch_engine.specs.Reboot.{BootsOldOrNew, SwitchRebootLaw};
 ghost use Rattle.switch_engine.specs.Rows.{refusal};
 ghost use Rattle.switch_names.specs.SystemName.{IsSystemPath};
+ghost use Rattle.switch_parts.specs.declared.refusal.Refusal.{Refusal};
+
+/// A world refuses a command for one reason, or for none.
+pub fn one_refusal()
+    ensures { (command : Command) (w : WorldState) (one other : Option Refusal) → Refuses command w one → Refuses command w other → one ≡ other }
+{}
+
+/// Each world has that one.
+pub fn some_refusal()
+    ensures { (command : Command) (w : WorldState) → (why : Option Refusal) × Refuses command w why }
+{}
+
+/// A steady world refuses a command by its leaves alone, since it puts no log that is too long.
+pub fn steady_refusal()
+    ensures { (command : Command) (w : WorldState) → IsSteadyFor command w → Refuses command w (refusal command w.leaves) }
+{}
+
+/// Where a world doesn't refuse a command, its leaves don't.
+pub fn refused_by_leaves()
+    ensures { (command : Command) (w : WorldState) → Refuses command w None → refusal command w.leaves ≡ None }
+{}
 
 /// A run that isn't refused is underway in the world where it begins, where that is steady.
 pub fn a_run_begins_underway()

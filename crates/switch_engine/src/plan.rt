@@ -132,8 +132,9 @@ impl Plan {
     }
 
     /// Whether the marks of the targets and the lists of the world that the plan was made from don't
-    /// contradict each other, which is a premise of what is promised of a command that is cut. A command
-    /// that switches no units reads neither, and so it is true of each of its plans.
+    /// contradict each other, and a log has room for the names of all units that are owed something in
+    /// each of its lists, which is a premise of what is promised of a command that is cut. A command that
+    /// switches no units reads none of these, and so it is true of each of its plans.
     pub fn steady(&self) -> bool
         ensures { result ≡ self.now.units.steady }
     {

@@ -1,5 +1,5 @@
 //! Plans what a command does, before anything is put or changed.
-ghost use Rattle.std.specs.Prelude.{◌≡◌, ◌↔◌, false, None, Some, is_none, IfOk, IfSome, IsErrOf, IsTrue, OnOk, option_map};
+ghost use Rattle.std.specs.Prelude.{◌≡◌, ◌↔◌, false, true, None, Option, Some, is_none, IfOk, IfSome, IsErrOf, IsTrue, OnOk, option_map};
 ghost use Rattle.std.specs.Option.{option_copied};
 ghost use Rattle.activation_stage.specs.ActivationPart.{activation_in};
 ghost use Rattle.boot_entries.specs.BootDefault.{IsDefaultFor};
@@ -9,17 +9,20 @@ ghost use Rattle.host_trait.specs.declared.tree.HostFault.TheVariants.{Device};
 ghost use Rattle.host_trait.specs.Host.{Told};
 ghost use Rattle.host_trait.specs.Reading.{IsReading, IsReadingOf};
 ghost use Rattle.host_trait.specs.World.{WorldState, content_of};
+ghost use Rattle.leaf_limits.specs.declared.too_long.TooLong.{TooLong};
 ghost use Rattle.leaf_limits.specs.Limits.{is_long};
+ghost use Rattle.owed_log.specs.Lengths.{AreOwedShort};
 ghost use Rattle.owed_log.specs.Writing.{IsFilled};
+ghost use Rattle.switch_engine.specs.declared.row.Row.{Row};
 ghost use Rattle.switch_engine.specs.Commands.{switched_by};
-ghost use Rattle.switch_engine.specs.Owing.{IsSteadyFor, IsSteadyTo};
+ghost use Rattle.switch_engine.specs.Lengths.{too_long_by};
+ghost use Rattle.switch_engine.specs.Owing.{IsLongBy, IsSteadyFor, IsSteadyTo, Refuses, RefusesBy};
 ghost use Rattle.switch_engine.specs.Plan.{AreGensBy, ArePlanned, AreUnitsPlanned, IsActivationPlanned, IsPlanOf, IsProfilePlanned, IsSound};
-ghost use Rattle.switch_engine.specs.Rows.{default_if, gens_to, goal_by, part_if, parts_in, refusal, refusal_before_length, refusal_by, refusal_in_parts, too_many_by, too_much_by, version_refusal};
+ghost use Rattle.switch_engine.specs.Rows.{default_if, gens_to, goal_by, part_if, parts_in, refusal_before_length, refusal_by, too_many_by, too_much_by, version_refusal};
 ghost use Rattle.switch_engine.specs.System.{version_path};
 ghost use Rattle.switch_parts.specs.declared.plan_fault.PlanFault.TheVariants.{Host, Refused};
 ghost use Rattle.switch_parts.specs.declared.refusal.Refusal.{Refusal};
 ghost use Rattle.switch_parts.specs.declared.refusal.Refusal.TheVariants.{InTheWay};
-ghost use Rattle.switch_parts.specs.Limits.{long_refusal};
 ghost use Rattle.tree_put.specs.First.{first_in_the_way};
 ghost use Rattle.unit_stage.specs.Units.{units_part};
 
@@ -35,9 +38,10 @@ use boot_entries::{BootDefaultPlan, plan_boot_default};
 use etc_farm::too_many_entries;
 use generations::{Gens, Move, all, goal_past};
 use host_trait::{HostFault, Manager, Tree};
-use leaf_limits::LEAF_MAX;
-use std::alloc::Global;
-use switch_parts::{PlanFault, Refusal, What, long_refusal, too_many as too_many_of};
+use leaf_limits::{LEAF_MAX, TooLong, first_long, long_past};
+use owed_log::owed_paths;
+use std::alloc::{AllocError, Global};
+use switch_parts::{PlanFault, Refusal, What, long_refusal, refuse, too_many as too_many_of};
 use unit_stage::{UnitPlan, plan_units, too_many_units};
 
 /// The generations that stand, where a row moves the profile: those that are known, else they are read.
@@ -127,10 +131,7 @@ fn check_goal<T: Tree>(alloc: Global, host: &mut T, to: Move) -> Result<(), Plan
         return Ok(());
     };
     let past = goal_past(alloc, host)?;
-    match too_many_of(What::LeafBytes, past) {
-        Some(why) => Err(PlanFault::Refused(why)),
-        None => Ok(()),
-    }
+    refuse(too_many_of(What::LeafBytes, past))
 }
 
 /// Plans to make the system of a command the boot default, or nothing where the profile isn't moved.
@@ -188,48 +189,6 @@ fn plan_parts<H: Manager>(
     Ok(Plan::new(planned, its, units, activation, profile))
 }
 
-/// Refuses a plan that puts a file longer than can be read again.
-fn check_length(alloc: Global, plan: &Plan) -> Result<(), PlanFault>
-    ensures short { OnOk result ((w : WorldState) → IsActivationPlanned plan.now.row.switches plan.now.row.system w plan.now.activation
-        → (parts_in plan.now.row.start_up plan.now.row.switches plan.now.row.moves plan.now.row.system w.leaves).long w.leaves ≡ None) }
-    ensures refused { (why : Refusal) → IsErrOf result (Refused why) → (w : WorldState) → IsActivationPlanned plan.now.row.switches plan.now.row.system w plan.now.activation
-        → long_refusal ((parts_in plan.now.row.start_up plan.now.row.switches plan.now.row.moves plan.now.row.system w.leaves).long w.leaves) ≡ Some why }
-    ensures cause { IsErrOf result (Host Device) → ⊥ }
-{
-    let Some(activation) = plan.activation() else {
-        return Ok(());
-    };
-    let long = activation.long(alloc)?;
-    match long_refusal(&long) {
-        Some(why) => Err(PlanFault::Refused(why)),
-        None => Ok(()),
-    }
-}
-
-/// Plans the parts of a row, however much there is of anything.
-fn plan_short<H: Manager>(
-    alloc: Global,
-    host: &mut H,
-    command: &Command,
-    row: &Row,
-    known: Option<Gens>,
-) -> Result<Plan, PlanFault>
-    requires { Told (H.host host.old) (λ w. IfSome known (IsGensOf w.leaves)) }
-    ensures command { IfOk result (λ plan. plan.command ≡ command.now) }
-    ensures row { IfOk result (λ plan. plan.row ≡ row.now) }
-    ensures plan { IfOk result (λ plan. Told (H.host host.old) (λ w. ArePlanned row.now w plan)) }
-    ensures steady { IfOk result (λ plan. Told (H.host host.old) (λ w. IsTrue plan.units.steady ↔ IsSteadyTo row.now.start_up (switched_by row.now) w)) }
-    ensures sound { IfOk result IsSound }
-    ensures not_refused { OnOk result (Told (H.host host.old) (λ w. refusal_in_parts row.now.start_up row.now.switches row.now.moves row.now.system w.leaves ≡ None)) }
-    ensures refused { (why : Refusal) → IsErrOf result (Refused why)
-        → Told (H.host host.old) (λ w. refusal_in_parts row.now.start_up row.now.switches row.now.moves row.now.system w.leaves ≡ Some why) }
-    ensures reads { IsReadingOf (H.host host.old) (H.host host.new) (IsErrOf result (Host Device)) }
-{
-    let plan = plan_parts(alloc, host, command, row, known)?;
-    check_length(alloc, &plan)?;
-    Ok(plan)
-}
-
 /// What there is too much of for a row that switches the units: units, then entries below `/etc`, and then rows of account
 /// tables.
 fn too_many<T: Tree>(alloc: Global, host: &mut T, row: &Row) -> Result<Option<Refusal>, HostFault>
@@ -261,9 +220,9 @@ fn too_much<T: Tree>(alloc: Global, host: &mut T, row: &Row) -> Result<Option<Re
 
 /// The refusal of a row whose parts are refused for this: where there is too much of something, that goes before.
 fn refused_first<T: Tree>(alloc: Global, host: &mut T, row: &Row, why: Refusal) -> PlanFault
-    requires { Told (T.host host.old) (λ w. refusal_in_parts row.now.start_up row.now.switches row.now.moves row.now.system w.leaves ≡ Some why) }
-    ensures refused { (first : Refusal) → result ≡ Refused first
-        → Told (T.host host.old) (λ w. refusal_by row.now.start_up row.now.switches row.now.moves row.now.system w.leaves ≡ Some first) }
+    requires { Told (T.host host.old) (λ w. refusal_before_length row.now.start_up row.now.switches row.now.moves row.now.system w.leaves ≡ Some why) }
+    ensures refused { (first : Refusal) (log : Option TooLong) → result ≡ Refused first
+        → Told (T.host host.old) (λ w. refusal_by log row.now.start_up row.now.switches row.now.moves row.now.system w.leaves ≡ Some first) }
     ensures reads { IsReadingOf (T.host host.old) (T.host host.new) (result ≡ Host Device) }
 {
     match too_much(alloc, host, row) {
@@ -273,10 +232,62 @@ fn refused_first<T: Tree>(alloc: Global, host: &mut T, row: &Row, why: Refusal) 
     }
 }
 
+/// Refuses where a row switches the units and the log of what is owed, or a list of an older program, is longer than may be read.
+fn check_owed<T: Tree>(alloc: Global, host: &mut T, row: &Row) -> Result<(), PlanFault>
+    ensures short { OnOk result (Told (T.host host.old) (λ w. row.now.switches ≡ true → AreOwedShort w.leaves)) }
+    ensures refused { (why : Refusal) → IsErrOf result (Refused why)
+        → Told (T.host host.old) (λ w. too_long_by row.now.switches row.now.moves row.now.system (gens_to row.now.moves row.now.system w.leaves) w.leaves ≡ Some why) }
+    ensures reads { IsReadingOf (T.host host.old) (T.host host.new) (IsErrOf result (Host Device)) }
+{
+    if !row.switches {
+        return Ok(());
+    }
+    let places = owed_paths(alloc)?;
+    let past = long_past(alloc, host, places.as_slice())?;
+    if past.is_none() {
+        return Ok(());
+    }
+    let long = too_long(alloc, host, row)?;
+    refuse(long)
+}
+
+/// The first in byte order of the log and of the files that a plan puts, where one would be longer than can be read again.
+fn long_of(alloc: Global, plan: &Plan) -> Result<Option<TooLong>, AllocError>
+    ensures { IfOk result (λ long. (its : Row) (w : WorldState) → ArePlanned its w plan.now → IsLongBy its w long) }
+{
+    let Some(activation) = plan.activation() else {
+        return Ok(None);
+    };
+    let log = plan.units().long_log(alloc)?;
+    let long = activation.long(alloc)?;
+    Ok(first_long(log, long))
+}
+
+/// Refuses a plan of a row for lengths: where the log of what is owed, or a list of an older program, is longer than may be read, the
+/// first content that the row takes and that is; and then where a file would be put longer than can be read again.
+fn check_lengths<T: Tree>(
+    alloc: Global,
+    host: &mut T,
+    row: &Row,
+    plan: &Plan,
+) -> Result<(), PlanFault>
+    requires planned { Told (T.host host.old) (λ w. ArePlanned row.now w plan.now) }
+    requires free { Told (T.host host.old) (λ w. refusal_before_length row.now.start_up row.now.switches row.now.moves row.now.system w.leaves ≡ None) }
+    requires short { Told (T.host host.old) (λ w. is_long w.leaves (version_path row.now.system) ≡ false) }
+    ensures not_refused { OnOk result (Told (T.host host.old) (λ w. RefusesBy row.now w None)) }
+    ensures refused { (why : Refusal) → IsErrOf result (Refused why) → Told (T.host host.old) (λ w. RefusesBy row.now w (Some why)) }
+    ensures reads { IsReadingOf (T.host host.old) (T.host host.new) (IsErrOf result (Host Device)) }
+{
+    let _path = row.system.path();
+    check_owed(alloc, host, row)?;
+    let long = long_of(alloc, plan)?;
+    refuse(long_refusal(&long))
+}
+
 /// Plans a row.
 ///
-/// Each part that is planned has been found to have not too much of anything. So what there is is measured and counted once
-/// more only where a part is refused, since that would be refused before.
+/// Each part that is planned has been found to have not too much of anything, but for the log of what is owed. So what there is is
+/// measured and counted once more only where a part is refused, or where that log is too long, since that would be refused before.
 fn plan_row<H: Manager>(
     alloc: Global,
     host: &mut H,
@@ -291,14 +302,15 @@ fn plan_row<H: Manager>(
     ensures plan { IfOk result (λ plan. Told (H.host host.old) (λ w. ArePlanned row.now w plan)) }
     ensures steady { IfOk result (λ plan. Told (H.host host.old) (λ w. IsTrue plan.units.steady ↔ IsSteadyTo row.now.start_up (switched_by row.now) w)) }
     ensures sound { IfOk result IsSound }
-    ensures not_refused { OnOk result (Told (H.host host.old) (λ w. refusal_by row.now.start_up row.now.switches row.now.moves row.now.system w.leaves ≡ None)) }
-    ensures refused { (why : Refusal) → IsErrOf result (Refused why)
-        → Told (H.host host.old) (λ w. refusal_by row.now.start_up row.now.switches row.now.moves row.now.system w.leaves ≡ Some why) }
+    ensures not_refused { OnOk result (Told (H.host host.old) (λ w. RefusesBy row.now w None)) }
+    ensures refused { (why : Refusal) → IsErrOf result (Refused why) → Told (H.host host.old) (λ w. RefusesBy row.now w (Some why)) }
     ensures reads { IsReadingOf (H.host host.old) (H.host host.new) (IsErrOf result (Host Device)) }
 {
-    let _path = row.system.path();
-    match plan_short(alloc, host, command, row, known) {
-        Ok(plan) => Ok(plan),
+    match plan_parts(alloc, host, command, row, known) {
+        Ok(plan) => {
+            check_lengths(alloc, host, row, &plan)?;
+            Ok(plan)
+        }
         Err(PlanFault::Refused(why)) => Err(refused_first(alloc, host, row, why)),
         Err(PlanFault::Host(fault)) => Err(PlanFault::Host(fault)),
     }
@@ -331,8 +343,8 @@ fn check_version<T: Tree>(alloc: Global, host: &mut T, row: &Row) -> Result<(), 
 /// system, then of the one in use), of entries below `/etc` and of rows of account tables; `InTheWay`; of a switch of the units
 /// `UnitText`, `UsersSpec`, `Table`, `IdMap`, then the first of `NoFreeId` and `UnknownGroup`, `TooMany` of rows after the
 /// merge, and then the first of `Reserved`, `EtcEntry` and `Owner`; of a set of the profile `GenerationsFull`; and of a switch
-/// of the units `TooMany` of bytes of a file of accounts or of the clean list, which would be put longer than can be read
-/// again, the first in byte order.
+/// of the units `TooMany` of bytes of the log of what is owed, of a file of accounts or of the clean list, which would be put
+/// longer than can be read again, the first in byte order.
 /// Source: NixOS manual, "What happens during a system switch?".
 pub fn plan_all<H: Manager>(
     alloc: Global,
@@ -343,7 +355,7 @@ pub fn plan_all<H: Manager>(
     ensures plan { IfOk result (λ plan. Told (H.host host.old) (λ w. IsPlanOf w plan)) }
     ensures steady { IfOk result (λ plan. Told (H.host host.old) (λ w. IsTrue plan.units.steady ↔ IsSteadyFor command.now w)) }
     ensures sound { IfOk result IsSound }
-    ensures refused { (why : Refusal) → IsErrOf result (Refused why) → Told (H.host host.old) (λ w. refusal command.now w.leaves ≡ Some why) }
+    ensures refused { (why : Refusal) → IsErrOf result (Refused why) → Told (H.host host.old) (λ w. Refuses command.now w (Some why)) }
     ensures reads { IsReadingOf (H.host host.old) (H.host host.new) (IsErrOf result (Host Device)) }
 {
     let resolved = resolve(alloc, host, command)?;

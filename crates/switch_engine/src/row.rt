@@ -6,7 +6,7 @@ ghost use Rattle.host_trait.specs.declared.tree.HostFault.TheVariants.{Device};
 ghost use Rattle.host_trait.specs.Host.{Told};
 ghost use Rattle.host_trait.specs.Reading.{IsReadingOf};
 ghost use Rattle.switch_engine.specs.declared.command.Command.TheVariants.{Rollback, StartUp};
-ghost use Rattle.switch_engine.specs.Resolved.{IsResolved, IsRowOf};
+ghost use Rattle.switch_engine.specs.Resolved.{IsResolved, IsRowOf, Lacks};
 ghost use Rattle.switch_engine.specs.Rows.{refusal};
 ghost use Rattle.switch_parts.specs.declared.plan_fault.PlanFault.TheVariants.{Host, Refused};
 ghost use Rattle.switch_parts.specs.declared.refusal.Refusal.{Refusal};
@@ -92,7 +92,7 @@ fn row_over(
 fn find_goal<T: Tree>(alloc: Global, host: &mut T, gens: &Gens) -> Result<u32, PlanFault>
     requires { Told (T.host host.old) (λ w. IsGensOf w.leaves gens.now) }
     ensures goal { IfOk result (λ number. Told (T.host host.old) (λ w. goal w.leaves ≡ Some number)) }
-    ensures refused { (why : Refusal) → IsErrOf result (Refused why) → Told (T.host host.old) (λ w. refusal Rollback w.leaves ≡ Some why) }
+    ensures refused { (why : Refusal) → IsErrOf result (Refused why) → Told (T.host host.old) (λ w. Lacks Rollback w.leaves why) }
     ensures reads { IsReadingOf (T.host host.old) (T.host host.new) (IsErrOf result (Host Device)) }
 {
     match goal(alloc, host, gens) {
@@ -105,7 +105,7 @@ fn find_goal<T: Tree>(alloc: Global, host: &mut T, gens: &Gens) -> Result<u32, P
 /// What a rollback does: it goes back to its goal, whose generation names a system.
 fn resolve_back<T: Tree>(alloc: Global, host: &mut T) -> Result<Resolved, PlanFault>
     ensures resolved { IfOk result (λ its. Told (T.host host.old) (λ w. IsResolved Rollback w.leaves its)) }
-    ensures refused { (why : Refusal) → IsErrOf result (Refused why) → Told (T.host host.old) (λ w. refusal Rollback w.leaves ≡ Some why) }
+    ensures refused { (why : Refusal) → IsErrOf result (Refused why) → Told (T.host host.old) (λ w. Lacks Rollback w.leaves why) }
     ensures reads { IsReadingOf (T.host host.old) (T.host host.new) (IsErrOf result (Host Device)) }
 {
     let gens = all(alloc, host)?;
@@ -136,7 +136,7 @@ fn start_row(alloc: Global, system: &SystemName) -> Result<Row, AllocError>
 /// What a start-up does: it is about the system that the profile names.
 fn resolve_start<T: Tree>(alloc: Global, host: &mut T) -> Result<Resolved, PlanFault>
     ensures resolved { IfOk result (λ its. Told (T.host host.old) (λ w. IsResolved StartUp w.leaves its)) }
-    ensures refused { (why : Refusal) → IsErrOf result (Refused why) → Told (T.host host.old) (λ w. refusal StartUp w.leaves ≡ Some why) }
+    ensures refused { (why : Refusal) → IsErrOf result (Refused why) → Told (T.host host.old) (λ w. Lacks StartUp w.leaves why) }
     ensures reads { IsReadingOf (T.host host.old) (T.host host.new) (IsErrOf result (Host Device)) }
 {
     let gens = all(alloc, host)?;
@@ -183,7 +183,7 @@ fn resolve_by_generations<T: Tree>(
 ) -> Result<Resolved, PlanFault>
     requires { IsRowOf command.now None }
     ensures resolved { IfOk result (λ its. Told (T.host host.old) (λ w. IsResolved command.now w.leaves its)) }
-    ensures refused { (why : Refusal) → IsErrOf result (Refused why) → Told (T.host host.old) (λ w. refusal command.now w.leaves ≡ Some why) }
+    ensures refused { (why : Refusal) → IsErrOf result (Refused why) → Told (T.host host.old) (λ w. Lacks command.now w.leaves why) }
     ensures reads { IsReadingOf (T.host host.old) (T.host host.new) (IsErrOf result (Host Device)) }
 {
     match command {
@@ -203,6 +203,7 @@ pub fn resolve<T: Tree>(
 ) -> Result<Resolved, PlanFault>
     ensures resolved { IfOk result (λ its. Told (T.host host.old) (λ w. IsResolved command.now w.leaves its)) }
     ensures refused { (why : Refusal) → IsErrOf result (Refused why) → Told (T.host host.old) (λ w. refusal command.now w.leaves ≡ Some why) }
+    ensures lacks { (why : Refusal) → IsErrOf result (Refused why) → Told (T.host host.old) (λ w. Lacks command.now w.leaves why) }
     ensures reads { IsReadingOf (T.host host.old) (T.host host.new) (IsErrOf result (Host Device)) }
 {
     match row_of(alloc, command)? {

@@ -12,6 +12,7 @@ use crate::system::version_path;
 use generations::{Move, after_move, all, goal_path};
 use host_trait::{HostFault, Tree};
 use leaf_limits::long_past;
+use owed_log::owed_paths;
 use std::alloc::{AllocError, Global};
 use switch_names::{Listed, Path};
 use switch_parts::{Refusal, What, too_many};
@@ -38,11 +39,13 @@ fn switch_sources<T: Tree>(
     if !row.switches {
         return Ok(Listed::new(alloc));
     }
-    let mut places = unit_stage::taken(alloc, host, &row.system)?;
+    let mut places = owed_paths(alloc)?;
+    let mut units = unit_stage::taken(alloc, host, &row.system)?;
     let mut others = accounts_stage::taken(alloc, &row.system)?;
     let entries = etc_farm::taken(alloc, host, &row.system)?;
     add_paths(alloc, &mut others, entries.as_slice())?;
-    add_paths(alloc, &mut places, others.as_slice())?;
+    add_paths(alloc, &mut units, others.as_slice())?;
+    add_paths(alloc, &mut places, units.as_slice())?;
     Ok(places)
 }
 

@@ -19,9 +19,10 @@ use Rattle.switch_engine.specs.declared.plan.Plan.{Plan}
 use Rattle.switch_engine.specs.Commands.{IsBoot, IsQuery, brought_to, if_so, new_system, row, switched_to}
 use Rattle.switch_engine.specs.Final.{AreEntries, AreFinalUnits, IsEndOf, LeavesFailed, LeavesFailedAt}
 use Rattle.switch_engine.specs.Moments as engine
+use Rattle.switch_engine.specs.Owing.{Refuses}
 use Rattle.switch_engine.specs.Plan.{IsPlanOf}
 use Rattle.switch_engine.specs.Quiet.{IsQuietCommand, command_first, is_not_quiet}
-use Rattle.switch_engine.specs.Rows.{final, part_of, refusal}
+use Rattle.switch_engine.specs.Rows.{final, part_of}
 use Rattle.switch_engine.proofs.QuietLemmas.{quiet_none}
 use Rattle.switch_parts.specs.declared.plan_fault.PlanFault.{PlanFault}
 use Rattle.switch_parts.specs.declared.plan_fault.PlanFault.TheVariants as plan
@@ -126,7 +127,7 @@ module _ {host after : HostState} {sink : SinkState} (command : Command) where
   read_idle : Passes host after IsSame → IsIdle host after sink sink
   read_idle same = record { unchanged = same; silent = puts_nothing sink (λ more. more ≡ []) refl }
 
-  pub unplanned : (f : PlanFault) → ((why : Refusal) → IsErrOf {T = Plan} (Err f) (plan.Refused why) → Told host (λ w. refusal command w.leaves ≡ Some why)) →
+  pub unplanned : (f : PlanFault) → ((why : Refusal) → IsErrOf {T = Plan} (Err f) (plan.Refused why) → Told host (λ w. Refuses command w (Some why))) →
       IsReadingOf host after (IsErrOf {T = Plan} (Err f) (plan.Host Device)) → IsEnding (Some command) host after sink sink (Err (fault_of f))
   unplanned (plan.Refused why) refused reads = record {
     come = record { refused = refused why refl; idle = read_idle reads.moments };
@@ -144,8 +145,8 @@ module _ {host after : HostState} {sink : SinkState} (command : Command) where
 -- ---- what a planned command does
 
 module _ {host : HostState} (plan : Plan) (planned : Told host (λ w. IsPlanOf w plan)) where
-  not_refused : Told host (λ w. refusal plan.command w.leaves ≡ None)
-  not_refused = told_as planned (λ w. refusal plan.command w.leaves ≡ None) (λ w is planned. planned.not_refused)
+  not_refused : Told host (λ w. Refuses plan.command w None)
+  not_refused = told_as planned (λ w. Refuses plan.command w None) (λ w is planned. planned.not_refused)
 
   module _ {sink put : SinkState} where
     -- the report isn't put

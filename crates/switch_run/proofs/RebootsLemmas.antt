@@ -5,15 +5,17 @@ use Rattle.switch_engine.specs.declared.command.Command.{Command}
 use Rattle.switch_engine.specs.declared.command.Command.TheVariants.{StartUp, Switch}
 use Rattle.switch_engine.specs.declared.row.Row.{Row}
 use Rattle.switch_engine.specs.Commands.{IsQuery, goes_back, is_back, row}
-use Rattle.switch_engine.specs.Owing.{IsOver, IsSteadyFor, IsUnderway}
+use Rattle.switch_engine.specs.Owing.{IsOver, IsSteadyFor, IsUnderway, Refuses}
 use Rattle.switch_engine.specs.Reboot.{HasBegunToStart, LeadsByStartUps}
 use Rattle.switch_engine.specs.Rows.{refusal}
 use Rattle.switch_engine.proofs.LawLemmas as engine
 use Rattle.switch_engine.proofs.RebootLemmas.{switch_reboot_law}
+use Rattle.switch_engine.proofs.RefusesLemmas.{refused_by_leaves_law}
 use Rattle.switch_parts.specs.declared.refusal.Refusal.{Refusal}
 use Rattle.switch_run.specs.Commands.{command_of}
 use Rattle.switch_run.specs.Moments.{IsMomentBy}
 use Rattle.switch_run.specs.Reboots.{RebootsLaw, RunsReach, StartUpsLead}
+use Rattle.switch_run.proofs.MomentLemmas.{by_refusal}
 use Rattle.switch_run.proofs.RunsLemmas.{moment_of}
 use Rattle.switch_run.proofs.WordLemmas.{named_of}
 
@@ -23,23 +25,22 @@ reached : (words : List (List ℕ)) (command : Command) → command_of words ≡
 reached words command given changes [] w v ahead none steady (inl same) = inl (subst (IsUnderway w command) (sym same) (engine.begins_underway w command none steady))
 reached words command given changes [] w v ahead none steady (inr ended) = inr (engine.ended_over command w v changes (ended command given))
 reached words command given changes (m ∷ cuts) w v ahead none steady led =
-    let underway = engine.never_back (row command w.leaves).moves command w m ahead ((moment_of words command given w m none led.0).underway steady) in
+    let underway = engine.never_back (row command w.leaves).moves command w m ahead ((moment_of words command given w m none steady led.0).underway steady) in
     ⊎_elim
     (λ later. inl (engine.stays_underway command w m underway v later))
     (λ over. inr (engine.over_then command w m underway v over))
     (reached words command given changes cuts m v (ap (λ (r : Row). is_back r.moves) underway.same_row ∙ ahead) underway.not_refused underway.steady led.1)
 
 -- runs of a start-up are its start-ups
-begun : (o : Option Refusal) (r m : WorldState) → refusal StartUp r.leaves ≡ o → IsMomentBy o StartUp r m → HasBegunToStart r m
-begun None r m none moment = inr (none, moment)
+begun : (o : Option Refusal) (r m : WorldState) → Refuses StartUp r o → IsMomentBy o StartUp r m → HasBegunToStart r m
+begun None r m none moment = inr (refused_by_leaves_law StartUp r none, moment)
 begun (Some why) r m refused same = inl same
 
 start_ups : (starts : List (WorldState × WorldState)) (r v : WorldState) → StartUpsLead starts r v → LeadsByStartUps starts r v
 start_ups [] r v led = led.final
-start_ups (cut ∷ cuts) r v led = (
-  record { sound = led.0.sound; moment = begun (refusal StartUp r.leaves) r cut.0 refl led.0.moment; after = led.0.after },
-  start_ups cuts cut.1 v led.1,
-)
+start_ups (cut ∷ cuts) r v led =
+    let its = by_refusal StartUp r cut.0 led.0.moment in
+    (record { sound = led.0.sound; moment = begun its.0 r cut.0 its.1 its.2; after = led.0.after }, start_ups cuts cut.1 v led.1)
 
 pub reboots_law : RebootsLaw
 reboots_law words system cuts starts first cut rebooted last uncut may is sound reach boots after led ended =

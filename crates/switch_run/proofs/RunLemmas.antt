@@ -11,9 +11,10 @@ use Rattle.switch_engine.specs.declared.command.Command.{Command}
 use Rattle.switch_engine.specs.declared.command.Command.TheVariants.{Test, DryActivate}
 use Rattle.switch_engine.specs.Commands.{IsQuery, lacks_system, new_system}
 use Rattle.switch_engine.specs.Final.{IsEndOf}
+use Rattle.switch_engine.specs.Owing.{Refuses}
 use Rattle.switch_engine.specs.Reboot.{BootsOldOrNew}
 use Rattle.switch_engine.specs.Quiet.{IsQuietCommand}
-use Rattle.switch_engine.specs.Rows.{refusal}
+use Rattle.switch_engine.proofs.RefusesLemmas.{one_refusal_law}
 use Rattle.switch_names.specs.SystemName.{IsSystemPath}
 use Rattle.switch_parts.specs.declared.refusal.Refusal.{Refusal}
 use Rattle.dry_report.specs.Report.{IsReport, KeepsReport}
@@ -121,7 +122,7 @@ module _ {host_state after : HostState} {sink put : SinkState} (given : Option C
   pub usage_output : given ≡ None → Puts sink put (λ more. more ≡ [])
   usage_output none = (without ending (come_as None ending none refl)).0.silent
 
-  pub refused : (why : Refusal) → status ≡ Refused why → (command : Command) → given ≡ Some command → Told host_state (λ w. refusal command w.leaves ≡ Some why)
+  pub refused : (why : Refusal) → status ≡ Refused why → (command : Command) → given ≡ Some command → Told host_state (λ w. Refuses command w (Some why))
   refused why s command some = (come_as (Some command) (Err (fault.Refused why)) some (refused_of ending why (sym tells ∙ s))).refused
 
   pub refused_output : (why : Refusal) → status ≡ Refused why → Puts sink put (λ more. more ≡ [])
@@ -131,19 +132,22 @@ module _ {host_state after : HostState} {sink put : SinkState} (given : Option C
       by None none = absurd (come_as None (Err (fault.Refused why)) none (refused_of ending why (sym tells ∙ s)))
       by (Some command) some = (come_as (Some command) (Err (fault.Refused why)) some (refused_of ending why (sym tells ∙ s))).idle.silent
 
+  one_or_other : (command : Command) (w : WorldState) (why : Refusal) → Refuses command w None → Refuses command w (Some why) → ⊥
+  one_or_other command w why none refused = none_not_some (Some why) why (one_refusal_law command w (Some why) None refused none) refl
+
   -- where the world refuses the command
-  in_refused : (command : Command) (w : WorldState) (why : Refusal) → host_state.world ≡ Some w → refusal command w.leaves ≡ Some why → (e : Result Bool RunFault) → Come (Some command) e → IsIdle host_state after sink put
-  in_refused command w why told because (Ok failed) come = absurd (none_not_some (refusal command w.leaves) why (come.not_refused.has w told) because)
+  in_refused : (command : Command) (w : WorldState) (why : Refusal) → host_state.world ≡ Some w → Refuses command w (Some why) → (e : Result Bool RunFault) → Come (Some command) e → IsIdle host_state after sink put
+  in_refused command w why told because (Ok failed) come = absurd (one_or_other command w why (come.not_refused.has w told) because)
   in_refused command w why told because (Err fault.Usage) come = absurd come
   in_refused command w why told because (Err (fault.Refused other)) come = come.idle
   in_refused command w why told because (Err (fault.Host cause)) come = by come
     where
       by : IsBrokenOff command host_state after sink put → IsIdle host_state after sink put
       by (BeforeReport idle) = idle
-      by (AfterReport changes none output) = absurd (none_not_some (refusal command w.leaves) why (none.has w told) because)
-  in_refused command w why told because (Err fault.Sink) come = absurd (none_not_some (refusal command w.leaves) why (come.not_refused.has w told) because)
+      by (AfterReport changes none output) = absurd (one_or_other command w why (none.has w told) because)
+  in_refused command w why told because (Err fault.Sink) come = absurd (one_or_other command w why (come.not_refused.has w told) because)
 
-  pub refused_world : (command : Command) (why : Refusal) → given ≡ Some command → Told host_state (λ w. refusal command w.leaves ≡ Some why → IsIdle host_state after sink put)
+  pub refused_world : (command : Command) (why : Refusal) → given ≡ Some command → Told host_state (λ w. Refuses command w (Some why) → IsIdle host_state after sink put)
   refused_world command why some = record { has = λ w told because. in_refused command w why told because ending (come_as (Some command) ending some refl) }
 
   done : IsEnded status → (command : Command) → given ≡ Some command → (failed : Bool) × (ending ≡ Ok failed) × IsDone command host_state after sink put failed
@@ -161,7 +165,7 @@ module _ {host_state after : HostState} {sink put : SinkState} (given : Option C
       told_as it.2.verdict (λ w. IsVerdict command w status)
       (λ w told says. subst (λ (s : Status). IsVerdict command w s) (ap status_of (sym it.1) ∙ sym tells) (verdict_of command w it.0 says))
 
-  pub ended_not_refused : IsEnded status → (command : Command) → given ≡ Some command → Told host_state (λ w. refusal command w.leaves ≡ None)
+  pub ended_not_refused : IsEnded status → (command : Command) → given ≡ Some command → Told host_state (λ w. Refuses command w None)
   ended_not_refused s command some = (done s command some).2.not_refused
 
   pub output : IsEnded status → (command : Command) → given ≡ Some command → Told host_state (λ w. Puts sink put (IsWhole command w))
@@ -189,7 +193,7 @@ module _ {host_state after : HostState} {sink put : SinkState} (given : Option C
 
   pub boots : (command : Command) → given ≡ Some command → Passes host_state after (BootsOldOrNew command)
   boots command some =
-      passes_as is.moments (BootsOldOrNew command) (λ w m told moment. boots_of (refusal command w.leaves) command w m (subst (λ (g : Option Command). IsMomentOf g w m) some moment))
+      passes_as is.moments (BootsOldOrNew command) (λ w m told moment. boots_of command w m (subst (λ (g : Option Command). IsMomentOf g w m) some moment))
 
   pub broken_off : IsBroken status → (command : Command) → given ≡ Some command → IsBrokenOff command host_state after sink put
   broken_off s command some = let it = broken_of ending (subst IsBroken tells s) in come_as (Some command) (Err (fault.Host it.0)) some it.1
@@ -197,7 +201,7 @@ module _ {host_state after : HostState} {sink put : SinkState} (given : Option C
   pub failed_output : status ≡ SinkFault → (command : Command) → given ≡ Some command → IsFailedOutput command host_state after sink put
   failed_output s command some = (come_as (Some command) (Err fault.Sink) some (sink_of ending (sym tells ∙ s))).output
 
-  pub sink_not_refused : status ≡ SinkFault → (command : Command) → given ≡ Some command → Told host_state (λ w. refusal command w.leaves ≡ None)
+  pub sink_not_refused : status ≡ SinkFault → (command : Command) → given ≡ Some command → Told host_state (λ w. Refuses command w None)
   sink_not_refused s command some = (come_as (Some command) (Err fault.Sink) some (sink_of ending (sym tells ∙ s))).not_refused
 
   no_memory : (o : Option Refusal) (command : Command) (w : WorldState) → IsAnswerTo o command w NoMemory
@@ -206,11 +210,11 @@ module _ {host_state after : HostState} {sink put : SinkState} (given : Option C
 
   answer : (command : Command) (w : WorldState) → host_state.world ≡ Some w → (e : Result Bool RunFault) → (e ≡ Err (fault.Host host.Device) → ⊥) → (e ≡ Err fault.Sink → ⊥) → Come (Some command) e → Answers command w (status_of e)
   answer command w told (Ok failed) no_host no_sink come =
-      subst (λ (o : Option Refusal). IsAnswerTo o command w (status_of (Ok failed))) (sym (come.not_refused.has w told)) (inl (verdict_of command w failed (come.verdict.has w told)))
+      λ why is. subst (λ (o : Option Refusal). IsAnswerTo o command w (status_of (Ok failed))) (one_refusal_law command w None why (come.not_refused.has w told) is) (inl (verdict_of command w failed (come.verdict.has w told)))
   answer command w told (Err fault.Usage) no_host no_sink come = absurd come
   answer command w told (Err (fault.Refused why)) no_host no_sink come =
-      subst (λ (o : Option Refusal). IsAnswerTo o command w (Refused why)) (sym (come.refused.has w told)) (inl refl)
-  answer command w told (Err (fault.Host host.Memory)) no_host no_sink come = no_memory (refusal command w.leaves) command w
+      λ other is. subst (λ (o : Option Refusal). IsAnswerTo o command w (Refused why)) (one_refusal_law command w (Some why) other (come.refused.has w told) is) (inl refl)
+  answer command w told (Err (fault.Host host.Memory)) no_host no_sink come = λ why is. no_memory why command w
   answer command w told (Err (fault.Host host.Device)) no_host no_sink come = absurd (no_host refl)
   answer command w told (Err fault.Sink) no_host no_sink come = absurd (no_sink refl)
 

@@ -16,13 +16,14 @@ use Rattle.switch_engine.specs.Commands.{IsQuery, brought_to, goes_back, is_back
 use Rattle.switch_engine.specs.Final.{AreFinalUnits, IsFinalOf}
 use Rattle.switch_engine.specs.Moments as moments
 use Rattle.switch_engine.specs.Moments.{HasComeBackIn, IsOnItsWay, LeadsBy}
-use Rattle.switch_engine.specs.Owing.{IsOver, IsSteadyFor, IsUnderway}
+use Rattle.switch_engine.specs.Owing.{IsOver, IsSteadyFor, IsUnderway, Refuses}
 use Rattle.switch_engine.specs.Rows.{refusal}
 use Rattle.switch_engine.proofs.LawLemmas as engine
+use Rattle.switch_engine.proofs.RefusesLemmas.{steady_refusal_law}
 use Rattle.switch_names.specs.Names.{Name}
 use Rattle.switch_parts.specs.declared.refusal.Refusal.{Refusal}
 use Rattle.switch_run.specs.Commands.{command_of}
-use Rattle.switch_run.specs.Moments.{IsMomentBy, IsMomentOf}
+use Rattle.switch_run.specs.Moments.{IsMomentOf}
 use Rattle.switch_run.specs.Runs.{LooksAlike, MayBeCut, RunsLead}
 use Rattle.unit_stage.specs.End.{state_after}
 use Rattle.unit_stage.specs.Plan.{IsOwedBy}
@@ -31,15 +32,18 @@ use Rattle.unit_stage.proofs.WaitingLemmas.{same_waiting}
 
 -- ---- runs of words are runs of their command
 
-pub moment_of : (words : List (List ℕ)) (command : Command) → command_of words ≡ Some command → (w m : WorldState) → refusal command w.leaves ≡ None → IsMomentOf (command_of words) w m → moments.IsMomentOf command w m
-moment_of words command given w m none moment =
-    subst (λ (o : Option Refusal). IsMomentBy o command w m) none (subst (λ (o : Option Command). IsMomentOf o w m) given moment)
+-- each moment of a run is one of its command, from a steady world that doesn't refuse it
+pub steady_moment : (command : Command) (w m : WorldState) → refusal command w.leaves ≡ None → IsSteadyFor command w → IsMomentOf (Some command) w m → moments.IsMomentOf command w m
+steady_moment command w m none steady moment = moment None (subst (λ (o : Option Refusal). Refuses command w o) none (steady_refusal_law command w steady))
+
+pub moment_of : (words : List (List ℕ)) (command : Command) → command_of words ≡ Some command → (w m : WorldState) → refusal command w.leaves ≡ None → IsSteadyFor command w → IsMomentOf (command_of words) w m → moments.IsMomentOf command w m
+moment_of words command given w m none steady moment = steady_moment command w m none steady (subst (λ (o : Option Command). IsMomentOf o w m) given moment)
 
 lead_by : (words : List (List ℕ)) (command : Command) → command_of words ≡ Some command → (cuts : List WorldState) (w v : WorldState) → goes_back command w.leaves ≡ false →
     refusal command w.leaves ≡ None → IsSteadyFor command w → RunsLead words cuts w v → LeadsBy command cuts w v
 lead_by words command given [] w v ahead none steady led = led command given
 lead_by words command given (m ∷ cuts) w v ahead none steady led =
-    let moment = moment_of words command given w m none led.0 in
+    let moment = moment_of words command given w m none steady led.0 in
     let underway = engine.never_back (row command w.leaves).moves command w m ahead (moment.underway steady) in
     (moment, lead_by words command given cuts m v (ap (λ (r : Row). is_back r.moves) underway.same_row ∙ ahead) underway.not_refused underway.steady led.1)
 
@@ -57,7 +61,7 @@ come_by words command given changes (m ∷ cuts) w v none steady led = ⊎_elim
     (λ come. inr (inr (engine.come_in command w m underway cuts come)))
     (come_by words command given changes cuts m v underway.not_refused underway.steady led.1))
     (λ come. inr (inl come))
-    (engine.either (row command w.leaves).moves command w m ((moment_of words command given w m none led.0).underway steady))
+    (engine.either (row command w.leaves).moves command w m ((moment_of words command given w m none steady led.0).underway steady))
 
 pub back : (words : List (List ℕ)) (cuts : List WorldState) (first last : WorldState) → (may : MayBeCut words first) → RunsLead words cuts first last → IsOver first may.command last ⊎ HasComeBackIn may.command first cuts
 back words cuts first last may led = come_by words may.command may.given may.changes cuts first last may.not_refused may.steady led

@@ -7,9 +7,9 @@ use Rattle.host_trait.specs.World.{WorldState}
 use Rattle.switch_engine.specs.declared.command.Command.{Command}
 use Rattle.switch_engine.specs.declared.plan.Plan.{Plan}
 use Rattle.switch_engine.specs.Final.{IsEndOf, LeavesFailed}
+use Rattle.switch_engine.specs.Owing.{Refuses}
 use Rattle.switch_engine.specs.Plan.{IsPlanOf}
 use Rattle.switch_engine.specs.Quiet.{IsQuietCommand}
-use Rattle.switch_engine.specs.Rows.{refusal}
 use Rattle.switch_parts.specs.declared.refusal.Refusal.{Refusal}
 use Rattle.dry_report.specs.Report.{IsReport}
 use Rattle.switch_run.specs.declared.run_fault.RunFault.{RunFault}
@@ -19,7 +19,7 @@ use Rattle.switch_run.specs.Output.{IsBrokenOff, IsFailedOutput, IsIdle, IsInRep
 
 -- a command has come to its end, has written no leaf that stood, and says whether it left a unit failed
 pub record IsDone (command : Command) (host after : HostState) (sink put : SinkState) (failed : Bool) : Type 0 where
-  pub not_refused : Told host (λ w. refusal command w.leaves ≡ None)
+  pub not_refused : Told host (λ w. Refuses command w None)
   pub led : Leads host after (IsEndOf command)
   pub quiet : Leads host after (IsQuietCommand command)
   pub verdict : Told host (λ w. IsTrue failed ↔ LeavesFailed command w)
@@ -27,12 +27,12 @@ pub record IsDone (command : Command) (host after : HostState) (sink put : SinkS
 
 -- a command is refused for this reason
 pub record IsRefused (command : Command) (host after : HostState) (sink put : SinkState) (why : Refusal) : Type 0 where
-  pub refused : Told host (λ w. refusal command w.leaves ≡ Some why)
+  pub refused : Told host (λ w. Refuses command w (Some why))
   pub idle : IsIdle host after sink put
 
 -- the output failed under a command
 pub record IsSinkFailed (command : Command) (host after : HostState) (sink put : SinkState) : Type 0 where
-  pub not_refused : Told host (λ w. refusal command w.leaves ≡ None)
+  pub not_refused : Told host (λ w. Refuses command w None)
   pub output : IsFailedOutput command host after sink put
 
 -- what has come of a run whose words give this command or none, by how it ended

@@ -7,7 +7,7 @@ use Rattle.host_trait.specs.World.{WorldState}
 use Rattle.switch_engine.specs.declared.command.Command.{Command}
 use Rattle.switch_engine.specs.Commands.{IsQuery}
 use Rattle.switch_engine.specs.Final.{IsEndOf}
-use Rattle.switch_engine.specs.Rows.{refusal}
+use Rattle.switch_engine.specs.Owing.{Refuses}
 use Rattle.dry_report.specs.Close.{IsClosing}
 use Rattle.dry_report.specs.Report.{IsReport}
 
@@ -48,7 +48,7 @@ pub record IsIdle (host after : HostState) (sink put : SinkState) : Type 0 where
 -- the report of one that changes something
 pub data IsBrokenOff (command : Command) (host after : HostState) (sink put : SinkState) : Type 0 where
   BeforeReport : IsIdle host after sink put → IsBrokenOff command host after sink put
-  AfterReport : (IsQuery command → ⊥) → Told host (λ w. refusal command w.leaves ≡ None) → Told host (λ w. Puts sink put (IsReport command w)) →
+  AfterReport : (IsQuery command → ⊥) → Told host (λ w. Refuses command w None) → Told host (λ w. Puts sink put (IsReport command w)) →
       IsBrokenOff command host after sink put
 
 -- how a command breaks off where the output fails: within the report, and nothing has changed at any moment; or

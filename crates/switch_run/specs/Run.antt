@@ -4,7 +4,7 @@ use Rattle.host_trait.specs.declared.tree.HostFault.TheVariants as host
 use Rattle.host_trait.specs.World.{WorldState}
 use Rattle.switch_engine.specs.declared.command.Command.{Command}
 use Rattle.switch_engine.specs.Final.{LeavesFailed}
-use Rattle.switch_engine.specs.Rows.{refusal}
+use Rattle.switch_engine.specs.Owing.{Refuses}
 use Rattle.store_collect.specs.declared.collection.CollectFault.{CollectFault}
 use Rattle.store_collect.specs.declared.collection.CollectFault.TheVariants as collect
 use Rattle.store_collect.specs.declared.collection.CollectRefusal.{CollectRefusal}
@@ -44,7 +44,7 @@ IsAnswerTo (Some why) command w status = (status ≡ Refused why) ⊎ (status �
 
 -- what a run of a command without a fault answers
 abbrev pub Answers : Command → WorldState → Status → Type 0
-Answers command w status = IsAnswerTo (refusal command w.leaves) command w status
+Answers command w status = (why : Option Refusal) → Refuses command w why → IsAnswerTo why command w status
 
 -- why a run breaks off whose plan isn't made
 abbrev pub fault_of : PlanFault → RunFault

@@ -12,7 +12,7 @@ use Rattle.switch_run.specs.Commands.{command_of}
 use Rattle.switch_run.specs.Moments.{IsMomentOf}
 
 -- Runs of these words may be cut from this world on: they give a command that changes something, nothing refuses it there,
--- and the marks of the targets and the lists there don't contradict each other.
+-- and the world is steady for it.
 pub record MayBeCut (words : List (List ℕ)) (first : WorldState) : Type 0 where
   pub command : Command
   pub given : command_of words ≡ Some command

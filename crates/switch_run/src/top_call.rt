@@ -10,10 +10,9 @@ ghost use Rattle.switch_engine.specs.declared.command.Command.TheVariants.{Test,
 ghost use Rattle.switch_engine.specs.Commands.{IsQuery, row};
 ghost use Rattle.switch_engine.specs.Final.{IsEndOf};
 ghost use Rattle.switch_engine.specs.Moments.{IsOnItsWay};
-ghost use Rattle.switch_engine.specs.Owing.{IsOver, IsUnderway};
+ghost use Rattle.switch_engine.specs.Owing.{IsOver, IsUnderway, Refuses};
 ghost use Rattle.switch_engine.specs.Quiet.{IsQuietCommand};
 ghost use Rattle.switch_engine.specs.Reboot.{BootsOldOrNew};
-ghost use Rattle.switch_engine.specs.Rows.{refusal};
 ghost use Rattle.switch_parts.specs.declared.refusal.Refusal.{Refusal};
 ghost use Rattle.dry_report.specs.Report.{KeepsReport};
 ghost use Rattle.store_collect.specs.Unfinished.{is_unfinished};
@@ -83,17 +82,17 @@ pub fn run<H: Manager, S: Sink>(alloc: Global, words: &[Text], host: &mut H, out
     ensures collect_moments { (keep : ℕ) → AsksCollection words.now keep → Passes (H.host host.old) (H.host host.new) (IsCollectionMoment keep) }
 
     // A refusal is the world's. Where there is one, nothing is put and nothing changes, whatever is answered.
-    ensures refused { (why : Refusal) → result ≡ Status.Refused why → (command : Command) → command_of words.now ≡ Some command → Told (H.host host.old) (λ w. refusal command w.leaves ≡ Some why) }
+    ensures refused { (why : Refusal) → result ≡ Status.Refused why → (command : Command) → command_of words.now ≡ Some command → Told (H.host host.old) (λ w. Refuses command w (Some why)) }
     ensures refused_output { (why : Refusal) → result ≡ Status.Refused why → Puts (S.sink out.old) (S.sink out.new) (λ more. more ≡ []) }
     ensures refused_world { (command : Command) (why : Refusal) → command_of words.now ≡ Some command
-        → Told (H.host host.old) (λ w. refusal command w.leaves ≡ Some why → IsIdle (H.host host.old) (H.host host.new) (S.sink out.old) (S.sink out.new)) }
+        → Told (H.host host.old) (λ w. Refuses command w (Some why) → IsIdle (H.host host.old) (H.host host.new) (S.sink out.old) (S.sink out.new)) }
 
     // A run that came to its end has left the final world, has written no leaf of /etc and of the accounts that stood, has
     // entered exactly what was owed, has put both texts, and says whether a unit failed that the system defines.
     ensures ended { IsEnded result → (command : Command) → command_of words.now ≡ Some command → Leads (H.host host.old) (H.host host.new) (IsEndOf command) }
     ensures quiet { IsEnded result → (command : Command) → command_of words.now ≡ Some command → Leads (H.host host.old) (H.host host.new) (IsQuietCommand command) }
     ensures verdict { IsEnded result → (command : Command) → command_of words.now ≡ Some command → Told (H.host host.old) (λ w. IsVerdict command w result) }
-    ensures ended_not_refused { IsEnded result → (command : Command) → command_of words.now ≡ Some command → Told (H.host host.old) (λ w. refusal command w.leaves ≡ None) }
+    ensures ended_not_refused { IsEnded result → (command : Command) → command_of words.now ≡ Some command → Told (H.host host.old) (λ w. Refuses command w None) }
     ensures output { IsEnded result → (command : Command) → command_of words.now ≡ Some command → Told (H.host host.old) (λ w. Puts (S.sink out.old) (S.sink out.new) (IsWhole command w)) }
 
     // What a dry run puts is what a switch puts first.
@@ -115,7 +114,7 @@ pub fn run<H: Manager, S: Sink>(alloc: Global, words: &[Text], host: &mut H, out
     ensures never_sure { IsTrue (H.host host.old).is_sure → result ≡ Status.HostFault → ⊥ }
     ensures same_last { (H.host host.new).last ≡ (H.host host.old).last }
     ensures sink_fault { result ≡ Status.SinkFault → Rose (S.sink out.old).faults (S.sink out.new).faults }
-    ensures sink_not_refused { result ≡ Status.SinkFault → (command : Command) → command_of words.now ≡ Some command → Told (H.host host.old) (λ w. refusal command w.leaves ≡ None) }
+    ensures sink_not_refused { result ≡ Status.SinkFault → (command : Command) → command_of words.now ≡ Some command → Told (H.host host.old) (λ w. Refuses command w None) }
 
     // Without a fault the answer is the world's.
     ensures completes { ¬ Rose (H.host host.old).faults (H.host host.new).faults → ¬ Rose (S.sink out.old).faults (S.sink out.new).faults → (command : Command) → command_of words.now ≡ Some command → Told (H.host host.old) (λ w. Answers command w result) }

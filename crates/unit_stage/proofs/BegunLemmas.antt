@@ -1,5 +1,5 @@
 -- Where nothing has changed that the units' part looks at, a switch of the units is underway.
-use Rattle.std.proofs.Common.{◌≡◌, ◌||◌, ℕ, List, [], Option, sym, ap, subst, ◌∙◌, Bool, inr}
+use Rattle.std.proofs.Common.{◌≡◌, ◌||◌, [], sym, ap, subst, ◌∙◌, Bool, inr}
 use Rattle.std.proofs.lemmas.List.{append-nil}
 use Rattle.std.specs.FinMap.{get}
 use Rattle.host_trait.specs.declared.entry.Act.{Act}
@@ -8,6 +8,7 @@ use Rattle.host_trait.specs.declared.unit_state.State.{State}
 use Rattle.host_trait.specs.States.{state_of}
 use Rattle.host_trait.specs.World.{WorldState}
 use Rattle.log_text.specs.declared.lists.Lists.{Lists}
+use Rattle.owed_log.specs.Lengths.{AreOwedShort}
 use Rattle.owed_log.specs.Standing.{AreListsAt}
 use Rattle.owed_plan.specs.declared.owed.Owed.{Owed}
 use Rattle.owed_plan.specs.FinalStates.{final_state}
@@ -24,6 +25,7 @@ use Rattle.unit_stage.specs.Units.{AreUnitsFree, AreUnitsUnderway}
 use Rattle.unit_stage.specs.Waiting.{AreListsFor, waits_besides}
 use Rattle.unit_stage.proofs.EndLemmas.{ends_same, one_end, owed_in}
 use Rattle.unit_stage.proofs.ListsLemmas.{lists_back}
+use Rattle.unit_stage.proofs.RoomLemmas.{still_room}
 use Rattle.unit_stage.proofs.SystemsLemmas.{systems_before}
 use Rattle.unit_stage.proofs.WaitingLemmas.{besides_same}
 
@@ -92,7 +94,10 @@ module _ (start_up : Bool) (system : Name) (is_system : IsSystem system) (w m : 
       (lists, record { listed = listed_after lists is.listed; is_owed = holds_after (λ (s : Systems) (states : Name → State). IsOwed s states lists owed) is.is_owed })
 
   is_steady : IsSteadyWorld start_up w system → IsSteadyWorld start_up m system
-  is_steady steady lists listed = holds_after (λ (s : Systems) (states : Name → State). IsSteady s states lists) (steady lists (listed_before lists listed))
+  is_steady steady = record {
+    marks = λ lists listed. holds_after (λ (s : Systems) (states : Name → State). IsSteady s states lists) (steady.marks lists (listed_before lists listed));
+    room = still_room start_up system w m unit_before steady;
+  }
 
   module _ (lists : Lists) (owed : Owed) (owes : IsOwedIn start_up w system lists owed) where
     end_before : (next : Owed) → IsOwedBy start_up m system next → (unit : Name) → state_after system next m unit ≡ state_after system owed w unit
@@ -101,8 +106,8 @@ module _ (start_up : Bool) (system : Name) (is_system : IsSystem system) (w m : 
         ∙ one_end start_up system lists owed w owes next (owed_before next is) unit
 
   -- a switch of the units is underway where it hasn't begun
-  pub begun_underway : AreUnitsFree system m.leaves → IsSteadyWorld start_up w system → AreUnitsUnderway start_up system w m
-  begun_underway free steady =
+  pub begun_underway : AreUnitsFree system m.leaves → (AreOwedShort w.leaves → AreOwedShort m.leaves) → IsSteadyWorld start_up w system → AreUnitsUnderway start_up system w m
+  begun_underway free short steady =
       let owed = owed_in start_up system w in
       record {
         same_states = ends_same start_up system owed.1.0 owed.0 w owed.1.1 m (end_before owed.1.0 owed.0 owed.1.1);
@@ -114,5 +119,6 @@ module _ (start_up : Bool) (system : Name) (is_system : IsSystem system) (w m : 
         no_more_owed = unit_before;
         others = λ unit none. ap (λ (x : ManagerState). state_of x.states unit) manager;
         free = free;
+        short = short;
         steady = is_steady steady;
       }

@@ -13,6 +13,7 @@ pub mod GivenLemmas
 pub mod KnownLemmas
 pub mod LengthLemmas
 pub mod ListsLemmas
+pub mod LogLemmas
 pub mod MomentLemmas
 pub mod OrderLemmas
 pub mod OwnedLemmas
@@ -20,7 +21,9 @@ pub mod PartLemmas
 pub mod PayLemmas
 pub mod PullLemmas
 pub mod RecordLemmas
+pub mod RoomLemmas
 pub mod SameLemmas
+pub mod ShortLemmas
 pub mod StandLemmas
 pub mod StepLemmas
 pub mod StoppingLemmas

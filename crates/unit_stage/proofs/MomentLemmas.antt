@@ -3,15 +3,14 @@ use Rattle.std.proofs.Common.{◌≡◌, ◌⊎◌, ◌++◌, ℕ, true, false, 
 use Rattle.std.proofs.lemmas.List.{append_assoc, take-map}
 use Rattle.std.specs.FinMap.{get}
 use Rattle.std.specs.List.{AllByRecursion}
-use Rattle.std.specs.List.Sorted.{IsStrictlySortedBy}
 use Rattle.host_trait.specs.declared.entry.Act.TheVariants.{Stop}
-use Rattle.host_trait.specs.declared.leaf.LeafKind.{LeafKind}
 use Rattle.host_trait.specs.declared.manager_state.ManagerState.{ManagerState}
 use Rattle.host_trait.specs.declared.unit_state.State.{State}
 use Rattle.host_trait.specs.States.{UnitStates, state_of}
-use Rattle.host_trait.specs.World.{Leaves, WorldState, bytes_cmp, content_of}
+use Rattle.host_trait.specs.World.{WorldState}
 use Rattle.log_text.specs.declared.lists.Lists.{Lists}
 use Rattle.log_text.specs.Lists.{AreCounted, AreLists}
+use Rattle.owed_log.specs.Lengths.{AreOwedShort}
 use Rattle.owed_log.specs.Standing.{AreListsAt}
 use Rattle.owed_log.proofs.ListLemmas.{one_lists}
 use Rattle.owed_plan.specs.Called.{AreCalled}
@@ -25,13 +24,11 @@ use Rattle.owed_plan.specs.Systems.{IsDefined, Systems, systems_at}
 use Rattle.owed_plan.proofs.CoreLemmas.{reloads_defined, restarts_defined, starts_defined}
 use Rattle.owed_plan.proofs.SystemLemmas.{sound_at}
 use Rattle.switch_names.specs.declared.name_fault.NameFault.{NameFault}
-use Rattle.switch_names.specs.Names.{Name, has, is_name}
-use Rattle.switch_names.specs.Names as names
+use Rattle.switch_names.specs.Names.{Name, has}
 use Rattle.switch_names.specs.UnitName.{IsUnitName, unit_fault}
 use Rattle.unit_decide.specs.Facts.{unit_kind}
 use Rattle.unit_defs.specs.Units.{find_text, own_text}
 use Rattle.host_trait.proofs.NameOrder.{all_named}
-use Rattle.host_trait.proofs.Orders.{none_sorted}
 use Rattle.unit_text.specs.declared.assignment.Assignment.{Assignment}
 use Rattle.unit_stage.specs.Acts.{entry_of, performed}
 use Rattle.unit_stage.specs.Laws.{AreSameBeside, FreeLaw, UnderwayLaw}
@@ -47,9 +44,11 @@ use Rattle.unit_stage.proofs.CallLemmas.{entered, same_bad}
 use Rattle.unit_stage.proofs.CallingLemmas.{IsCalling, calling_law, is_called, lists_left}
 use Rattle.unit_stage.proofs.ComeLemmas.{HasCome, IsLike, IsOldOrOwed, has_come, ready}
 use Rattle.unit_stage.proofs.FreeLemmas.{stays_free}
+use Rattle.unit_stage.proofs.RoomLemmas.{log_fits}
+use Rattle.unit_stage.proofs.ShortLemmas.{unit_short}
 use Rattle.unit_stage.proofs.StandLemmas.{Stand}
 use Rattle.unit_stage.proofs.StoppingLemmas.{IsMomentOfStops, stops_underway}
-use Rattle.unit_stage.proofs.SystemsLemmas.{same_content, systems_after, systems_before}
+use Rattle.unit_stage.proofs.SystemsLemmas.{systems_after, systems_before}
 use Rattle.unit_stage.proofs.TableLemmas.{after_all_stops}
 use Rattle.unit_stage.proofs.UnderwayLemmas.{IsMomentAfterLink, after_link_underway}
 use Rattle.unit_stage.proofs.WaitingLemmas.{besides_owed, besides_same, joined, joined_list, left_joined, recorded_list}
@@ -195,14 +194,15 @@ module _ (start_up : Bool) (system : Name) (lists : Lists) (owed : Owed) (order 
           (subst (λ bad. AreCalled owed (brought_by (definitions_of system) bad) (stopped owed.stops states) (state_of like.states) (lists_left start restart reload) (is_called made)) (same_bad (stop_calls owed) w.manager)
           (calling_law owed order arranges states then_ready like made (lists_left start restart reload) (λ unit. after_all_stops owed w.manager unit) calling))
 
-  module _ (steady : IsSteadyWorld start_up w system) (free : AreUnitsFree system m.leaves) where
+  module _ (steady : IsSteadyWorld start_up w system) (free : AreUnitsFree system m.leaves) (short : AreOwedShort w.leaves → AreOwedShort m.leaves) where
     underway : HasCome system owed order w m → AreUnitsUnderway start_up system w m
-    underway (HasCome.Begun current leaves forth manager) = begun_underway start_up system is_system w m same current forth manager free steady
+    underway (HasCome.Begun current leaves forth manager) = begun_underway start_up system is_system w m same current forth manager free short steady
     underway (HasCome.Stopping count old restart reload before old_restarts old_reloads stand manager) =
-        stops_underway start_up system lists owed w m owes steady (stops_moment count manager old restart reload before old_restarts old_reloads stand) free
+        stops_underway start_up system lists owed w m owes steady (stops_moment count manager old restart reload before old_restarts old_reloads stand) free short
     underway (HasCome.Bringing made rest start restart reload like prefix calling bad journal is stand) =
-        after_link_underway start_up system lists owed order arranges w m owes steady (after_moment made rest start restart reload like prefix calling bad journal is stand) free
+        after_link_underway start_up system lists owed order arranges w m owes steady (after_moment made rest start restart reload like prefix calling bad journal is stand) free short
 
 pub underway_law : UnderwayLaw
 underway_law start_up system owed order w m is_system (lists, owes) arranges free steady moment same =
-    underway start_up system lists owed order arranges w m is_system owes same steady (free_law start_up system owed order w m is_system (lists, owes) moment same free) (has_come system owed order w m (are_named start_up system lists owed w owes) same moment)
+    underway start_up system lists owed order arranges w m is_system owes same steady (free_law start_up system owed order w m is_system (lists, owes) moment same free)
+    (unit_short system owed order w m (log_fits start_up system lists owed w owes steady) same moment) (has_come system owed order w m (are_named start_up system lists owed w owes) same moment)

@@ -1,5 +1,5 @@
 -- What stands at the places of the units' part, step by step.
-use Rattle.std.proofs.Common.{◌≡◌, ◌≢◌, ◌∷◌, ℕ, true, false, List, [], take, Option, Some, codes, refl, sym, ap, subst, ◌∙◌, inl, inr}
+use Rattle.std.proofs.Common.{◌≡◌, ◌≢◌, ◌∷◌, ℕ, true, false, List, [], take, Option, Some, codes, refl, sym, subst, ◌∙◌, inl, inr}
 use Rattle.std.proofs.lemmas.Bool.{both_ways}
 use Rattle.std.specs.FinMap.{get}
 use Rattle.std.specs.List.{list_any}
@@ -33,7 +33,7 @@ use Rattle.unit_stage.specs.Steps.{AreSameUnits, with_cleared, with_current, wit
 use Rattle.unit_stage.specs.System.{current_place, system_leaf}
 use Rattle.unit_stage.proofs.ElsewhereLemmas.{own_current, own_list, own_log}
 use Rattle.unit_stage.proofs.ListsLemmas.{AreListLeaves, AreSameLists, alone_leaves, alone_same, leaves_same, lists_same}
-use Rattle.unit_stage.proofs.OwnedLemmas.{not_owns_store, owned_not_stage}
+use Rattle.unit_stage.proofs.OwnedLemmas.{owned_not_stage}
 
 -- the link and the lists are these, and at the lists' places stands what stood at first, or nothing, or a file
 pub record Stand (first leaves : Leaves) (link : Option LeafKind) (lists : Lists) : Type 0 where
@@ -99,7 +99,7 @@ module _ (system : Name) (v : WorldState) where
   pub current_here : get (with_current system v).leaves current_place ≡ Some (system_leaf system)
   current_here = at_same v.leaves current_place (system_leaf system)
 
-  lists_beside : AreSameLists v.leaves (with_current system v).leaves
+  pub lists_beside : AreSameLists v.leaves (with_current system v).leaves
   lists_beside = record {
     log = get_other v.leaves current_place log_place (system_leaf system) log_current;
     starts = get_other v.leaves current_place starts_place (system_leaf system) (list_current Starts);
@@ -110,7 +110,7 @@ module _ (system : Name) (v : WorldState) where
   not_current : (q : Name) → IsInStore q → eq_by_cmp bytes_cmp q current_place ≡ false
   not_current q inside = other_of q current_place (λ same. both_ways _ current_not_stored (subst (λ x. is_below x (codes "nix/store") ≡ true) same inside))
 
-  store_beside : AreSameInStore (with_current system v).leaves v.leaves
+  pub store_beside : AreSameInStore (with_current system v).leaves v.leaves
   store_beside q inside = get_other v.leaves current_place q (system_leaf system) (not_current q inside)
 
   -- also where the definitions are loaded

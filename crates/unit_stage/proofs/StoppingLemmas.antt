@@ -10,6 +10,7 @@ use Rattle.host_trait.specs.declared.unit_state.State.TheVariants.{Inactive}
 use Rattle.host_trait.specs.States.{state_of}
 use Rattle.host_trait.specs.World.{WorldState}
 use Rattle.log_text.specs.declared.lists.Lists.{Lists}
+use Rattle.owed_log.specs.Lengths.{AreOwedShort}
 use Rattle.owed_plan.specs.Called as kinds
 use Rattle.owed_plan.specs.declared.owed.Owed.{Owed}
 use Rattle.owed_plan.specs.Calls.{duty}
@@ -34,6 +35,7 @@ use Rattle.unit_stage.specs.Units.{AreUnitsFree, AreUnitsUnderway}
 use Rattle.unit_stage.specs.Waiting.{AreListsFor}
 use Rattle.unit_stage.proofs.EndLemmas.{ends_same}
 use Rattle.unit_stage.proofs.PayLemmas.{act_from, all_entries, all_of, stop_paid}
+use Rattle.unit_stage.proofs.RoomLemmas.{still_room}
 use Rattle.unit_stage.proofs.WaitingLemmas.{same_waiting}
 
 -- both systems of a world
@@ -128,14 +130,14 @@ module _ (start_up : Bool) (system : Name) (lists : Lists) (owed : Owed) (w m : 
   others_kept : (unit : Name) → ¬ OwesUnit start_up w system unit → now unit ≡ states unit
   others_kept unit none = untaken unit (false_from_ne_true (has taken unit) (λ found. none (owes_then unit (kinds.OwesUnit.OfStops (taken_owed unit found)))))
 
-  is_steady : IsSteadyWorld start_up m system
-  is_steady others listed =
+  are_marks : (others : Lists) → AreListsFor start_up m.leaves system others → IsSteady (systems_of_world system m) now others
+  are_marks others listed =
       subst (λ (l : Lists). IsSteady (systems_of_world system m) now l) (sym (same_waiting start_up m.leaves system others moment.kept listed moment.listed))
       (subst (λ (systems : Systems). IsSteady systems now moment.kept) (sym moment.systems)
-      (steady_law both states now lists moment.kept owed moment.count (sound_at w.leaves (current_system w.leaves) system) owes.is_owed moment.stopped moment.recorded (steady lists owes.listed)))
+      (steady_law both states now lists moment.kept owed moment.count (sound_at w.leaves (current_system w.leaves) system) owes.is_owed moment.stopped moment.recorded (steady.marks lists owes.listed)))
 
-  pub stops_underway : AreUnitsFree system m.leaves → AreUnitsUnderway start_up system w m
-  stops_underway free = record {
+  pub stops_underway : AreUnitsFree system m.leaves → (AreOwedShort w.leaves → AreOwedShort m.leaves) → AreUnitsUnderway start_up system w m
+  stops_underway free short = record {
     same_states = ends_same start_up system lists owed w owes m end_now;
     same_bad = moment.bad;
     entered = entered;
@@ -145,5 +147,6 @@ module _ (start_up : Bool) (system : Name) (lists : Lists) (owed : Owed) (w m : 
     no_more_owed = no_more_owed;
     others = others_kept;
     free = free;
-    steady = is_steady;
+    short = short;
+    steady = record { marks = are_marks; room = still_room start_up system w m no_more_owed steady };
   }

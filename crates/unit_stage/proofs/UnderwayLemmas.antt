@@ -11,6 +11,7 @@ use Rattle.host_trait.specs.Manager.{is_active}
 use Rattle.host_trait.specs.States.{state_of}
 use Rattle.host_trait.specs.World.{WorldState}
 use Rattle.log_text.specs.declared.lists.Lists.{Lists}
+use Rattle.owed_log.specs.Lengths.{AreOwedShort}
 use Rattle.owed_plan.specs.Called.{AreCalled, IsOnTheWay}
 use Rattle.owed_plan.specs.Called as kinds
 use Rattle.owed_plan.specs.declared.duty.Duty.{Duty}
@@ -38,6 +39,7 @@ use Rattle.unit_stage.specs.Waiting.{AreListsFor}
 use Rattle.unit_stage.proofs.CallingLemmas.{is_called}
 use Rattle.unit_stage.proofs.EndLemmas.{ends_same}
 use Rattle.unit_stage.proofs.PayLemmas.{act_from, all_append, all_entries, all_first, all_joined, all_of, other_paid, stop_paid, unit_from}
+use Rattle.unit_stage.proofs.RoomLemmas.{still_room}
 use Rattle.unit_stage.proofs.WaitingLemmas.{same_waiting}
 
 -- a moment of a switch when the system is in use, given the world at its beginning
@@ -78,7 +80,7 @@ module _ (start_up : Bool) (system : Name) (first_lists : Lists) (owed : Owed) (
   way : IsOnTheWay before after states now first_lists moment.kept owed (definitions_of system) w.manager.bad (is_called moment.made)
   way =
       after_link_law old new (wanted_of w.leaves system) states now first_lists moment.kept owed (definitions_of system) w.manager.bad (is_called moment.made)
-      (sound_at w.leaves (current_system w.leaves) system) (steady first_lists owes.listed) owes.is_owed moment.called
+      (sound_at w.leaves (current_system w.leaves) system) (steady.marks first_lists owes.listed) owes.is_owed moment.called
 
   -- what holds by the lists of a world holds by these
   by_first : (P : Lists → Type 0) (lists : Lists) → AreListsFor start_up w.leaves system lists → P lists → P first_lists
@@ -183,21 +185,25 @@ module _ (start_up : Bool) (system : Name) (first_lists : Lists) (owed : Owed) (
   paid_or_owed : (act : Act) (unit : Name) → Owes start_up w system act unit → IsPaid system act unit entered ⊎ Owes start_up m system act unit
   paid_or_owed act unit (lists, listed, owing) = paid_or_owed_act act unit (by_first (λ (l : Lists). IsOwedAct before states l act unit) lists listed owing)
 
-  is_steady : IsSteadyWorld start_up m system
-  is_steady lists listed =
+  are_marks : (lists : Lists) → AreListsFor start_up m.leaves system lists → IsSteady at_moment now lists
+  are_marks lists listed =
       subst (λ (l : Lists). IsSteady at_moment now l) (sym (same_waiting start_up m.leaves system lists moment.kept listed moment.listed))
       (subst (λ (systems : Systems). IsSteady systems now moment.kept) (sym moment.systems) way.steady)
 
-  pub after_link_underway : AreUnitsFree system m.leaves → AreUnitsUnderway start_up system w m
-  after_link_underway free = record {
+  no_more_owed : (unit : Name) → OwesUnit start_up m system unit → OwesUnit start_up w system unit
+  no_more_owed unit owing = owes_then unit (way.units unit (owes_now unit owing))
+
+  pub after_link_underway : AreUnitsFree system m.leaves → (AreOwedShort w.leaves → AreOwedShort m.leaves) → AreUnitsUnderway start_up system w m
+  after_link_underway free short = record {
     same_states = ends_same start_up system first_lists owed w owes m end_now;
     same_bad = moment.bad;
     entered = entered;
     journal = moment.journal;
     owed_alone = entered_owed;
     paid_or_owed = paid_or_owed;
-    no_more_owed = λ unit owing. owes_then unit (way.units unit (owes_now unit owing));
+    no_more_owed = no_more_owed;
     others = λ unit none. way.others unit (λ owing. none (owes_then unit owing));
     free = free;
-    steady = is_steady;
+    short = short;
+    steady = record { marks = are_marks; room = still_room start_up system w m no_more_owed steady };
   }

@@ -12,6 +12,7 @@ use Rattle.log_text.specs.declared.lists.Which.TheVariants.{Starts, Restarts, Re
 use Rattle.log_text.specs.declared.lists.Lists.{Lists}
 use Rattle.owed_lists.specs.Lists.{reloads_place, restarts_place, starts_place}
 use Rattle.owed_log.specs.declared.log_write.LogWrite.{LogWrite}
+use Rattle.owed_log.specs.Lengths.{AreOwedShort}
 use Rattle.owed_log.specs.Places.{log_place}
 use Rattle.owed_log.specs.Standing.{AreListsAt}
 use Rattle.owed_log.specs.Writing.{IsWriteFor}
@@ -35,6 +36,7 @@ use Rattle.unit_stage.proofs.OrderLemmas.{ordered_there}
 use Rattle.unit_stage.proofs.OwnedLemmas.{not_reads_stage, same_store}
 use Rattle.unit_stage.proofs.ElsewhereLemmas.{own_current, own_list, own_log}
 use Rattle.unit_stage.proofs.PayLemmas.{all_implied, all_joined}
+use Rattle.unit_stage.proofs.ShortLemmas.{short_same}
 
 -- ---- from moment to moment
 
@@ -75,6 +77,7 @@ module _ (start_up : Bool) (system : Name) (w v m : WorldState) (one : AreUnitsU
     no_more_owed = λ unit owes. one.no_more_owed unit (then.no_more_owed unit owes);
     others = λ unit none. then.others unit (λ owes. none (one.no_more_owed unit owes)) ∙ one.others unit none;
     free = then.free;
+    short = λ short. then.short (one.short short);
     steady = then.steady;
   }
 
@@ -113,10 +116,13 @@ module _ (start_up : Bool) (system : Name) (w m : WorldState) (is_system : IsSys
   still_free : AreUnitsFree system w.leaves → AreUnitsFree system m.leaves
   still_free = stays_free system w m same_beside (old_leaves w.leaves m.leaves lists_there) is_system (inl same_current)
 
+  still_short : AreOwedShort w.leaves → AreOwedShort m.leaves
+  still_short = short_same w.leaves m.leaves (same_store w m same_beside) lists_there
+
   pub kept_same : AreUnitsKept start_up system w m
   kept_same = record {
     free = still_free;
-    underway = λ free steady. begun_underway start_up system is_system w m same_beside same_current listed_there (same.manager refl) (still_free free) steady;
+    underway = λ free steady. begun_underway start_up system is_system w m same_beside same_current listed_there (same.manager refl) (still_free free) still_short steady;
   }
 
   -- the same is owed

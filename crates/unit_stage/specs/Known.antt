@@ -1,6 +1,7 @@
 -- What is read of a world before a switch is planned: NixOS manual, "What happens during a system switch?".
 use Rattle.std.specs.Prelude.{◌≡◌, ◌&&◌, ◌||◌, ◌↔◌, ℕ, Bool, IsTrue, List, is_some}
 use Rattle.std.specs.List.Sorted.{IsStrictlySortedBy}
+use Rattle.host_trait.specs.declared.entry.Act.{Act}
 use Rattle.host_trait.specs.States.{state_of}
 use Rattle.host_trait.specs.World.{Leaves, WorldState, bytes_cmp}
 use Rattle.log_text.specs.declared.lists.Lists.{Lists}
@@ -11,7 +12,7 @@ use Rattle.owed_plan.specs.Collected.{IsListBy}
 use Rattle.owed_plan.specs.Owed.{IsPlan}
 use Rattle.owed_plan.specs.Steady.{IsSteady}
 use Rattle.owed_plan.specs.Systems.{AreOldDefs, systems_in}
-use Rattle.switch_names.specs.Names.{has, is_name}
+use Rattle.switch_names.specs.Names.{IsListOf, Name, has, is_name}
 use Rattle.unit_defs.specs.declared.unit.Unit.{Unit}
 use Rattle.unit_defs.specs.Defs.{AreDefsOf, found_in}
 use Rattle.unit_stage.specs.declared.known.Known.{Known}
@@ -20,6 +21,7 @@ use Rattle.unit_stage.specs.declared.known.UnitStates.{UnitStates}
 use Rattle.unit_stage.specs.declared.unit_plan.UnitPlan.{UnitPlan}
 use Rattle.unit_stage.specs.declared.planning.OwedCalls.{OwedCalls}
 use Rattle.unit_stage.specs.Order.{AreInOrder}
+use Rattle.unit_stage.specs.Owes.{FitThrice, IsOwedAct}
 use Rattle.unit_stage.specs.Plan.{owed_of}
 use Rattle.unit_stage.specs.System.{current_system}
 use Rattle.unit_stage.specs.Waiting.{AreListsFor, start_up_target}
@@ -48,9 +50,15 @@ pub record IsKnownOf (start_up : Bool) (system : List ℕ) (w : WorldState) (kno
   pub new : AreDefsOf w.leaves system known.new
   pub units : AreStatesOf start_up system w known.units
 
--- by what is known the marks of the targets and the lists don't contradict each other
-abbrev pub IsKnownSteady : Known → Type 0
-IsKnownSteady known = IsSteady (systems_in known.old.defs known.new) (state_of known.units.states) known.units.lists
+-- by what is known a unit is owed something
+abbrev pub OwesKnown : Known → Name → Type 0
+OwesKnown known unit = (act : Act) × IsOwedAct (systems_in known.old.defs known.new) (state_of known.units.states) known.units.lists act unit
+
+-- by what is known the marks of the targets and the lists don't contradict each other, and a log has room for the names of the
+-- units that are owed something in each of its lists
+pub record IsKnownSteady (known : Known) : Type 0 where
+  pub marks : IsSteady (systems_in known.old.defs known.new) (state_of known.units.states) known.units.lists
+  pub room : (names : List Name) → IsListOf names (OwesKnown known) → FitThrice names
 
 -- what is owed by what is known, with its calls
 pub record AreOwedCalls (known : Known) (calls : OwedCalls) : Type 0 where

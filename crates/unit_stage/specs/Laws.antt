@@ -1,14 +1,15 @@
 -- What holds at each moment of a switch of the units: NixOS manual, "Unit handling".
-use Rattle.std.specs.Prelude.{◌≡◌, Bool, true, false, List}
+use Rattle.std.specs.Prelude.{◌≡◌, Bool, true, false, List, Option, None}
 use Rattle.std.specs.FinMap.{get}
 use Rattle.host_trait.specs.World.{WorldState}
+use Rattle.leaf_limits.specs.declared.too_long.TooLong.{TooLong}
 use Rattle.owed_plan.specs.declared.owed.Owed.{Owed}
 use Rattle.switch_names.specs.Names.{Name}
 use Rattle.switch_parts.specs.Part.{IsMomentOf, IsOnly, IsPart}
 use Rattle.unit_stage.specs.Owned.{owns_units, reads_units}
 use Rattle.unit_stage.specs.Order.{ArrangesStarts}
 use Rattle.unit_stage.specs.Owes.{IsSteadyWorld}
-use Rattle.unit_stage.specs.Plan.{IsOwedBy}
+use Rattle.unit_stage.specs.Plan.{IsLongLog, IsOwedBy}
 use Rattle.unit_stage.specs.Steps.{IsUnitMoment}
 use Rattle.unit_stage.specs.System.{IsSystem}
 use Rattle.unit_stage.specs.Units.{AreUnitsFree, AreUnitsUnderway, units_part}
@@ -38,3 +39,15 @@ abbrev pub UnitMomentLaw : Type 0
 UnitMomentLaw =
     (start_up : Bool) (system : Name) (owed : Owed) (order : List Name) (w m : WorldState) → IsSystem system → IsOwedBy start_up w system owed → ArrangesStarts owed order → IsUnitMoment system owed order w m →
     IsOnly (units_part start_up system) w m → IsMomentOf (units_part start_up system) w m
+
+-- a world has one length of the log
+abbrev pub OneLogLaw : Type 0
+OneLogLaw = (start_up : Bool) (w : WorldState) (system : Name) (one other : Option TooLong) → IsLongLog start_up w system one → IsLongLog start_up w system other → one ≡ other
+
+-- each world has one
+abbrev pub SomeLogLaw : Type 0
+SomeLogLaw = (start_up : Bool) (w : WorldState) (system : Name) → (long : Option TooLong) × IsLongLog start_up w system long
+
+-- in a steady world the log isn't too long
+abbrev pub SteadyLogLaw : Type 0
+SteadyLogLaw = (start_up : Bool) (w : WorldState) (system : Name) → IsSteadyWorld start_up w system → IsLongLog start_up w system None

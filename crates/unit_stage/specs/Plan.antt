@@ -1,13 +1,16 @@
 -- What a switch to a system does to the units: NixOS manual, "What happens during a system switch?".
-use Rattle.std.specs.Prelude.{◌≡◌, ℕ, Bool, List, [], None, true}
+use Rattle.std.specs.Prelude.{◌≡◌, ℕ, Bool, List, [], Option, None, true}
 use Rattle.host_trait.specs.States.{state_of}
 use Rattle.host_trait.specs.World.{WorldState}
+use Rattle.leaf_limits.specs.declared.too_long.TooLong.{TooLong}
 use Rattle.log_text.specs.declared.lists.Lists.{Lists}
 use Rattle.log_text.specs.Lists.{no_lists}
 use Rattle.owed_log.specs.declared.log_write.LogWrite.TheVariants.{Nothing}
+use Rattle.owed_log.specs.Lengths.{long_log}
 use Rattle.owed_log.specs.Writing.{IsWriteFor}
 use Rattle.owed_plan.specs.declared.owed.Owed.{Owed}
 use Rattle.owed_plan.specs.Calls.{calls_of}
+use Rattle.owed_plan.specs.Law.{lists_of}
 use Rattle.owed_plan.specs.Owed.{IsOwed, IsPlan}
 use Rattle.owed_plan.specs.Systems.{systems_at}
 use Rattle.unit_defs.specs.Defs.{AreDefsOf}
@@ -24,6 +27,10 @@ pub record IsOwedIn (start_up : Bool) (w : WorldState) (system : List ℕ) (list
 -- what a switch to a system owes the units of a world
 abbrev pub IsOwedBy : Bool → WorldState → List ℕ → Owed → Type 0
 IsOwedBy start_up w system owed = (lists : Lists) × IsOwedIn start_up w system lists owed
+
+-- the log in which a switch to a system records what it owes the units of a world, where it would be too long
+abbrev pub IsLongLog : Bool → WorldState → List ℕ → Option TooLong → Type 0
+IsLongLog start_up w system long = (owed : Owed) × IsOwedBy start_up w system owed × (long ≡ long_log (lists_of owed))
 
 -- what a switch to a system owes the units of a world, and the changed units that it leaves
 pub record IsPlannedIn (start_up : Bool) (w : WorldState) (system : List ℕ) (lists : Lists) (owed : Owed) : Type 0 where

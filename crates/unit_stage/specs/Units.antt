@@ -7,6 +7,7 @@ use Rattle.host_trait.specs.declared.leaf.LeafKind.{LeafKind}
 use Rattle.host_trait.specs.declared.unit_state.State.{State}
 use Rattle.host_trait.specs.States.{state_of}
 use Rattle.host_trait.specs.World.{Leaves, WorldState, is_path}
+use Rattle.owed_log.specs.Lengths.{AreOwedShort}
 use Rattle.switch_names.specs.Names.{Name}
 use Rattle.switch_parts.specs.Part.{Part}
 use Rattle.tree_put.specs.WrittenPlace.{in_the_way}
@@ -22,7 +23,7 @@ pub record AreUnitsFree (system : Name) (leaves : Leaves) : Type 0 where
 
 -- A switch of the units that began in a world is underway in another: it leaves the same states from there. What
 -- it owed the units is paid or still owed, only these units have been called, and every other is in the state that
--- it was in. It isn't refused, and the world is steady.
+-- it was in. It isn't refused, what is read of what is owed is short enough where it was, and the world is steady.
 pub record AreUnitsUnderway (start_up : Bool) (system : Name) (first w : WorldState) : Type 0 where
   pub same_states : (states : Name → State) → AreEndStates start_up system w states ↔ AreEndStates start_up system first states
   pub same_bad : w.manager.bad ≡ first.manager.bad
@@ -33,6 +34,7 @@ pub record AreUnitsUnderway (start_up : Bool) (system : Name) (first w : WorldSt
   pub no_more_owed : (unit : Name) → OwesUnit start_up w system unit → OwesUnit start_up first system unit
   pub others : (unit : Name) → ¬ OwesUnit start_up first system unit → state_of w.manager.states unit ≡ state_of first.manager.states unit
   pub free : AreUnitsFree system w.leaves
+  pub short : AreOwedShort first.leaves → AreOwedShort w.leaves
   pub steady : IsSteadyWorld start_up w system
 
 -- each moment of a switch of the units keeps this: nothing gets in the way, and from a steady world the switch is underway

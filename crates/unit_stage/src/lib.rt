@@ -12,6 +12,7 @@ mod links;
 mod places;
 mod plan_calls;
 mod planning;
+mod room;
 mod system;
 mod unit_plan;
 

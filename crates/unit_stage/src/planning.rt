@@ -21,6 +21,7 @@ ghost use Rattle.unit_stage.specs.Plan.{IsUnitPlanOf};
 ghost use Rattle.unit_stage.specs.System.{unit_refusal};
 
 use crate::known::{Known, read_known};
+use crate::room::have_room;
 use crate::unit_plan::UnitPlan;
 use host_trait::Manager;
 use owed_plan::{Duty, Owed, calls, is_steady, order_edges, plan};
@@ -82,12 +83,13 @@ fn owed_calls(alloc: Global, known: &Known) -> Result<OwedCalls, AllocError>
 {
     let pulled = pulled_by(alloc, known)?;
     let owed = owed_by(alloc, known, &pulled)?;
-    let steady = is_steady(&known.new, &known.units.lists, &pulled);
+    let marks = is_steady(&known.new, &known.units.lists, &pulled);
+    let room = have_room(alloc, &owed)?;
     let ordered = ordered_by(alloc, &known.new, &owed.starts)?;
     let duties = calls(alloc, &owed, &ordered, &known.units.states)?;
     Ok(OwedCalls {
         owed,
-        steady,
+        steady: marks && room,
         ordered,
         duties,
     })

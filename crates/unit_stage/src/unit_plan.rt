@@ -1,13 +1,16 @@
 //! What a switch to a system does to the units.
-ghost use Rattle.std.specs.Prelude.{◌≡◌};
+ghost use Rattle.std.specs.Prelude.{◌≡◌, Bool, IfOk};
 ghost use Rattle.std.specs.Option.{option_copied};
-ghost use Rattle.unit_stage.specs.Plan.{no_units};
+ghost use Rattle.host_trait.specs.World.{WorldState};
+ghost use Rattle.switch_names.specs.Names.{Name};
+ghost use Rattle.unit_stage.specs.Plan.{IsLongLog, IsUnitPlanOf, no_units};
 
+use leaf_limits::TooLong;
 use log_text::Lists;
-use owed_log::LogWrite;
+use owed_log::{LogWrite, long_log};
 use owed_plan::Duty;
 use start_order::Ordered;
-use std::alloc::Global;
+use std::alloc::{AllocError, Global};
 use switch_names::{Listed, SystemName, UnitName};
 use unit_defs::Defs;
 
@@ -112,7 +115,7 @@ impl UnitPlan {
     }
 
     /// Whether the marks of the targets and the lists of the world that the plan was made from don't
-    /// contradict each other.
+    /// contradict each other, and a log has room for the names of all units that are owed something in each of its lists.
     pub fn steady(&self) -> bool
         ensures { result ≡ self.now.steady }
     {
@@ -131,6 +134,13 @@ impl UnitPlan {
         ensures { result.now ≡ self.now.write }
     {
         &self.write
+    }
+
+    /// The log in which this is recorded, where it would be longer than can be read again.
+    pub fn long_log(&self, alloc: Global) -> Result<Option<TooLong>, AllocError>
+        ensures { IfOk result (λ long. (start_up : Bool) (w : WorldState) (system : Name) → IsUnitPlanOf start_up system w self.now → IsLongLog start_up w system long) }
+    {
+        long_log(alloc, &self.write)
     }
 
     /// The units to start in the order of their starts, with what could not be kept of that order.

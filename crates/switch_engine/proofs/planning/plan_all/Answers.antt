@@ -8,10 +8,9 @@ use Rattle.std.specs.Option.{IfSome}
 use Rattle.switch_engine.specs.declared.command.Command.{Command}
 use Rattle.switch_engine.specs.declared.row.Row.{Row}
 use Rattle.switch_engine.specs.Commands.{row, switched_by}
-use Rattle.switch_engine.specs.Owing.{IsSteadyFor, IsSteadyTo}
+use Rattle.switch_engine.specs.Owing.{IsSteadyFor, IsSteadyTo, Refuses}
 use Rattle.switch_engine.specs.Plan.{ArePlanned, IsPlanOf}
-use Rattle.switch_engine.specs.Rows.{refusal, refusal_by}
-use Rattle.switch_engine.proofs.PlanLemmas.{has_system, told_still, version_refused}
+use Rattle.switch_engine.proofs.PlanLemmas.{lacks_refuses, row_refuses, told_still, version_refuses}
 use Rattle.switch_names.specs.SystemName.{IsSystemPath}
 use Rattle.switch_parts.specs.declared.plan_fault.PlanFault.TheVariants.{Host, Refused}
 use Rattle.switch_parts.proofs.Faults.{handed, no_err}
@@ -35,10 +34,10 @@ pub returns-in_err-check_version-clause-refused : goal.returns-in_err-check_vers
 returns-in_err-check_version-clause-refused g c why e =
     let p = err_from_is_err_and c.from_residual-in_err-check_version.result c.from_residual-in_err-check_version.ensures.1 in
     let refused = c.in_err-check_version.ensures.refused why (ap (λ f. Err f) (sym p.2 ∙ same_fault p.0 (Refused why) (sym p.1 ∙ e))) in
-    told_as (told_before c.resolve.ensures.reads.moments refused) (λ w. refusal c.args.command.now w.leaves ≡ Some why)
+    told_as (told_before c.resolve.ensures.reads.moments refused) (λ w. Refuses c.args.command.now w (Some why))
     (λ w is version.
     let its = c.in_ok-resolved.ensures.resolved.has w is in
-    version_refused c.args.command.now w.leaves c.in_ok-resolved.resolved.row why its.has_one its.row version)
+    version_refuses c.args.command.now w c.in_ok-resolved.resolved.row its.has_one its.row why version)
 
 pub returns-in_err-plan-clause-reads : goal.returns-in_err-plan-clause-reads
 returns-in_err-plan-clause-reads g c =
@@ -53,12 +52,10 @@ pub returns-in_err-plan-clause-refused : goal.returns-in_err-plan-clause-refused
 returns-in_err-plan-clause-refused g c why e =
     let p = err_from_is_err_and c.from_residual-in_err-plan.result c.from_residual-in_err-plan.ensures.1 in
     let refused = c.in_err-plan.ensures.refused why (ap (λ f. Err f) (sym p.2 ∙ same_fault p.0 (Refused why) (sym p.1 ∙ e))) in
-    told_as (told_before c.resolve.ensures.reads.moments (told_before c.check_version.ensures.reads.moments refused)) (λ w. refusal c.args.command.now w.leaves ≡ Some why)
+    told_as (told_before c.resolve.ensures.reads.moments (told_before c.check_version.ensures.reads.moments refused)) (λ w. Refuses c.args.command.now w (Some why))
     (λ w is parts.
     let its = c.in_ok-resolved.ensures.resolved.has w is in
-    has_system c.args.command.now w.leaves c.in_ok-resolved.resolved.row.system its.has_one (ap (λ (r : Row). r.system) its.row)
-    ((told_before c.resolve.ensures.reads.moments c.in_ok-check_version.ensures.there).has w is)
-    ∙ subst (λ (r : Row). refusal_by r.start_up r.switches r.moves r.system w.leaves ≡ Some why) its.row parts)
+    row_refuses c.args.command.now w c.in_ok-resolved.resolved.row its.has_one its.row (Some why) ((told_before c.resolve.ensures.reads.moments c.in_ok-check_version.ensures.there).has w is) parts)
 
 pub returns-clause-plan : goal.returns-clause-plan
 returns-clause-plan g c =
@@ -71,10 +68,9 @@ returns-clause-plan g c =
       resolved = same_row ∙ subst (λ (command : Command). c.in_ok-resolved.resolved.row ≡ row command w.leaves) (sym c.in_ok-plan.ensures.command) its.row;
       planned = subst (λ (r : Row). ArePlanned r w plan) (sym same_row) planned;
       named = subst (λ (r : Row). IsSystemPath r.system) (sym same_row) c.path-path.ensures.names;
-      not_refused = subst (λ (command : Command). refusal command w.leaves ≡ None) (sym c.in_ok-plan.ensures.command)
-          (has_system c.args.command.now w.leaves c.in_ok-resolved.resolved.row.system its.has_one (ap (λ (r : Row). r.system) its.row)
+      not_refused = subst (λ (command : Command). Refuses command w None) (sym c.in_ok-plan.ensures.command)
+          (row_refuses c.args.command.now w c.in_ok-resolved.resolved.row its.has_one its.row None
           ((told_before c.resolve.ensures.reads.moments c.in_ok-check_version.ensures.there).has w is)
-          ∙ subst (λ (r : Row). refusal_by r.start_up r.switches r.moves r.system w.leaves ≡ None) its.row
           ((told_before c.resolve.ensures.reads.moments (told_before c.check_version.ensures.reads.moments c.in_ok-plan.ensures.not_refused)).has w is));
     })
 
@@ -87,4 +83,5 @@ returns-clause-steady g c =
 pub returns-in_err-resolved-clause-refused : goal.returns-in_err-resolved-clause-refused
 returns-in_err-resolved-clause-refused g c why e =
     let p = err_from_is_err_and c.from_residual.result c.from_residual.ensures.1 in
-    c.in_err-resolved.ensures.refused why (ap (λ f. Err f) (sym p.2 ∙ same_fault p.0 (Refused why) (sym p.1 ∙ e)))
+    told_as (c.in_err-resolved.ensures.lacks why (ap (λ f. Err f) (sym p.2 ∙ same_fault p.0 (Refused why) (sym p.1 ∙ e)))) (λ w. Refuses c.args.command.now w (Some why))
+    (λ w is lacks. lacks_refuses c.args.command.now w why lacks)

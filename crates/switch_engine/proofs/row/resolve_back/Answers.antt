@@ -1,4 +1,4 @@
-use Rattle.std.proofs.Common.{◌≡◌, Err, Some, is_none, sym, ap, ◌∙◌}
+use Rattle.std.proofs.Common.{Err, Some, is_none, sym, ap, ◌∙◌}
 use Rattle.std.proofs.lemmas.Option.{none-some}
 use Rattle.std.proofs.lemmas.Result.{err_from_is_err_and}
 use Rattle.std.specs.Option.{option_copied}
@@ -7,8 +7,7 @@ use Rattle.host_trait.specs.declared.tree.HostFault.TheVariants.{Device}
 use Rattle.host_trait.proofs.Moments.{told_as}
 use Rattle.host_trait.proofs.Readings.{read_of, reads_of, reads_then, told_read}
 use Rattle.switch_engine.specs.declared.command.Command.TheVariants.{Rollback}
-use Rattle.switch_engine.specs.Resolved.{IsResolved}
-use Rattle.switch_engine.specs.Rows.{refusal}
+use Rattle.switch_engine.specs.Resolved.{IsResolved, Lacks}
 use Rattle.switch_engine.proofs.PlanLemmas.{told_still}
 use Rattle.switch_engine.proofs.ResolveLemmas.{found_back, found_row}
 use Rattle.switch_parts.specs.declared.plan_fault.PlanFault.TheVariants.{Host, Refused}
@@ -32,7 +31,7 @@ returns-in_err-number-clause-reads g c =
 
 pub returns-in_default-clause-refused : goal.returns-in_default-clause-refused
 returns-in_default-clause-refused g c why e =
-    told_as (told_read c.all.ensures.reads c.in_ok-number.ensures.goal) (λ w. refusal Rollback w.leaves ≡ Some why)
+    told_as (told_read c.all.ensures.reads c.in_ok-number.ensures.goal) (λ w. Lacks Rollback w.leaves why)
     (λ w is named. absurd (none-some _ (ap option_copied (none_left c.system_of.result c.in_default.not-Some)
     ∙ found_back w.leaves c.in_ok-gens.gens c.in_ok-number.number (c.in_ok-gens.ensures.gens.has w is) named (option_copied c.system_of.result) c.system_of.ensures)))
 

@@ -1,4 +1,4 @@
-use Rattle.std.proofs.Common.{◌≡◌, Some, is_none, sym, ap, ◌∙◌}
+use Rattle.std.proofs.Common.{Some, is_none, sym, ap, ◌∙◌}
 use Rattle.std.proofs.lemmas.Result.{err_from_is_err_and}
 use Rattle.std.specs.Option.{option_copied}
 use Rattle.switch_names.proofs.Outcomes.{none_left}
@@ -6,9 +6,8 @@ use Rattle.host_trait.specs.declared.tree.HostFault.TheVariants.{Device}
 use Rattle.host_trait.proofs.Moments.{told_as}
 use Rattle.host_trait.proofs.Readings.{read_of, reads_of}
 use Rattle.switch_engine.specs.declared.command.Command.TheVariants.{StartUp}
-use Rattle.switch_engine.specs.Resolved.{IsResolved}
-use Rattle.switch_engine.specs.Rows.{refusal}
-use Rattle.switch_engine.proofs.ResolveLemmas.{no_profile, start_row}
+use Rattle.switch_engine.specs.Resolved.{IsResolved, Lacks}
+use Rattle.switch_engine.proofs.ResolveLemmas.{start_row}
 use Rattle.switch_parts.specs.declared.plan_fault.PlanFault.TheVariants.{Host}
 use Rattle.switch_parts.specs.declared.refusal.Refusal.TheVariants.{NoProfile}
 use Rattle.switch_parts.proofs.Faults.{memory_no_device, no_err, refused_is, refused_no_device}
@@ -16,9 +15,11 @@ use Rattle.switch_engine.proofs.row.resolve_start.Goals as goal
 
 pub returns-in_default-clause-refused : goal.returns-in_default-clause-refused
 returns-in_default-clause-refused g c why e =
-    told_as c.in_ok-gens.ensures.gens (λ w. refusal StartUp w.leaves ≡ Some why)
-    (λ w is are. no_profile w.leaves (option_copied c.boot_system.result) (c.boot_system.ensures w.leaves are) (sym (ap option_copied (none_left c.boot_system.result c.in_default.not-Some)))
-    ∙ ap Some (refused_is NoProfile why e))
+    told_as c.in_ok-gens.ensures.gens (λ w. Lacks StartUp w.leaves why)
+    (λ w is are. (
+      ap is_none (sym (c.boot_system.ensures w.leaves are) ∙ sym (ap option_copied (none_left c.boot_system.result c.in_default.not-Some))),
+      sym (refused_is NoProfile why e),
+    ))
 
 pub returns-in_default-clause-reads : goal.returns-in_default-clause-reads
 returns-in_default-clause-reads g c = reads_of (read_of c.all.ensures.reads _ (λ e. e)) _ (λ e. absurd (refused_no_device NoProfile e))
