@@ -1,9 +1,10 @@
 //! The texts that are read of accounts, and what is judged of them before what is remembered.
-ghost use Rattle.std.specs.Prelude.{◌≡◌, Ok, Some, IfOk, IsErrOf, option_map};
+ghost use Rattle.std.specs.Prelude.{◌≡◌, Ok, Some, IfOk, IsErrOf, OnOk, option_map};
 ghost use Rattle.host_trait.specs.declared.tree.HostFault.TheVariants.{Device};
 ghost use Rattle.host_trait.specs.Host.{Told};
 ghost use Rattle.host_trait.specs.Reading.{IsReading};
 ghost use Rattle.switch_parts.specs.declared.plan_fault.PlanFault.TheVariants.{Host};
+ghost use Rattle.tree_put.specs.Found.{AreFound};
 ghost use Rattle.users_spec.specs.Spec.{accounts_of};
 ghost use Rattle.accounts_stage.specs.All.{AreSoundTables};
 ghost use Rattle.accounts_stage.specs.Answer.{Answers, spec_fault, spec_refusal};
@@ -15,11 +16,13 @@ use crate::places::spec_path;
 use crate::reading::{TableTexts, read_texts, tables_of};
 use crate::rows::texts_past;
 use account_text::Tables;
-use host_trait::{HostFault, Tree, content};
+use host_trait::{HostFault, Tree};
 use leaf_limits::{LEAF_MAX, content_past, past};
 use std::alloc::Global;
-use switch_names::{Bytes, SystemName};
+use std::collections::BTreeMap;
+use switch_names::{Bytes, Path, SystemName};
 use switch_parts::{PlanFault, Refusal, What, refuse, too_many};
+use tree_put::{Found, find_content};
 use users_spec::{Spec, SpecFault};
 
 /// How many bytes a text has, where it has too many.
@@ -91,19 +94,23 @@ impl Judged {
     }
 }
 
-/// Reads the specification of a system, the three tables and what is remembered of accounts, each once.
+/// Reads the specification of a system, the three tables and what is remembered of accounts, each once: what was found is
+/// taken out of the notes.
 pub fn read_account_texts<T: Tree>(
     alloc: Global,
     host: &mut T,
+    findings: &mut BTreeMap<Path, Found>,
     system: &SystemName,
 ) -> Result<AccountTexts, HostFault>
+    requires found { Told (T.host host.old) (λ w. AreFound w.leaves findings.old) }
     ensures texts { IfOk result (λ texts. Told (T.host host.old) (λ w. texts ≡ account_texts system.now w.leaves)) }
+    ensures others { OnOk result (Told (T.host host.old) (λ w. AreFound w.leaves findings.new)) }
     ensures reads { IsReading (T.host host.old) (T.host host.new) result }
 {
     let at = spec_path(alloc, system)?;
-    let spec = content(alloc, host, &at)?;
-    let tables = read_texts(alloc, host)?;
-    let memory = read_memory(alloc, host)?;
+    let spec = find_content(alloc, host, findings, &at)?;
+    let tables = read_texts(alloc, host, findings)?;
+    let memory = read_memory(alloc, host, findings)?;
     Ok(AccountTexts {
         spec,
         tables,

@@ -1,11 +1,12 @@
 //! Reads the ids that accounts had, and the names that were declared.
-ghost use Rattle.std.specs.Prelude.{◌≡◌, Some, IfOk, IsErrOf};
+ghost use Rattle.std.specs.Prelude.{◌≡◌, Some, IfOk, IsErrOf, OnOk};
 ghost use Rattle.std.specs.FinMap.{empty};
 ghost use Rattle.std.specs.Option.{unwrap_or};
 ghost use Rattle.host_trait.specs.declared.tree.HostFault.TheVariants.{Device};
 ghost use Rattle.host_trait.specs.Host.{Told};
 ghost use Rattle.host_trait.specs.Reading.{IsReading};
 ghost use Rattle.switch_parts.specs.declared.plan_fault.PlanFault.TheVariants.{Host};
+ghost use Rattle.tree_put.specs.Found.{AreFound};
 ghost use Rattle.accounts_stage.specs.Answer.{Answers};
 ghost use Rattle.accounts_stage.specs.Refusals.{ids_refusal, maps_refusal};
 ghost use Rattle.accounts_stage.specs.Standing.{declared_of, ids_of, memory_in, remembered_of};
@@ -13,11 +14,13 @@ ghost use Rattle.accounts_stage.specs.Standing.{declared_of, ids_of, memory_in, 
 use crate::names::names_in;
 use crate::places::{gids_path, groups_path, uids_path, users_path};
 use crate::reading::bytes_at;
-use host_trait::{HostFault, Tree, content};
+use host_trait::{HostFault, Tree};
 use id_memory::{IdFault, IdMap};
 use std::alloc::{AllocError, Global};
-use switch_names::Bytes;
+use std::collections::BTreeMap;
+use switch_names::{Bytes, Path};
 use switch_parts::{MapFile, PlanFault, Refusal};
+use tree_put::{Found, find_content};
 use users_merge::{Declared, Remembered};
 
 /// The texts of what is remembered of accounts.
@@ -44,19 +47,25 @@ impl Drop for MemoryTexts {
     }
 }
 
-/// Reads the texts of what is remembered of accounts.
-pub fn read_memory<T: Tree>(alloc: Global, host: &mut T) -> Result<MemoryTexts, HostFault>
+/// Reads the texts of what is remembered of accounts, of which those that were found are taken out of the notes.
+pub fn read_memory<T: Tree>(
+    alloc: Global,
+    host: &mut T,
+    findings: &mut BTreeMap<Path, Found>,
+) -> Result<MemoryTexts, HostFault>
+    requires found { Told (T.host host.old) (λ w. AreFound w.leaves findings.old) }
     ensures texts { IfOk result (λ texts. Told (T.host host.old) (λ w. texts ≡ memory_in w.leaves)) }
+    ensures others { OnOk result (Told (T.host host.old) (λ w. AreFound w.leaves findings.new)) }
     ensures reads { IsReading (T.host host.old) (T.host host.new) result }
 {
     let uids_path = uids_path(alloc)?;
     let gids_path = gids_path(alloc)?;
     let users_path = users_path(alloc)?;
     let groups_path = groups_path(alloc)?;
-    let uids = content(alloc, host, &uids_path)?;
-    let gids = content(alloc, host, &gids_path)?;
-    let users = bytes_at(alloc, host, &users_path)?;
-    let groups = bytes_at(alloc, host, &groups_path)?;
+    let uids = find_content(alloc, host, findings, &uids_path)?;
+    let gids = find_content(alloc, host, findings, &gids_path)?;
+    let users = bytes_at(alloc, host, findings, &users_path)?;
+    let groups = bytes_at(alloc, host, findings, &groups_path)?;
     Ok(MemoryTexts {
         uids,
         gids,

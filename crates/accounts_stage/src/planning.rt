@@ -6,6 +6,7 @@ ghost use Rattle.host_trait.specs.Reading.{IsReadingOf};
 ghost use Rattle.host_trait.specs.World.{Leaves};
 ghost use Rattle.switch_parts.specs.declared.plan_fault.PlanFault.TheVariants.{Host, Refused};
 ghost use Rattle.switch_parts.specs.declared.refusal.Refusal.{Refusal};
+ghost use Rattle.tree_put.specs.Found.{AreFound};
 ghost use Rattle.users_merge.specs.Merge.{fault};
 ghost use Rattle.accounts_stage.specs.All.{AreSoundTables, stored_with};
 ghost use Rattle.accounts_stage.specs.AccountsPart.{accounts_refusal};
@@ -24,8 +25,10 @@ use crate::stored::{Stored, with_texts};
 use account_text::Tables;
 use host_trait::{HostFault, Tree};
 use std::alloc::Global;
-use switch_names::{Listed, SystemName};
+use std::collections::BTreeMap;
+use switch_names::{Listed, Path, SystemName};
 use switch_parts::{PlanFault, Refusal, What, refuse, too_many};
+use tree_put::Found;
 use users_merge::{MergeFault, Merged, merge};
 use users_spec::Spec;
 
@@ -120,23 +123,27 @@ fn plan_past(plan: &AccountsPlan) -> Option<u64>
 /// Plans the accounts of a system, and changes nothing.
 ///
 /// It reads the specification, the tables, the names that were declared and the maps of ids, each once, before it judges
-/// anything. The refusals are sought in this order: a table with more than `ROWS_MAX` lines that aren't empty, those of the
-/// specification, of the tables, of the maps, and of the merge, more than `ROWS_MAX` merged groups or users, and a content
-/// of more than `LEAF_MAX` bytes among all that was read, the first in byte order. That a file would be put so long is
-/// for `AccountsPlan::long` to say.
+/// anything: what was found at one of these places is taken out of the notes, and isn't read again. The refusals are
+/// sought in this order: a table with more than `ROWS_MAX` lines that aren't empty, those of the specification, of the
+/// tables, of the maps, and of the merge, more than `ROWS_MAX` merged groups or users, and a content of more than
+/// `LEAF_MAX` bytes among all that was read, the first in byte order. That a file would be put so long is for
+/// `AccountsPlan::long` to say.
 ///
 /// Source: nixpkgs, update-users-groups.pl; NixOS manual, "User Management".
 pub fn plan_accounts<T: Tree>(
     alloc: Global,
     host: &mut T,
+    findings: &mut BTreeMap<Path, Found>,
     system: &SystemName,
 ) -> Result<AccountsPlan, PlanFault>
+    requires found { Told (T.host host.old) (λ w. AreFound w.leaves findings.old) }
     ensures plan { IfOk result (λ plan. Told (T.host host.old) (λ w. IsAccountsPlanOf system.now w.leaves plan)) }
     ensures not_refused { OnOk result (Told (T.host host.old) (λ w. accounts_refusal system.now w.leaves ≡ None)) }
     ensures refused { (why : Refusal) → IsErrOf result (Refused why) → Told (T.host host.old) (λ w. accounts_refusal system.now w.leaves ≡ Some why) }
+    ensures others { OnOk result (Told (T.host host.old) (λ w. AreFound w.leaves findings.new)) }
     ensures reads { IsReadingOf (T.host host.old) (T.host host.new) (IsErrOf result (Host Device)) }
 {
-    let texts = read_account_texts(alloc, host, system)?;
+    let texts = read_account_texts(alloc, host, findings, system)?;
     let judged = judge(alloc, &texts)?;
     let plan = plan_judged(alloc, judged, &texts.memory)?;
     let many = too_many(What::Rows, plan_past(&plan));

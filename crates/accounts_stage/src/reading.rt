@@ -11,6 +11,7 @@ ghost use Rattle.host_trait.specs.Reading.{IsReading, IsReadingOf};
 ghost use Rattle.switch_parts.specs.declared.plan_fault.PlanFault.TheVariants.{Host, Refused};
 ghost use Rattle.switch_parts.specs.declared.refusal.Refusal.{Refusal};
 ghost use Rattle.switch_parts.specs.declared.refusal.TableFile.TheVariants.{Group, Passwd, Shadow};
+ghost use Rattle.tree_put.specs.Found.{AreFound};
 ghost use Rattle.accounts_stage.specs.Refusals.{table_refusal, texts_refusal, wrong_table};
 ghost use Rattle.accounts_stage.specs.Answer.{Answers, table_fault};
 ghost use Rattle.accounts_stage.specs.Standing.{bytes_at, tables_in, tables_of, texts_in};
@@ -19,10 +20,12 @@ use crate::places::{group_path, passwd_path, shadow_path};
 use account_text::{
     GroupRow, PasswdRow, RowFault, ShadowRow, Tables, read_group, read_passwd, read_shadow,
 };
-use host_trait::{HostFault, Tree, content};
+use host_trait::{HostFault, Tree};
 use std::alloc::Global;
+use std::collections::BTreeMap;
 use switch_names::{Bytes, Listed, Path};
 use switch_parts::{PlanFault, Refusal, TableFile};
+use tree_put::{Found, find_content, nothing_found};
 
 /// The texts of the three tables.
 pub struct TableTexts {
@@ -55,26 +58,39 @@ fn bytes_or_none(alloc: Global, bytes: Option<Bytes>) -> Bytes
     }
 }
 
-/// The bytes at a place: none where nothing stands.
-pub fn bytes_at<T: Tree>(alloc: Global, host: &mut T, at: &Path) -> Result<Bytes, HostFault>
+/// The bytes at a place: none where nothing stands. What was found there is taken out of the notes.
+pub fn bytes_at<T: Tree>(
+    alloc: Global,
+    host: &mut T,
+    findings: &mut BTreeMap<Path, Found>,
+    at: &Path,
+) -> Result<Bytes, HostFault>
+    requires found { Told (T.host host.old) (λ w. AreFound w.leaves findings.old) }
     ensures bytes { IfOk result (λ bytes. Told (T.host host.old) (λ w. bytes ≡ bytes_at w.leaves at.now)) }
+    ensures others { OnOk result (Told (T.host host.old) (λ w. AreFound w.leaves findings.new)) }
     ensures reads { IsReading (T.host host.old) (T.host host.new) result }
 {
-    let bytes = content(alloc, host, at)?;
+    let bytes = find_content(alloc, host, findings, at)?;
     Ok(bytes_or_none(alloc, bytes))
 }
 
-/// Reads the texts of the three tables.
-pub fn read_texts<T: Tree>(alloc: Global, host: &mut T) -> Result<TableTexts, HostFault>
+/// Reads the texts of the three tables, of which those that were found are taken out of the notes.
+pub fn read_texts<T: Tree>(
+    alloc: Global,
+    host: &mut T,
+    findings: &mut BTreeMap<Path, Found>,
+) -> Result<TableTexts, HostFault>
+    requires found { Told (T.host host.old) (λ w. AreFound w.leaves findings.old) }
     ensures texts { IfOk result (λ texts. Told (T.host host.old) (λ w. texts ≡ texts_in w.leaves)) }
+    ensures others { OnOk result (Told (T.host host.old) (λ w. AreFound w.leaves findings.new)) }
     ensures reads { IsReading (T.host host.old) (T.host host.new) result }
 {
     let group_path = group_path(alloc)?;
     let passwd_path = passwd_path(alloc)?;
     let shadow_path = shadow_path(alloc)?;
-    let group = bytes_at(alloc, host, &group_path)?;
-    let passwd = bytes_at(alloc, host, &passwd_path)?;
-    let shadow = bytes_at(alloc, host, &shadow_path)?;
+    let group = bytes_at(alloc, host, findings, &group_path)?;
+    let passwd = bytes_at(alloc, host, findings, &passwd_path)?;
+    let shadow = bytes_at(alloc, host, findings, &shadow_path)?;
     Ok(TableTexts {
         group,
         passwd,
@@ -156,6 +172,7 @@ pub fn read_tables<T: Tree>(alloc: Global, host: &mut T) -> Result<Tables, PlanF
     ensures refused { (why : Refusal) → IsErrOf result (Refused why) → Told (T.host host.old) (λ w. table_refusal w.leaves ≡ Some why) }
     ensures reads { IsReadingOf (T.host host.old) (T.host host.new) (IsErrOf result (Host Device)) }
 {
-    let texts = read_texts(alloc, host)?;
+    let mut findings = nothing_found(alloc);
+    let texts = read_texts(alloc, host, &mut findings)?;
     tables_of(alloc, &texts)
 }

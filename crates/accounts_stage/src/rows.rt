@@ -14,6 +14,7 @@ use leaf_limits::{ROWS_MAX, past};
 use std::alloc::Global;
 use switch_names::Bytes;
 use switch_parts::{Refusal, TableFile, What, too_many};
+use tree_put::nothing_found;
 
 /// How many lines of a table's text aren't empty.
 fn lines_of(text: &Bytes) -> u64
@@ -50,7 +51,8 @@ pub fn lines<T: Tree>(alloc: Global, host: &mut T, file: TableFile) -> Result<u6
     ensures reads { IsReading (T.host host.old) (T.host host.new) result }
 {
     let at = table_path(alloc, file)?;
-    let text = bytes_at(alloc, host, &at)?;
+    let mut findings = nothing_found(alloc);
+    let text = bytes_at(alloc, host, &mut findings, &at)?;
     Ok(lines_of(&text))
 }
 
@@ -61,6 +63,7 @@ pub fn too_many_rows<T: Tree>(alloc: Global, host: &mut T) -> Result<Option<Refu
     ensures refusal { IfOk result (λ why. Told (T.host host.old) (λ w. why ≡ rows_too_many w.leaves)) }
     ensures reads { IsReading (T.host host.old) (T.host host.new) result }
 {
-    let texts = read_texts(alloc, host)?;
+    let mut findings = nothing_found(alloc);
+    let texts = read_texts(alloc, host, &mut findings)?;
     Ok(too_many(What::Rows, texts_past(&texts)))
 }

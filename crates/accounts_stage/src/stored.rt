@@ -15,6 +15,7 @@ use account_text::Tables;
 use host_trait::Tree;
 use std::alloc::Global;
 use switch_parts::PlanFault;
+use tree_put::nothing_found;
 use users_merge::{Declared, Remembered};
 
 /// All that stands of accounts.
@@ -80,6 +81,7 @@ pub fn read_all<T: Tree>(alloc: Global, host: &mut T) -> Result<Stored, PlanFaul
     ensures reads { IsReadingOf (T.host host.old) (T.host host.new) (IsErrOf result (Host Device)) }
 {
     let tables = read_tables(alloc, host)?;
-    let memory = read_memory(alloc, host)?;
+    let mut findings = nothing_found(alloc);
+    let memory = read_memory(alloc, host, &mut findings)?;
     with_texts(alloc, tables, &memory)
 }

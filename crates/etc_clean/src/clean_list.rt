@@ -4,14 +4,17 @@ ghost use Rattle.std.specs.List.{AllByRecursion};
 ghost use Rattle.host_trait.specs.Host.{Told};
 ghost use Rattle.host_trait.specs.Reading.{IsReading};
 ghost use Rattle.host_trait.specs.World.{content_of};
+ghost use Rattle.tree_put.specs.Found.{AreFound};
 ghost use Rattle.etc_manifest.specs.Place.{is_reserved};
 ghost use Rattle.etc_clean.specs.CleanList.{clean_name, clean_names, clean_text, is_clean_name, is_path_text, names_in};
 ghost use Rattle.etc_clean.specs.Names.{place};
 
 use etc_manifest::is_reserved;
-use host_trait::{HostFault, Tree, content, fixed_path};
+use host_trait::{HostFault, Tree, fixed_path};
 use std::alloc::{AllocError, Global};
+use std::collections::BTreeMap;
 use switch_names::{Bytes, Listed, NameFault, Path};
+use tree_put::{Found, find_content};
 
 /// The place of the clean list.
 #[tactic(auto, unfolding(crate::specs::Names::place, crate::specs::CleanList::clean_name))]
@@ -116,11 +119,17 @@ pub fn names_in(alloc: Global, content: &Option<Bytes>) -> Result<Listed<Path>, 
     }
 }
 
-/// The content of the clean list that stands.
-pub fn read_old<T: Tree>(alloc: Global, host: &mut T) -> Result<Option<Bytes>, HostFault>
+/// The content of the clean list that stands, as it was found or else is read.
+pub fn read_old<T: Tree>(
+    alloc: Global,
+    host: &mut T,
+    findings: &mut BTreeMap<Path, Found>,
+) -> Result<Option<Bytes>, HostFault>
+    requires found { Told (T.host host.old) (λ w. AreFound w.leaves findings.old) }
     ensures content { IfOk result (λ bytes. Told (T.host host.old) (λ w. bytes ≡ content_of w.leaves (place clean_name))) }
+    ensures others { OnOk result (Told (T.host host.old) (λ w. AreFound w.leaves findings.new)) }
     ensures reads { IsReading (T.host host.old) (T.host host.new) result }
 {
     let at = clean_path(alloc)?;
-    content(alloc, host, &at)
+    find_content(alloc, host, findings, &at)
 }

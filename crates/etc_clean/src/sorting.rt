@@ -6,6 +6,7 @@ ghost use Rattle.switch_names.specs.Names.{IsListOf, has};
 ghost use Rattle.host_trait.specs.Host.{Told};
 ghost use Rattle.host_trait.specs.Reading.{IsReading};
 ghost use Rattle.host_trait.specs.World.{bytes_cmp, is_in_line};
+ghost use Rattle.tree_put.specs.Found as noted;
 ghost use Rattle.etc_manifest.specs.Manifest.{places};
 ghost use Rattle.etc_clean.specs.CleanList.{names_in};
 ghost use Rattle.etc_clean.specs.Found.{AreFound};
@@ -21,6 +22,7 @@ use etc_manifest::{Item, Manifest};
 use host_trait::{HostFault, Tree};
 use leaf_limits::content_past;
 use std::alloc::{AllocError, Global};
+use std::collections::BTreeMap;
 use switch_names::{Bytes, Listed, Path};
 
 /// What a switch finds in `/etc`: names below it, each list in byte order.
@@ -105,19 +107,23 @@ fn blocked_by(alloc: Global, items: &[Item], foreign: &[Path]) -> Result<Listed<
 /// What a manifest leaves to be removed and to be left out in `/etc`, with what of it stands already and the clean list
 /// that stands.
 ///
-/// It reads the clean list once, lists `etc` once, and reads each leaf there at most once: those at entries too, so that one
-/// that can't be read is found before anything is changed. The entries and the clean list are walked once beside the leaves.
+/// It takes the clean list as it was found, or else reads it once, lists `etc` once, and reads each leaf there at most once:
+/// those at entries too, so that one that can't be read is found before anything is changed. The entries and the clean list
+/// are walked once beside the leaves.
 /// Source: setup-etc.pl of nixpkgs.
 pub fn obsolete<T: Tree>(
     alloc: Global,
     host: &mut T,
+    findings: &mut BTreeMap<Path, tree_put::Found>,
     manifest: &Manifest,
 ) -> Result<Sorted, HostFault>
+    requires found { Told (T.host host.old) (λ w. noted.AreFound w.leaves findings.old) }
     ensures sorted { IfOk result (λ sorted. Told (T.host host.old) (λ w. IsSortedOf manifest.now w.leaves sorted)) }
+    ensures others { OnOk result (Told (T.host host.old) (λ w. noted.AreFound w.leaves findings.new)) }
     ensures reads { IsReading (T.host host.old) (T.host host.new) result }
 {
     let items = manifest.items().as_slice();
-    let content = read_old(alloc, host)?;
+    let content = read_old(alloc, host, findings)?;
     let clean = clean_set(alloc, &content)?;
     let found = find_all(alloc, host, items, clean.as_slice())?;
     let blocked = blocked_by(alloc, items, found.foreign.as_slice())?;

@@ -3,6 +3,7 @@ ghost use Rattle.std.specs.Prelude.{◌≡◌, None, Some, Ok, IfOk, IsErrOf, On
 ghost use Rattle.host_trait.specs.declared.tree.HostFault.TheVariants.{Device};
 ghost use Rattle.host_trait.specs.Host.{Told};
 ghost use Rattle.host_trait.specs.Reading.{IsReading, IsReadingOf};
+ghost use Rattle.tree_put.specs.Found.{AreFound};
 ghost use Rattle.switch_parts.specs.declared.plan_fault.PlanFault.TheVariants.{Host, Refused};
 ghost use Rattle.switch_parts.specs.declared.refusal.Refusal.{Refusal};
 ghost use Rattle.etc_manifest.specs.declared.manifest_fault.ManifestFault.TheVariants as faults;
@@ -20,8 +21,10 @@ use etc_manifest::{Manifest, ManifestFault, Owners, count};
 use host_trait::{HostFault, Tree};
 use leaf_limits::{ENTRIES_MAX, past};
 use std::alloc::Global;
-use switch_names::SystemName;
+use std::collections::BTreeMap;
+use switch_names::{Path, SystemName};
 use switch_parts::{PlanFault, Refusal, What, refuse, too_many};
+use tree_put::Found;
 
 /// A fault of a manifest as one of a plan.
 fn plan_fault(fault: ManifestFault) -> PlanFault
@@ -59,15 +62,22 @@ fn read_manifest<T: Tree>(
     }
 }
 
-/// What stands in `/etc`, given what a system wants there. It looks at the link at `static` too, so that one that can't be
-/// read is found before anything is changed.
-fn look<T: Tree>(alloc: Global, host: &mut T, manifest: &Manifest) -> Result<Sorted, HostFault>
+/// What stands in `/etc`, given what a system wants there. It looks at the link at `static` too, of which nothing is noted,
+/// so that one that can't be read is found before anything is changed.
+fn look<T: Tree>(
+    alloc: Global,
+    host: &mut T,
+    findings: &mut BTreeMap<Path, Found>,
+    manifest: &Manifest,
+) -> Result<Sorted, HostFault>
+    requires found { Told (T.host host.old) (λ w. AreFound w.leaves findings.old) }
     ensures sorted { IfOk result (λ sorted. Told (T.host host.old) (λ w. IsSortedOf manifest.now w.leaves sorted)) }
+    ensures others { OnOk result (Told (T.host host.old) (λ w. AreFound w.leaves findings.new)) }
     ensures reads { IsReading (T.host host.old) (T.host host.new) result }
 {
     let at = static_path(alloc)?;
     let _link = host.read(alloc, &at)?;
-    obsolete(alloc, host, manifest)
+    obsolete(alloc, host, findings, manifest)
 }
 
 /// The refusal of a system whose etc has too many entries, where it has. It lists the folder once, and reads no leaf.
@@ -93,17 +103,20 @@ pub fn too_many_entries<T: Tree>(
 pub fn plan_etc<T: Tree>(
     alloc: Global,
     host: &mut T,
+    findings: &mut BTreeMap<Path, Found>,
     system: &SystemName,
     owners: Owners,
 ) -> Result<EtcPlan, PlanFault>
+    requires found { Told (T.host host.old) (λ w. AreFound w.leaves findings.old) }
     ensures plan { IfOk result (λ plan. Told (T.host host.old) (λ w. IsEtcPlanOf system.now w.leaves plan)) }
     ensures owners { IfOk result (λ plan. plan.owners ≡ owners) }
     ensures not_refused { OnOk result (Told (T.host host.old) (λ w. etc_refusal system.now owners w.leaves ≡ None)) }
     ensures refused { (why : Refusal) → IsErrOf result (Refused why) → Told (T.host host.old) (λ w. etc_refusal system.now owners w.leaves ≡ Some why) }
+    ensures others { OnOk result (Told (T.host host.old) (λ w. AreFound w.leaves findings.new)) }
     ensures reads { IsReadingOf (T.host host.old) (T.host host.new) (IsErrOf result (Host Device)) }
 {
     let manifest = read_manifest(alloc, host, system, &owners)?;
-    let sorted = look(alloc, host, &manifest)?;
+    let sorted = look(alloc, host, findings, &manifest)?;
     refuse(too_many(What::LeafBytes, sorted.past))?;
     let prepared = prepare(alloc, system, &manifest, &sorted)?;
     Ok(EtcPlan {

@@ -2,6 +2,7 @@
 #![tactic(auto)]
 
 mod digits;
+mod found_goal;
 mod gens;
 mod laws;
 mod link_number;
@@ -12,6 +13,7 @@ mod rollback_goal;
 mod setting;
 
 pub use digits::number_between;
+pub use found_goal::Goal;
 pub use gens::{Gen, Gens, boot_system, is_highest_of, number_for, previous, system_of};
 pub use laws::{
     a_machine_boots_into_what_the_profile_names, a_move_leaves_its_part_at_its_end,
@@ -22,5 +24,5 @@ pub use laws::{
 pub use link_number::{number_of_name, number_of_path};
 pub use listing::{all, target_of};
 pub use moving::{Move, add_goal_place, add_move_places, after_move, move_profile, number_to};
-pub use rollback_goal::{GoalFault, clear_goal, goal, goal_past, goal_path, record_goal};
+pub use rollback_goal::{GoalFault, clear_goal, goal, goal_path, record_goal};
 pub use setting::{SetFault, generation_path, point, profile_path, set, set_number};

@@ -16,6 +16,7 @@ ghost use Rattle.generations.specs.Goal.{BearsGoal, goal, goal_leaf, goal_place,
 ghost use Rattle.generations.specs.GoalPart.{owns_goal};
 
 use crate::digits::number_between;
+use crate::found_goal::Goal;
 use crate::gens::{Gen, Gens, previous};
 use host_trait::{HostFault, Leaf, Tree, content, fixed_path};
 use leaf_limits::content_past;
@@ -96,45 +97,45 @@ fn with_target(gens: &Gens, number: Option<u32>) -> Option<u32>
     has_target(gens, number).then_some(number)
 }
 
-/// The generation that is recorded as the goal, where it stands and names a system.
-fn recorded<T: Tree>(alloc: Global, host: &mut T, gens: &Gens) -> Result<Option<u32>, HostFault>
+/// The generation that is recorded as the goal, where it stands and names a system, and how many bytes what is recorded
+/// has, where it has more than 16 MiB.
+fn recorded<T: Tree>(
+    alloc: Global,
+    host: &mut T,
+    gens: &Gens,
+) -> Result<(Option<u32>, Option<u64>), HostFault>
     requires { Told (T.host host.old) (λ w. IsGensOf w.leaves gens.now) }
-    ensures recorded { IfOk result (λ number. Told (T.host host.old) (λ w. number ≡ some_number (recorded w.leaves))) }
+    ensures recorded { IfOk result (λ found. Told (T.host host.old) (λ w. found.0 ≡ some_number (recorded w.leaves))) }
+    ensures past { IfOk result (λ found. Told (T.host host.old) (λ w. found.1 ≡ content_past (content_of w.leaves goal_place))) }
     ensures reads { IsReading (T.host host.old) (T.host host.new) result }
 {
     let at = goal_path(alloc)?;
     let bytes = content(alloc, host, &at)?;
+    let past = content_past(&bytes);
     let number = number_in(alloc, bytes)?;
-    Ok(with_target(gens, number))
+    Ok((with_target(gens, number), past))
 }
 
 /// The generation to which a rollback goes: the one that is recorded, where it stands and names a system, else the
 /// greatest below the current one that does.
 ///
+/// What is recorded is read once.
 /// Source: Nix manual, "Profiles"; nixos-rebuild(8), "--rollback".
-pub fn goal<T: Tree>(alloc: Global, host: &mut T, gens: &Gens) -> Result<u32, GoalFault>
+pub fn goal<T: Tree>(alloc: Global, host: &mut T, gens: &Gens) -> Result<Goal, GoalFault>
     requires { Told (T.host host.old) (λ w. IsGensOf w.leaves gens.now) }
-    ensures goal { IfOk result (λ number. Told (T.host host.old) (λ w. goal w.leaves ≡ Some number)) }
+    ensures goal { IfOk result (λ found. Told (T.host host.old) (λ w. goal w.leaves ≡ Some found.number)) }
+    ensures past { IfOk result (λ found. Told (T.host host.old) (λ w. found.past ≡ content_past (content_of w.leaves goal_place))) }
     ensures none { IsErrOf result NoPrevious → Told (T.host host.old) (λ w. goal w.leaves ≡ None) }
     ensures reads { IsReadingOf (T.host host.old) (T.host host.new) (IsErrOf result (Host Device)) }
 {
-    if let Some(number) = recorded(alloc, host, gens)? {
-        return Ok(number);
+    let (found, past) = recorded(alloc, host, gens)?;
+    if let Some(number) = found {
+        return Ok(Goal { number, past });
     }
     match previous(gens) {
-        Some(number) => Ok(number),
+        Some(number) => Ok(Goal { number, past }),
         None => Err(GoalFault::NoPrevious),
     }
-}
-
-/// How many bytes the goal that is recorded has, where it has more than 16 MiB.
-pub fn goal_past<T: Tree>(alloc: Global, host: &mut T) -> Result<Option<u64>, HostFault>
-    ensures past { IfOk result (λ past. Told (T.host host.old) (λ w. past ≡ content_past (content_of w.leaves goal_place))) }
-    ensures reads { IsReading (T.host host.old) (T.host host.new) result }
-{
-    let at = goal_path(alloc)?;
-    let bytes = content(alloc, host, &at)?;
-    Ok(content_past(&bytes))
 }
 
 /// The leaf that records a goal.

@@ -5,13 +5,16 @@ ghost use Rattle.host_trait.specs.Host.{Told};
 ghost use Rattle.host_trait.specs.Reading.{IsReading};
 ghost use Rattle.host_trait.specs.World.{content_of};
 ghost use Rattle.switch_names.specs.UnitName.{is_unit};
+ghost use Rattle.tree_put.specs.Found.{AreFound};
 ghost use Rattle.owed_lists.specs.Lists.{AreListsOf, IsListOf, place_of};
 
 use crate::lists::list_path;
-use host_trait::{HostFault, Tree, UnitSet, content};
+use host_trait::{HostFault, Tree, UnitSet};
 use log_text::{Lists, Which};
 use std::alloc::{AllocError, Global};
-use switch_names::{Bytes, Listed, NameFault, UnitName};
+use std::collections::BTreeMap;
+use switch_names::{Bytes, Listed, NameFault, Path, UnitName};
+use tree_put::{Found, find_content};
 
 /// The unit that a line names.
 fn read_name(alloc: Global, line: &[u8]) -> Result<Option<UnitName>, AllocError>
@@ -60,30 +63,40 @@ fn list_of(alloc: Global, content: Option<Bytes>) -> Result<Listed<UnitName>, Al
     set.into_names(alloc)
 }
 
-/// Reads one of the lists.
+/// Reads one of the lists, or takes what was found at its place.
 fn read_list<T: Tree>(
     alloc: Global,
     host: &mut T,
+    findings: &mut BTreeMap<Path, Found>,
     which: Which,
 ) -> Result<Listed<UnitName>, HostFault>
+    requires found { Told (T.host host.old) (λ w. AreFound w.leaves findings.old) }
     ensures list { IfOk result (λ list. Told (T.host host.old) (λ w. IsListOf (content_of w.leaves (place_of which)) list)) }
+    ensures others { OnOk result (Told (T.host host.old) (λ w. AreFound w.leaves findings.new)) }
     ensures reads { IsReading (T.host host.old) (T.host host.new) result }
 {
     let at = list_path(alloc, which)?;
-    let bytes = content(alloc, host, &at)?;
+    let bytes = find_content(alloc, host, findings, &at)?;
     Ok(list_of(alloc, bytes)?)
 }
 
 /// Reads the three lists.
 ///
-/// A list without a leaf is empty, and a line that is no unit name is passed over.
-pub fn load<T: Tree>(alloc: Global, host: &mut T) -> Result<Lists, HostFault>
+/// A list without a leaf is empty, and a line that is no unit name is passed over. A place at which something was found isn't
+/// read again.
+pub fn load<T: Tree>(
+    alloc: Global,
+    host: &mut T,
+    findings: &mut BTreeMap<Path, Found>,
+) -> Result<Lists, HostFault>
+    requires found { Told (T.host host.old) (λ w. AreFound w.leaves findings.old) }
     ensures lists { IfOk result (λ lists. Told (T.host host.old) (λ w. AreListsOf w.leaves lists)) }
+    ensures others { OnOk result (Told (T.host host.old) (λ w. AreFound w.leaves findings.new)) }
     ensures reads { IsReading (T.host host.old) (T.host host.new) result }
 {
-    let starts = read_list(alloc, host, Which::Starts)?;
-    let restarts = read_list(alloc, host, Which::Restarts)?;
-    let reloads = read_list(alloc, host, Which::Reloads)?;
+    let starts = read_list(alloc, host, findings, Which::Starts)?;
+    let restarts = read_list(alloc, host, findings, Which::Restarts)?;
+    let reloads = read_list(alloc, host, findings, Which::Reloads)?;
     Ok(Lists {
         starts,
         restarts,

@@ -7,8 +7,6 @@ use Rattle.log_text.specs.declared.lists.Lists.{Lists}
 use Rattle.log_text.specs.Lists.{lists_of}
 use Rattle.log_text.specs.Log.{IsLog}
 use Rattle.owed_lists.specs.Lists.{AreListsOf}
-use Rattle.owed_log.specs.declared.standing.Found.{Found}
-use Rattle.owed_log.specs.declared.standing.Found.TheVariants as found
 use Rattle.owed_log.specs.declared.standing.LogState.{LogState}
 use Rattle.owed_log.specs.declared.standing.LogState.TheVariants.{Absent, Whole, Other}
 use Rattle.owed_log.specs.declared.standing.StandingLists.{StandingLists}
@@ -48,9 +46,3 @@ IsLogState leaves Other = IsSome (get leaves log_place) × ((count : ℕ) → Is
 pub record AreStanding (leaves : Leaves) (standing : StandingLists) : Type 0 where
   pub lists : AreListsAt leaves standing.lists
   pub log : IsLogState leaves standing.log
-
--- what is found at the place of the log: nothing, a file of these bytes, or a link to this content
-abbrev pub IsFound : Leaves → Found → Type 0
-IsFound leaves found.Nothing = get leaves log_place ≡ None
-IsFound leaves (found.File bytes) = file_bytes (get leaves log_place) ≡ Some bytes
-IsFound leaves (found.Link content) = (content_of leaves log_place ≡ content) × (file_bytes (get leaves log_place) ≡ None) × IsSome (get leaves log_place)

@@ -15,16 +15,13 @@ use switch_names::{Listed, Path};
 /// The bytes that are counted beside the text of the lists: those of the blocks that clear two of them, and a few more.
 const CLEARING: u64 = 64;
 
-/// The bytes of the text of lists without a name.
-const EMPTY: u64 = 39;
-
 /// The log that this records lists in, where it would be longer than can be read again: with 64 bytes for the blocks that clear
 /// two of the lists it would have more than `LEAF_MAX`.
 pub fn long_log(alloc: Global, write: &LogWrite) -> Result<Option<TooLong>, AllocError>
     ensures { IfOk result (λ long. (leaves : Leaves) (lists : Lists) → IsPrepared leaves lists write.now → long ≡ long_log lists) }
 {
     let text = match write {
-        LogWrite::Nothing => EMPTY,
+        LogWrite::Nothing => return Ok(None),
         LogWrite::Append(text) | LogWrite::Put(text) => text.as_slice().len() as u64,
     };
     match past(LEAF_MAX, text + CLEARING) {

@@ -1,21 +1,25 @@
 //! The lists that stand in a tree.
-ghost use Rattle.std.specs.Prelude.{◌≡◌, ◌↔◌, ◌≤◌, ◌+◌, IsTrue, IfOk, OnOk};
+ghost use Rattle.std.specs.Prelude.{◌≡◌, ◌↔◌, ◌≤◌, ◌+◌, Some, IsTrue, IfOk, OnOk};
+ghost use Rattle.std.specs.FinMap.{get};
 ghost use Rattle.host_trait.specs.Host.{Told};
 ghost use Rattle.host_trait.specs.Reading.{IsReading};
-ghost use Rattle.host_trait.specs.World.{Leaves};
+ghost use Rattle.host_trait.specs.World.{Leaves, content_of};
 ghost use Rattle.log_text.specs.Lists.{AreCounted, no_lists};
-ghost use Rattle.owed_log.specs.declared.standing.Found.TheVariants.{File};
-ghost use Rattle.owed_log.specs.Standing.{AreStanding, IsFound, IsLogState};
+ghost use Rattle.tree_put.specs.Found.{AreFound, standing_of};
+ghost use Rattle.owed_log.specs.Places.{log_place};
+ghost use Rattle.owed_log.specs.Standing.{AreStanding, IsLogState};
 ghost use Rattle.owed_log.specs.Writing.{IsFilled, IsPrepared, log_max};
 
 use crate::log_write::{LOG_MAX, LogWrite};
 use crate::places::log_path;
-use host_trait::{HostFault, LeafKind, Tree, content};
+use host_trait::{HostFault, Tree};
 use log_text::{Lists, Log, lists_text, read_log};
 use owed_lists::load;
 use std::alloc::{AllocError, Global};
+use std::collections::BTreeMap;
 use std::mem;
-use switch_names::Bytes;
+use switch_names::Path;
+use tree_put::{Found, Standing, find};
 
 /// What stands at the place of the log.
 #[derive(Clone, Copy, Debug, PartialEq, Eq)]
@@ -43,35 +47,6 @@ impl Drop for StandingLists {
     }
 }
 
-/// What is found at the place of the log.
-#[derive(Drop)]
-pub(crate) enum Found {
-    /// Nothing.
-    Nothing,
-    /// A file of these bytes.
-    File(Bytes),
-    /// A link, and what it leads to, where that is a file in the store.
-    Link(Option<Bytes>),
-}
-
-/// Looks at the place of the log.
-fn find<T: Tree>(alloc: Global, host: &mut T) -> Result<Found, HostFault>
-    ensures found { IfOk result (λ found. Told (T.host host.old) (λ w. IsFound w.leaves found)) }
-    ensures reads { IsReading (T.host host.old) (T.host host.new) result }
-{
-    let at = log_path(alloc)?;
-    let Some(leaf) = host.read(alloc, &at)? else {
-        return Ok(Found::Nothing);
-    };
-    match leaf.into_kind() {
-        LeafKind::File { bytes, .. } => Ok(Found::File(bytes)),
-        LeafKind::Link { .. } => {
-            let content = content(alloc, host, &at)?;
-            Ok(Found::Link(content))
-        }
-    }
-}
-
 /// The lists that a log gives.
 fn lists_in(alloc: Global, log: Log) -> Lists
     ensures { result ≡ log.lists }
@@ -81,15 +56,14 @@ fn lists_in(alloc: Global, log: Log) -> Lists
 }
 
 impl StandingLists {
-    /// The lists of a log that is a file of these bytes.
-    fn of_file(alloc: Global, bytes: &[u8]) -> Result<StandingLists, AllocError>
-        ensures { (leaves : Leaves) → IsFound leaves (File bytes.now) → IfOk result (AreStanding leaves) }
+    /// The lists of a log of these bytes, given what stands at its place.
+    fn of_log(alloc: Global, standing: Standing, bytes: &[u8]) -> Result<StandingLists, AllocError>
+        ensures { (leaves : Leaves) → standing ≡ standing_of (get leaves log_place) → content_of leaves log_place ≡ Some bytes.now → IfOk result (AreStanding leaves) }
     {
         let log = read_log(alloc, bytes)?;
-        let state = if log.is_whole {
-            LogState::Whole(bytes.len())
-        } else {
-            LogState::Other
+        let state = match standing {
+            Standing::File if log.is_whole => LogState::Whole(bytes.len()),
+            _ => LogState::Other,
         };
         Ok(StandingLists {
             lists: lists_in(alloc, log),
@@ -97,37 +71,33 @@ impl StandingLists {
         })
     }
 
-    /// Reads the lists of a tree. The place of the log is read once, or twice where a link stands there, and the leaves of an
-    /// older program only where it has no content.
-    pub fn read<T: Tree>(alloc: Global, host: &mut T) -> Result<StandingLists, HostFault>
+    /// Reads the lists of a tree. The leaves of an older program are looked at only where the place of the log has no content. A
+    /// place at which something was found isn't read again; else it is read once, or twice where a link stands there.
+    pub fn read<T: Tree>(
+        alloc: Global,
+        host: &mut T,
+        findings: &mut BTreeMap<Path, Found>,
+    ) -> Result<StandingLists, HostFault>
+        requires found { Told (T.host host.old) (λ w. AreFound w.leaves findings.old) }
         ensures standing { IfOk result (λ standing. Told (T.host host.old) (λ w. AreStanding w.leaves standing)) }
+        ensures others { OnOk result (Told (T.host host.old) (λ w. AreFound w.leaves findings.new)) }
         ensures reads { IsReading (T.host host.old) (T.host host.new) result }
     {
-        match find(alloc, host)? {
-            Found::File(bytes) => {
-                let standing = StandingLists::of_file(alloc, bytes.as_slice())?;
+        let at = log_path(alloc)?;
+        let found = find(alloc, host, findings, &at)?;
+        let stands = found.standing;
+        match found.into_content() {
+            Some(bytes) => {
+                let standing = StandingLists::of_log(alloc, stands, bytes.as_slice())?;
                 Ok(standing)
             }
-            Found::Link(Some(bytes)) => {
-                let log = read_log(alloc, bytes.as_slice())?;
-                Ok(StandingLists {
-                    lists: lists_in(alloc, log),
-                    log: LogState::Other,
-                })
-            }
-            Found::Link(None) => {
-                let lists = load(alloc, host)?;
-                Ok(StandingLists {
-                    lists,
-                    log: LogState::Other,
-                })
-            }
-            Found::Nothing => {
-                let lists = load(alloc, host)?;
-                Ok(StandingLists {
-                    lists,
-                    log: LogState::Absent,
-                })
+            None => {
+                let lists = load(alloc, host, findings)?;
+                let log = match stands {
+                    Standing::Nothing => LogState::Absent,
+                    Standing::File | Standing::Link => LogState::Other,
+                };
+                Ok(StandingLists { lists, log })
             }
         }
     }

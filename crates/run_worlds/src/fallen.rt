@@ -11,6 +11,7 @@ use std::alloc::Global;
 use std::test::Fail;
 use switch_engine::{Command, Plan, PlanFault, plan_all};
 use switch_names::{Bytes, SystemName};
+use tree_put::nothing_found;
 use users_merge::Merged;
 use world_text::{Lines, empty_host, fallen_host, host_of, text_of};
 
@@ -73,9 +74,11 @@ fn show_etc(
 ) -> Result<(), Fail>
     requires { AreApart (places manifest.now) }
 {
-    let fault = obsolete(alloc, &mut fallen_host(alloc), manifest).err();
+    let mut findings = nothing_found(alloc);
+    let fault = obsolete(alloc, &mut fallen_host(alloc), &mut findings, manifest).err();
     show(lines, "obsolete", &fault);
-    let sorted = obsolete(alloc, &mut empty_host(alloc), manifest)?;
+    let mut findings = nothing_found(alloc);
+    let sorted = obsolete(alloc, &mut empty_host(alloc), &mut findings, manifest)?;
     let fault = etc_farm::apply(alloc, &mut fallen_host(alloc), system, manifest, &sorted).err();
     show(lines, "etc_farm::apply", &fault);
     Ok(())

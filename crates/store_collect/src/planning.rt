@@ -28,7 +28,7 @@ use host_trait::{HostFault, Manager, Tree, fixed_path};
 use std::alloc::{AllocError, Global};
 use store_live::dead_paths;
 use switch_names::{Bytes, Listed, Path};
-use tree_put::{WrittenPlace, add_stage, first_in_the_way};
+use tree_put::{WrittenPlace, add_stage, first_in_the_way, nothing_found};
 
 /// The places that the boot menu of some generations is written at, and the stage.
 fn written_places(alloc: Global, gens: &Gens) -> Result<Listed<WrittenPlace>, AllocError>
@@ -51,7 +51,8 @@ fn blocked_place<T: Tree>(
     ensures reads { IsReading (T.host host.old) (T.host host.new) result }
 {
     let places = written_places(alloc, gens)?;
-    first_in_the_way(alloc, host, places.as_slice())
+    let mut findings = nothing_found(alloc);
+    first_in_the_way(alloc, host, &mut findings, places.as_slice())
 }
 
 /// Adds equal paths.

@@ -1,5 +1,5 @@
 -- Why the parts of a command are refused, by what is read of a world.
-use Rattle.std.proofs.Common.{◌≡◌, ◌↔◌, IsTrue, Bool, true, false, cond, Option, None, Some, is_none, option_map, refl, sym, ap, subst, ◌∙◌}
+use Rattle.std.proofs.Common.{◌≡◌, ◌↔◌, ℕ, IsTrue, Bool, true, false, cond, Option, None, Some, is_none, option_map, refl, sym, ap, subst, ◌∙◌}
 use Rattle.std.proofs.lemmas.Bool.{both_ways}
 use Rattle.std.specs.Option.{option_or}
 use Rattle.activation_stage.specs.ActivationPart.{IsActivationPlanOf, activation_in}
@@ -21,7 +21,7 @@ use Rattle.switch_engine.specs.Owing.{IsLongBy, IsSteadyTo, Refuses, RefusesBy}
 use Rattle.switch_engine.specs.Plan.{AreGensBy, AreUnitsPlanned, IsActivationPlanned, IsProfilePlanned}
 use Rattle.switch_engine.specs.Lengths.{too_long_by}
 use Rattle.switch_engine.specs.Rows.{gens_to, goal_by, part_if, parts_in, parts_refusal, refusal_before_length, refusal_with, refusal_in_parts, switch_in, system_refusal, too_many_by, version_refusal}
-use Rattle.switch_engine.specs.Resolved.{Lacks}
+use Rattle.switch_engine.specs.Resolved.{IsGoalPast, Lacks}
 use Rattle.switch_engine.specs.System.{version_path}
 use Rattle.switch_engine.proofs.MovedPart.{default_in}
 use Rattle.switch_engine.proofs.RefusesLemmas.{some_log_to}
@@ -94,6 +94,10 @@ unmoved_free system moves leaves none = ap (λ mv. (default_in mv system leaves)
 pub default_refused : (moves : Option Move) (move : Move) (system : Name) (leaves : Leaves) (why : Refusal) → moves ≡ Some move → (boot_default_in move system leaves).refusal leaves ≡ Some why → (default_in moves system leaves).refusal leaves ≡ Some why
 default_refused moves move system leaves why on refused =
     ap (λ mv. (default_in mv system leaves).refusal leaves) on ∙ ap (λ o. option_or o ((goal_by move).refusal leaves)) refused
+
+-- the length of the goal is told for the move that is made
+pub past_of : (moves : Option Move) (move : Move) (leaves : Leaves) (past : Option ℕ) → moves ≡ Some move → IsGoalPast moves leaves past → IsGoalPast (Some move) leaves past
+past_of moves move leaves past on told = subst (λ (moves : Option Move). IsGoalPast moves leaves past) on told
 
 -- or it isn't, and so what is said of the goal
 pub goal_refused : (moves : Option Move) (move : Move) (system : Name) (leaves : Leaves) (why : Option Refusal) → moves ≡ Some move → (boot_default_in move system leaves).refusal leaves ≡ None → (goal_by move).refusal leaves ≡ why →

@@ -1,5 +1,5 @@
 -- Parts that aren't refused take no content that is too long.
-use Rattle.std.proofs.Common.{◌≡◌, ◌||◌, ◌∷◌, ℕ, Bool, true, false, cond, nat_lt, List, Option, None, Some, is_some, option_map, refl, sym, ap, subst, ◌∙◌, inl, inr}
+use Rattle.std.proofs.Common.{◌≡◌, ◌||◌, ℕ, Bool, true, false, cond, nat_lt, List, Option, None, Some, option_map, refl, sym, ap, ◌∙◌, inl, inr}
 use Rattle.std.proofs.lemmas.Bool.{and_parts, or_cases, or_left, or_right}
 use Rattle.accounts_stage.specs.AccountsPart.{accounts_part}
 use Rattle.accounts_stage.specs.Lengths.{accounts_too_long, takes_accounts}
@@ -20,10 +20,10 @@ use Rattle.generations.specs.Move.{gens_moved, move_part}
 use Rattle.host_trait.proofs.NameOrder.{name_exact, name_itself}
 use Rattle.host_trait.specs.World.{Leaves, content_of}
 use Rattle.leaf_limits.specs.Counts.{past}
-use Rattle.leaf_limits.specs.Limits.{AreTaken, content_past, is_long, is_long_content, leaf_max, length_of, long_past}
+use Rattle.leaf_limits.specs.Limits.{content_past, is_long, is_long_content, leaf_max, length_of, long_past}
 use Rattle.leaf_limits.proofs.PastLemmas.{long_not, long_within, none_long, nothing_past}
 use Rattle.owed_log.specs.Lengths.{AreOwedShort}
-use Rattle.owed_log.specs.Places.{is_owed_place, log_place, old_places}
+use Rattle.owed_log.specs.Places.{is_owed_place}
 use Rattle.switch_engine.specs.Commands.{is_back}
 use Rattle.switch_engine.specs.Lengths.{takes_by, takes_goal, takes_menu, takes_moved, takes_switch, too_long_by}
 use Rattle.switch_engine.specs.Rows.{default_if, gens_to, goal_by, parts_in, refusal_before_length, switch_in, too_many_by, too_much_by}
@@ -31,7 +31,7 @@ use Rattle.switch_engine.specs.System.{version_path}
 use Rattle.switch_engine.proofs.FewLemmas.{first_none, parts_few}
 use Rattle.switch_names.specs.Names.{Name, has, is_name}
 use Rattle.switch_names.specs.SystemName.{IsSystemPath}
-use Rattle.switch_names.proofs.Outcomes.{none_mapped, none_there, option_or_nothing, option_or_parts}
+use Rattle.switch_names.proofs.Outcomes.{none_mapped, option_or_nothing, option_or_parts}
 use Rattle.switch_parts.specs.declared.refusal.Refusal.TheVariants.{InTheWay, TooMany}
 use Rattle.switch_parts.specs.declared.refusal.What.TheVariants.{LeafBytes}
 use Rattle.tree_put.specs.First.{first_in_the_way}
@@ -149,9 +149,3 @@ owed_short switches moves system leaves none on q owed =
     (or_right (is_name q (version_path system)) (takes_switch switches system leaves q || takes_moved moves gens q)
     (or_left (takes_switch switches system leaves q) (takes_moved moves gens q)
     (ap (λ b. takes_switch b system leaves q) on ∙ or_left (is_owed_place q) (takes_switched leaves system q || (takes_accounts system q || takes_etc leaves system q)) owed))))
-
--- that is so where none of these places is found to be too long
-pub owed_read : (places : List Name) (past : Option ℕ) (leaves : Leaves) → places ≡ log_place ∷ old_places → (AreTaken places is_owed_place leaves → past ≡ long_past is_owed_place leaves) → is_some past ≡ false → AreOwedShort leaves
-owed_read places past leaves are told none q owed =
-    let taken = subst (λ (ps : List Name). AreTaken ps is_owed_place leaves) (sym are) (λ q there. refl) in
-    long_within leaves q (none_long is_owed_place leaves (sym (told taken) ∙ none_there past none) q owed)

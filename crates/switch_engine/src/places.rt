@@ -12,6 +12,7 @@ ghost use Rattle.host_trait.specs.Host.{Told};
 ghost use Rattle.host_trait.specs.Reading.{IsReadingOf};
 ghost use Rattle.host_trait.specs.World.{Leaves};
 ghost use Rattle.tree_put.specs.First.{first_in_the_way};
+ghost use Rattle.tree_put.specs.Found.{AreFound};
 ghost use Rattle.switch_parts.specs.declared.plan_fault.PlanFault.TheVariants.{Host, Refused};
 ghost use Rattle.switch_parts.specs.declared.refusal.Refusal.{Refusal};
 ghost use Rattle.switch_parts.specs.declared.refusal.Refusal.TheVariants.{InTheWay};
@@ -27,9 +28,10 @@ use etc_farm::add_farm_places;
 use generations::{Gens, Move, add_goal_place, add_move_places};
 use host_trait::Tree;
 use std::alloc::{AllocError, Global};
-use switch_names::{Listed, SystemName};
-use switch_parts::{PlanFault, Refusal};
-use tree_put::{WrittenPlace, add_stage, first_in_the_way};
+use std::collections::BTreeMap;
+use switch_names::{Listed, Path, SystemName};
+use switch_parts::{PlanFault, Refusal, refuse};
+use tree_put::{Found, WrittenPlace, add_stage, first_in_the_way};
 use unit_stage::add_unit_places;
 
 /// Adds the places of a switch of the units.
@@ -124,19 +126,20 @@ pub fn places_of(
     Ok(list)
 }
 
-/// Refuses where a leaf stands in the way of one of these places.
+/// Refuses where a leaf stands in the way of one of these places, and notes what is found at those whose content is read.
 pub fn check_way<T: Tree>(
     alloc: Global,
     host: &mut T,
+    findings: &mut BTreeMap<Path, Found>,
     places: &[WrittenPlace],
 ) -> Result<(), PlanFault>
-    requires { AreApartFromStage places.now }
+    requires apart { AreApartFromStage places.now }
+    requires found { Told (T.host host.old) (λ w. AreFound w.leaves findings.old) }
     ensures free { OnOk result (Told (T.host host.old) (λ w. first_in_the_way places.now w.leaves ≡ None)) }
     ensures refused { (why : Refusal) → IsErrOf result (Refused why) → Told (T.host host.old) (λ w. option_map InTheWay (first_in_the_way places.now w.leaves) ≡ Some why) }
+    ensures others { OnOk result (Told (T.host host.old) (λ w. AreFound w.leaves findings.new)) }
     ensures reads { IsReadingOf (T.host host.old) (T.host host.new) (IsErrOf result (Host Device)) }
 {
-    match first_in_the_way(alloc, host, places)? {
-        Some(at) => Err(PlanFault::Refused(Refusal::InTheWay(at))),
-        None => Ok(()),
-    }
+    let first = first_in_the_way(alloc, host, findings, places)?;
+    refuse(first.map(|at| Refusal::InTheWay(at)))
 }

@@ -8,7 +8,7 @@ ghost use Rattle.generations.specs.Gens.{IsGensOf};
 ghost use Rattle.host_trait.specs.declared.tree.HostFault.TheVariants.{Device};
 ghost use Rattle.host_trait.specs.Host.{Told};
 ghost use Rattle.host_trait.specs.Reading.{IsReading, IsReadingOf};
-ghost use Rattle.host_trait.specs.World.{WorldState, content_of};
+ghost use Rattle.host_trait.specs.World.{Leaves, WorldState, content_of};
 ghost use Rattle.leaf_limits.specs.declared.too_long.TooLong.{TooLong};
 ghost use Rattle.leaf_limits.specs.Limits.{is_long};
 ghost use Rattle.owed_log.specs.Lengths.{AreOwedShort};
@@ -18,30 +18,34 @@ ghost use Rattle.switch_engine.specs.Commands.{switched_by};
 ghost use Rattle.switch_engine.specs.Lengths.{too_long_by};
 ghost use Rattle.switch_engine.specs.Owing.{IsLongBy, IsSteadyFor, IsSteadyTo, Refuses, RefusesBy};
 ghost use Rattle.switch_engine.specs.Plan.{AreGensBy, ArePlanned, AreUnitsPlanned, IsActivationPlanned, IsPlanOf, IsProfilePlanned, IsSound};
+ghost use Rattle.switch_engine.specs.Resolved.{IsGoalPast};
 ghost use Rattle.switch_engine.specs.Rows.{default_if, gens_to, goal_by, part_if, parts_in, refusal_before_length, refusal_by, too_many_by, too_much_by, version_refusal};
 ghost use Rattle.switch_engine.specs.System.{version_path};
 ghost use Rattle.switch_parts.specs.declared.plan_fault.PlanFault.TheVariants.{Host, Refused};
 ghost use Rattle.switch_parts.specs.declared.refusal.Refusal.{Refusal};
 ghost use Rattle.switch_parts.specs.declared.refusal.Refusal.TheVariants.{InTheWay};
 ghost use Rattle.tree_put.specs.First.{first_in_the_way};
+ghost use Rattle.tree_put.specs.Found.{AreFound};
 ghost use Rattle.unit_stage.specs.Units.{units_part};
 
 use crate::command::Command;
 use crate::places::{check_way, places_of};
 use crate::plan::Plan;
 use crate::row::{Resolved, Row, resolve};
-use crate::sources::too_long;
+use crate::sources::{is_owed_short, too_long};
 use crate::system::version_length;
 use accounts_stage::too_many_rows;
 use activation_stage::{ActivationPlan, plan_activation};
 use boot_entries::{BootDefaultPlan, plan_boot_default};
 use etc_farm::too_many_entries;
-use generations::{Gens, Move, all, goal_past};
+use generations::{Gens, Move, all};
 use host_trait::{HostFault, Manager, Tree};
-use leaf_limits::{LEAF_MAX, TooLong, first_long, long_past};
-use owed_log::owed_paths;
+use leaf_limits::{LEAF_MAX, TooLong, first_long};
 use std::alloc::{AllocError, Global};
+use std::collections::BTreeMap;
+use switch_names::Path;
 use switch_parts::{PlanFault, Refusal, What, long_refusal, refuse, too_many as too_many_of};
+use tree_put::{Found, nothing_found};
 use unit_stage::{UnitPlan, plan_units, too_many_units};
 
 /// The generations that stand, where a row moves the profile: those that are known, else they are read.
@@ -67,38 +71,48 @@ fn gens_for<T: Tree>(
     }
 }
 
-/// Refuses where something is in the way of a place that a row writes.
+/// Refuses where something is in the way of a place that a row writes, and notes what is found at those whose content is read.
 fn check_places<T: Tree>(
     alloc: Global,
     host: &mut T,
+    findings: &mut BTreeMap<Path, Found>,
     row: &Row,
     gens: Option<&Gens>,
 ) -> Result<(), PlanFault>
-    requires { Told (T.host host.old) (λ w. AreGensBy row.now.moves w.leaves (option_copied gens)) }
+    requires gens { Told (T.host host.old) (λ w. AreGensBy row.now.moves w.leaves (option_copied gens)) }
+    requires found { Told (T.host host.old) (λ w. AreFound w.leaves findings.old) }
     ensures free { OnOk result (Told (T.host host.old) (λ w. first_in_the_way ((parts_in row.now.start_up row.now.switches row.now.moves row.now.system w.leaves).places w.leaves) w.leaves ≡ None)) }
     ensures refused { (why : Refusal) → IsErrOf result (Refused why)
         → Told (T.host host.old) (λ w. option_map InTheWay (first_in_the_way ((parts_in row.now.start_up row.now.switches row.now.moves row.now.system w.leaves).places w.leaves) w.leaves) ≡ Some why) }
+    ensures others { OnOk result (Told (T.host host.old) (λ w. AreFound w.leaves findings.new)) }
     ensures reads { IsReadingOf (T.host host.old) (T.host host.new) (IsErrOf result (Host Device)) }
 {
     let places = places_of(alloc, row, gens)?;
-    check_way(alloc, host, places.as_slice())?;
+    check_way(alloc, host, findings, places.as_slice())?;
     Ok(())
 }
 
 /// Plans what a command does to the units, or nothing where it doesn't switch them.
-fn plan_switch<H: Manager>(alloc: Global, host: &mut H, row: &Row) -> Result<UnitPlan, PlanFault>
+fn plan_switch<H: Manager>(
+    alloc: Global,
+    host: &mut H,
+    findings: &mut BTreeMap<Path, Found>,
+    row: &Row,
+) -> Result<UnitPlan, PlanFault>
+    requires found { Told (H.host host.old) (λ w. AreFound w.leaves findings.old) }
     ensures plan { IfOk result (λ plan. Told (H.host host.old) (λ w. AreUnitsPlanned row.now.start_up row.now.switches row.now.system w plan)) }
     ensures filled { IfOk result (λ plan. IsFilled plan.write) }
     ensures steady { IfOk result (λ plan. Told (H.host host.old) (λ w. IsTrue plan.steady ↔ IsSteadyTo row.now.start_up (switched_by row.now) w)) }
     ensures not_refused { OnOk result (Told (H.host host.old) (λ w. (part_if row.now.switches (units_part row.now.start_up row.now.system)).refusal w.leaves ≡ None)) }
     ensures refused { (why : Refusal) → IsErrOf result (Refused why)
         → Told (H.host host.old) (λ w. (part_if row.now.switches (units_part row.now.start_up row.now.system)).refusal w.leaves ≡ Some why) }
+    ensures others { OnOk result (Told (H.host host.old) (λ w. AreFound w.leaves findings.new)) }
     ensures reads { IsReadingOf (H.host host.old) (H.host host.new) (IsErrOf result (Host Device)) }
 {
     if !row.switches {
         return Ok(UnitPlan::none(alloc));
     }
-    let plan = plan_units(alloc, host, &row.system, row.start_up)?;
+    let plan = plan_units(alloc, host, findings, &row.system, row.start_up)?;
     Ok(plan)
 }
 
@@ -106,32 +120,32 @@ fn plan_switch<H: Manager>(alloc: Global, host: &mut H, row: &Row) -> Result<Uni
 fn plan_accounts_and_etc<T: Tree>(
     alloc: Global,
     host: &mut T,
+    findings: &mut BTreeMap<Path, Found>,
     row: &Row,
 ) -> Result<Option<ActivationPlan>, PlanFault>
+    requires found { Told (T.host host.old) (λ w. AreFound w.leaves findings.old) }
     ensures plan { IfOk result (λ plan. Told (T.host host.old) (λ w. IsActivationPlanned row.now.switches row.now.system w plan)) }
     ensures not_refused { OnOk result (Told (T.host host.old) (λ w. (part_if row.now.switches (activation_in row.now.system w.leaves)).refusal w.leaves ≡ None)) }
     ensures refused { (why : Refusal) → IsErrOf result (Refused why)
         → Told (T.host host.old) (λ w. (part_if row.now.switches (activation_in row.now.system w.leaves)).refusal w.leaves ≡ Some why) }
+    ensures others { OnOk result (Told (T.host host.old) (λ w. AreFound w.leaves findings.new)) }
     ensures reads { IsReadingOf (T.host host.old) (T.host host.new) (IsErrOf result (Host Device)) }
 {
     if !row.switches {
         return Ok(None);
     }
-    let plan = plan_activation(alloc, host, &row.system)?;
+    let plan = plan_activation(alloc, host, findings, &row.system)?;
     Ok(Some(plan))
 }
 
-/// Refuses where the profile goes back and the goal that is recorded is longer than may be read.
-fn check_goal<T: Tree>(alloc: Global, host: &mut T, to: Move) -> Result<(), PlanFault>
-    ensures short { OnOk result (Told (T.host host.old) (λ w. (goal_by to).refusal w.leaves ≡ None)) }
-    ensures refused { (why : Refusal) → IsErrOf result (Refused why) → Told (T.host host.old) (λ w. (goal_by to).refusal w.leaves ≡ Some why) }
-    ensures reads { IsReadingOf (T.host host.old) (T.host host.new) (IsErrOf result (Host Device)) }
+/// Why the goal that is recorded refuses a move of the profile: where that goes back, and the goal is longer than may be read.
+fn goal_refusal(to: Move, past: Option<u64>) -> Option<Refusal>
+    ensures { (leaves : Leaves) → IsGoalPast (Some to) leaves past → result ≡ (goal_by to).refusal leaves }
 {
-    let Move::Point(_number) = to else {
-        return Ok(());
-    };
-    let past = goal_past(alloc, host)?;
-    refuse(too_many_of(What::LeafBytes, past))
+    match to {
+        Move::Point(_number) => too_many_of(What::LeafBytes, past),
+        Move::Set => None,
+    }
 }
 
 /// Plans to make the system of a command the boot default, or nothing where the profile isn't moved.
@@ -140,8 +154,10 @@ fn plan_profile<T: Tree>(
     host: &mut T,
     row: &Row,
     gens: Option<Gens>,
+    past: Option<u64>,
 ) -> Result<Option<BootDefaultPlan>, PlanFault>
-    requires { Told (T.host host.old) (λ w. AreGensBy row.now.moves w.leaves gens) }
+    requires gens { Told (T.host host.old) (λ w. AreGensBy row.now.moves w.leaves gens) }
+    requires past { Told (T.host host.old) (λ w. IsGoalPast row.now.moves w.leaves past) }
     ensures plan { IfOk result (λ plan. Told (T.host host.old) (λ w. IsProfilePlanned row.now.moves row.now.system w plan)) }
     ensures sound { IfOk result (λ plan. (profile : BootDefaultPlan) → plan ≡ Some profile → IsDefaultFor row.now.system profile) }
     ensures not_refused { OnOk result (Told (T.host host.old) (λ w. (default_if row.now.moves row.now.system (gens_to row.now.moves row.now.system w.leaves)).refusal w.leaves ≡ None)) }
@@ -156,24 +172,28 @@ fn plan_profile<T: Tree>(
         return Ok(None);
     };
     let plan = plan_boot_default(alloc, host, &row.system, to, gens)?;
-    check_goal(alloc, host, to)?;
+    refuse(goal_refusal(to, past))?;
     Ok(Some(plan))
 }
 
-/// Plans the parts of a row, however much there is of anything, and however long what they put is.
+/// Plans the parts of a row, however much there is of anything, and however long what they put is, and tells whether it is found
+/// that neither the log of what is owed nor a list of an older program is longer than may be read.
 fn plan_parts<H: Manager>(
     alloc: Global,
     host: &mut H,
     command: &Command,
     row: &Row,
     known: Option<Gens>,
-) -> Result<Plan, PlanFault>
-    requires { Told (H.host host.old) (λ w. IfSome known (IsGensOf w.leaves)) }
-    ensures command { IfOk result (λ plan. plan.command ≡ command.now) }
-    ensures row { IfOk result (λ plan. plan.row ≡ row.now) }
-    ensures plan { IfOk result (λ plan. Told (H.host host.old) (λ w. ArePlanned row.now w plan)) }
-    ensures steady { IfOk result (λ plan. Told (H.host host.old) (λ w. IsTrue plan.units.steady ↔ IsSteadyTo row.now.start_up (switched_by row.now) w)) }
-    ensures sound { IfOk result IsSound }
+    past: Option<u64>,
+) -> Result<(Plan, bool), PlanFault>
+    requires known { Told (H.host host.old) (λ w. IfSome known (IsGensOf w.leaves)) }
+    requires past { Told (H.host host.old) (λ w. IsGoalPast row.now.moves w.leaves past) }
+    ensures command { IfOk result (λ its. its.0.command ≡ command.now) }
+    ensures row { IfOk result (λ its. its.0.row ≡ row.now) }
+    ensures plan { IfOk result (λ its. Told (H.host host.old) (λ w. ArePlanned row.now w its.0)) }
+    ensures steady { IfOk result (λ its. Told (H.host host.old) (λ w. IsTrue its.0.units.steady ↔ IsSteadyTo row.now.start_up (switched_by row.now) w)) }
+    ensures sound { IfOk result (λ its. IsSound its.0) }
+    ensures short { IfOk result (λ its. Told (H.host host.old) (λ w. IsTrue its.1 → row.now.switches ≡ true → AreOwedShort w.leaves)) }
     ensures not_refused { OnOk result (Told (H.host host.old) (λ w. refusal_before_length row.now.start_up row.now.switches row.now.moves row.now.system w.leaves ≡ None)) }
     ensures refused { (why : Refusal) → IsErrOf result (Refused why)
         → Told (H.host host.old) (λ w. refusal_before_length row.now.start_up row.now.switches row.now.moves row.now.system w.leaves ≡ Some why) }
@@ -182,11 +202,13 @@ fn plan_parts<H: Manager>(
     let planned = command.copy(alloc)?;
     let its = row.copy(alloc)?;
     let gens = gens_for(alloc, host, row, known)?;
-    check_places(alloc, host, row, gens.as_ref())?;
-    let units = plan_switch(alloc, host, row)?;
-    let activation = plan_accounts_and_etc(alloc, host, row)?;
-    let profile = plan_profile(alloc, host, row, gens)?;
-    Ok(Plan::new(planned, its, units, activation, profile))
+    let mut findings = nothing_found(alloc);
+    check_places(alloc, host, &mut findings, row, gens.as_ref())?;
+    let short = is_owed_short(alloc, &findings, row)?;
+    let units = plan_switch(alloc, host, &mut findings, row)?;
+    let activation = plan_accounts_and_etc(alloc, host, &mut findings, row)?;
+    let profile = plan_profile(alloc, host, row, gens, past)?;
+    Ok((Plan::new(planned, its, units, activation, profile), short))
 }
 
 /// What there is too much of for a row that switches the units: units, then entries below `/etc`, and then rows of account
@@ -232,23 +254,19 @@ fn refused_first<T: Tree>(alloc: Global, host: &mut T, row: &Row, why: Refusal) 
     }
 }
 
-/// Refuses where a row switches the units and the log of what is owed, or a list of an older program, is longer than may be read.
-fn check_owed<T: Tree>(alloc: Global, host: &mut T, row: &Row) -> Result<(), PlanFault>
+/// Refuses where a row switches the units and the log of what is owed, or a list of an older program, is longer than may be read. It looks
+/// only where it isn't found that they are short.
+fn check_owed<T: Tree>(alloc: Global, host: &mut T, row: &Row, short: bool) -> Result<(), PlanFault>
+    requires { Told (T.host host.old) (λ w. IsTrue short → row.now.switches ≡ true → AreOwedShort w.leaves) }
     ensures short { OnOk result (Told (T.host host.old) (λ w. row.now.switches ≡ true → AreOwedShort w.leaves)) }
     ensures refused { (why : Refusal) → IsErrOf result (Refused why)
         → Told (T.host host.old) (λ w. too_long_by row.now.switches row.now.moves row.now.system (gens_to row.now.moves row.now.system w.leaves) w.leaves ≡ Some why) }
     ensures reads { IsReadingOf (T.host host.old) (T.host host.new) (IsErrOf result (Host Device)) }
 {
-    if !row.switches {
+    if short {
         return Ok(());
     }
-    let places = owed_paths(alloc)?;
-    let past = long_past(alloc, host, places.as_slice())?;
-    if past.is_none() {
-        return Ok(());
-    }
-    let long = too_long(alloc, host, row)?;
-    refuse(long)
+    refuse(too_long(alloc, host, row)?)
 }
 
 /// The first in byte order of the log and of the files that a plan puts, where one would be longer than can be read again.
@@ -270,16 +288,18 @@ fn check_lengths<T: Tree>(
     host: &mut T,
     row: &Row,
     plan: &Plan,
+    short: bool,
 ) -> Result<(), PlanFault>
     requires planned { Told (T.host host.old) (λ w. ArePlanned row.now w plan.now) }
     requires free { Told (T.host host.old) (λ w. refusal_before_length row.now.start_up row.now.switches row.now.moves row.now.system w.leaves ≡ None) }
     requires short { Told (T.host host.old) (λ w. is_long w.leaves (version_path row.now.system) ≡ false) }
+    requires owed { Told (T.host host.old) (λ w. IsTrue short → row.now.switches ≡ true → AreOwedShort w.leaves) }
     ensures not_refused { OnOk result (Told (T.host host.old) (λ w. RefusesBy row.now w None)) }
     ensures refused { (why : Refusal) → IsErrOf result (Refused why) → Told (T.host host.old) (λ w. RefusesBy row.now w (Some why)) }
     ensures reads { IsReadingOf (T.host host.old) (T.host host.new) (IsErrOf result (Host Device)) }
 {
     let _path = row.system.path();
-    check_owed(alloc, host, row)?;
+    check_owed(alloc, host, row, short)?;
     let long = long_of(alloc, plan)?;
     refuse(long_refusal(&long))
 }
@@ -294,8 +314,10 @@ fn plan_row<H: Manager>(
     command: &Command,
     row: &Row,
     known: Option<Gens>,
+    past: Option<u64>,
 ) -> Result<Plan, PlanFault>
     requires known { Told (H.host host.old) (λ w. IfSome known (IsGensOf w.leaves)) }
+    requires past { Told (H.host host.old) (λ w. IsGoalPast row.now.moves w.leaves past) }
     requires short { Told (H.host host.old) (λ w. is_long w.leaves (version_path row.now.system) ≡ false) }
     ensures command { IfOk result (λ plan. plan.command ≡ command.now) }
     ensures row { IfOk result (λ plan. plan.row ≡ row.now) }
@@ -306,9 +328,9 @@ fn plan_row<H: Manager>(
     ensures refused { (why : Refusal) → IsErrOf result (Refused why) → Told (H.host host.old) (λ w. RefusesBy row.now w (Some why)) }
     ensures reads { IsReadingOf (H.host host.old) (H.host host.new) (IsErrOf result (Host Device)) }
 {
-    match plan_parts(alloc, host, command, row, known) {
-        Ok(plan) => {
-            check_lengths(alloc, host, row, &plan)?;
+    match plan_parts(alloc, host, command, row, known, past) {
+        Ok((plan, short)) => {
+            check_lengths(alloc, host, row, &plan, short)?;
             Ok(plan)
         }
         Err(PlanFault::Refused(why)) => Err(refused_first(alloc, host, row, why)),
@@ -330,10 +352,7 @@ fn check_version<T: Tree>(alloc: Global, host: &mut T, row: &Row) -> Result<(), 
     if count <= LEAF_MAX {
         return Ok(());
     }
-    match too_long(alloc, host, row)? {
-        Some(why) => Err(PlanFault::Refused(why)),
-        None => Ok(()),
-    }
+    refuse(too_long(alloc, host, row)?)
 }
 
 /// Plans what a command does, before anything is put or changed, and changes nothing.
@@ -359,9 +378,9 @@ pub fn plan_all<H: Manager>(
     ensures reads { IsReadingOf (H.host host.old) (H.host host.new) (IsErrOf result (Host Device)) }
 {
     let resolved = resolve(alloc, host, command)?;
-    let Resolved { row, gens } = resolved;
+    let Resolved { row, gens, past } = resolved;
     let _path = row.system.path();
     check_version(alloc, host, &row)?;
-    let plan = plan_row(alloc, host, command, &row, gens)?;
+    let plan = plan_row(alloc, host, command, &row, gens, past)?;
     Ok(plan)
 }

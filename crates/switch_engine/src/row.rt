@@ -1,10 +1,13 @@
 //! What a command does in a world.
-ghost use Rattle.std.specs.Prelude.{◌≡◌, false, true, None, Some, IfOk, IsErrOf};
+ghost use Rattle.std.specs.Prelude.{◌≡◌, false, true, None, Some, IfOk, IfSome, IsErrOf};
 ghost use Rattle.generations.specs.Gens.{IsGensOf};
-ghost use Rattle.generations.specs.Goal.{goal};
+ghost use Rattle.generations.specs.Goal.{goal, goal_place};
 ghost use Rattle.host_trait.specs.declared.tree.HostFault.TheVariants.{Device};
 ghost use Rattle.host_trait.specs.Host.{Told};
 ghost use Rattle.host_trait.specs.Reading.{IsReadingOf};
+ghost use Rattle.host_trait.specs.World.{content_of};
+ghost use Rattle.leaf_limits.specs.Limits.{content_past};
+ghost use Rattle.switch_engine.specs.Commands.{is_back};
 ghost use Rattle.switch_engine.specs.declared.command.Command.TheVariants.{Rollback, StartUp};
 ghost use Rattle.switch_engine.specs.Resolved.{IsResolved, IsRowOf, Lacks};
 ghost use Rattle.switch_engine.specs.Rows.{refusal};
@@ -12,7 +15,7 @@ ghost use Rattle.switch_parts.specs.declared.plan_fault.PlanFault.TheVariants.{H
 ghost use Rattle.switch_parts.specs.declared.refusal.Refusal.{Refusal};
 
 use crate::command::Command;
-use generations::{Gens, GoalFault, Move, all, boot_system, goal, system_of};
+use generations::{Gens, Goal, GoalFault, Move, all, boot_system, goal, system_of};
 use host_trait::Tree;
 use std::alloc::{AllocError, Global};
 use switch_names::SystemName;
@@ -67,6 +70,8 @@ pub struct Resolved {
     pub row: Row,
     /// The generations that stand, where they were read.
     pub gens: Option<Gens>,
+    /// How many bytes the goal of a rollback has, where it has more than 16 MiB.
+    pub past: Option<u64>,
 }
 
 /// A row over a system, not as the machine starts up.
@@ -89,14 +94,15 @@ fn row_over(
 }
 
 /// The generation to which a rollback goes.
-fn find_goal<T: Tree>(alloc: Global, host: &mut T, gens: &Gens) -> Result<u32, PlanFault>
+fn find_goal<T: Tree>(alloc: Global, host: &mut T, gens: &Gens) -> Result<Goal, PlanFault>
     requires { Told (T.host host.old) (λ w. IsGensOf w.leaves gens.now) }
-    ensures goal { IfOk result (λ number. Told (T.host host.old) (λ w. goal w.leaves ≡ Some number)) }
+    ensures goal { IfOk result (λ found. Told (T.host host.old) (λ w. goal w.leaves ≡ Some found.number)) }
+    ensures past { IfOk result (λ found. Told (T.host host.old) (λ w. found.past ≡ content_past (content_of w.leaves goal_place))) }
     ensures refused { (why : Refusal) → IsErrOf result (Refused why) → Told (T.host host.old) (λ w. Lacks Rollback w.leaves why) }
     ensures reads { IsReadingOf (T.host host.old) (T.host host.new) (IsErrOf result (Host Device)) }
 {
     match goal(alloc, host, gens) {
-        Ok(number) => Ok(number),
+        Ok(found) => Ok(found),
         Err(GoalFault::NoPrevious) => Err(PlanFault::Refused(Refusal::NoPrevious)),
         Err(GoalFault::Host(fault)) => Err(PlanFault::Host(fault)),
     }
@@ -109,14 +115,15 @@ fn resolve_back<T: Tree>(alloc: Global, host: &mut T) -> Result<Resolved, PlanFa
     ensures reads { IsReadingOf (T.host host.old) (T.host host.new) (IsErrOf result (Host Device)) }
 {
     let gens = all(alloc, host)?;
-    let number = find_goal(alloc, host, &gens)?;
-    let Some(system) = system_of(&gens, number) else {
+    let found = find_goal(alloc, host, &gens)?;
+    let Some(system) = system_of(&gens, found.number) else {
         return Err(PlanFault::Refused(Refusal::NoPrevious));
     };
-    let row = row_over(alloc, system, Some(Move::Point(number)), true, true)?;
+    let row = row_over(alloc, system, Some(Move::Point(found.number)), true, true)?;
     Ok(Resolved {
         row,
         gens: Some(gens),
+        past: found.past,
     })
 }
 
@@ -147,12 +154,14 @@ fn resolve_start<T: Tree>(alloc: Global, host: &mut T) -> Result<Resolved, PlanF
     Ok(Resolved {
         row,
         gens: Some(gens),
+        past: None,
     })
 }
 
 /// What a command does wherever it begins, and nothing for one that goes by the generations.
 fn row_of(alloc: Global, command: &Command) -> Result<Option<Row>, AllocError>
-    ensures { IfOk result (IsRowOf command.now) }
+    ensures row { IfOk result (IsRowOf command.now) }
+    ensures forward { IfOk result (λ row. IfSome row (λ row. is_back row.moves ≡ false)) }
 {
     match command {
         Command::Switch(system) => {
@@ -207,7 +216,11 @@ pub fn resolve<T: Tree>(
     ensures reads { IsReadingOf (T.host host.old) (T.host host.new) (IsErrOf result (Host Device)) }
 {
     match row_of(alloc, command)? {
-        Some(row) => Ok(Resolved { row, gens: None }),
+        Some(row) => Ok(Resolved {
+            row,
+            gens: None,
+            past: None,
+        }),
         None => resolve_by_generations(alloc, host, command),
     }
 }

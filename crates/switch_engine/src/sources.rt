@@ -1,21 +1,25 @@
 //! Which contents a row takes, and which of them is too long.
-ghost use Rattle.std.specs.Prelude.{◌≡◌, ◌++◌, IfOk, OnOk};
+ghost use Rattle.std.specs.Prelude.{◌≡◌, ◌++◌, false, true, IfOk, IsTrue, OnOk};
 ghost use Rattle.host_trait.specs.Host.{Told};
 ghost use Rattle.host_trait.specs.Reading.{IsReading};
 ghost use Rattle.host_trait.specs.World.{Leaves};
-ghost use Rattle.leaf_limits.specs.Limits.{AreTaken};
+ghost use Rattle.leaf_limits.specs.Limits.{AreTaken, AreWithin, is_long};
+ghost use Rattle.owed_log.specs.Lengths.{AreOwedShort};
 ghost use Rattle.switch_engine.specs.Lengths.{takes_by, takes_goal, takes_menu, takes_moved, takes_switch, too_long_by};
 ghost use Rattle.switch_engine.specs.Rows.{gens_to};
+ghost use Rattle.tree_put.specs.Found.{AreFound};
 
 use crate::row::Row;
 use crate::system::version_path;
 use generations::{Move, after_move, all, goal_path};
 use host_trait::{HostFault, Tree};
-use leaf_limits::long_past;
+use leaf_limits::{is_long, long_past};
 use owed_log::owed_paths;
 use std::alloc::{AllocError, Global};
+use std::collections::BTreeMap;
 use switch_names::{Listed, Path};
 use switch_parts::{Refusal, What, too_many};
+use tree_put::{Found, noted};
 
 /// Adds paths.
 fn add_paths(alloc: Global, places: &mut Listed<Path>, more: &[Path]) -> Result<(), AllocError>
@@ -110,4 +114,42 @@ pub fn too_long<T: Tree>(
     let places = sources(alloc, host, row)?;
     let past = long_past(alloc, host, places.as_slice())?;
     Ok(too_many(What::LeafBytes, past))
+}
+
+/// Whether it is noted of a place that its content isn't too long.
+fn is_known_short(findings: &BTreeMap<Path, Found>, at: &Path) -> bool
+    ensures { (leaves : Leaves) → AreFound leaves findings.now → IsTrue result → is_long leaves at.now ≡ false }
+{
+    match noted(findings, at) {
+        Some(found) => !is_long(&found.content),
+        None => false,
+    }
+}
+
+/// Whether it is noted of each of some places that its content isn't too long.
+fn are_known_short(findings: &BTreeMap<Path, Found>, places: &[Path]) -> bool
+    ensures { (leaves : Leaves) → AreFound leaves findings.now → IsTrue result → AreWithin places.now leaves }
+{
+    for at in places {
+        if !is_known_short(findings, at) {
+            return false;
+        }
+    }
+    true
+}
+
+/// Whether a row doesn't switch the units, or it is noted that neither the log of what is owed nor a list of an older program is too
+/// long.
+pub fn is_owed_short(
+    alloc: Global,
+    findings: &BTreeMap<Path, Found>,
+    row: &Row,
+) -> Result<bool, AllocError>
+    ensures { IfOk result (λ short. (leaves : Leaves) → AreFound leaves findings.now → IsTrue short → row.now.switches ≡ true → AreOwedShort leaves) }
+{
+    if !row.switches {
+        return Ok(true);
+    }
+    let places = owed_paths(alloc)?;
+    Ok(are_known_short(findings, places.as_slice()))
 }

@@ -1,6 +1,7 @@
 pub mod AddedLemmas
 pub mod BlockedLemmas
 pub mod FirstLemmas
+pub mod FoundLemmas
 pub mod LeftLemmas
 pub mod PutLemmas
 pub mod SequenceLemmas

@@ -1,4 +1,5 @@
 pub mod First
+pub mod Found
 pub mod Put
 pub mod Sequence
 pub mod Written

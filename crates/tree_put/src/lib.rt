@@ -3,6 +3,7 @@
 
 mod blocked;
 mod first;
+mod found;
 pub mod laws;
 mod leaf_put;
 mod places;
@@ -11,6 +12,7 @@ mod written_place;
 
 pub use blocked::is_blocked;
 pub use first::first_in_the_way;
+pub use found::{Found, Standing, find, find_content, look, noted, nothing_found};
 pub use leaf_put::LeafPut;
 pub use places::{drop_leaf, put, put_if_other};
 pub use sequence::{drop_all, put_all};

@@ -3,11 +3,14 @@ ghost use Rattle.std.specs.Prelude.{◌≡◌, ◌++◌, ◌∷◌, [], false, t
 ghost use Rattle.host_trait.specs.Host.{Told};
 ghost use Rattle.host_trait.specs.Reading.{IsReading};
 ghost use Rattle.host_trait.specs.World.{is_in_line, stage};
+ghost use Rattle.tree_put.specs.Found.{AreFound};
 ghost use Rattle.tree_put.specs.WrittenPlace.{is_in_the_way, lacks_content, written};
 
 use crate::blocked::is_blocked;
-use host_trait::{HostFault, LeafKind, Tree, content, stage_path};
+use crate::found::{Found, look, note};
+use host_trait::{HostFault, Tree, stage_path};
 use std::alloc::{AllocError, Global};
+use std::collections::BTreeMap;
 use switch_names::{Listed, Path};
 
 /// A place that a run writes.
@@ -45,32 +48,36 @@ pub fn add_stage(alloc: Global, places: &mut Listed<WrittenPlace>) -> Result<(),
     places.push(unread(stage_path(alloc)?))
 }
 
-/// Whether a leaf without content stands at a place.
-fn lacks_content<T: Tree>(alloc: Global, host: &mut T, at: &Path) -> Result<bool, HostFault>
+/// Whether a leaf without content stands at a place. What is found there is noted.
+fn lacks_content<T: Tree>(
+    alloc: Global,
+    host: &mut T,
+    findings: &mut BTreeMap<Path, Found>,
+    at: &Path,
+) -> Result<bool, HostFault>
+    requires { Told (T.host host.old) (λ w. AreFound w.leaves findings.old) }
     ensures lacks { IfOk result (λ lacks. Told (T.host host.old) (λ w. lacks ≡ lacks_content w.leaves at.now)) }
+    ensures found { OnOk result (Told (T.host host.old) (λ w. AreFound w.leaves findings.new)) }
     ensures reads { IsReading (T.host host.old) (T.host host.new) result }
 {
-    let Some(leaf) = host.read(alloc, at)? else {
-        return Ok(false);
-    };
-    match leaf.kind() {
-        LeafKind::File { .. } => Ok(false),
-        LeafKind::Link { .. } => {
-            let content = content(alloc, host, at)?;
-            Ok(content.is_none())
-        }
-    }
+    let found = look(alloc, host, at)?;
+    let lacks = found.lacks_content();
+    note(alloc, findings, at, found)?;
+    Ok(lacks)
 }
 
 /// Whether a leaf stands in the way of a place: one strictly above or below it, or one without
-/// content where a content is read.
+/// content where a content is read. What is found where a content is read is noted.
 pub fn is_in_the_way<T: Tree>(
     alloc: Global,
     host: &mut T,
+    findings: &mut BTreeMap<Path, Found>,
     place: &WrittenPlace,
 ) -> Result<bool, HostFault>
-    requires { is_in_line stage place.now.at ≡ false }
+    requires apart { is_in_line stage place.now.at ≡ false }
+    requires found { Told (T.host host.old) (λ w. AreFound w.leaves findings.old) }
     ensures in_the_way { IfOk result (λ is. Told (T.host host.old) (λ w. is ≡ is_in_the_way w.leaves place.now)) }
+    ensures found { OnOk result (Told (T.host host.old) (λ w. AreFound w.leaves findings.new)) }
     ensures reads { IsReading (T.host host.old) (T.host host.new) result }
 {
     if is_blocked(alloc, host, &place.at)? {
@@ -79,5 +86,5 @@ pub fn is_in_the_way<T: Tree>(
     if !place.is_read {
         return Ok(false);
     }
-    lacks_content(alloc, host, &place.at)
+    lacks_content(alloc, host, findings, &place.at)
 }

@@ -6,6 +6,7 @@ ghost use Rattle.host_trait.specs.Reading.{IsReading, IsReadingOf};
 ghost use Rattle.host_trait.specs.Host.{Told};
 ghost use Rattle.owed_plan.specs.Systems.{AreOldDefs};
 ghost use Rattle.switch_names.specs.Names.{Name};
+ghost use Rattle.tree_put.specs.Found.{AreFound};
 ghost use Rattle.unit_defs.specs.Defs.{AreDefsOf};
 ghost use Rattle.unit_defs.specs.Taken.{NotesLong, takes_units};
 ghost use Rattle.switch_parts.specs.declared.plan_fault.PlanFault.TheVariants.{Host, Refused};
@@ -20,9 +21,11 @@ use host_trait::{HostFault, Manager, States, Tree, UnitSet};
 use log_text::Lists;
 use owed_log::{LogState, StandingLists};
 use std::alloc::{AllocError, Global};
+use std::collections::BTreeMap;
 use std::mem;
-use switch_names::SystemName;
+use switch_names::{Path, SystemName};
 use switch_parts::{PlanFault, Refusal, What, too_many};
+use tree_put::Found;
 use unit_defs::{Defs, DefsFault};
 
 /// The system in use, where there is one, with the units that it defines.
@@ -147,18 +150,22 @@ fn lists_of(alloc: Global, standing: StandingLists) -> Lists
     mem::replace(&mut standing.lists, Lists::new(alloc))
 }
 
-/// Reads the states of the units, the lists, and what stands at the place of the log.
+/// Reads the states of the units, the lists, and what stands at the place of the log. A place at which something was found isn't
+/// read again.
 fn read_states<H: Manager>(
     alloc: Global,
     host: &mut H,
+    findings: &mut BTreeMap<Path, Found>,
     new: &Defs,
     start_up: bool,
 ) -> Result<UnitStates, HostFault>
+    requires found { Told (H.host host.old) (λ w. AreFound w.leaves findings.old) }
     ensures states { IfOk result (λ units. Told (H.host host.old) (λ w. (system : Name) → AreDefsOf w.leaves system new.now → AreStatesOf start_up system w units)) }
+    ensures others { OnOk result (Told (H.host host.old) (λ w. AreFound w.leaves findings.new)) }
     ensures reads { IsReading (H.host host.old) (H.host host.new) result }
 {
     let states = host.units(alloc)?;
-    let standing = StandingLists::read(alloc, host)?;
+    let standing = StandingLists::read(alloc, host, findings)?;
     let log = standing.log;
     let lists = lists_for(alloc, lists_of(alloc, standing), new, start_up)?;
     Ok(UnitStates { states, lists, log })
@@ -168,18 +175,21 @@ fn read_states<H: Manager>(
 pub fn read_known<H: Manager>(
     alloc: Global,
     host: &mut H,
+    findings: &mut BTreeMap<Path, Found>,
     system: &SystemName,
     start_up: bool,
 ) -> Result<Known, PlanFault>
+    requires found { Told (H.host host.old) (λ w. AreFound w.leaves findings.old) }
     ensures known { IfOk result (λ known. Told (H.host host.old) (λ w. IsKnownOf start_up system.now w known)) }
     ensures not_refused { OnOk result (Told (H.host host.old) (λ w. unit_refusal w.leaves system.now ≡ None)) }
     ensures refused { (why : Refusal) → IsErrOf result (Refused why) → Told (H.host host.old) (λ w. unit_refusal w.leaves system.now ≡ Some why) }
+    ensures others { OnOk result (Told (H.host host.old) (λ w. AreFound w.leaves findings.new)) }
     ensures reads { IsReadingOf (H.host host.old) (H.host host.new) (IsErrOf result (Host Device)) }
 {
     let mut long = false;
     let old = read_old(alloc, host, &mut long)?;
     let new = read_new(alloc, host, system, &old.defs, &mut long)?;
     check_lengths(alloc, host, system, long)?;
-    let units = read_states(alloc, host, &new, start_up)?;
+    let units = read_states(alloc, host, findings, &new, start_up)?;
     Ok(Known { old, new, units })
 }

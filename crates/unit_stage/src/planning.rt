@@ -16,6 +16,7 @@ ghost use Rattle.unit_defs.specs.Defs.{found_in};
 ghost use Rattle.unit_stage.specs.Known.{AreOwedCalls, IsPlanBy};
 ghost use Rattle.unit_stage.specs.Order.{AreInOrder};
 ghost use Rattle.switch_names.specs.Names.{IsListOf};
+ghost use Rattle.tree_put.specs.Found.{AreFound};
 ghost use Rattle.unit_stage.specs.Owes.{IsSteadyWorld};
 ghost use Rattle.unit_stage.specs.Plan.{IsUnitPlanOf};
 ghost use Rattle.unit_stage.specs.System.{unit_refusal};
@@ -27,8 +28,10 @@ use host_trait::Manager;
 use owed_plan::{Duty, Owed, calls, is_steady, order_edges, plan};
 use start_order::{Ordered, order};
 use std::alloc::{AllocError, Global};
-use switch_names::{Listed, SystemName, UnitName};
+use std::collections::BTreeMap;
+use switch_names::{Listed, Path, SystemName, UnitName};
 use switch_parts::PlanFault;
+use tree_put::Found;
 use unit_defs::Defs;
 use unit_pull::{pull, roots};
 
@@ -125,23 +128,27 @@ fn plan_by(alloc: Global, known: Known) -> Result<UnitPlan, AllocError>
 }
 
 /// Plans what a switch to a system does to the units, and changes nothing. As the machine starts up,
-/// `multi-user.target` waits for a start, where the system defines it.
+/// `multi-user.target` waits for a start, where the system defines it. The log and the lists of an older program aren't read
+/// again where something was found at their places.
 ///
 /// Source: NixOS manual, "What happens during a system switch?".
 pub fn plan_units<H: Manager>(
     alloc: Global,
     host: &mut H,
+    findings: &mut BTreeMap<Path, Found>,
     system: &SystemName,
     start_up: bool,
 ) -> Result<UnitPlan, PlanFault>
+    requires found { Told (H.host host.old) (λ w. AreFound w.leaves findings.old) }
     ensures plan { IfOk result (λ plan. Told (H.host host.old) (λ w. IsUnitPlanOf start_up system.now w plan)) }
     ensures filled { IfOk result (λ plan. IsFilled plan.write) }
     ensures steady { IfOk result (λ plan. Told (H.host host.old) (λ w. IsTrue plan.steady ↔ IsSteadyWorld start_up w system.now)) }
     ensures not_refused { OnOk result (Told (H.host host.old) (λ w. unit_refusal w.leaves system.now ≡ None)) }
     ensures refused { (why : Refusal) → IsErrOf result (Refused why) → Told (H.host host.old) (λ w. unit_refusal w.leaves system.now ≡ Some why) }
+    ensures others { OnOk result (Told (H.host host.old) (λ w. AreFound w.leaves findings.new)) }
     ensures reads { IsReadingOf (H.host host.old) (H.host host.new) (IsErrOf result (Host Device)) }
 {
-    let known = read_known(alloc, host, system, start_up)?;
+    let known = read_known(alloc, host, findings, system, start_up)?;
     let plan = plan_by(alloc, known)?;
     Ok(plan)
 }

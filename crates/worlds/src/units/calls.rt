@@ -1,10 +1,10 @@
 //! The calls by which what is owed is given.
+use super::lists::standing_on;
 use crate::fields::names_of;
 use crate::writing::show_names;
 use host_memory::MemoryHost;
 use host_trait::States;
 use log_text::Lists;
-use owed_log::StandingLists;
 use owed_plan::{Owed, calls, plan};
 use start_order::Ordered;
 use std::alloc::{AllocError, Global};
@@ -74,7 +74,7 @@ fn owed_without_units(alloc: Global, states: &States, lists: &Lists) -> Result<O
 /// Shows the units that are left between two systems without units, and the calls, by the states and
 /// the lists of a host.
 pub fn show_owed(alloc: Global, lines: &mut Lines, host: &mut MemoryHost) -> Result<(), Fail> {
-    let standing = StandingLists::read(alloc, host)?;
+    let standing = standing_on(alloc, host)?;
     let states = host.world().states();
     let owed = owed_without_units(alloc, states, &standing.lists)?;
     Ok(show_calls(alloc, lines, &owed, states)?)

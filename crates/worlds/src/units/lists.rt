@@ -7,17 +7,24 @@ ghost use Rattle.tree_put.specs.WrittenPlace.{written};
 use crate::fields::names_of;
 use crate::writing::{show_names, show_value};
 use host_memory::MemoryHost;
+use host_trait::HostFault;
 use log_text::{Lists, Which};
 use owed_log::{LogState, LogWrite, StandingLists, clear, log_path, record};
 use std::alloc::{AllocError, Global};
 use std::test::Fail;
 use switch_names::{Bytes, Listed};
-use tree_put::{WrittenPlace, add_stage, first_in_the_way, unread};
+use tree_put::{WrittenPlace, add_stage, first_in_the_way, nothing_found, unread};
 use world_text::{Lines, misread, show_leaves};
+
+/// The lists that stand on a host, and what stands at the place of the log.
+pub fn standing_on(alloc: Global, host: &mut MemoryHost) -> Result<StandingLists, HostFault> {
+    let mut findings = nothing_found(alloc);
+    StandingLists::read(alloc, host, &mut findings)
+}
 
 /// Shows the three lists as they are read, a line each, and what stands at the place of the log.
 pub fn show_lists(alloc: Global, lines: &mut Lines, host: &mut MemoryHost) -> Result<(), Fail> {
-    let standing = StandingLists::read(alloc, host)?;
+    let standing = standing_on(alloc, host)?;
     show_names(lines, "start", standing.lists.starts.as_slice());
     show_names(lines, "restart", standing.lists.restarts.as_slice());
     show_names(lines, "reload", standing.lists.reloads.as_slice());
@@ -65,10 +72,11 @@ fn record_lists(
     lists: &Lists,
 ) -> Result<(), Fail> {
     let places = log_places(alloc)?;
-    let None = first_in_the_way(alloc, host, places.as_slice())? else {
+    let mut findings = nothing_found(alloc);
+    let None = first_in_the_way(alloc, host, &mut findings, places.as_slice())? else {
         return misread();
     };
-    let standing = StandingLists::read(alloc, host)?;
+    let standing = StandingLists::read(alloc, host, &mut findings)?;
     let write = standing.log.prepare(alloc, lists)?;
     lines.add_word(word_of(&write));
     lines.end_line();
@@ -77,7 +85,8 @@ fn record_lists(
 
 /// Clears the restart list, where a whole log stands.
 fn clear_restarts(alloc: Global, host: &mut MemoryHost) -> Result<(), Fail> {
-    let standing = StandingLists::read(alloc, host)?;
+    let mut findings = nothing_found(alloc);
+    let standing = StandingLists::read(alloc, host, &mut findings)?;
     if let LogState::Whole(_) = standing.log {
         clear(alloc, host, Which::Restarts)?;
     }

@@ -40,3 +40,6 @@ returns-clause-refused g c why e =
 pub returns-clause-reads : goal.returns-clause-reads
 returns-clause-reads g c =
     reads_of (reads_then c.read_tables.ensures.reads (read_of c.read_memory.ensures.reads _ (λ e. e))) _ (λ e. absurd (c.with_texts.ensures.cause e))
+
+pub read_memory-requires : goal.read_memory-requires
+read_memory-requires g c = record { found = record { has = λ w is. c.nothing_found-findings.ensures w.leaves } }

@@ -5,6 +5,7 @@ use Rattle.host_trait.proofs.Moments.{told_as, told_before}
 use Rattle.host_trait.proofs.Readings.{reads_of, reads_then}
 use Rattle.switch_parts.specs.declared.plan_fault.PlanFault.TheVariants.{Host}
 use Rattle.switch_parts.proofs.Faults.{handed, no_err}
+use Rattle.tree_put.proofs.FoundLemmas.{told_still}
 use Rattle.activation_stage.specs.ActivationPart.{activation_in}
 use Rattle.activation_stage.proofs.ActivationLemmas.{first_refusal, owners_planned, second_refusal}
 use Rattle.activation_stage.proofs.planning.plan_activation.Goals as goal
@@ -53,3 +54,9 @@ returns-clause-not_refused g c =
 
 pub returns-clause-reads : goal.returns-clause-reads
 returns-clause-reads g c = reads_of (reads_then c.in_ok-accounts.ensures.reads c.in_ok-etc.ensures.reads) _ (λ e. absurd (no_err _ (Host Device) e))
+
+pub plan_etc-requires : goal.plan_etc-requires
+plan_etc-requires g c = record { found = told_still c.in_ok-accounts.ensures.reads.moments c.in_ok-accounts.ensures.others }
+
+pub returns-clause-others : goal.returns-clause-others
+returns-clause-others g c = told_before c.in_ok-accounts.ensures.reads.moments c.in_ok-etc.ensures.others

@@ -3,10 +3,14 @@ use Rattle.std.proofs.lemmas.Result.{err_from_is_err_and}
 use Rattle.host_trait.specs.declared.tree.HostFault.TheVariants.{Device}
 use Rattle.host_trait.proofs.Moments.{told_before}
 use Rattle.host_trait.proofs.Readings.{read_of, reads_of, reads_then}
+use Rattle.tree_put.proofs.FoundLemmas.{told_still}
 use Rattle.switch_parts.specs.declared.plan_fault.PlanFault.TheVariants.{Host}
 use Rattle.switch_parts.proofs.Faults.{handed, host_device, memory_no_device, no_err}
 use Rattle.etc_farm.proofs.PlanLemmas.{told_past}
 use Rattle.etc_farm.proofs.planning.plan_etc.Goals as goal
+
+pub look-requires : goal.look-requires
+look-requires g c = record { found = told_still c.in_ok-manifest.ensures.reads.moments c.requires.found }
 
 pub returns-in_err-manifest-clause-refused : goal.returns-in_err-manifest-clause-refused
 returns-in_err-manifest-clause-refused g c why e =
@@ -51,6 +55,9 @@ pub returns-clause-not_refused : goal.returns-clause-not_refused
 returns-clause-not_refused g c =
     told_past (g.T.Tree.host c.args.host.now) c.args.system.now c.args.owners c.in_ok-manifest.manifest c.in_ok-sorted.sorted None c.in_ok-manifest.ensures.few c.in_ok-manifest.ensures.manifest
     (told_before c.in_ok-manifest.ensures.reads.moments c.in_ok-sorted.ensures.sorted) (sym c.too_many.ensures ∙ c.in_ok-refuse.ensures.not_refused)
+
+pub returns-clause-others : goal.returns-clause-others
+returns-clause-others g c = told_before c.in_ok-manifest.ensures.reads.moments c.in_ok-sorted.ensures.others
 
 pub returns-clause-reads : goal.returns-clause-reads
 returns-clause-reads g c =

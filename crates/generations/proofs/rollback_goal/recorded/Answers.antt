@@ -11,7 +11,7 @@ pub returns-in_err-number-clause-reads : goal.returns-in_err-number-clause-reads
 returns-in_err-number-clause-reads g c = read_starved c.content.ensures.reads _ c.from_residual-in_err-number.ensures.1
 
 pub returns-clause-reads : goal.returns-clause-reads
-returns-clause-reads g c = read_ok c.content.ensures.reads c.with_target.result
+returns-clause-reads g c = read_ok c.content.ensures.reads _
 
 pub returns-clause-recorded : goal.returns-clause-recorded
 returns-clause-recorded g c = record {

@@ -1,5 +1,12 @@
 use Rattle.host_trait.proofs.Readings.{read_handed, read_ok, read_then, told_read}
+use Rattle.tree_put.proofs.FoundLemmas.{told_still}
 use Rattle.owed_lists.proofs.loading.load.Goals as goal
+
+pub read_list-requires-2 : goal.read_list-requires-2
+read_list-requires-2 g c = record { found = told_still c.read_list.ensures.reads.moments c.in_ok-starts.ensures.others }
+
+pub read_list-requires-3 : goal.read_list-requires-3
+read_list-requires-3 g c = record { found = told_still c.read_list-2.ensures.reads.moments c.in_ok-restarts.ensures.others }
 
 pub returns-in_err-restarts-clause-reads : goal.returns-in_err-restarts-clause-reads
 returns-in_err-restarts-clause-reads g c = read_handed (read_then c.read_list.ensures.reads c.in_err-restarts.ensures.reads) _ c.from_residual-in_err-restarts.ensures.1
@@ -16,3 +23,6 @@ returns-clause-lists g c =
     let restarts = told_read c.read_list.ensures.reads c.in_ok-restarts.ensures.list in
     let reloads = told_read c.read_list.ensures.reads (told_read c.read_list-2.ensures.reads c.in_ok-reloads.ensures.list) in
     record { has = λ w is. record { starts = c.in_ok-starts.ensures.list.has w is; restarts = restarts.has w is; reloads = reloads.has w is } }
+
+pub returns-clause-others : goal.returns-clause-others
+returns-clause-others g c = told_read c.read_list.ensures.reads (told_read c.read_list-2.ensures.reads c.in_ok-reloads.ensures.others)

@@ -9,10 +9,10 @@ pub returns-in_err-at-clause-reads : goal.returns-in_err-at-clause-reads
 returns-in_err-at-clause-reads g c = nothing_read _ (no_device _ c.from_residual.ensures.1)
 
 pub returns-in_err-list_of-clause-reads : goal.returns-in_err-list_of-clause-reads
-returns-in_err-list_of-clause-reads g c = read_starved c.content.ensures.reads _ c.from_residual-in_err-list_of.ensures.1
+returns-in_err-list_of-clause-reads g c = read_starved c.find_content.ensures.reads _ c.from_residual-in_err-list_of.ensures.1
 
 pub returns-clause-reads : goal.returns-clause-reads
-returns-clause-reads g c = read_ok c.content.ensures.reads c.in_ok-list_of.field-0
+returns-clause-reads g c = read_ok c.find_content.ensures.reads c.in_ok-list_of.field-0
 
 pub returns-clause-list : goal.returns-clause-list
 returns-clause-list g c =

@@ -22,11 +22,11 @@ returns-in_err-check_way-clause-refused g c why e =
     told_as (c.in_err-check_way.ensures.refused why (ap (λ f. Err f) (sym p.2 ∙ same_fault p.0 (Refused why) (sym p.1 ∙ e))))
     (λ w. option_map InTheWay (first_in_the_way ((parts_in its.start_up its.switches its.moves its.system w.leaves).places w.leaves) w.leaves) ≡ Some why)
     (λ w is way. subst (λ ps. option_map InTheWay (first_in_the_way ps w.leaves) ≡ Some why)
-    (c.as_slice.ensures ∙ c.in_ok-places.ensures.places w.leaves (owners_after its.system w.leaves) (c.requires.has w is)) way)
+    (c.as_slice.ensures ∙ c.in_ok-places.ensures.places w.leaves (owners_after its.system w.leaves) (c.requires.gens.has w is)) way)
 
 pub returns-clause-free : goal.returns-clause-free
 returns-clause-free g c =
     let its = c.args.row.now in
     told_as c.in_ok-check_way.ensures.free (λ w. first_in_the_way ((parts_in its.start_up its.switches its.moves its.system w.leaves).places w.leaves) w.leaves ≡ None)
     (λ w is free. subst (λ ps. first_in_the_way ps w.leaves ≡ None)
-    (c.as_slice.ensures ∙ c.in_ok-places.ensures.places w.leaves (owners_after its.system w.leaves) (c.requires.has w is)) free)
+    (c.as_slice.ensures ∙ c.in_ok-places.ensures.places w.leaves (owners_after its.system w.leaves) (c.requires.gens.has w is)) free)

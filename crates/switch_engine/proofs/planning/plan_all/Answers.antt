@@ -10,6 +10,7 @@ use Rattle.switch_engine.specs.declared.row.Row.{Row}
 use Rattle.switch_engine.specs.Commands.{row, switched_by}
 use Rattle.switch_engine.specs.Owing.{IsSteadyFor, IsSteadyTo, Refuses}
 use Rattle.switch_engine.specs.Plan.{ArePlanned, IsPlanOf}
+use Rattle.switch_engine.specs.Resolved.{IsGoalPast}
 use Rattle.switch_engine.proofs.PlanLemmas.{lacks_refuses, row_refuses, told_still, version_refuses}
 use Rattle.switch_names.specs.SystemName.{IsSystemPath}
 use Rattle.switch_parts.specs.declared.plan_fault.PlanFault.TheVariants.{Host, Refused}
@@ -21,6 +22,11 @@ pub plan_row-requires-clause-known : goal.plan_row-requires-clause-known
 plan_row-requires-clause-known g c =
     told_as (told_still c.check_version.ensures.reads.moments (told_still c.resolve.ensures.reads.moments c.in_ok-resolved.ensures.resolved)) (λ w. IfSome c.in_ok-resolved.resolved.gens (IsGensOf w.leaves))
     (λ w is resolved. resolved.gens)
+
+pub plan_row-requires-clause-past : goal.plan_row-requires-clause-past
+plan_row-requires-clause-past g c =
+    told_as (told_still c.check_version.ensures.reads.moments (told_still c.resolve.ensures.reads.moments c.in_ok-resolved.ensures.resolved))
+    (λ w. IsGoalPast c.in_ok-resolved.resolved.row.moves w.leaves c.in_ok-resolved.resolved.past) (λ w is resolved. resolved.past)
 
 pub plan_row-requires-clause-short : goal.plan_row-requires-clause-short
 plan_row-requires-clause-short g c = told_still c.check_version.ensures.reads.moments c.in_ok-check_version.ensures.short

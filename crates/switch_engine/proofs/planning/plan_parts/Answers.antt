@@ -1,9 +1,10 @@
-use Rattle.std.proofs.Common.{◌≡◌, ◌↔◌, Err, IsTrue, None, Some, sym, ap, subst, ◌∙◌}
+use Rattle.std.proofs.Common.{◌≡◌, ◌↔◌, true, Err, IsTrue, None, Some, sym, ap, subst, ◌∙◌}
 use Rattle.std.proofs.lemmas.Result.{err_from_is_err_and}
 use Rattle.boot_entries.specs.BootDefault.{IsDefaultFor}
 use Rattle.host_trait.specs.declared.tree.HostFault.TheVariants.{Device}
 use Rattle.host_trait.proofs.Moments.{told_as, told_before}
 use Rattle.host_trait.proofs.Readings.{nothing_read_of, read_of, reads_of, reads_then, told_read}
+use Rattle.owed_log.specs.Lengths.{AreOwedShort}
 use Rattle.switch_engine.specs.Commands.{switched_by}
 use Rattle.switch_engine.specs.declared.plan.Plan.{Plan}
 use Rattle.switch_engine.specs.declared.row.Row.{Row}
@@ -62,10 +63,15 @@ returns-in_err-activation-clause-reads g c =
     let p = err_from_is_err_and c.from_residual-in_err-activation.result c.from_residual-in_err-activation.ensures.1 in
     reads_of (reads_then (reads_then (reads_then (read_of c.gens_for.ensures.reads _ (λ e. e)) c.check_places.ensures.reads) c.plan_switch.ensures.reads) c.in_err-activation.ensures.reads) _ (λ e. handed _ p.0 _ _ p.1 p.2 e)
 
-pub plan_profile-requires : goal.plan_profile-requires
-plan_profile-requires g c =
+pub plan_profile-requires-clause-gens : goal.plan_profile-requires-clause-gens
+plan_profile-requires-clause-gens g c =
     let gens = told_still c.gens_for.ensures.reads.moments c.in_ok-gens.ensures.gens in
     let units = told_still c.plan_switch.ensures.reads.moments (told_still c.check_places.ensures.reads.moments gens) in
+    told_still c.plan_accounts_and_etc.ensures.reads.moments units
+
+pub plan_profile-requires-clause-past : goal.plan_profile-requires-clause-past
+plan_profile-requires-clause-past g c =
+    let units = told_still c.plan_switch.ensures.reads.moments (told_still c.check_places.ensures.reads.moments (told_still c.gens_for.ensures.reads.moments c.requires.past)) in
     told_still c.plan_accounts_and_etc.ensures.reads.moments units
 
 pub returns-in_err-profile-clause-reads : goal.returns-in_err-profile-clause-reads
@@ -124,3 +130,22 @@ returns-clause-steady g c =
 pub returns-in_err-its-clause-reads : goal.returns-in_err-its-clause-reads
 returns-in_err-its-clause-reads g c =
     let p = err_from_is_err_and c.from_residual-in_err-its.result c.from_residual-in_err-its.ensures.1 in nothing_read_of _ (λ e. memory_no_device c.from_residual-in_err-its.result p.0 p.1 p.2 e)
+
+pub check_places-requires-clause-found : goal.check_places-requires-clause-found
+check_places-requires-clause-found g c = record { has = λ w is. c.nothing_found-findings.ensures w.leaves }
+
+pub returns-in_err-short-clause-reads : goal.returns-in_err-short-clause-reads
+returns-in_err-short-clause-reads g c =
+    let p = err_from_is_err_and c.from_residual-in_err-short.result c.from_residual-in_err-short.ensures.1 in
+    reads_of (reads_then (read_of c.gens_for.ensures.reads _ (λ e. e)) c.check_places.ensures.reads) _ (λ e. absurd (memory_no_device c.from_residual-in_err-short.result p.0 p.1 p.2 e))
+
+pub returns-clause-short : goal.returns-clause-short
+returns-clause-short g c =
+    told_as (told_read c.gens_for.ensures.reads c.in_ok-check_places.ensures.others) (λ w. IsTrue c.in_ok-short.short → c.args.row.now.switches ≡ true → AreOwedShort w.leaves)
+    (λ w is found. c.in_ok-short.ensures w.leaves found)
+
+pub plan_switch-requires : goal.plan_switch-requires
+plan_switch-requires g c = record { found = told_still c.check_places.ensures.reads.moments c.in_ok-check_places.ensures.others }
+
+pub plan_accounts_and_etc-requires : goal.plan_accounts_and_etc-requires
+plan_accounts_and_etc-requires g c = record { found = told_still c.plan_switch.ensures.reads.moments c.in_ok-units.ensures.others }

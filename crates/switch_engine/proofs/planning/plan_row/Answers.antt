@@ -20,6 +20,9 @@ check_lengths-requires-clause-free g c = told_still c.plan_parts.ensures.reads.m
 pub check_lengths-requires-clause-short : goal.check_lengths-requires-clause-short
 check_lengths-requires-clause-short g c = told_still c.plan_parts.ensures.reads.moments c.requires.short
 
+pub check_lengths-requires-clause-owed : goal.check_lengths-requires-clause-owed
+check_lengths-requires-clause-owed g c = told_still c.plan_parts.ensures.reads.moments c.in-Ok.ensures.short
+
 pub returns-in_err-check_lengths-in-Ok-clause-refused : goal.returns-in_err-check_lengths-in-Ok-clause-refused
 returns-in_err-check_lengths-in-Ok-clause-refused g c why e =
     let p = err_from_is_err_and c.from_residual.result c.from_residual.ensures.1 in

@@ -19,7 +19,7 @@ pub returns-in-Some-clause-reads : goal.returns-in-Some-clause-reads
 returns-in-Some-clause-reads g c = nothing_read_of _ (λ e. absurd (no_err _ (Host Device) e))
 
 pub resolve_by_generations-requires : goal.resolve_by_generations-requires
-resolve_by_generations-requires g c = subst (λ (o : Option Row). IsRowOf c.args.command.now o) c.in-None.is c.in_ok-row.ensures
+resolve_by_generations-requires g c = subst (λ (o : Option Row). IsRowOf c.args.command.now o) c.in-None.is c.in_ok-row.ensures.row
 
 pub returns-in-None-clause-refused : goal.returns-in-None-clause-refused
 returns-in-None-clause-refused g c why e =

@@ -2,12 +2,14 @@ use Rattle.std.proofs.Common.{◌<◌, arith, cond, drop, Some, sym, ap, ◌∙�
 use Rattle.host_trait.proofs.Readings.{nothing_read_ok, read_handed, read_ok, read_starved, read_then, told_read}
 use Rattle.tree_put.specs.First.{first_in_the_way, lesser}
 use Rattle.tree_put.proofs.FirstLemmas.{none_after, one_before}
+use Rattle.tree_put.proofs.FoundLemmas.{told_still}
 use Rattle.tree_put.proofs.first.first_in_the_way.Goals as goal
 
 pub loop-k-init : goal.loop-k-init
 loop-k-init g c = record {
   reads = nothing_read_ok tt;
   inside = omega arith;
+  found = c.requires.found;
   first = record { has = λ w is. sym (none_after c.args.places.now w.leaves) };
 }
 
@@ -26,6 +28,7 @@ loop-k-preserved-then-branch g c =
     record {
       reads = read_ok (read_then c.loop-k.invariant.reads c.is_in_the_way.ensures.reads) tt;
       inside = omega arith;
+      found = told_read c.loop-k.invariant.reads c.in_ok-is_in_the_way.ensures.found;
       first = record {
         has = λ w is.
             ap Some (c.in_ok-lesser.ensures ∙ ap (lesser c.index-places-k.result.at) (c.loop-k.invariant.first.has w is))
@@ -42,6 +45,7 @@ loop-k-preserved g c =
     record {
       reads = read_ok (read_then c.loop-k.invariant.reads c.is_in_the_way.ensures.reads) tt;
       inside = omega arith;
+      found = told_read c.loop-k.invariant.reads c.in_ok-is_in_the_way.ensures.found;
       first = record {
         has = λ w is.
             c.loop-k.invariant.first.has w is
@@ -49,3 +53,6 @@ loop-k-preserved g c =
             ∙ ap (λ b. cond b (Some (lesser c.index-places-k.result.at (first_in_the_way (drop c.loop-k.k c.args.places.now) w.leaves))) (first_in_the_way (drop c.loop-k.k c.args.places.now) w.leaves)) (sym (told.has w is) ∙ c.if-branch.false));
       };
     }
+
+pub is_in_the_way-requires-clause-found : goal.is_in_the_way-requires-clause-found
+is_in_the_way-requires-clause-found g c = told_still c.loop-k.invariant.reads.moments c.loop-k.invariant.found

@@ -1,8 +1,7 @@
-use Rattle.host_trait.proofs.Readings.{read_handed, read_ok, read_then}
+use Rattle.host_trait.proofs.Moments.{told_as}
+use Rattle.tree_put.specs.Found.{AreFound}
 use Rattle.tree_put.proofs.written_place.lacks_content.Goals as goal
 
-pub returns-in_err-content-in-Link-clause-reads : goal.returns-in_err-content-in-Link-clause-reads
-returns-in_err-content-in-Link-clause-reads g c = read_handed (read_then c.read.ensures.reads c.in_err-content-in-Link.ensures.reads) _ c.from_residual-in_err-content-in-Link.ensures.1
-
-pub returns-clause-reads : goal.returns-clause-reads
-returns-clause-reads g c = read_ok (read_then c.read.ensures.reads c.content.ensures.reads) c.is_none.result
+pub returns-clause-found : goal.returns-clause-found
+returns-clause-found g c = told_as c.requires (λ w. AreFound w.leaves c.note.new.findings)
+    (λ w is are. c.in_ok-note.ensures w.leaves are (c.in_ok-found.ensures.found.has w is))

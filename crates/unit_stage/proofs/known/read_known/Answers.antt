@@ -7,10 +7,20 @@ use Rattle.host_trait.proofs.Readings.{read_of, reads_of, reads_then, same_twice
 use Rattle.switch_parts.specs.declared.plan_fault.PlanFault.TheVariants.{Host, Refused}
 use Rattle.switch_parts.proofs.Faults.{handed, host_device, host_no_refusal, no_err}
 use Rattle.switch_names.proofs.Outcomes.{option_or_nothing}
+use Rattle.tree_put.proofs.FoundLemmas.{told_still}
 use Rattle.unit_stage.specs.System.{defs_refusal, units_too_long}
 use Rattle.unit_stage.proofs.KnownLemmas.{same_fault}
 use Rattle.unit_stage.proofs.LengthLemmas.{switched_noted}
 use Rattle.unit_stage.proofs.known.read_known.Goals as goal
+
+pub read_states-requires : goal.read_states-requires
+read_states-requires g c = record {
+  found = told_still (same_twice (same_twice c.read_old.ensures.reads.moments c.read_new.ensures.reads.moments) c.check_lengths.ensures.reads.moments) c.requires.found;
+}
+
+pub returns-clause-others : goal.returns-clause-others
+returns-clause-others g c =
+    told_before (same_twice (same_twice c.read_old.ensures.reads.moments c.read_new.ensures.reads.moments) c.check_lengths.ensures.reads.moments) c.in_ok-units.ensures.others
 
 pub returns-in_err-new-clause-refused : goal.returns-in_err-new-clause-refused
 returns-in_err-new-clause-refused g c why e =

@@ -40,3 +40,6 @@ pub returns-in_err-known-clause-refused : goal.returns-in_err-known-clause-refus
 returns-in_err-known-clause-refused g c why e =
     let p = err_from_is_err_and c.from_residual.result c.from_residual.ensures.1 in
     c.in_err-known.ensures.refused why (ap (λ f. Err f) (sym p.2 ∙ same_fault p.0 (Refused why) (sym p.1 ∙ e)))
+
+pub returns-clause-others : goal.returns-clause-others
+returns-clause-others g c = c.in_ok-known.ensures.others
