@@ -79,7 +79,7 @@ rows() {
     }' || failed=1
 }
 
-build_small read_systems host_folder owed_log log_text unit_defs host_trait switch_names <<'RATTLE'
+build_small read_systems host_folder owed_log log_text tree_put unit_defs host_trait switch_names <<'RATTLE'
 //! Reads the units of two systems, the states and the lists of a root, and prints how many units it found.
 #![tactic(auto)]
 
@@ -90,6 +90,7 @@ use std::alloc::Global;
 use std::process::ExitCode;
 use std::env;
 use switch_names::{NameFault, SystemName};
+use tree_put::nothing_found;
 use unit_defs::{Defs, DefsFault};
 
 /// The system of this name.
@@ -107,7 +108,8 @@ fn read<H: Manager>(alloc: Global, host: &mut H) -> Result<usize, HostFault> {
         Err(DefsFault::Host(fault)) => return Err(fault),
     };
     let states = host.units(alloc)?;
-    let standing = StandingLists::read(alloc, host)?;
+    let mut findings = nothing_found(alloc);
+    let standing = StandingLists::read(alloc, host, &mut findings)?;
     let _names = old.names().as_slice().len();
     Ok(new
         .names()
