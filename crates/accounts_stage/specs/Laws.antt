@@ -1,7 +1,7 @@
 -- What holds of setting accounts at each moment: nixpkgs, update-users-groups.pl, which writes its files one after another.
 use Rattle.host_trait.specs.World.{WorldState}
 use Rattle.switch_names.specs.Names.{Name}
-use Rattle.switch_parts.specs.Part.{IsAtEnd, IsDone, IsFree, IsMomentOf, IsOnly, IsPart, IsSameFor}
+use Rattle.switch_parts.specs.Part.{IsAtEnd, IsDone, IsFree, IsPartMoment, IsOnly, IsPart, IsSameFor}
 use Rattle.switch_names.specs.SystemName.{IsSystemPath}
 use Rattle.accounts_stage.specs.declared.accounts_plan.AccountsPlan.{AccountsPlan}
 use Rattle.accounts_stage.specs.AccountsPart.{accounts_part}
@@ -15,7 +15,7 @@ AccountsPartLaw = (system : Name) → IsSystemPath system → IsPart (accounts_p
 abbrev pub AccountsMomentLaw : Type 0
 AccountsMomentLaw =
     (system : Name) (w m : WorldState) → IsSystemPath system → IsFree (accounts_part system) w.leaves → IsSettingAccounts system w m →
-    IsMomentOf (accounts_part system) w m
+    IsPartMoment (accounts_part system) w m
 
 -- and its last leaves the part at its end, and nothing else has changed
 abbrev pub AccountsEndLaw : Type 0

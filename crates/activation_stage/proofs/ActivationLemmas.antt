@@ -8,7 +8,7 @@ use Rattle.host_trait.specs.Host.{HostState, Leads, Passes}
 use Rattle.host_trait.specs.World.{Leaves, WorldState}
 use Rattle.host_trait.proofs.Moments.{one_world}
 use Rattle.switch_parts.specs.declared.refusal.Refusal.{Refusal}
-use Rattle.switch_parts.specs.Part.{IsAtEnd, IsFree, IsMomentOf, IsOnly, IsPart, IsSameFor, Part}
+use Rattle.switch_parts.specs.Part.{IsAtEnd, IsFree, IsPartMoment, IsOnly, IsPart, IsSameFor, Part}
 use Rattle.switch_parts.proofs.Parts.{both_part, first_free, first_moment, moment_then, only_beside, only_first, only_second, only_then, second_free, second_moment, ends_both}
 use Rattle.etc_manifest.specs.Owners.{OwnerIds}
 use Rattle.etc_farm.specs.EtcPart.{CanPutEtc, IsEtcPlanOf, etc_part, etc_refusal}
@@ -49,10 +49,10 @@ module _ (system : Name) (named : IsSystemPath system) (owners : OwnerIds) where
   pub farm_same : (w u : WorldState) → IsOnly first w u → IsSameFor second w u
   farm_same w u only = only_beside first second second_is (are_parted system owners).first refl w u only
 
-  pub setting_moment : (w m : WorldState) → IsMomentOf first w m → IsMomentOf (activation_part system owners) w m
+  pub setting_moment : (w m : WorldState) → IsPartMoment first w m → IsPartMoment (activation_part system owners) w m
   setting_moment = first_moment first second first_is second_is (are_parted system owners)
 
-  pub making_moment : (w m : WorldState) → IsMomentOf second w m → IsMomentOf (activation_part system owners) w m
+  pub making_moment : (w m : WorldState) → IsPartMoment second w m → IsPartMoment (activation_part system owners) w m
   making_moment = second_moment first second first_is second_is (are_parted system owners)
 
 pub activation_part_law : ActivationPartLaw
@@ -67,7 +67,7 @@ module _ (system : Name) (named : IsSystemPath system) (w : WorldState) (free : 
   pub accounts_end : (u : WorldState) → AreAccountsSet system w u → IsAtEnd (accounts_part system) w u
   accounts_end u set = (end_law system w u named free set).0
 
-  set_moment : (u : WorldState) → AreAccountsSet system w u → IsMomentOf (accounts_part system) w u
+  set_moment : (u : WorldState) → AreAccountsSet system w u → IsPartMoment (accounts_part system) w u
   set_moment u set = moment_law system w u named free (set_is_setting system w u set)
 
 pub activation_moment_law : ActivationMomentLaw
@@ -125,15 +125,15 @@ module _ (system : Name) (named : IsSystemPath system) (plan : ActivationPlan) (
           ((etc_is system owners named).stays_free w u (etc_frame system owners named w u farm_still) (second_free (accounts_part system) (etc_part system owners) w.leaves can.free));
     }
 
-    pub making : (m : WorldState) → IsMomentOf (etc_part system plan.etc.owners) u m → IsMakingEtc system plan.etc.owners u m → IsActivating system w m
+    pub making : (m : WorldState) → IsPartMoment (etc_part system plan.etc.owners) u m → IsMakingEtc system plan.etc.owners u m → IsActivating system w m
     making m moment step = Making u set
-        (subst (λ ids. IsMomentOf (etc_part system ids) u m) can.planned.owners moment)
+        (subst (λ ids. IsPartMoment (etc_part system ids) u m) can.planned.owners moment)
         (subst (λ ids. IsMakingEtc system ids u m) can.planned.owners step)
 
-    pub activated : (v : WorldState) → IsAtEnd (etc_part system plan.etc.owners) u v → IsMomentOf (etc_part system plan.etc.owners) u v → IsActivated system w v
+    pub activated : (v : WorldState) → IsAtEnd (etc_part system plan.etc.owners) u v → IsPartMoment (etc_part system plan.etc.owners) u v → IsActivated system w v
     activated v end moment =
         let ends = subst (λ ids. IsAtEnd (etc_part system ids) u v) can.planned.owners end in
-        let only = (subst (λ ids. IsMomentOf (etc_part system ids) u v) can.planned.owners moment).only in
+        let only = (subst (λ ids. IsPartMoment (etc_part system ids) u v) can.planned.owners moment).only in
         record {
           end = ends_both (accounts_part system) (etc_part system owners) (part_law system named) (etc_is system owners named) (are_parted system owners).first w u v
               (accounts_end system named w accounts_free u set) farm_still ends only;

@@ -8,7 +8,7 @@ use Rattle.etc_manifest.specs.Owners.{OwnerIds}
 use Rattle.host_trait.specs.World.{IsSound, Leaves, WorldState}
 use Rattle.switch_names.specs.Names.{Name}
 use Rattle.switch_names.specs.SystemName.{IsSystemPath}
-use Rattle.switch_parts.specs.Part.{IsAtEnd, IsDone, IsFree, IsMomentOf, IsOnly, IsPart, IsSameFor, Part, both}
+use Rattle.switch_parts.specs.Part.{IsAtEnd, IsDone, IsFree, IsPartMoment, IsOnly, IsPart, IsSameFor, Part, both}
 use Rattle.activation_stage.specs.declared.activation_plan.ActivationPlan.{ActivationPlan}
 use Rattle.activation_stage.specs.Owners.{owners_after}
 
@@ -35,7 +35,7 @@ pub record CanActivate (system : Name) (plan : ActivationPlan) (w : WorldState) 
 pub data IsActivating (system : Name) (w m : WorldState) : Type 0 where
   Setting : IsSettingAccounts system w m → IsActivating system w m
   Making :
-      (u : WorldState) → AreAccountsSet system w u → IsMomentOf (etc_part system (owners_after system w.leaves)) u m →
+      (u : WorldState) → AreAccountsSet system w u → IsPartMoment (etc_part system (owners_after system w.leaves)) u m →
       IsMakingEtc system (owners_after system w.leaves) u m → IsActivating system w m
 
 -- each place of an activation is at its end, and nothing else has changed
@@ -51,7 +51,7 @@ ActivationPartLaw = (system : Name) (owners : OwnerIds) → IsSystemPath system 
 abbrev pub ActivationMomentLaw : Type 0
 ActivationMomentLaw =
     (system : Name) (w m : WorldState) → IsSystemPath system → IsFree (activation_in system w.leaves) w.leaves → IsActivating system w m →
-    IsMomentOf (activation_in system w.leaves) w m
+    IsPartMoment (activation_in system w.leaves) w m
 
 -- the tables that are left have the same owners, wherever an activation is cut
 abbrev pub OwnersLaw : Type 0

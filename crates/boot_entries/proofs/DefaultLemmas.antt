@@ -21,7 +21,7 @@ use Rattle.host_trait.specs.World.{Leaves, WorldState, seen}
 use Rattle.switch_names.specs.Names.{Name}
 use Rattle.switch_names.specs.SystemName.{IsSystemPath}
 use Rattle.switch_parts.proofs.Parts.{both_part, first_free, first_moment, moment_then, only_beside, second_moment, ends_both}
-use Rattle.switch_parts.specs.Part.{IsAtEnd, IsFree, IsMomentOf, IsPart, IsSameFor}
+use Rattle.switch_parts.specs.Part.{IsAtEnd, IsFree, IsPartMoment, IsPart, IsSameFor}
 use Rattle.boot_entries.specs.declared.boot_texts.BootTexts.{BootTexts}
 use Rattle.boot_entries.specs.BootDefault.{boot_default_part, menu_after, menu_end}
 use Rattle.boot_entries.specs.BootDefault.IsMakingDefault.{Listing, Moving}
@@ -76,21 +76,21 @@ module _ (move : Move) (system : Name) (gens : Gens) (is : IsBootGens gens) wher
   pub default_is : IsPart (boot_default_part move system gens)
   default_is = both_part (move_part move system) (boot_part gens) (move_is move system) (part_law gens is)
 
-  moving : (w m : WorldState) → IsMomentOf (move_part move system) w m → IsMomentOf (boot_default_part move system gens) w m
+  moving : (w m : WorldState) → IsPartMoment (move_part move system) w m → IsPartMoment (boot_default_part move system gens) w m
   moving w m moment = first_moment (move_part move system) (boot_part gens) (move_is move system) (part_law gens is) (are_parted move system gens) w m moment
 
-  listing : (w m : WorldState) → IsMomentOf (boot_part gens) w m → IsMomentOf (boot_default_part move system gens) w m
+  listing : (w m : WorldState) → IsPartMoment (boot_part gens) w m → IsPartMoment (boot_default_part move system gens) w m
   listing w m moment = second_moment (move_part move system) (boot_part gens) (move_is move system) (part_law gens is) (are_parted move system gens) w m moment
 
 module _ (move : Move) (system : Name) (named : IsSystemPath system) (gens : Gens) (is : IsBootGens gens) (w : WorldState) (free : IsFree (boot_default_part move system gens) w.leaves) where
   pub profile_free : IsFree (move_part move system) w.leaves
   profile_free = first_free (move_part move system) (boot_part gens) w.leaves free
 
-  pub moving_moment : (m : WorldState) → IsMoveMoment move system w m → IsMomentOf (move_part move system) w m
+  pub moving_moment : (m : WorldState) → IsMoveMoment move system w m → IsPartMoment (move_part move system) w m
   moving_moment m moment = move_moment move system w m named profile_free moment
 
   module _ (u : WorldState) (moved : seen u ≡ move_world move system w) where
-    pub moved_is : IsMomentOf (move_part move system) w u
+    pub moved_is : IsPartMoment (move_part move system) w u
     moved_is = moving_moment u (moved_moment move system w u moved)
 
     -- nothing has changed that the boot menu looks at
@@ -100,10 +100,10 @@ module _ (move : Move) (system : Name) (named : IsSystemPath system) (gens : Gen
     pub planned_still : menu_of gens w.leaves ≡ menu_of gens u.leaves
     planned_still = plan_law gens (menu_of gens w.leaves) w u is menu_still refl
 
-    pub listed : (m : WorldState) → IsBootMoment (menu_of gens w.leaves) u m → IsMomentOf (boot_part gens) u m
+    pub listed : (m : WorldState) → IsBootMoment (menu_of gens w.leaves) u m → IsPartMoment (boot_part gens) u m
     listed m moment = moment_law gens (menu_of gens w.leaves) u m is (menu_entries gens w.leaves is) planned_still moment
 
-    both_moment : (m : WorldState) → IsBootMoment (menu_of gens w.leaves) u m → IsMomentOf (boot_default_part move system gens) w m
+    both_moment : (m : WorldState) → IsBootMoment (menu_of gens w.leaves) u m → IsPartMoment (boot_default_part move system gens) w m
     both_moment m moment =
         moment_then (boot_default_part move system gens) (default_is move system gens is) w u m (moving move system gens is w u moved_is) (listing move system gens is u m (listed m moment))
 

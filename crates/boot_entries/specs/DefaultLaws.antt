@@ -9,7 +9,7 @@ use Rattle.generations.specs.Set.{NamesOldOrNew}
 use Rattle.host_trait.specs.World.{Leaves, WorldState, seen}
 use Rattle.switch_names.specs.Names.{Name}
 use Rattle.switch_names.specs.SystemName.{IsSystemPath}
-use Rattle.switch_parts.specs.Part.{IsAtEnd, IsFree, IsMomentOf, IsPart, IsSameFor}
+use Rattle.switch_parts.specs.Part.{IsAtEnd, IsFree, IsPartMoment, IsPart, IsSameFor}
 use Rattle.switch_parts.specs.Store.{is_in_store}
 use Rattle.boot_entries.specs.declared.boot_default.BootDefaultPlan.{BootDefaultPlan}
 use Rattle.boot_entries.specs.BootDefault.{IsDefaultPlanOf, IsMakingDefault, boot_default_in, boot_default_part, default_end}
@@ -29,7 +29,7 @@ DefaultPartLaw = (move : Move) (system : Name) (gens : Gens) → IsBootGens gens
 abbrev pub DefaultMomentLaw : Type 0
 DefaultMomentLaw =
     (move : Move) (system : Name) (w m : WorldState) → IsSystemPath system → IsFree (boot_default_in move system w.leaves) w.leaves → IsMakingDefault move system w m →
-    IsMomentOf (boot_default_in move system w.leaves) w m
+    IsPartMoment (boot_default_in move system w.leaves) w m
 
 -- the last moment leaves each of its places at its end
 abbrev pub DefaultEndLaw : Type 0

@@ -8,7 +8,7 @@ use Rattle.generations.specs.declared.gens.Gens.{Gens}
 use Rattle.generations.specs.Places.{is_number}
 use Rattle.host_trait.specs.World.{WorldState}
 use Rattle.switch_names.specs.SystemName.{IsSystemPath}
-use Rattle.switch_parts.specs.Part.{IsAtEnd, IsMomentOf, IsOnly, IsPart, IsSameFor}
+use Rattle.switch_parts.specs.Part.{IsAtEnd, IsPartMoment, IsOnly, IsPart, IsSameFor}
 use Rattle.boot_entries.specs.declared.boot_texts.BootTexts.{BootTexts}
 use Rattle.boot_entries.specs.BootPart.{boot_part}
 use Rattle.boot_entries.specs.Steps.{AreEntries, IsBootMoment, IsBootSet}
@@ -44,7 +44,7 @@ BootPartLaw = (gens : Gens) → IsBootGens gens → IsPart (boot_part gens)
 abbrev pub BootMomentLaw : Type 0
 BootMomentLaw =
     (gens : Gens) (texts : BootTexts) (w m : WorldState) → IsBootGens gens → AreEntries texts.entries → texts ≡ menu_of gens w.leaves →
-    IsBootMoment texts w m → IsMomentOf (boot_part gens) w m
+    IsBootMoment texts w m → IsPartMoment (boot_part gens) w m
 
 -- a plan stays one where nothing has changed that the part looks at
 abbrev pub BootPlanLaw : Type 0

@@ -16,18 +16,16 @@ use Rattle.host_trait.specs.States.{UnitStates, listed_states, state_of}
 use Rattle.host_trait.specs.declared.unit_state.State.{State}
 use Rattle.host_trait.specs.declared.unit_state.State.TheVariants.{Inactive}
 use Rattle.host_trait.specs.declared.unit_state.UnitState.{UnitState}
-use Rattle.log_text.specs.declared.lists.Lists.{Lists}
 use Rattle.owed_plan.specs.declared.owed.Owed.{Owed}
-use Rattle.owed_plan.specs.Owed.{IsOwed, Reloads, Restarts, Starts, Stops}
-use Rattle.owed_plan.specs.Systems.{systems_at}
 use Rattle.owed_lists.proofs.ListLemmas.{one_list}
 use Rattle.owed_plan.proofs.SystemLemmas.{none_kept}
 use Rattle.switch_engine.specs.declared.command.Command.{Command}
 use Rattle.switch_engine.specs.declared.plan.Plan.{Plan}
+use Rattle.switch_engine.specs.declared.plan.SwitchPlan.{SwitchPlan}
 use Rattle.switch_engine.specs.declared.row.Row.{Row}
 use Rattle.switch_engine.specs.Commands.{IsBoot, IsQuery, if_so, row, switched_to}
 use Rattle.switch_engine.specs.Final.{AreFinalUnits, IsFinalOf, IsLeftFailed, is_failed, is_failed_of}
-use Rattle.switch_engine.specs.Plan.{ArePlanned, AreUnitsPlanned, IsPlanOf}
+use Rattle.switch_engine.specs.Plan.{ArePlanned, IsPlanOf, IsSwitchPlanned, units_in, units_of}
 use Rattle.switch_engine.proofs.FlagLemmas.{changes_on}
 use Rattle.switch_engine.proofs.DefinedLemmas.{defined_same}
 use Rattle.switch_engine.proofs.FailedLemmas.{failed_from}
@@ -37,32 +35,15 @@ use Rattle.unit_defs.specs.Defs.{AreDefsOf, found_in}
 use Rattle.host_trait.proofs.NameOrder.{name_exact, above_lack}
 use Rattle.unit_stage.specs.declared.unit_plan.UnitPlan.{UnitPlan}
 use Rattle.unit_stage.specs.End.{AreEndStates, state_after}
-use Rattle.unit_stage.specs.Plan.{IsOwedBy}
-use Rattle.unit_stage.specs.System.{current_system}
-use Rattle.unit_stage.proofs.WaitingLemmas.{same_waiting}
+use Rattle.unit_stage.specs.Plan.{IsOwedBy, no_units}
+use Rattle.unit_stage.proofs.EndLemmas.{one_end}
 use Rattle.dry_report.specs.Close.{IsClosing, IsClosingBy, IsClosingTo, IsUnitClosing, close_of, failed_in}
 use Rattle.dry_report.proofs.CloseLemmas.{failed_units}
 
 -- ---- a command has one closing text
 
--- what is owed is one, but for the units that are left
-same_end : (start_up : Bool) (w : WorldState) (system : Name) (one other : Owed) → IsOwedBy start_up w system one → IsOwedBy start_up w system other → (unit : Name) → state_after system one w unit ≡ state_after system other w unit
-same_end start_up w system one other is also unit =
-    let systems = systems_at w.leaves (current_system w.leaves) system in
-    let states = state_of w.manager.states in
-    let same = same_waiting start_up w.leaves system is.0 also.0 is.1.listed also.1.listed in
-    let these : IsOwed systems states is.0 other = subst (λ (l : Lists). IsOwed systems states l other) (sym same) also.1.is_owed in
-    let owed : (stops reloads restarts starts : List Name) → Owed = λ stops reloads restarts starts. record { stops = stops; reloads = reloads; restarts = restarts; starts = starts; left = one.left } in
-    λ i. state_after system
-    (owed
-    (one_list one.stops other.stops (Stops systems states is.0) is.1.is_owed.stops these.stops i)
-    (one_list one.reloads other.reloads (Reloads systems states is.0) is.1.is_owed.reloads these.reloads i)
-    (one_list one.restarts other.restarts (Restarts systems states is.0) is.1.is_owed.restarts these.restarts i)
-    (one_list one.starts other.starts (Starts systems states is.0) is.1.is_owed.starts these.starts i))
-    w unit
-
-same_failed : (start_up : Bool) (w : WorldState) (system : Name) (one other : Owed) → IsOwedBy start_up w system one → IsOwedBy start_up w system other → (unit : Name) → IsLeftFailed system other w unit → IsLeftFailed system one w unit
-same_failed start_up w system one other is also unit left = record { failed = same_end start_up w system one other is also unit ∙ left.failed; defined = left.defined }
+same_failed : (start_up : Bool) (w : WorldState) (system : Name) (one other : Owed) → IsOwedBy start_up system w one → IsOwedBy start_up system w other → (unit : Name) → IsLeftFailed system other w unit → IsLeftFailed system one w unit
+same_failed start_up w system one other is also unit left = record { failed = one_end start_up system also.0 other w also.1 one is unit ∙ left.failed; defined = left.defined }
 
 one_unit_closing : (start_up : Bool) (system : Name) (w : WorldState) (one other : List ℕ) → IsUnitClosing start_up system w one → IsUnitClosing start_up system w other → one ≡ other
 one_unit_closing start_up system w one other is also =
@@ -193,18 +174,22 @@ none_defined [] = refl
 none_defined (one ∷ list) =
     ap (λ b. map (λ (o : UnitState). o.unit) (cond b (one ∷ filter (is_failed_of []) list) (filter (is_failed_of []) list))) (none_failed_of one) ∙ none_defined list
 
-states_close_by : (start_up switches : Bool) (system : Name) (plan : UnitPlan) (states : UnitStates) (w v : WorldState) → AreUnitsPlanned start_up switches system w plan → AreFinalUnits start_up (if_so switches system) w v →
-    ((switches ≡ false → ⊥) → states ≡ v.manager.states) → IsClosingTo start_up (if_so switches system) w (close_of (failed_in plan.defs states))
-states_close_by start_up true system plan states w v planned final now = units_close start_up system w plan.defs states v.manager.states planned.defs final.0 (now (λ same. both_ways _ same refl))
-states_close_by start_up false system plan states w v planned final now =
-    ap (λ (units : UnitPlan). close_of (failed_in units.defs states)) planned ∙ ap close_of (none_defined (listed_states states))
+states_close_by : (start_up switches : Bool) (system : Name) (plan : Option SwitchPlan) (nothing : UnitPlan) (states : UnitStates) (w v : WorldState) → IsSwitchPlanned start_up switches system w plan → nothing ≡ no_units → AreFinalUnits start_up (if_so switches system) w v →
+    ((switches ≡ false → ⊥) → states ≡ v.manager.states) → IsClosingTo start_up (if_so switches system) w (close_of (failed_in (units_in plan nothing).defs states))
+states_close_by start_up switches system None nothing states w v off none final now =
+    subst (λ b. IsClosingTo start_up (if_so b system) w (close_of (failed_in nothing.defs states))) (sym off)
+    (ap (λ (units : UnitPlan). close_of (failed_in units.defs states)) none ∙ ap close_of (none_defined (listed_states states)))
+states_close_by start_up switches system (Some plan) nothing states w v planned none final now =
+    let ends : AreFinalUnits start_up (Some system) w v = subst (λ b. AreFinalUnits start_up (if_so b system) w v) planned.0 final in
+    subst (λ b. IsClosingTo start_up (if_so b system) w (close_of (failed_in plan.units.defs states))) (sym planned.0)
+    (units_close start_up system w plan.units.defs states v.manager.states planned.1.defs ends.0 (now (λ off. both_ways _ off planned.0)))
 
 pub states_close : (plan : Plan) (states : UnitStates) (w v : WorldState) → IsPlanOf w plan → (IsQuery plan.command → ⊥) → IsFinalOf plan.command w v →
-    ((IsBoot plan.command → ⊥) → states ≡ v.manager.states) → IsClosing plan.command w (close_of (failed_in plan.units.defs states))
+    ((IsBoot plan.command → ⊥) → states ≡ v.manager.states) → IsClosing plan.command w (close_of (failed_in (units_of plan).defs states))
 states_close plan states w v planned changes final now =
     let on = changes_on plan.command w.leaves changes in
     let its = row plan.command w.leaves in
     let parts = subst (λ (r : Row). ArePlanned r w plan) planned.resolved planned.planned in
-    subst (λ b. IsClosingBy its.start_up b (switched_to plan.command w.leaves) w (close_of (failed_in plan.units.defs states))) (sym on)
-    (states_close_by its.start_up its.switches its.system plan.units states w v parts.units (subst (λ b. AreFinalUnits its.start_up (if_so (b && its.switches) its.system) w v) on final.units)
+    subst (λ b. IsClosingBy its.start_up b (switched_to plan.command w.leaves) w (close_of (failed_in (units_of plan).defs states))) (sym on)
+    (states_close_by its.start_up its.switches its.system plan.switch plan.nothing states w v parts.switch parts.nothing (subst (λ b. AreFinalUnits its.start_up (if_so (b && its.switches) its.system) w v) on final.units)
     (λ switched. now (λ boot. switched (boot w.leaves))))

@@ -14,9 +14,10 @@ use Rattle.owed_plan.specs.Systems.{systems_at}
 use Rattle.owed_plan.proofs.ListLemmas.{one_owed}
 use Rattle.switch_engine.specs.declared.command.Command.{Command}
 use Rattle.switch_engine.specs.declared.plan.Plan.{Plan}
+use Rattle.switch_engine.specs.declared.plan.SwitchPlan.{SwitchPlan}
 use Rattle.switch_engine.specs.declared.row.Row.{Row}
 use Rattle.switch_engine.specs.Commands.{row}
-use Rattle.switch_engine.specs.Plan.{AreUnitsPlanned, IsActivationPlanned, IsPlanOf, IsProfilePlanned}
+use Rattle.switch_engine.specs.Plan.{IsPlanOf, IsDefaultPlanned, IsSwitchPlanned, activation_of, units_in, units_of}
 use Rattle.switch_names.specs.Names.{Name}
 use Rattle.unit_stage.specs.declared.unit_plan.UnitPlan.{UnitPlan}
 use Rattle.unit_defs.specs.Units.{text_of}
@@ -32,7 +33,7 @@ use Rattle.dry_report.specs.Report.{IsReport, IsReportBy, IsUnitReport, number_b
 
 -- ---- one report
 
-same_planned : (start_up : Bool) (w : WorldState) (system : Name) (lists others : Lists) (one other : Owed) → IsPlannedIn start_up w system lists one → IsPlannedIn start_up w system others other → one ≡ other
+same_planned : (start_up : Bool) (w : WorldState) (system : Name) (lists others : Lists) (one other : Owed) → IsPlannedIn start_up system w lists one → IsPlannedIn start_up system w others other → one ≡ other
 same_planned start_up w system lists others one other is also =
     one_owed (systems_at w.leaves (current_system w.leaves) system) (state_of w.manager.states) lists one other is.planned
     (subst (λ (l : Lists). IsPlan (systems_at w.leaves (current_system w.leaves) system) (state_of w.manager.states) l other)
@@ -83,26 +84,25 @@ unit_report_is start_up system w plan number told text is is_told same = record 
 }
 
 -- the number of a plan is that of its world
-number_is : (moves : Option Move) (system : Name) (w : WorldState) (o : Option BootDefaultPlan) → IsProfilePlanned moves system w o → option_map (λ profile. profile.number) o ≡ number_by moves system w.leaves
+number_is : (moves : Option Move) (system : Name) (w : WorldState) (o : Option BootDefaultPlan) → IsDefaultPlanned moves system w o → option_map (λ profile. profile.number) o ≡ number_by moves system w.leaves
 number_is moves system w None planned = sym (ap (λ mv. number_by mv system w.leaves) planned)
 number_is moves system w (Some plan) planned = ap Some planned.1.number ∙ sym (ap (λ mv. number_by mv system w.leaves) planned.0)
 
-planned_by : (start_up switches : Bool) (system : Name) (w : WorldState) (plan : UnitPlan) (number : Option ℕ) (told text : List ℕ) → AreUnitsPlanned start_up switches system w plan → switches ≡ true →
-    IsActivationReport system w.leaves told → text ≡ report_of plan.from system number plan.duties plan.left told plan.ordered.cycles → IsReportBy start_up switches number system w text
-planned_by start_up true system w plan number told text is on is_told same = unit_report_is start_up system w plan number told text is is_told same
-planned_by start_up false system w plan number told text is on is_told same = absurd (both_ways _ refl on)
-
--- where the units are switched, an activation is planned
-activation_planned : (switches : Bool) (system : Name) (w : WorldState) (o : Option ActivationPlan) → IsActivationPlanned switches system w o → switches ≡ true →
-    (planned : ActivationPlan) × (o ≡ Some planned) × IsActivationPlanOf system w.leaves planned
-activation_planned switches system w None is on = absurd (both_ways switches is on)
-activation_planned switches system w (Some planned) is on = (planned, refl, is.1)
+-- where the units are switched, the text of their plan is their report
+switch_reported : (start_up switches : Bool) (system : Name) (w : WorldState) (plan : Option SwitchPlan) (nothing : UnitPlan) (number : Option ℕ) (text : List ℕ) → IsSwitchPlanned start_up switches system w plan → switches ≡ true →
+    ((planned : ActivationPlan) → option_map (λ (switch : SwitchPlan). switch.activation) plan ≡ Some planned → IsActivationPlanOf system w.leaves planned →
+    (told : List ℕ) × IsActivationReport system w.leaves told
+    × (text ≡ report_of (units_in plan nothing).from system number (units_in plan nothing).duties (units_in plan nothing).left told (units_in plan nothing).ordered.cycles)) → IsReportBy start_up switches number system w text
+switch_reported start_up switches system w None nothing number text off on same = absurd (both_ways switches off on)
+switch_reported start_up switches system w (Some plan) nothing number text planned on same =
+    let told = same plan.activation refl planned.2 in
+    subst (λ b. IsReportBy start_up b number system w text) (sym on) (unit_report_is start_up system w plan.units number told.0 text planned.1 told.1 told.2)
 
 -- what is told of a plan whose text is this
 abbrev pub IsTold : Plan → List ℕ → Type 0
-IsTold plan text = (leaves : Leaves) (planned : ActivationPlan) → plan.activation ≡ Some planned → IsActivationPlanOf plan.row.system leaves planned →
+IsTold plan text = (leaves : Leaves) (planned : ActivationPlan) → activation_of plan ≡ Some planned → IsActivationPlanOf plan.row.system leaves planned →
     (told : List ℕ) × IsActivationReport plan.row.system leaves told
-    × (text ≡ report_of plan.units.from plan.row.system (number_of plan) plan.units.duties plan.units.left told plan.units.ordered.cycles)
+    × (text ≡ report_of (units_of plan).from plan.row.system (number_of plan) (units_of plan).duties (units_of plan).left told (units_of plan).ordered.cycles)
 
 -- the report of a row is that of its command
 abbrev IsReportOf : Row → WorldState → List ℕ → Type 0
@@ -111,12 +111,10 @@ IsReportOf its w text = IsReportBy its.start_up its.switches (number_by its.move
 -- where the units are switched
 pub units_reported : (w : WorldState) (plan : Plan) (text : List ℕ) → IsPlanOf w plan → plan.row.switches ≡ true → IsTold plan text → IsReport plan.command w text
 units_reported w plan text is on same =
-    let system = plan.row.system in
-    let found = activation_planned plan.row.switches system w plan.activation is.planned.activation on in
-    let told = same w.leaves found.0 found.1 found.2 in
+    let its = plan.row in
     subst (λ (its : Row). IsReportOf its w text) is.resolved
-    (planned_by plan.row.start_up plan.row.switches system w plan.units (number_by plan.row.moves system w.leaves) told.0 text is.planned.units on told.1
-    (told.2 ∙ ap (λ number. report_of plan.units.from system number plan.units.duties plan.units.left told.0 plan.units.ordered.cycles) (number_is plan.row.moves system w plan.profile is.planned.profile)))
+    (subst (λ number. IsReportBy its.start_up its.switches number its.system w text) (number_is its.moves its.system w plan.boot_default is.planned.boot_default)
+    (switch_reported its.start_up its.switches its.system w plan.switch plan.nothing (number_of plan) text is.planned.switch on (same w.leaves)))
 
 -- where the profile alone is set
 pub profile_reported : (w : WorldState) (plan : Plan) (text : List ℕ) → IsPlanOf w plan → plan.row.switches ≡ false → text ≡ profile_report plan.row.system (number_of plan) → IsReport plan.command w text
@@ -124,4 +122,4 @@ profile_reported w plan text is off same =
     let system = plan.row.system in
     subst (λ (its : Row). IsReportOf its w text) is.resolved
     (subst (λ b. IsReportBy plan.row.start_up b (number_by plan.row.moves system w.leaves) system w text) (sym off)
-    (same ∙ ap (profile_report system) (number_is plan.row.moves system w plan.profile is.planned.profile)))
+    (same ∙ ap (profile_report system) (number_is plan.row.moves system w plan.boot_default is.planned.boot_default)))

@@ -32,13 +32,14 @@ use Rattle.switch_engine.specs.Commands.{brought_by, brought_to, goes_back, if_s
 use Rattle.switch_engine.specs.Final.{IsFinalOf}
 use Rattle.activation_stage.specs.Owners.{owners_after}
 use Rattle.etc_manifest.specs.Owners.{OwnerIds}
-use Rattle.switch_engine.specs.Carried.{IsSwitchMomentIf, IsSwitchedIf, cleared_by}
-use Rattle.switch_engine.specs.Moments.{IsMomentOf, IsStepIf, LeadsBy, record_world, set_world}
+use Rattle.switch_engine.specs.Carried.{cleared_by}
+use Rattle.switch_engine.specs.Moments.{IsMomentOf, IsStepIf, LeadsBy, record_world, default_world}
 use Rattle.switch_engine.specs.Owing.{IsSteadyTo, IsUnderway}
 use Rattle.switch_engine.specs.Rows.{final, goal_by, part_if, parts, parts_in, refusal, switch_in}
 use Rattle.switch_engine.proofs.CarryLemmas.{IsCarriedFrom, ends}
 use Rattle.switch_engine.proofs.LawLemmas.{never_back}
 use Rattle.switch_engine.proofs.MovedPart.{default_in}
+use Rattle.switch_engine.proofs.SwitchedIf.{IsSwitchMomentIf, IsSwitchedIf}
 use Rattle.switch_engine.proofs.UnderwayLemmas.{free_command, has_a_system}
 use Rattle.switch_names.specs.Names.{Name}
 use Rattle.switch_names.specs.SystemName.{IsSystemPath}
@@ -91,7 +92,7 @@ module _ (command : Command) (its : Row) (on : its.changes ≡ true) (off : its.
         let below = below_bound (number_after leaves system) (number_is leaves system further) in
         omega arith
 
-    module _ (w m : WorldState) (here : row command w.leaves ≡ its) (not_refused : refusal command w.leaves ≡ None) (underway : IsUnderway w command m) (end : WorldState) (is_end : IsFinalOf command w end) where
+    module _ (w m : WorldState) (here : row command w.leaves ≡ its) (not_refused : refusal command w.leaves ≡ None) (underway : IsUnderway command w m) (end : WorldState) (is_end : IsFinalOf command w end) where
       there : row command m.leaves ≡ its
       there = underway.same_row ∙ here
 
@@ -105,7 +106,7 @@ module _ (command : Command) (its : Row) (on : its.changes ≡ true) (off : its.
       same_number = one_link _ _ (small_number m.leaves there underway.not_refused) (small_number w.leaves here not_refused)
           (link_text _ _ (sym (final_link m.leaves there) ∙ same_final ∙ final_link w.leaves here))
 
-  number_same : (w m : WorldState) → row command w.leaves ≡ its → refusal command w.leaves ≡ None → IsUnderway w command m → (end : WorldState) → IsFinalOf command w end →
+  number_same : (w m : WorldState) → row command w.leaves ≡ its → refusal command w.leaves ≡ None → IsUnderway command w m → (end : WorldState) → IsFinalOf command w end →
       number_by moves system m.leaves ≡ number_by moves system w.leaves
   number_same w m here none underway end is_end = by moves refl
     where
@@ -115,7 +116,7 @@ module _ (command : Command) (its : Row) (on : its.changes ≡ true) (off : its.
           ap (λ mv. number_by mv system m.leaves) is ∙ ap Some (same_number is w m here none underway end is_end) ∙ sym (ap (λ mv. number_by mv system w.leaves) is)
       by (Some (Point n)) is = ap (λ mv. number_by mv system m.leaves) is ∙ sym (ap (λ mv. number_by mv system w.leaves) is)
 
-  underway_from : (w m : WorldState) → row command w.leaves ≡ its → goes_back command w.leaves ≡ false → IsMomentOf command w m → IsUnderway w command m
+  underway_from : (w m : WorldState) → row command w.leaves ≡ its → goes_back command w.leaves ≡ false → IsMomentOf command w m → IsUnderway command w m
   underway_from w m here ahead moment =
       never_back (row command w.leaves).moves command w m ahead
       (moment.underway (subst (λ (r : Row). IsSteadyTo r.start_up (switched_by r) w) (sym here) (subst (λ b. IsSteadyTo its.start_up (if_so b system) w) (sym off) tt)))
@@ -157,7 +158,7 @@ module _ (command : Command) (w : WorldState) (on : (row command w.leaves).chang
   recorded_in (Some Set) = (w, refl)
   recorded_in (Some (Point n)) = (with_leaf goal_place (goal_leaf n) w, refl)
 
-  set_in : (moves : Option Move) (r : WorldState) → (u : WorldState) × (seen u ≡ set_world moves its_system r)
+  set_in : (moves : Option Move) (r : WorldState) → (u : WorldState) × (seen u ≡ default_world moves its_system r)
   set_in None r = (r, refl)
   set_in (Some move) r = (with_menu (menu_after move its_system r.leaves) (move_world move its_system r), refl)
 

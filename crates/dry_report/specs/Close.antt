@@ -27,7 +27,7 @@ failed_in defs states = map (λ one. one.unit) (filter (is_failed_of defs) (list
 -- the closing text of a switch of the units to a system, from a world
 pub record IsUnitClosing (start_up : Bool) (system : Name) (w : WorldState) (text : List ℕ) : Type 0 where
   pub owed : Owed
-  pub is_owed : IsOwedBy start_up w system owed
+  pub is_owed : IsOwedBy start_up system w owed
   pub failed : List Name
   pub are_failed : IsListOf failed (IsLeftFailed system owed w)
   pub is_text : text ≡ close_of failed

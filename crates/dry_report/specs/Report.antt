@@ -70,7 +70,7 @@ report_of from to number duties left activation cycles = report_front from to nu
 pub record IsUnitReport (start_up : Bool) (number : Option ℕ) (system : Name) (w : WorldState) (text : List ℕ) : Type 0 where
   pub lists : Lists
   pub owed : Owed
-  pub planned : IsPlannedIn start_up w system lists owed
+  pub planned : IsPlannedIn start_up system w lists owed
   pub ordered : Ordered
   pub in_order : AreOrderedAt w.leaves system owed ordered
   pub activation : List ℕ
@@ -83,7 +83,7 @@ profile_report system number = line (codes "to") system ++ generation_line numbe
 
 -- the number of the generation to which a plan moves the profile, where it does
 abbrev pub number_of : Plan → Option ℕ
-number_of plan = option_map (λ profile. profile.number) plan.profile
+number_of plan = option_map (λ profile. profile.number) plan.boot_default
 
 -- the number of the generation that is current after a move of the profile to a system, where it is moved
 abbrev pub number_by : Option Move → Name → Leaves → Option ℕ

@@ -3,6 +3,7 @@ ghost use Rattle.std.specs.Prelude.{◌≡◌, [], ◌∷◌, OnOk, codes, filte
 ghost use Rattle.std.specs.List.{flat_map};
 ghost use Rattle.host_trait.specs.Sink.{HasSinkCause, IsPrefixOf, Puts};
 ghost use Rattle.switch_engine.specs.Final.{is_failed_of};
+ghost use Rattle.switch_engine.specs.Plan.{units_of};
 ghost use Rattle.dry_report.specs.Close.{close_of, closing, failed_in};
 ghost use Rattle.dry_report.specs.Report.{line};
 
@@ -54,8 +55,8 @@ fn put_all_failed<S: Sink>(out: &mut S, defs: &Defs, list: &[UnitState]) -> Resu
 ///
 /// Source: the lines of switch-to-configuration, NixOS manual, "What happens during a system switch?".
 pub fn close<S: Sink>(out: &mut S, plan: &Plan, outcome: &Outcome) -> Result<(), SinkFault>
-    ensures ok { OnOk result (Puts (S.sink out.old) (S.sink out.new) (λ more. more ≡ close_of (failed_in plan.now.units.defs outcome.now.states))) }
-    ensures prefix { Puts (S.sink out.old) (S.sink out.new) (IsPrefixOf (close_of (failed_in plan.now.units.defs outcome.now.states))) }
+    ensures ok { OnOk result (Puts (S.sink out.old) (S.sink out.new) (λ more. more ≡ close_of (failed_in (units_of plan.now).defs outcome.now.states))) }
+    ensures prefix { Puts (S.sink out.old) (S.sink out.new) (IsPrefixOf (close_of (failed_in (units_of plan.now).defs outcome.now.states))) }
     ensures cause { HasSinkCause (S.sink out.old) (S.sink out.new) result }
 {
     put_all_failed(out, plan.defs(), outcome.states.list().as_slice())?;

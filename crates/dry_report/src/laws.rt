@@ -8,7 +8,7 @@ ghost use Rattle.switch_engine.specs.declared.plan.Plan.{Plan};
 ghost use Rattle.switch_engine.specs.Commands.{IsBoot, IsQuery, brought_to};
 ghost use Rattle.switch_engine.specs.Final.{IsFinalOf};
 ghost use Rattle.switch_engine.specs.Moments.{LeadsBy};
-ghost use Rattle.switch_engine.specs.Plan.{IsPlanOf};
+ghost use Rattle.switch_engine.specs.Plan.{IsPlanOf, units_of};
 ghost use Rattle.switch_engine.specs.Rows.{refusal};
 ghost use Rattle.switch_names.specs.Names.{Name};
 ghost use Rattle.dry_report.specs.Activation.{IsActivationReport};
@@ -41,5 +41,5 @@ pub fn one_closing_is_made()
 /// world. After a boot any states do, since it looks at no units.
 pub fn states_at_the_end_close_it()
     ensures { (plan : Plan) (states : UnitStates) (w v : WorldState) → IsPlanOf w plan → (IsQuery plan.command → ⊥) → IsFinalOf plan.command w v
-        → ((IsBoot plan.command → ⊥) → states ≡ v.manager.states) → IsClosing plan.command w (close_of (failed_in plan.units.defs states)) }
+        → ((IsBoot plan.command → ⊥) → states ≡ v.manager.states) → IsClosing plan.command w (close_of (failed_in (units_of plan).defs states)) }
 {}

@@ -5,7 +5,7 @@ ghost use Rattle.std.specs.Option.{option_copied};
 ghost use Rattle.activation_stage.specs.ActivationPart.{IsActivationPlanOf};
 ghost use Rattle.activation_stage.specs.declared.activation_plan.ActivationPlan.{ActivationPlan};
 ghost use Rattle.host_trait.specs.World.{Leaves, WorldState};
-ghost use Rattle.switch_engine.specs.Plan.{IsPlanOf};
+ghost use Rattle.switch_engine.specs.Plan.{IsPlanOf, activation_of, units_of};
 ghost use Rattle.switch_names.specs.Names.{Name};
 ghost use Rattle.unit_stage.specs.Owes.{is_stop};
 ghost use Rattle.dry_report.specs.Activation.{IsActivationReport};
@@ -143,7 +143,7 @@ fn write_generation(alloc: Global, out: &mut Vec<u8>, number: Option<u32>) -> Re
 /// Writes the two systems, the generation where the profile is moved, the stops, and the changed units
 /// that get nothing.
 fn write_front(alloc: Global, out: &mut Vec<u8>, plan: &Plan) -> Result<(), AllocError>
-    ensures { OnOk result (out.new.items ≡ out.old.items ++ report_front plan.now.units.from plan.now.row.system (number_of plan.now) plan.now.units.duties plan.now.units.left) }
+    ensures { OnOk result (out.new.items ≡ out.old.items ++ report_front (units_of plan.now).from plan.now.row.system (number_of plan.now) (units_of plan.now).duties (units_of plan.now).left) }
 {
     write_line(out, "from", system_text(plan.from()))?;
     write_line(out, "to", plan.to().as_str())?;
@@ -171,9 +171,9 @@ fn write_activated(
 /// stops, the changed units that get nothing, the accounts and /etc, the cycles among the starts, and the
 /// other calls, a line each.
 fn unit_report(alloc: Global, plan: &Plan) -> Result<Bytes, AllocError>
-    ensures { IfOk result (λ text. (leaves : Leaves) (planned : ActivationPlan) → plan.now.activation ≡ Some planned → IsActivationPlanOf plan.now.row.system leaves planned
+    ensures { IfOk result (λ text. (leaves : Leaves) (planned : ActivationPlan) → activation_of plan.now ≡ Some planned → IsActivationPlanOf plan.now.row.system leaves planned
         → (told : List ℕ) × IsActivationReport plan.now.row.system leaves told
-        × (text ≡ report_of plan.now.units.from plan.now.row.system (number_of plan.now) plan.now.units.duties plan.now.units.left told plan.now.units.ordered.cycles)) }
+        × (text ≡ report_of (units_of plan.now).from plan.now.row.system (number_of plan.now) (units_of plan.now).duties (units_of plan.now).left told (units_of plan.now).ordered.cycles)) }
 {
     let mut out = Vec::new(alloc);
     write_front(alloc, &mut out, plan)?;

@@ -17,10 +17,10 @@ use Rattle.etc_manifest.specs.declared.item.Item.{Item}
 use Rattle.etc_manifest.specs.declared.item.ItemKind.{ItemKind}
 use Rattle.etc_manifest.specs.Manifest.{entry, places}
 use Rattle.etc_manifest.specs.Place.{is_reserved}
-use Rattle.etc_clean.specs.declared.found.Found.{Found}
+use Rattle.etc_clean.specs.declared.found.FoundLeaves.{FoundLeaves}
 use Rattle.etc_clean.specs.CleanList.{clean_name, clean_of}
 use Rattle.etc_clean.specs.Farm.{at, is_blocked, is_entry, is_farm_link, is_foreign, is_gone, is_ours}
-use Rattle.etc_clean.specs.Found.{AreFound, TakesPath, is_foreign_by, is_free, is_gone_by}
+use Rattle.etc_clean.specs.Found.{AreFoundLeaves, TakesPath, is_foreign_by, is_free, is_gone_by}
 use Rattle.etc_clean.specs.Names.{etc_names, is_in_etc, name_of, names_below, place}
 use Rattle.etc_clean.specs.Obsolete.{IsSortedOf}
 use Rattle.etc_clean.specs.Standing.{is_leaf_of, is_standing}
@@ -30,7 +30,7 @@ use Rattle.etc_clean.proofs.NameLemmas.{has_etc_name, in_etc}
 
 module _ (items : List Item) (clean : List Name) (leaves : Leaves) where
   -- no name of a path is taken
-  pub no_name : (path : List ℕ) (found : Found) → is_in_etc path ≡ false → TakesPath items clean leaves path found found
+  pub no_name : (path : List ℕ) (found : FoundLeaves) → is_in_etc path ≡ false → TakesPath items clean leaves path found found
   no_name path found out = record {
     gone = sym (ap (λ (names : List Name). found.gone ++ filter (is_gone_by items clean leaves) names) none ∙ append-nil found.gone);
     foreign = sym (ap (λ (names : List Name). found.foreign ++ filter (is_foreign_by items clean leaves) names) none ∙ append-nil found.foreign);
@@ -76,7 +76,7 @@ module _ (items : List Item) (clean : List Name) (leaves : Leaves) where
       sym (ap (λ (names : List Name). list ++ filter (is_standing items leaves) names) (one_name path inside) ∙ ap (λ b. list ++ cond b (q ∷ []) []) (no_standing q none) ∙ append-nil list)
 
   -- a reserved name that is no entry's isn't taken
-  pub reserved_name : (path : List ℕ) (found : Found) → is_in_etc path ≡ true → is_reserved (name_of path) ≡ true → entry items (name_of path) ≡ None → TakesPath items clean leaves path found found
+  pub reserved_name : (path : List ℕ) (found : FoundLeaves) → is_in_etc path ≡ true → is_reserved (name_of path) ≡ true → entry items (name_of path) ≡ None → TakesPath items clean leaves path found found
   reserved_name path found inside reserved none =
       let q = name_of path in
       let out : is_free items q ≡ false = free_by (is_reserved q) (is_entry items q) (ap (λ b. b || is_entry items q) reserved) in
@@ -84,7 +84,7 @@ module _ (items : List Item) (clean : List Name) (leaves : Leaves) where
 
   -- an entry is taken by whether its leaf stands
   pub entry_name :
-      (path : List ℕ) (name : Name) (kind : ItemKind) (stands : Bool) (old new : Found) → is_in_etc path ≡ true → name ≡ name_of path → entry items name ≡ Some kind →
+      (path : List ℕ) (name : Name) (kind : ItemKind) (stands : Bool) (old new : FoundLeaves) → is_in_etc path ≡ true → name ≡ name_of path → entry items name ≡ Some kind →
       stands ≡ is_leaf_of name (Some kind) (get leaves path) → new.gone ≡ old.gone → new.foreign ≡ old.foreign → new.standing ≡ old.standing ++ cond stands (name ∷ []) [] → TakesPath items clean leaves path old new
   entry_name path name kind stands old new inside is wanted told gone foreign standing =
       let q = name_of path in
@@ -106,7 +106,7 @@ module _ (items : List Item) (clean : List Name) (leaves : Leaves) where
 
   -- a name that isn't kept is taken by whose its leaf is
   pub new_name :
-      (path : List ℕ) (name : Name) (ours : Bool) (old new : Found) → is_in_etc path ≡ true → name ≡ name_of path → is_reserved name ≡ false → entry items name ≡ None →
+      (path : List ℕ) (name : Name) (ours : Bool) (old new : FoundLeaves) → is_in_etc path ≡ true → name ≡ name_of path → is_reserved name ≡ false → entry items name ≡ None →
       ours ≡ is_ours clean name (get leaves path) → new.gone ≡ old.gone ++ cond ours (name ∷ []) [] → new.foreign ≡ old.foreign ++ cond ours [] (name ∷ []) → new.standing ≡ old.standing →
       TakesPath items clean leaves path old new
   new_name path name ours old new inside is free none whose gone foreign standing =
@@ -127,11 +127,11 @@ module _ (items : List Item) (clean : List Name) (leaves : Leaves) where
         standing = standing ∙ none_standing path old.standing inside none_there;
       }
 
-  pub none_found : (found : Found) → found.gone ≡ [] → found.foreign ≡ [] → found.standing ≡ [] → AreFound items clean leaves [] found
+  pub none_found : (found : FoundLeaves) → found.gone ≡ [] → found.foreign ≡ [] → found.standing ≡ [] → AreFoundLeaves items clean leaves [] found
   none_found found gone foreign standing = record { gone = gone; foreign = foreign; standing = standing }
 
   -- one more path
-  pub more_found : (ks : List (List ℕ)) (path : List ℕ) (old new : Found) → AreFound items clean leaves (names_below ks) old → TakesPath items clean leaves path old new → AreFound items clean leaves (names_below (ks ++ path ∷ [])) new
+  pub more_found : (ks : List (List ℕ)) (path : List ℕ) (old new : FoundLeaves) → AreFoundLeaves items clean leaves (names_below ks) old → TakesPath items clean leaves path old new → AreFoundLeaves items clean leaves (names_below (ks ++ path ∷ [])) new
   more_found ks path old new before takes = record {
     gone = takes.gone ∙ ap (λ l. l ++ filter (is_gone_by items clean leaves) (names_below (path ∷ []))) before.gone
         ∙ sym (filter-append (is_gone_by items clean leaves) (names_below ks) (names_below (path ∷ [])))
@@ -170,7 +170,7 @@ leaf_there q (Some kind) (Some leaf) = by (is_leaf_of q (Some kind) (Some leaf))
     by false = refl
 
 -- what is found to stand stands
-pub standing_list : (items : List Item) (clean : List Name) (leaves : Leaves) (found : Found) → AreFound items clean leaves (etc_names leaves) found → IsListOf found.standing (λ q. is_standing items leaves q ≡ true)
+pub standing_list : (items : List Item) (clean : List Name) (leaves : Leaves) (found : FoundLeaves) → AreFoundLeaves items clean leaves (etc_names leaves) found → IsListOf found.standing (λ q. is_standing items leaves q ≡ true)
 standing_list items clean leaves found are = record {
   sorted = subst (IsStrictlySortedBy bytes_cmp) (sym are.standing) (IsStrictlySortedBy-filter bytes_cmp (is_standing items leaves) (etc_names leaves) (etc_names_sorted leaves));
   exact = λ q.
@@ -192,13 +192,13 @@ module _ (items : List Item) (clean : List Name) (leaves : Leaves) (listed : (q 
       ∙ ap (λ b. (is_some (at leaves q) && is_free items q) && b) (ours_same q)
 
   -- what is found to be gone is gone
-  pub gone_list : (found : Found) → AreFound items clean leaves (etc_names leaves) found → IsListOf found.gone (λ q. is_gone items leaves q ≡ true)
+  pub gone_list : (found : FoundLeaves) → AreFoundLeaves items clean leaves (etc_names leaves) found → IsListOf found.gone (λ q. is_gone items leaves q ≡ true)
   gone_list found are = record {
     sorted = subst (IsStrictlySortedBy bytes_cmp) (sym are.gone) (IsStrictlySortedBy-filter bytes_cmp (is_gone_by items clean leaves) (etc_names leaves) (etc_names_sorted leaves));
     exact = λ q. let same = ap (λ (names : List Name). has names q) are.gone ∙ gone_there q in (λ is. sym same ∙ is, λ is. same ∙ is);
   }
 
-  pub foreign_sorted : (found : Found) → AreFound items clean leaves (etc_names leaves) found → IsStrictlySortedBy bytes_cmp found.foreign
+  pub foreign_sorted : (found : FoundLeaves) → AreFoundLeaves items clean leaves (etc_names leaves) found → IsStrictlySortedBy bytes_cmp found.foreign
   foreign_sorted found are =
       subst (IsStrictlySortedBy bytes_cmp) (sym are.foreign) (IsStrictlySortedBy-filter bytes_cmp (is_foreign_by items clean leaves) (etc_names leaves) (etc_names_sorted leaves))
 
@@ -207,7 +207,7 @@ module _ (items : List Item) (clean : List Name) (leaves : Leaves) (listed : (q 
       ap (λ b. is_free items p && not b) (ours_same p)
       ∙ sym (ap (λ b. (b && is_free items p) && not (is_ours (clean_of leaves) p (at leaves p))) (sym (has_etc_name leaves p) ∙ there))
 
-  blocked_there : (found : Found) (q : Name) → AreFound items clean leaves (etc_names leaves) found → list_any (λ p. is_in_line p q) found.foreign ≡ is_blocked items leaves q
+  blocked_there : (found : FoundLeaves) (q : Name) → AreFoundLeaves items clean leaves (etc_names leaves) found → list_any (λ p. is_in_line p q) found.foreign ≡ is_blocked items leaves q
   unfolding is_blocked
   blocked_there found q are =
       ap (list_any (λ p. is_in_line p q)) are.foreign
@@ -216,7 +216,7 @@ module _ (items : List Item) (clean : List Name) (leaves : Leaves) (listed : (q 
       (λ p there. ap (λ b. b && is_in_line p q) (foreign_here p there))
 
   -- the places that are found to be blocked are
-  pub blocked_list : (found : Found) (names : List Name) → IsStrictlySortedBy bytes_cmp (places items) → AreFound items clean leaves (etc_names leaves) found →
+  pub blocked_list : (found : FoundLeaves) (names : List Name) → IsStrictlySortedBy bytes_cmp (places items) → AreFoundLeaves items clean leaves (etc_names leaves) found →
       names ≡ filter (λ q. list_any (λ p. is_in_line p q) found.foreign) (places items) → IsListOf names (λ q. (is_entry items q && is_blocked items leaves q) ≡ true)
   blocked_list found names sorted are is = record {
     sorted = subst (IsStrictlySortedBy bytes_cmp) (sym is) (IsStrictlySortedBy-filter bytes_cmp (λ q. list_any (λ p. is_in_line p q) found.foreign) (places items) sorted);
@@ -229,10 +229,10 @@ module _ (items : List Item) (clean : List Name) (leaves : Leaves) (listed : (q 
   }
 
 -- one more path of a list
-pub found_next : (items : List Item) (clean : List Name) (leaves : Leaves) (paths : List (List ℕ)) (i : ℕ) (path : List ℕ) (old new : Found) → i < length paths → path ≡ get_or paths i path →
-    AreFound items clean leaves (names_below (take i paths)) old → TakesPath items clean leaves path old new → AreFound items clean leaves (names_below (take (i + 1) paths)) new
+pub found_next : (items : List Item) (clean : List Name) (leaves : Leaves) (paths : List (List ℕ)) (i : ℕ) (path : List ℕ) (old new : FoundLeaves) → i < length paths → path ≡ get_or paths i path →
+    AreFoundLeaves items clean leaves (names_below (take i paths)) old → TakesPath items clean leaves path old new → AreFoundLeaves items clean leaves (names_below (take (i + 1) paths)) new
 found_next items clean leaves paths i path old new inside is before takes =
-    subst (λ ks. AreFound items clean leaves (names_below ks) new) (sym (take_more paths i path inside ∙ ap (λ p. take i paths ++ p ∷ []) (sym is))) (more_found items clean leaves (take i paths) path old new before takes)
+    subst (λ ks. AreFoundLeaves items clean leaves (names_below ks) new) (sym (take_more paths i path inside ∙ ap (λ p. take i paths ++ p ∷ []) (sym is))) (more_found items clean leaves (take i paths) path old new before takes)
 
 -- what a name of a path is
 pub name_there : (b : Bool) (x name : Name) (o : Option Name) → o ≡ cond b (Some x) None → o ≡ Some name → (b ≡ true) × (name ≡ x)
@@ -255,8 +255,8 @@ blocked_next test items i item old new inside is before added =
 
 -- all that is found in etc
 pub sorted_all :
-    (items : List Item) (leaves : Leaves) (clean : List Name) (found : Found) (gone blocked standing : List Name) (past : Option ℕ) → IsStrictlySortedBy bytes_cmp (places items) →
-    IsListOf clean (λ q. has (clean_of leaves) q ≡ true) → AreFound items clean leaves (etc_names leaves) found → gone ≡ found.gone → standing ≡ found.standing →
+    (items : List Item) (leaves : Leaves) (clean : List Name) (found : FoundLeaves) (gone blocked standing : List Name) (past : Option ℕ) → IsStrictlySortedBy bytes_cmp (places items) →
+    IsListOf clean (λ q. has (clean_of leaves) q ≡ true) → AreFoundLeaves items clean leaves (etc_names leaves) found → gone ≡ found.gone → standing ≡ found.standing →
     (IsStrictlySortedBy bytes_cmp found.foreign → blocked ≡ filter (λ q. list_any (λ p. is_in_line p q) found.foreign) (places items)) →
     past ≡ content_past (content_of leaves (place clean_name)) → IsSortedOf items leaves (record { gone = gone; blocked = blocked; standing = standing; clean = clean; past = past })
 sorted_all items leaves clean found gone blocked standing past sorted list are is stands by long =

@@ -9,7 +9,7 @@ ghost use Rattle.host_trait.specs.World.{bytes_cmp, is_path};
 ghost use Rattle.etc_manifest.specs.Manifest.{places};
 ghost use Rattle.etc_manifest.specs.Place.{is_reserved};
 ghost use Rattle.etc_clean.specs.Farm.{is_below_nixos, is_entry, is_farm_link, is_into_static, is_ours};
-ghost use Rattle.etc_clean.specs.Found.{AreFound, TakesPath};
+ghost use Rattle.etc_clean.specs.Found.{AreFoundLeaves, TakesPath};
 ghost use Rattle.etc_clean.specs.Names.{names_below};
 ghost use Rattle.etc_clean.specs.Standing.{is_leaf_of};
 
@@ -22,7 +22,7 @@ use std::alloc::{AllocError, Global};
 use switch_names::{Listed, Path};
 
 /// Names below `etc` at which a leaf stands, in byte order.
-pub struct Found {
+pub struct FoundLeaves {
     /// Those that are neither reserved nor entries, and whose leaf is the farm's.
     pub gone: Listed<Path>,
     /// The others that are neither reserved nor entries.
@@ -32,9 +32,9 @@ pub struct Found {
 }
 
 /// One call: a derived drop is proved anew in each function that lets one go.
-impl Drop for Found {
+impl Drop for FoundLeaves {
     fn drop(self) {
-        let Found {
+        let FoundLeaves {
             gone: _,
             foreign: _,
             standing: _,
@@ -42,14 +42,14 @@ impl Drop for Found {
     }
 }
 
-impl Found {
+impl FoundLeaves {
     /// No names.
-    fn new(alloc: Global) -> Found
+    fn new(alloc: Global) -> FoundLeaves
         ensures gone { result.gone ≡ [] }
         ensures foreign { result.foreign ≡ [] }
         ensures standing { result.standing ≡ [] }
     {
-        Found {
+        FoundLeaves {
             gone: Listed::new(alloc),
             foreign: Listed::new(alloc),
             standing: Listed::new(alloc),
@@ -61,7 +61,7 @@ impl Found {
         ensures gone { result.0 ≡ self.gone }
         ensures standing { result.1 ≡ self.standing }
     {
-        let Found {
+        let FoundLeaves {
             gone,
             foreign: _,
             standing,
@@ -175,7 +175,7 @@ fn take_path<T: Tree>(
     clean: &[Path],
     walk: &mut Walk,
     path: &Path,
-    found: &mut Found,
+    found: &mut FoundLeaves,
 ) -> Result<(), HostFault>
     requires items { IsStrictlySortedBy bytes_cmp (places items.now) }
     requires clean { IsStrictlySortedBy bytes_cmp clean.now }
@@ -203,13 +203,13 @@ pub fn find<T: Tree>(
     items: &[Item],
     clean: &[Path],
     paths: &[Path],
-) -> Result<Found, HostFault>
+) -> Result<FoundLeaves, HostFault>
     requires items { IsStrictlySortedBy bytes_cmp (places items.now) }
     requires clean { IsStrictlySortedBy bytes_cmp clean.now }
-    ensures found { IfOk result (λ found. Told (T.host host.old) (λ w. AreFound items.now clean.now w.leaves (names_below paths.now) found)) }
+    ensures found { IfOk result (λ found. Told (T.host host.old) (λ w. AreFoundLeaves items.now clean.now w.leaves (names_below paths.now) found)) }
     ensures reads { IsReading (T.host host.old) (T.host host.new) result }
 {
-    let mut found = Found::new(alloc);
+    let mut found = FoundLeaves::new(alloc);
     let mut walk = Walk::new();
     for path in paths {
         take_path(alloc, host, items, clean, &mut walk, path, &mut found)?;

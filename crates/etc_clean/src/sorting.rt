@@ -9,12 +9,12 @@ ghost use Rattle.host_trait.specs.World.{bytes_cmp, is_in_line};
 ghost use Rattle.tree_put.specs.Found as noted;
 ghost use Rattle.etc_manifest.specs.Manifest.{places};
 ghost use Rattle.etc_clean.specs.CleanList.{names_in};
-ghost use Rattle.etc_clean.specs.Found.{AreFound};
+ghost use Rattle.etc_clean.specs.Found.{AreFoundLeaves};
 ghost use Rattle.etc_clean.specs.Names.{etc_names};
 ghost use Rattle.etc_clean.specs.Obsolete.{IsSortedOf};
 
 use crate::clean_list::{names_in, read_old};
-use crate::found::{Found, find};
+use crate::found::{FoundLeaves, find};
 use crate::names::etc_folder;
 use crate::order::in_order;
 use crate::search::has_in_line;
@@ -67,10 +67,10 @@ fn find_all<T: Tree>(
     host: &mut T,
     items: &[Item],
     clean: &[Path],
-) -> Result<Found, HostFault>
+) -> Result<FoundLeaves, HostFault>
     requires items { IsStrictlySortedBy bytes_cmp (places items.now) }
     requires clean { IsStrictlySortedBy bytes_cmp clean.now }
-    ensures found { IfOk result (λ found. Told (T.host host.old) (λ w. AreFound items.now clean.now w.leaves (etc_names w.leaves) found)) }
+    ensures found { IfOk result (λ found. Told (T.host host.old) (λ w. AreFoundLeaves items.now clean.now w.leaves (etc_names w.leaves) found)) }
     ensures reads { IsReading (T.host host.old) (T.host host.new) result }
 {
     let folder = etc_folder(alloc)?;

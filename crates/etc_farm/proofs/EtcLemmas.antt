@@ -11,7 +11,7 @@ use Rattle.std.specs.List.Sorted.{IsStrictlySortedBy}
 use Rattle.host_trait.specs.World.{Leaves, WorldState, bytes_cmp, content_of}
 use Rattle.switch_parts.specs.declared.refusal.What.TheVariants.{Entries, LeafBytes}
 use Rattle.switch_parts.specs.Limits.{too_many}
-use Rattle.switch_parts.specs.Part.{IsAtEnd, IsFree, IsMomentOf, IsPart, IsSameFor}
+use Rattle.switch_parts.specs.Part.{IsAtEnd, IsFree, IsPartMoment, IsPart, IsSameFor}
 use Rattle.etc_manifest.specs.declared.item.Item.{Item}
 use Rattle.etc_manifest.specs.declared.item.ItemKind.{ItemKind}
 use Rattle.etc_manifest.specs.declared.manifest_fault.ManifestFault.{ManifestFault}
@@ -205,7 +205,7 @@ module _ (system : Name) (plan : EtcPlan) (w : WorldState) (can : CanPutEtc syst
   pub end_as : (v : WorldState) → IsAtEnd (farm_part (farm_of system plan.manifest)) w v → IsAtEnd (etc_part system plan.owners) w v
   end_as v end q own = end q own ∙ sym (ap (λ items. etc (farm_of system items) w.leaves (name_of q)) wanted_is)
 
-  moment_as : IsSystemPath system → (m : WorldState) → IsMomentOf (farm_part (farm_of system plan.manifest)) w m → IsMomentOf (etc_part system plan.owners) w m
+  moment_as : IsSystemPath system → (m : WorldState) → IsPartMoment (farm_part (farm_of system plan.manifest)) w m → IsPartMoment (etc_part system plan.owners) w m
   moment_as named m moment = record {
     keeps = record {
       entries = entries_same w.leaves m.leaves (λ path inside. moment.only.leaves path (store_not_owned path inside) (store_not_stage path inside)) system named;
@@ -216,7 +216,7 @@ module _ (system : Name) (plan : EtcPlan) (w : WorldState) (can : CanPutEtc syst
   }
 
   -- a step of it is a moment of the part
-  pub making_as : IsSystemPath system → (m : WorldState) → IsMaking (farm_of system plan.manifest) w m → IsMomentOf (etc_part system plan.owners) w m
+  pub making_as : IsSystemPath system → (m : WorldState) → IsMaking (farm_of system plan.manifest) w m → IsPartMoment (etc_part system plan.owners) w m
   making_as named m step =
       moment_as named m
       (making_law (farm_of system plan.manifest) plan.sorted w m (wanted_manifest w.leaves system plan.owners plan.manifest can.planned.wanted) can_apply step)

@@ -8,7 +8,7 @@ use Rattle.host_trait.specs.World.{WorldState, seen, with_leaf}
 use Rattle.host_trait.proofs.Places.{same_or_other}
 use Rattle.tree_put.specs.declared.leaf_put.LeafPut.{LeafPut}
 use Rattle.tree_put.specs.Sequence.{put_at, with_puts, without_places}
-use Rattle.switch_parts.specs.Part.{IsAtEnd, IsMomentOf}
+use Rattle.switch_parts.specs.Part.{IsAtEnd, IsPartMoment}
 use Rattle.etc_manifest.specs.declared.item.Item.{Item}
 use Rattle.etc_manifest.specs.Manifest.{IsManifest}
 use Rattle.etc_clean.specs.declared.sorting.Sorted.{Sorted}
@@ -147,7 +147,7 @@ module _
   at_step m (Ending step) = moment_seen items free w (with_puts (take step.count (last_puts items w.leaves)) cleared_world) m step.world (ending_is step.count)
 
 pub making_law : MakingLaw
-making_law farm sorted w m manifest can_apply (Before is) = subst (λ x. IsMomentOf (farm_part farm) w x) (sym is) (moment_of farm w w (moment_self farm.items w))
+making_law farm sorted w m manifest can_apply (Before is) = subst (λ x. IsPartMoment (farm_part farm) w x) (sym is) (moment_of farm w w (moment_self farm.items w))
 making_law farm sorted w m manifest can_apply (Since names gone names_are gone_are step) =
     moment_of farm w m (at_step farm manifest sorted w can_apply names gone names_are gone_are m step)
 

@@ -13,7 +13,7 @@ use Rattle.host_trait.proofs.NameOrder.{has_filter}
 use Rattle.tree_put.specs.Put.{CanPut}
 use Rattle.tree_put.specs.Sequence.{ArePutsApart, CanPutAll, IsPutting, with_puts}
 use Rattle.tree_put.specs.WrittenPlace.{in_the_way}
-use Rattle.switch_parts.specs.Part.{IsAtEnd, IsMomentOf}
+use Rattle.switch_parts.specs.Part.{IsAtEnd, IsPartMoment}
 use Rattle.etc_manifest.specs.declared.item.Item.{Item}
 use Rattle.etc_manifest.specs.Manifest.{IsManifest, places}
 use Rattle.etc_manifest.specs.Place.{is_reserved}
@@ -45,7 +45,7 @@ pub record IsBegun (farm : Farm) (names : List Name) (w : WorldState) : Type 0 w
   pub fixed_link : at w.leaves static_name ≡ Some (Link farm.target)
 
 -- a moment of the farm is one of its part
-pub moment_of : (farm : Farm) (w m : WorldState) → IsFarmMoment farm.items w m → IsMomentOf (farm_part farm) w m
+pub moment_of : (farm : Farm) (w m : WorldState) → IsFarmMoment farm.items w m → IsPartMoment (farm_part farm) w m
 moment_of farm w m moment = record {
   keeps = moment.keeps;
   only = record { leaves = moment.leaves; manager = λ calls. moment.manager };

@@ -6,7 +6,7 @@ use Rattle.host_trait.specs.declared.leaf.LeafKind.TheVariants.{Link}
 use Rattle.host_trait.specs.World.{Leaves, WorldState, seen}
 use Rattle.tree_put.specs.declared.leaf_put.LeafPut.{LeafPut}
 use Rattle.tree_put.specs.Sequence.{IsPutting, put_at, with_puts, without_places}
-use Rattle.switch_parts.specs.Part.{IsMomentOf}
+use Rattle.switch_parts.specs.Part.{IsPartMoment}
 use Rattle.etc_manifest.specs.declared.item.Item.{Item}
 use Rattle.etc_manifest.specs.declared.item.ItemKind.{ItemKind}
 use Rattle.etc_manifest.specs.Manifest.{IsManifest, entry}
@@ -63,7 +63,7 @@ IsMakingEtc system owners w m = IsMaking (farm_of system (items_of system owners
 abbrev pub MakingLaw : Type 0
 MakingLaw =
     (farm : Farm) (found : Sorted) (w m : WorldState) → IsManifest farm.items → CanApply farm found w →
-    IsMaking farm w m → IsMomentOf (farm_part farm) w m
+    IsMaking farm w m → IsPartMoment (farm_part farm) w m
 
 -- the leaf of a name below etc at a moment: the one of before, or the one that a step puts there or removes
 pub data IsLeafAt (farm : Farm) (w : Leaves) (q : Name) (leaf : Option LeafKind) : Type 0 where

@@ -2,7 +2,7 @@
 use Rattle.std.specs.Prelude.{◌≡◌, ◌⊎◌, ◌∷◌, [], List, None, Some, false, true}
 use Rattle.switch_names.specs.Names.{Name, has}
 use Rattle.host_trait.specs.World.{IsSound, Leaves, WorldState}
-use Rattle.switch_parts.specs.Part.{IsMomentOf, IsSameFor}
+use Rattle.switch_parts.specs.Part.{IsPartMoment, IsSameFor}
 use Rattle.etc_manifest.specs.declared.item.Item.{Item}
 use Rattle.etc_manifest.specs.declared.item.ItemKind.TheVariants.{Linked}
 use Rattle.etc_manifest.specs.Manifest.{IsManifest}
@@ -20,7 +20,7 @@ use Rattle.etc_farm.specs.Making.{IsMaking, IsMakingEtc}
 -- worlds one after another, each left by a run of one farm that was cut or ended, or by what changes where the farm doesn't look
 abbrev pub AreRuns : Farm → WorldState → List WorldState → WorldState → Type 0
 AreRuns farm w [] m = m ≡ w
-AreRuns farm w (v ∷ worlds) m = (IsMomentOf (farm_part farm) w v ⊎ IsSameFor (farm_part farm) w v) × AreRuns farm v worlds m
+AreRuns farm w (v ∷ worlds) m = (IsPartMoment (farm_part farm) w v ⊎ IsSameFor (farm_part farm) w v) × AreRuns farm v worlds m
 
 -- however often runs are cut, a copied or direct entry that isn't blocked has its leaf of the first world, or is on the clean list
 abbrev pub ListedLaw : Type 0

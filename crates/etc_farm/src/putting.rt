@@ -1,7 +1,7 @@
 //! Puts the farm of a system as planned.
 ghost use Rattle.std.specs.Prelude.{OnOk};
 ghost use Rattle.host_trait.specs.Host.{HasCause, Leads, Passes, Told};
-ghost use Rattle.switch_parts.specs.Part.{IsAtEnd, IsMomentOf, final_leaf};
+ghost use Rattle.switch_parts.specs.Part.{IsAtEnd, IsPartMoment, final_leaf};
 ghost use Rattle.switch_parts.specs.Quiet.{IsQuiet};
 ghost use Rattle.etc_farm.specs.EtcPart.{CanPutEtc, etc_part};
 ghost use Rattle.etc_farm.specs.Making.{IsMakingEtc};
@@ -28,7 +28,7 @@ pub fn put_etc<T: Tree>(
     ensures ok { OnOk result (Leads (T.host host.old) (T.host host.new) (IsAtEnd (etc_part system.now plan.now.owners))) }
     ensures quiet { OnOk result (Leads (T.host host.old) (T.host host.new) (IsQuiet (clean_first system.now plan.now.owners) (final_leaf (etc_part system.now plan.now.owners)))) }
     ensures steps { Passes (T.host host.old) (T.host host.new) (IsMakingEtc system.now plan.now.owners) }
-    ensures moments { Passes (T.host host.old) (T.host host.new) (IsMomentOf (etc_part system.now plan.now.owners)) }
+    ensures moments { Passes (T.host host.old) (T.host host.new) (IsPartMoment (etc_part system.now plan.now.owners)) }
     ensures cause { HasCause (T.host host.old) (T.host host.new) result }
 {
     // The moments hold of a path of the store alone.

@@ -14,7 +14,7 @@ use Rattle.switch_names.specs.Names.{Name}
 use Rattle.switch_parts.specs.declared.refusal.What.TheVariants.{LeafBytes}
 use Rattle.switch_parts.specs.Leaves.{is_near}
 use Rattle.switch_parts.specs.Limits.{too_many}
-use Rattle.switch_parts.specs.Part.{IsAtEnd, IsFree, IsMomentOf, IsOnly, IsPart}
+use Rattle.switch_parts.specs.Part.{IsAtEnd, IsFree, IsPartMoment, IsOnly, IsPart}
 use Rattle.switch_parts.specs.Store.{is_in_store}
 use Rattle.switch_parts.proofs.LeafLemmas.{leaf_is_part}
 use Rattle.switch_parts.proofs.StoreLemmas.{store_content_kept, store_not_stage}
@@ -120,7 +120,7 @@ module _ (back : Bool) (n : ℕ) (w m : WorldState) (moment : IsOldOrNew goal_pl
       ∙ ap (too_many LeafBytes) short)
       moment
 
-  pub recorded_moment : content_past (Some (goal_text n)) ≡ None → IsMomentOf (goal_part back) w m
+  pub recorded_moment : content_past (Some (goal_text n)) ≡ None → IsPartMoment (goal_part back) w m
   recorded_moment short = record {
     keeps = record { ends = λ q own. refl; free = λ way none. (way_of w m recorded_clear way, refusal_of back w.leaves m.leaves (recorded_length short) none) };
     only = recorded_only;
@@ -151,7 +151,7 @@ module _ (back : Bool) (w m : WorldState) (moment : IsOldOrGone goal_place w m) 
       (λ gone. ap (λ leaf. too_many LeafBytes (content_past (leaf_content m.leaves leaf))) (ap (λ (x : WorldState). get x.leaves goal_place) gone ∙ get_removed_here w.leaves goal_place))
       moment
 
-  pub cleared_moment : IsMomentOf (goal_part back) w m
+  pub cleared_moment : IsPartMoment (goal_part back) w m
   cleared_moment = record {
     keeps = record { ends = λ q own. refl; free = λ way none. (way_of w m cleared_clear way, refusal_of back w.leaves m.leaves cleared_length none) };
     only = cleared_only;

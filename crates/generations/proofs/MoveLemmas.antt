@@ -8,7 +8,7 @@ use Rattle.host_trait.specs.World.{Leaves, WorldState, seen}
 use Rattle.switch_names.specs.Names.{Name}
 use Rattle.switch_names.specs.SystemName.{IsSystemPath}
 use Rattle.switch_names.proofs.StorePaths.{NamesSystem-with_slash}
-use Rattle.switch_parts.specs.Part.{IsAtEnd, IsFree, IsMomentOf, IsPart}
+use Rattle.switch_parts.specs.Part.{IsAtEnd, IsFree, IsPartMoment, IsPart}
 use Rattle.generations.specs.declared.gens.Gen.{Gen}
 use Rattle.generations.specs.declared.moving.Move.{Move}
 use Rattle.generations.specs.declared.moving.Move.TheVariants.{Point, Set}
@@ -29,7 +29,7 @@ pub move_is : (move : Move) (system : Name) → IsPart (move_part move system)
 move_is Set system = profile_is system
 move_is (Point n) system = point_is n system
 
-pub move_moment : (move : Move) (system : Name) (w m : WorldState) → IsSystemPath system → IsFree (move_part move system) w.leaves → IsMoveMoment move system w m → IsMomentOf (move_part move system) w m
+pub move_moment : (move : Move) (system : Name) (w m : WorldState) → IsSystemPath system → IsFree (move_part move system) w.leaves → IsMoveMoment move system w m → IsPartMoment (move_part move system) w m
 move_moment Set system w m named free moment = profile_moment system w m (NamesSystem-with_slash system named) free moment
 move_moment (Point n) system w m named free moment = point_moment n system w m moment
 

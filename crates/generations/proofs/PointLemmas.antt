@@ -13,7 +13,7 @@ use Rattle.host_trait.proofs.Seen.{clear_seen, seen_at}
 use Rattle.host_trait.proofs.Sound.{clear_insert, line_turned, not_in_line}
 use Rattle.switch_names.specs.Names.{Name}
 use Rattle.switch_names.specs.SystemName.{IsSystemPath}
-use Rattle.switch_parts.specs.Part.{IsAtEnd, IsFree, IsMomentOf, IsOnly, IsPart}
+use Rattle.switch_parts.specs.Part.{IsAtEnd, IsFree, IsPartMoment, IsOnly, IsPart}
 use Rattle.switch_parts.proofs.LeafLemmas.{leaf_is_part}
 use Rattle.tree_put.specs.Put.{CanPut, IsOldOrNew}
 use Rattle.tree_put.specs.WrittenPlace.{in_the_way, written}
@@ -102,7 +102,7 @@ module _ (n : ℕ) (system : Name) where
       (λ new. clear_seen m (with_profile n w) p stage_apart new (clear_insert w.leaves profile p link profile_apart clear))
       moment
 
-  pub point_moment : (w m : WorldState) → IsOldOrNew profile link w m → IsMomentOf (move_part (Point n) system) w m
+  pub point_moment : (w m : WorldState) → IsOldOrNew profile link w m → IsPartMoment (move_part (Point n) system) w m
   point_moment w m moment = record {
     keeps = record {
       ends = λ q own. point_ends w m moment q own;

@@ -10,7 +10,7 @@ use Rattle.host_trait.specs.World.{IsClear, WorldState, is_in_line, is_path, see
 use Rattle.host_trait.proofs.Seen.{clear_seen, other_of, seen_at}
 use Rattle.host_trait.proofs.Sound.{clear_insert, get_other, not_in_line, line_turned}
 use Rattle.tree_put.proofs.LeftLemmas.{leaf_after}
-use Rattle.switch_parts.specs.Part.{IsAtEnd, IsFree, IsMomentOf, IsOnly, IsPart, IsSameFor}
+use Rattle.switch_parts.specs.Part.{IsAtEnd, IsFree, IsPartMoment, IsOnly, IsPart, IsSameFor}
 use Rattle.generations.specs.Places.{generation_at, highest, is_of, link_name, link_path, link_target, number_after, profile, set_end, with_generation, with_profile}
 use Rattle.generations.specs.ProfilePart.{has_number, is_kept, owns_profile, profile_end, profile_part, profile_places, reads_profile}
 use Rattle.switch_parts.specs.declared.refusal.Refusal.TheVariants.{GenerationsFull}
@@ -128,7 +128,7 @@ moment_only system w m moment = record {
 }
 
 -- each moment of a set that isn't refused is one of the part
-pub profile_moment : (system : Name) (w m : WorldState) → NamesSystem (slash ∷ system) system → IsFree (profile_part system) w.leaves → IsSetMoment system w m → IsMomentOf (profile_part system) w m
+pub profile_moment : (system : Name) (w m : WorldState) → NamesSystem (slash ∷ system) system → IsFree (profile_part system) w.leaves → IsSetMoment system w m → IsPartMoment (profile_part system) w m
 profile_moment system w m names free moment =
     let further = number_of_free system w.leaves free in
     let keeps = moment_keeps system w m (number_is w.leaves system further) names moment in

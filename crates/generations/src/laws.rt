@@ -3,7 +3,7 @@ ghost use Rattle.std.specs.Prelude.{◌≡◌, ◌↔◌, ◌<◌, ◌^◌, ℕ,
 ghost use Rattle.host_trait.specs.World.{WorldState, seen, without_leaf};
 ghost use Rattle.switch_names.specs.Names.{Name};
 ghost use Rattle.switch_names.specs.SystemName.{IsSystemPath};
-ghost use Rattle.switch_parts.specs.Part.{IsAtEnd, IsFree, IsMomentOf, IsPart};
+ghost use Rattle.switch_parts.specs.Part.{IsAtEnd, IsFree, IsPartMoment, IsPart};
 ghost use Rattle.tree_put.specs.Put.{IsOldOrGone, IsOldOrNew};
 ghost use Rattle.generations.specs.Boot.{BootStaysLaw, NamedLaw, OldOrNewLaw};
 ghost use Rattle.generations.specs.declared.moving.Move.{Move};
@@ -29,7 +29,7 @@ pub fn a_set_can_be_made_where_its_part_is_free()
 /// Each moment of a move that isn't refused is one of the part.
 pub fn each_moment_of_a_move_is_one_of_its_part()
     ensures { (move : Move) (system : Name) (w m : WorldState) → IsSystemPath system → IsFree (move_part move system) w.leaves → IsMoveMoment move system w m
-        → IsMomentOf (move_part move system) w m }
+        → IsPartMoment (move_part move system) w m }
 {}
 
 /// A move leaves each place of the part at its end.
@@ -74,7 +74,7 @@ pub fn the_goal_stays()
 /// and of removing it is one of the part, and the last leaves the part at its end.
 pub fn the_goal_is_a_part()
     ensures part { (back : Bool) → IsPart (goal_part back) }
-    ensures recording { (back : Bool) (n : ℕ) (w m : WorldState) → n < 2 ^ 32 → IsOldOrNew goal_place (goal_leaf n) w m → IsMomentOf (goal_part back) w m }
-    ensures clearing { (back : Bool) (w m : WorldState) → IsOldOrGone goal_place w m → IsMomentOf (goal_part back) w m }
+    ensures recording { (back : Bool) (n : ℕ) (w m : WorldState) → n < 2 ^ 32 → IsOldOrNew goal_place (goal_leaf n) w m → IsPartMoment (goal_part back) w m }
+    ensures clearing { (back : Bool) (w m : WorldState) → IsOldOrGone goal_place w m → IsPartMoment (goal_part back) w m }
     ensures end { (back : Bool) (w v : WorldState) → v ≡ without_leaf goal_place w → IsAtEnd (goal_part back) w v }
 {}

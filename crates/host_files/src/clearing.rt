@@ -1,6 +1,6 @@
 //! Room for a leaf where an empty folder stands.
 use crate::entries::{Entries, push_entries};
-use crate::place::{Found, foreign, kind_of_entry};
+use crate::place::{PlaceKind, foreign, kind_of_entry};
 use std::alloc::Global;
 use std::fs::DirEntry;
 use std::rt::Files;
@@ -14,7 +14,7 @@ impl Entries for Listed<Text> {
         alloc: Global,
         entry: &DirEntry<R>,
     ) -> io::Result<()> {
-        let Found::Folder(_) = kind_of_entry(entry)? else {
+        let PlaceKind::Folder(_) = kind_of_entry(entry)? else {
             return Err(foreign("stands in a folder that has to go"));
         };
         Ok(self.push(Text::from_str(alloc, entry.path().as_str())?)?)

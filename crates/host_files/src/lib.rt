@@ -24,6 +24,6 @@ pub use manager_file::ManagerFile;
 pub use new_mode::make_folder;
 pub use node_file::{append_bytes, read_leaf, write_new};
 pub use out_sink::OutSink;
-pub use place::{FolderId, Found, fault_of, foreign, kind_of_entry, look, place_in};
+pub use place::{FolderId, PlaceKind, fault_of, foreign, kind_of_entry, look, place_in};
 pub use syncing::{Syncing, sync_folder};
 pub use watched::Watched;

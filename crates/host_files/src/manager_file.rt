@@ -2,7 +2,7 @@
 ghost use Rattle.std.specs.Prelude.{◌≡◌, ◌++◌, codes, IfOk};
 
 use crate::node_file::{read_bytes, write_new};
-use crate::place::{Found, foreign, look, place_in};
+use crate::place::{PlaceKind, foreign, look, place_in};
 use crate::syncing::Syncing;
 use manager_core::{StateFault, WrittenState};
 use std::alloc::{AllocError, Global};
@@ -85,12 +85,12 @@ impl ManagerFile {
     pub fn read<R: Files>(&self, rt: &R, alloc: Global) -> io::Result<WrittenState> {
         let place = self.place.as_str();
         match look(rt, place)? {
-            Found::Nothing => Ok(WrittenState::new(alloc)?),
-            Found::File(len) => match read_bytes(rt, alloc, place, len, &STATE_MARKS)? {
+            PlaceKind::Nothing => Ok(WrittenState::new(alloc)?),
+            PlaceKind::File(len) => match read_bytes(rt, alloc, place, len, &STATE_MARKS)? {
                 Some(bytes) => state_of(alloc, bytes),
                 None => Err(no_state()),
             },
-            Found::Folder(_) => Err(foreign("a folder")),
+            PlaceKind::Folder(_) => Err(foreign("a folder")),
         }
     }
 

@@ -34,7 +34,7 @@ impl FolderId {
 
 /// What stands at a place, where it is neither a symbolic link nor a special file.
 #[derive(Clone, Copy)]
-pub enum Found {
+pub enum PlaceKind {
     /// Nothing.
     Nothing,
     /// This folder.
@@ -82,14 +82,14 @@ fn has_long_name(place: &str) -> bool {
 }
 
 /// What is found by these metadata. A symbolic link or a special file is foreign.
-fn kind_of(metadata: &Metadata) -> io::Result<Found> {
+fn kind_of(metadata: &Metadata) -> io::Result<PlaceKind> {
     if metadata.is_dir() {
-        Ok(Found::Folder(FolderId {
+        Ok(PlaceKind::Folder(FolderId {
             device: metadata.dev(),
             number: metadata.ino(),
         }))
     } else if metadata.is_file() {
-        Ok(Found::File(metadata.len()))
+        Ok(PlaceKind::File(metadata.len()))
     } else {
         Err(foreign("a link or a special file"))
     }
@@ -98,25 +98,25 @@ fn kind_of(metadata: &Metadata) -> io::Result<Found> {
 /// Which folder these metadata are of. Anything else is foreign.
 pub fn folder_id(metadata: &Metadata) -> io::Result<FolderId> {
     match kind_of(metadata)? {
-        Found::Folder(id) => Ok(id),
+        PlaceKind::Folder(id) => Ok(id),
         _ => Err(foreign("not a folder")),
     }
 }
 
 /// What an entry of a folder names, by one system call that follows no link at its end.
-pub fn kind_of_entry<R: Files + AllocGlobal>(entry: &DirEntry<R>) -> io::Result<Found> {
+pub fn kind_of_entry<R: Files + AllocGlobal>(entry: &DirEntry<R>) -> io::Result<PlaceKind> {
     kind_of(&entry.metadata()?)
 }
 
 /// What stands at a place, by one system call that follows no link at its end.
 ///
 /// Nothing stands below a file.
-pub fn look(rt: &impl Files, place: &str) -> io::Result<Found> {
+pub fn look(rt: &impl Files, place: &str) -> io::Result<PlaceKind> {
     match fs::symlink_metadata(rt, place) {
         Ok(metadata) => kind_of(&metadata),
         Err(error) => match error.kind() {
-            ErrorKind::NotFound | ErrorKind::NotADirectory => Ok(Found::Nothing),
-            ErrorKind::InvalidFilename if has_long_name(place) => Ok(Found::Nothing),
+            ErrorKind::NotFound | ErrorKind::NotADirectory => Ok(PlaceKind::Nothing),
+            ErrorKind::InvalidFilename if has_long_name(place) => Ok(PlaceKind::Nothing),
             _ => Err(error),
         },
     }

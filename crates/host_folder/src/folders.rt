@@ -4,7 +4,7 @@ ghost use Rattle.switch_names.specs.Path.{slash};
 
 use crate::fault::Fault;
 use host_files::{
-    FolderId, Found, Syncing, clear_folder, foreign, look, make_folder, place_in, sync_folder,
+    FolderId, PlaceKind, Syncing, clear_folder, foreign, look, make_folder, place_in, sync_folder,
 };
 use std::alloc::{AllocError, Global};
 use std::collections::{BTreeMap, BTreeSet};
@@ -170,9 +170,9 @@ impl Folders {
     }
 
     /// What stands at a place of the tree. Nothing stands where a folder on the way is missing.
-    pub fn find<R: Files>(&mut self, rt: &R, alloc: Global, place: &str) -> io::Result<Found> {
+    pub fn find<R: Files>(&mut self, rt: &R, alloc: Global, place: &str) -> io::Result<PlaceKind> {
         if !self.lead_to(rt, alloc, place, Missing::Stays)? {
-            return Ok(Found::Nothing);
+            return Ok(PlaceKind::Nothing);
         }
         look(rt, place)
     }
@@ -189,10 +189,10 @@ impl Folders {
             return Ok(true);
         }
         let id = match look(rt, folder)? {
-            Found::Folder(id) => id,
+            PlaceKind::Folder(id) => id,
             _ if matches!(missing, Missing::Stays) => return Ok(false),
-            Found::Nothing => self.make(rt, alloc, folder)?,
-            Found::File(_) => return Err(foreign("not a folder")),
+            PlaceKind::Nothing => self.make(rt, alloc, folder)?,
+            PlaceKind::File(_) => return Err(foreign("not a folder")),
         };
         self.remember(rt, alloc, folder, id)?;
         Ok(true)
@@ -214,7 +214,7 @@ impl Folders {
     /// stands there now, or where a link leads to it.
     fn check_folder<R: Files>(&self, rt: &R, folder: &str) -> io::Result<()> {
         match (self.known.get(folder), look(rt, folder)?) {
-            (Some(known), Found::Folder(id)) if *known == id => Ok(()),
+            (Some(known), PlaceKind::Folder(id)) if *known == id => Ok(()),
             _ => Err(foreign("another folder than before")),
         }
     }

@@ -8,7 +8,7 @@ use crate::folders::Folders;
 use crate::listing::{list_leaves, list_tops};
 use crate::service::Service;
 use crate::stage::{Stage, move_leaf, write_leaf};
-use host_files::{Found, Syncing, Watched, append_bytes, fault_of, foreign, read_leaf};
+use host_files::{PlaceKind, Syncing, Watched, append_bytes, fault_of, foreign, read_leaf};
 use host_trait::{Act, HostFault, Leaf, Manager, States, Tree, definitions_path};
 use std::alloc::{AllocError, Global};
 use std::cell::Cell;
@@ -57,7 +57,7 @@ fn leaf_at<R: Files>(
 ) -> io::Result<Option<Leaf>> {
     let place = tree.place(alloc, at)?;
     match tree.find(rt, alloc, place.as_str())? {
-        Found::File(len) => Ok(Some(read_leaf(rt, alloc, place.as_str(), len)?)),
+        PlaceKind::File(len) => Ok(Some(read_leaf(rt, alloc, place.as_str(), len)?)),
         _ => Ok(None),
     }
 }
@@ -66,7 +66,7 @@ fn leaf_at<R: Files>(
 fn remove_at<R: Files>(rt: &R, alloc: Global, tree: &mut Folders, at: &Path) -> io::Result<()> {
     let place = tree.place(alloc, at)?;
     match tree.find(rt, alloc, place.as_str())? {
-        Found::File(_) => {
+        PlaceKind::File(_) => {
             tree.look_again(rt, alloc, place.as_str())?;
             fs::remove_file(rt, place.as_str())
         }
@@ -83,7 +83,7 @@ fn append_at<R: Files>(
     bytes: &[u8],
 ) -> io::Result<()> {
     let place = tree.place(alloc, at)?;
-    let Found::File(_) = tree.find(rt, alloc, place.as_str())? else {
+    let PlaceKind::File(_) = tree.find(rt, alloc, place.as_str())? else {
         return Err(foreign("no file"));
     };
     tree.look_again(rt, alloc, place.as_str())?;

@@ -1,6 +1,6 @@
 //! The leaves below a folder.
 use crate::folders::Folders;
-use host_files::{Entries, FolderId, Found, foreign, kind_of_entry, push_entries};
+use host_files::{Entries, FolderId, PlaceKind, foreign, kind_of_entry, push_entries};
 use host_trait::stage_path;
 use std::alloc::{AllocError, Global};
 use std::fs::DirEntry;
@@ -52,7 +52,7 @@ impl Entries for Walk {
         let found = kind_of_entry(entry)?;
         let path = path_of(self.folder.join(alloc, entry.file_name()))?;
         let pushed = match found {
-            Found::Folder(id) => self.folders.push(Below { path, id }),
+            PlaceKind::Folder(id) => self.folders.push(Below { path, id }),
             _ => self.leaves.push(path),
         };
         Ok(pushed?)
@@ -149,9 +149,9 @@ impl Walk {
         place: &str,
     ) -> io::Result<()> {
         match tree.find(rt, alloc, place)? {
-            Found::Nothing => Ok(()),
-            Found::File(_) => Ok(self.leaves.push(self.folder.copy(alloc)?)?),
-            Found::Folder(id) => self.push_below(rt, alloc, tree, id),
+            PlaceKind::Nothing => Ok(()),
+            PlaceKind::File(_) => Ok(self.leaves.push(self.folder.copy(alloc)?)?),
+            PlaceKind::Folder(id) => self.push_below(rt, alloc, tree, id),
         }
     }
 
@@ -242,9 +242,9 @@ fn has_leaf<R: Files + AllocGlobal + Clone + Drop>(
 ) -> io::Result<bool> {
     let place = tree.place(alloc, name)?;
     match tree.find(rt, alloc, place.as_str())? {
-        Found::Nothing => Ok(false),
-        Found::File(_) => Ok(true),
-        Found::Folder(id) => Walk::new(alloc, name)?.finds_leaf(rt, alloc, tree, id),
+        PlaceKind::Nothing => Ok(false),
+        PlaceKind::File(_) => Ok(true),
+        PlaceKind::Folder(id) => Walk::new(alloc, name)?.finds_leaf(rt, alloc, tree, id),
     }
 }
 

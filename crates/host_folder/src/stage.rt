@@ -1,6 +1,6 @@
 //! The stage, at which a leaf is written before it takes its place.
 use crate::folders::{Folders, Missing};
-use host_files::{Found, foreign, look, write_new};
+use host_files::{PlaceKind, foreign, look, write_new};
 use host_trait::{Leaf, stage_path};
 use node_text::write_node;
 use std::alloc::Global;
@@ -33,12 +33,12 @@ fn take_away<R: Files + AllocGlobal + Clone + Drop>(
     place: &str,
 ) -> io::Result<()> {
     match look(rt, place)? {
-        Found::Nothing => Ok(()),
-        Found::File(_) => {
+        PlaceKind::Nothing => Ok(()),
+        PlaceKind::File(_) => {
             tree.look_again(rt, alloc, place)?;
             fs::remove_file(rt, place)
         }
-        Found::Folder(_) => tree.clear(rt, alloc, place),
+        PlaceKind::Folder(_) => tree.clear(rt, alloc, place),
     }
 }
 
@@ -100,7 +100,7 @@ fn is_staged<R: Files>(
     }
     match stage {
         Stage::Written => Ok(true),
-        _ => Ok(matches!(look(rt, place)?, Found::File(_))),
+        _ => Ok(matches!(look(rt, place)?, PlaceKind::File(_))),
     }
 }
 
@@ -113,7 +113,7 @@ fn make_way<R: Files + AllocGlobal + Clone + Drop>(
 ) -> io::Result<()> {
     tree.lead_to(rt, alloc, place, Missing::IsMade)?;
     match look(rt, place)? {
-        Found::Folder(_) => tree.clear(rt, alloc, place),
+        PlaceKind::Folder(_) => tree.clear(rt, alloc, place),
         _ => Ok(()),
     }
 }

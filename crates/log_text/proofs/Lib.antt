@@ -3,3 +3,4 @@ pub mod LineLemmas
 pub mod ReadLemmas
 pub mod SomeLemmas
 pub mod TornLemmas
+pub mod WhichLemmas

@@ -12,14 +12,14 @@ use Rattle.switch_names.specs.UnitName.{IsUnitName, unit_fault}
 use Rattle.switch_names.specs.declared.name_fault.NameFault.{NameFault}
 use Rattle.log_text.specs.declared.block.Block.{Block}
 use Rattle.log_text.specs.declared.lists.Which.{Which}
-use Rattle.log_text.specs.declared.lists.Which.TheVariants.{Starts, Restarts, Reloads}
 use Rattle.log_text.specs.Laws.{SomeLogLaw}
-use Rattle.log_text.specs.Lists.{block_of}
+use Rattle.log_text.specs.Lists.{block_of, record_order}
 use Rattle.log_text.specs.Log.{AreFirstNames, IsBlock, IsLine, IsLog, block_text, header_of, last_line}
 use Rattle.log_text.proofs.BlockLemmas.{front, shape}
 use Rattle.log_text.proofs.LineLemmas.{none_other, none_unended}
 use Rattle.log_text.proofs.ReadLemmas.{block_lined, block_names, block_there, end_is, end_lined, never_both}
 use Rattle.log_text.proofs.TornLemmas.{block_some, either_side}
+use Rattle.log_text.proofs.WhichLemmas.{each_in_order}
 
 -- ---- what is decided
 
@@ -124,21 +124,17 @@ module _ (text line after : List ℕ) (is_line : IsLine line) (at : text ≡ lin
   there which rest sorted counted end head =
       Fronted.With (block_of which names) rest (record { names = first.are; sorted = sorted; counted = counted }) (at ∙ block_there which names rest line after behind first head end)
 
-  none_headed : (line ≢ header_of Starts (length names)) → (line ≢ header_of Restarts (length names)) → (line ≢ header_of Reloads (length names)) → Fronted text
-  none_headed starts restarts reloads = Fronted.Without (λ block rest is same. by block.which (parts block rest is same).0)
-    where
-      by : (which : Which) → line ≡ header_of which (length names) → ⊥
-      by Starts is = starts is
-      by Restarts is = restarts is
-      by Reloads is = reloads is
+  headed_or_not : (order : List Which) → ((which : Which) × (line ≡ header_of which (length names))) ⊎ AllByRecursion (λ which. line ≢ header_of which (length names)) order
+  headed_or_not [] = inr tt
+  headed_or_not (which ∷ order) =
+      ⊎_elim (λ is. inl (which, is)) (λ other. ⊎_elim inl (λ others. inr (other, others)) (headed_or_not order)) (same_text line (header_of which (length names)))
 
   headed : (rest : List ℕ) → IsStrictlySortedBy bytes_cmp names → length names < 2 ^ 64 → behind ≡ last_line ++ rest → Fronted text
   headed rest sorted counted end =
-      ⊎_elim (there Starts rest sorted counted end)
-      (λ starts. ⊎_elim (there Restarts rest sorted counted end)
-      (λ restarts. ⊎_elim (there Reloads rest sorted counted end) (λ reloads. none_headed starts restarts reloads) (same_text line (header_of Reloads (length names))))
-      (same_text line (header_of Restarts (length names))))
-      (same_text line (header_of Starts (length names)))
+      ⊎_elim
+      (λ some. there some.0 rest sorted counted end some.1)
+      (λ none. Fronted.Without (λ block more is same. each_in_order (λ which. line ≢ header_of which (length names)) none block.which (parts block more is same).0))
+      (headed_or_not record_order)
 
   ended : (rest : List ℕ) → behind ≡ last_line ++ rest → Fronted text
   ended rest end =

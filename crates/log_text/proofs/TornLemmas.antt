@@ -1,5 +1,5 @@
 -- What is read of a log to which a part of some blocks was appended.
-use Rattle.std.proofs.Common.{◌≡◌, ◌≢◌, ◌≤◌, ◌<◌, ◌++◌, ◌∷◌, ◌+◌, ◌-◌, ◌⊎◌, ℕ, zero, suc, List, [], length, refl, sym, ap, subst, ◌∙◌, drop, take, inl, inr, arith, length-append, ⊎_elim}
+use Rattle.std.proofs.Common.{◌≡◌, ◌≢◌, ◌≤◌, ◌<◌, ◌++◌, ◌∷◌, ◌+◌, ◌-◌, ◌⊎◌, ℕ, zero, suc, List, [], length, map, refl, sym, ap, subst, ◌∙◌, drop, take, inl, inr, arith, length-append, ⊎_elim}
 use Rattle.std.specs.List.{AllByRecursion}
 use Rattle.std.proofs.Math.Seq.{take-append-add, take-nil}
 use Rattle.std.proofs.lemmas.Grind.{flat_map-append}
@@ -8,9 +8,8 @@ use Rattle.host_trait.proofs.Orders.{none_sorted}
 use Rattle.log_text.specs.declared.block.Block.{Block}
 use Rattle.log_text.specs.declared.lists.Lists.{Lists}
 use Rattle.log_text.specs.declared.lists.Which.{Which}
-use Rattle.log_text.specs.declared.lists.Which.TheVariants.{Starts, Restarts, Reloads}
 use Rattle.log_text.specs.Laws.{ClearLaw, RecordLaw, TornLaw}
-use Rattle.log_text.specs.Lists.{AreInOrder, block_of, blocks_of, lists_after, lists_of, no_lists, with_block, with_list}
+use Rattle.log_text.specs.Lists.{AreLists, block_of, blocks_of, list_names, lists_after, lists_of, no_lists, record_order, with_block, with_list}
 use Rattle.log_text.specs.Log.{IsBlock, IsLog, block_text, header_of, last_line, list_text, log_text}
 use Rattle.log_text.proofs.BlockLemmas.{same_block}
 
@@ -119,39 +118,29 @@ lists_append : (old : Lists) (one other : List Block) → lists_after old (one +
 lists_append old [] other = refl
 lists_append old (b ∷ one) other = lists_append (with_block old b) one other
 
-recorded : (old lists : Lists) → lists_after old (blocks_of lists) ≡ lists
-recorded old lists = refl
-
-in_order : (old lists : Lists) (count : ℕ) → AreInOrder old lists (lists_after old (take count (blocks_of lists)))
-in_order old lists zero = AreInOrder.AsBefore refl
-in_order old lists (suc zero) = AreInOrder.First refl
-in_order old lists (suc (suc zero)) = AreInOrder.Second refl
-in_order old lists (suc (suc (suc count))) = AreInOrder.Recorded (ap (λ rest. lists_after old (block_of Starts lists.starts ∷ block_of Restarts lists.restarts ∷ block_of Reloads lists.reloads ∷ rest)) (take-nil count))
+each_block : (lists : Lists) → AreLists lists → (order : List Which) → AllByRecursion IsBlock (map (λ which. block_of which (list_names lists which)) order)
+each_block lists are [] = tt
+each_block lists are (which ∷ order) = (are which, each_block lists are order)
 
 pub record_law : RecordLaw
 record_law text before lists n is are =
-    let torn = torn_law text before (blocks_of lists) n is (are.starts, (are.restarts, (are.reloads, tt))) in
+    let torn = torn_law text before (blocks_of lists) n is (each_block lists are record_order) in
     let old = lists_of before in
     let joined = lists_append no_lists before (take torn.count (blocks_of lists)) in
     record {
       blocks = before ++ take torn.count (blocks_of lists);
       tail = torn.tail;
       log = torn.log;
-      order = subst (AreInOrder old lists) (sym joined) (in_order old lists torn.count);
-      whole = λ late. let all = torn.whole late in (all.0, joined ∙ ap (lists_after old) all.1 ∙ recorded old lists);
+      order = (torn.count, joined);
+      whole = λ late. let all = torn.whole late in (all.0, joined ∙ ap (lists_after old) all.1);
     }
 
 empty_block : (which : Which) → IsBlock (block_of which [])
 empty_block which = record { names = tt; sorted = none_sorted; counted = omega arith }
 
-emptied : (which : Which) (old : Lists) → lists_after old (block_of which [] ∷ []) ≡ with_list old which []
-emptied Starts old = refl
-emptied Restarts old = refl
-emptied Reloads old = refl
-
 clearing : (which : Which) (old : Lists) (count : ℕ) → (lists_after old (take count (block_of which [] ∷ [])) ≡ old) ⊎ (lists_after old (take count (block_of which [] ∷ [])) ≡ with_list old which [])
 clearing which old zero = inl refl
-clearing which old (suc count) = inr (ap (λ rest. lists_after old (block_of which [] ∷ rest)) (take-nil count) ∙ emptied which old)
+clearing which old (suc count) = inr (ap (λ rest. lists_after old (block_of which [] ∷ rest)) (take-nil count))
 
 alone : (which : Which) → log_text (block_of which [] ∷ []) ≡ block_text (block_of which [])
 alone which = append-nil (block_text (block_of which []))
@@ -167,5 +156,5 @@ clear_law text before which n is =
       tail = torn.tail;
       log = subst (λ t. IsLog (text ++ take n t) (before ++ take torn.count new) torn.tail) (alone which) torn.log;
       lists = ⊎_elim (λ same. inl (joined ∙ same)) (λ empty. inr (joined ∙ empty)) (clearing which old torn.count);
-      whole = λ late. let all = torn.whole (subst (λ t. length t ≤ n) (sym (alone which)) late) in (all.0, joined ∙ ap (lists_after old) all.1 ∙ emptied which old);
+      whole = λ late. let all = torn.whole (subst (λ t. length t ≤ n) (sym (alone which)) late) in (all.0, joined ∙ ap (lists_after old) all.1);
     }

@@ -1,5 +1,5 @@
 -- The lists that a log gives: NixOS manual, "Unit handling".
-use Rattle.std.specs.Prelude.{◌≡◌, ◌↔◌, ◌∷◌, ◌<◌, ◌^◌, ℕ, IsTrue, List, [], length}
+use Rattle.std.specs.Prelude.{◌≡◌, ◌↔◌, ◌∷◌, ◌<◌, ◌^◌, ℕ, IsTrue, List, [], length, map, take}
 use Rattle.log_text.specs.declared.block.Block.{Block}
 use Rattle.log_text.specs.declared.lists.Lists.{Lists}
 use Rattle.log_text.specs.declared.lists.Which.{Which}
@@ -10,6 +10,12 @@ use Rattle.switch_names.specs.Names.{Name}
 
 abbrev pub no_lists : Lists
 no_lists = record { starts = []; restarts = []; reloads = [] }
+
+-- the names of one of the lists
+abbrev pub list_names : Lists → Which → List Name
+list_names lists Starts = lists.starts
+list_names lists Restarts = lists.restarts
+list_names lists Reloads = lists.reloads
 
 -- lists of which one has other names
 abbrev pub with_list : Lists → Which → List Name → Lists
@@ -33,21 +39,21 @@ lists_of blocks = lists_after no_lists blocks
 abbrev pub block_of : Which → List Name → Block
 block_of which names = record { which = which; names = names }
 
+-- the lists in the order in which they are recorded
+abbrev pub record_order : List Which
+record_order = Starts ∷ Restarts ∷ Reloads ∷ []
+
 -- the blocks of lists, in the order in which they are recorded
 abbrev pub blocks_of : Lists → List Block
-blocks_of lists = block_of Starts lists.starts ∷ block_of Restarts lists.restarts ∷ block_of Reloads lists.reloads ∷ []
+blocks_of lists = map (λ which. block_of which (list_names lists which)) record_order
 
 -- the names of each list can be counted
-pub record AreCounted (lists : Lists) : Type 0 where
-  pub starts : length lists.starts < 2 ^ 64
-  pub restarts : length lists.restarts < 2 ^ 64
-  pub reloads : length lists.reloads < 2 ^ 64
+abbrev pub AreCounted : Lists → Type 0
+AreCounted lists = (which : Which) → length (list_names lists which) < 2 ^ 64
 
 -- each list can be written
-pub record AreLists (lists : Lists) : Type 0 where
-  pub starts : IsBlock (block_of Starts lists.starts)
-  pub restarts : IsBlock (block_of Restarts lists.restarts)
-  pub reloads : IsBlock (block_of Reloads lists.reloads)
+abbrev pub AreLists : Lists → Type 0
+AreLists lists = (which : Which) → IsBlock (block_of which (list_names lists which))
 
 -- what is read of a text: the lists that its blocks give, and whether nothing follows them
 pub record IsReadOf (text : List ℕ) (log : Log) : Type 0 where
@@ -57,9 +63,6 @@ pub record IsReadOf (text : List ℕ) (log : Log) : Type 0 where
   pub lists : log.lists ≡ lists_of blocks
   pub whole : IsTrue log.is_whole ↔ (tail ≡ [])
 
--- none, the first, the first two or all three of the lists are recorded
-pub data AreInOrder (old new now : Lists) : Type 0 where
-  AsBefore : now ≡ old → AreInOrder old new now
-  First : now ≡ record old { starts = new.starts } → AreInOrder old new now
-  Second : now ≡ record new { reloads = old.reloads } → AreInOrder old new now
-  Recorded : now ≡ new → AreInOrder old new now
+-- the first so many of the lists are recorded
+abbrev pub AreInOrder : Lists → Lists → Lists → Type 0
+AreInOrder old new now = (count : ℕ) × (now ≡ lists_after old (take count (blocks_of new)))

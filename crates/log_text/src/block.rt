@@ -3,7 +3,7 @@ ghost use Rattle.std.specs.Prelude.{◌≡◌, ◌≢◌, ◌++◌, ◌∷◌, �
 ghost use Rattle.log_text.specs.Log.{IsBlock, block_text, header_of, last_line, word};
 
 use crate::lines::{first_line, first_names, is_ascending};
-use crate::lists::Which;
+use crate::lists::{RECORD_ORDER, Which};
 use std::alloc::{AllocError, Global};
 use switch_names::{Listed, UnitName};
 
@@ -63,14 +63,10 @@ impl Which {
 fn list_of(alloc: Global, line: &[u8], count: usize) -> Result<Option<Which>, AllocError>
     ensures { IfOk result (λ which. MatchOption which ((one : Which) → line.now ≢ header_of one count) (λ one. line.now ≡ header_of one count)) }
 {
-    if Which::Starts.is_header(alloc, count, line)? {
-        return Ok(Some(Which::Starts));
-    }
-    if Which::Restarts.is_header(alloc, count, line)? {
-        return Ok(Some(Which::Restarts));
-    }
-    if Which::Reloads.is_header(alloc, count, line)? {
-        return Ok(Some(Which::Reloads));
+    for which in RECORD_ORDER {
+        if which.is_header(alloc, count, line)? {
+            return Ok(Some(which));
+        }
     }
     Ok(None)
 }

@@ -11,6 +11,6 @@ mod tests;
 mod writing;
 
 pub use block::{Block, first_block};
-pub use lists::{Lists, Which};
+pub use lists::{Lists, RECORD_ORDER, Which};
 pub use log::{Log, read_log};
 pub use writing::{cleared_text, lists_text};

@@ -1,6 +1,6 @@
 //! The lists that a log gives.
 ghost use Rattle.std.specs.Prelude.{◌≡◌};
-ghost use Rattle.log_text.specs.Lists.{no_lists, with_block};
+ghost use Rattle.log_text.specs.Lists.{list_names, no_lists, with_block};
 
 use crate::block::Block;
 use std::alloc::Global;
@@ -16,6 +16,9 @@ pub enum Which {
     /// The units to reload.
     Reloads,
 }
+
+/// The lists in the order in which they are recorded.
+pub const RECORD_ORDER: [Which; 3] = [Which::Starts, Which::Restarts, Which::Reloads];
 
 /// The units that are still to be started, restarted and reloaded.
 ///
@@ -49,6 +52,17 @@ impl Lists {
             starts: Listed::new(alloc),
             restarts: Listed::new(alloc),
             reloads: Listed::new(alloc),
+        }
+    }
+
+    /// One of the lists.
+    pub fn of(&self, which: Which) -> &Listed<UnitName>
+        ensures { result.now ≡ list_names self.now which }
+    {
+        match which {
+            Which::Starts => &self.starts,
+            Which::Restarts => &self.restarts,
+            Which::Reloads => &self.reloads,
         }
     }
 

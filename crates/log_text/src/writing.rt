@@ -3,7 +3,7 @@ ghost use Rattle.std.specs.Prelude.{◌≡◌, ◌++◌, ◌∷◌, ◌<◌, ◌
 ghost use Rattle.log_text.specs.Lists.{AreCounted, block_of, blocks_of};
 ghost use Rattle.log_text.specs.Log.{block_text, list_text, log_text};
 
-use crate::lists::{Lists, Which};
+use crate::lists::{Lists, RECORD_ORDER, Which};
 use std::alloc::{AllocError, Global};
 use switch_names::{Bytes, UnitName};
 
@@ -44,15 +44,15 @@ fn add_block(
     Ok(())
 }
 
-/// The text that records lists: a block for the units to start, one for those to restart, and one for those to reload.
+/// The text that records lists: a block for each of them, in order.
 pub fn lists_text(alloc: Global, lists: &Lists) -> Result<Bytes, AllocError>
     ensures text { IfOk result (λ text. text ≡ log_text (blocks_of lists.now)) }
     ensures counted { OnOk result (AreCounted lists.now) }
 {
     let mut out = Vec::new(alloc);
-    add_block(alloc, &mut out, Which::Starts, lists.starts.as_slice())?;
-    add_block(alloc, &mut out, Which::Restarts, lists.restarts.as_slice())?;
-    add_block(alloc, &mut out, Which::Reloads, lists.reloads.as_slice())?;
+    for which in RECORD_ORDER {
+        add_block(alloc, &mut out, which, lists.of(which).as_slice())?;
+    }
     Ok(Bytes::from_vec(out))
 }
 

@@ -1,11 +1,14 @@
 -- Each world has one set of lists.
-use Rattle.std.proofs.Common.{◌≡◌, ℕ, IsTrue, List, Option, sym, ◌∙◌}
+use Rattle.std.proofs.Common.{◌≡◌, ℕ, IsTrue, List, Option, sym, subst, ◌∙◌}
 use Rattle.std.specs.Cmp.{both_ways}
 use Rattle.std.proofs.lemmas.Map.Lookups.{btree_set_from_contains, exact_bytes}
 use Rattle.host_trait.specs.World.{Leaves, content_of}
 use Rattle.host_trait.proofs.Places.{bytes_total}
 use Rattle.log_text.specs.declared.lists.Lists.{Lists}
+use Rattle.log_text.specs.declared.lists.Which.{Which}
 use Rattle.log_text.specs.declared.lists.Which.TheVariants.{Starts, Restarts, Reloads}
+use Rattle.log_text.specs.Lists.{list_names}
+use Rattle.log_text.proofs.WhichLemmas.{lists_with, names_with, same_by_names}
 use Rattle.owed_lists.specs.Lists.{AreListsOf, IsListOf, names_in, place_of}
 use Rattle.owed_lists.proofs.OrderLemmas.{has_ordered, ordered, ordered_sorted}
 use Rattle.switch_names.specs.Names as names
@@ -29,11 +32,7 @@ same_list : (content : Option (List ℕ)) (one other : List Name) → IsListOf c
 same_list content one other is also = one_list one other _ (of_content content one is) (of_content content other also)
 
 pub same_lists : (leaves : Leaves) (one other : Lists) → AreListsOf leaves one → AreListsOf leaves other → one ≡ other
-same_lists leaves one other is also = λ i. record {
-  starts = same_list _ one.starts other.starts is.starts also.starts i;
-  restarts = same_list _ one.restarts other.restarts is.restarts also.restarts i;
-  reloads = same_list _ one.reloads other.reloads is.reloads also.reloads i;
-}
+same_lists leaves one other is also = same_by_names one other (λ which. same_list _ (list_names one which) (list_names other which) (is which) (also which))
 
 -- ---- the lists that a world has
 
@@ -45,9 +44,13 @@ is_list_in content = record { sorted = ordered_sorted (names_in content); exact 
 
 pub lists_in : (leaves : Leaves) → (lists : Lists) × AreListsOf leaves lists
 lists_in leaves =
-    let starts = content_of leaves (place_of Starts) in
-    let restarts = content_of leaves (place_of Restarts) in
-    let reloads = content_of leaves (place_of Reloads) in (
-      record { starts = list_in starts; restarts = list_in restarts; reloads = list_in reloads },
-      record { starts = is_list_in starts; restarts = is_list_in restarts; reloads = is_list_in reloads },
-    )
+    let names : Which → List Name = λ which. list_in (content_of leaves (place_of which)) in
+    (lists_with names, λ which. subst (IsListOf (content_of leaves (place_of which))) (sym (names_with names which)) (is_list_in (content_of leaves (place_of which))))
+
+-- lists are those of a world where each of them is
+pub lists_are :
+    (leaves : Leaves) (lists : Lists) → IsListOf (content_of leaves (place_of Starts)) lists.starts → IsListOf (content_of leaves (place_of Restarts)) lists.restarts →
+    IsListOf (content_of leaves (place_of Reloads)) lists.reloads → AreListsOf leaves lists
+lists_are leaves lists starts restarts reloads Starts = starts
+lists_are leaves lists starts restarts reloads Restarts = restarts
+lists_are leaves lists starts restarts reloads Reloads = reloads

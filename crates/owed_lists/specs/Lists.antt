@@ -8,6 +8,7 @@ use Rattle.host_trait.specs.World.{Leaves, bytes_cmp, content_of}
 use Rattle.log_text.specs.declared.lists.Lists.{Lists}
 use Rattle.log_text.specs.declared.lists.Which.{Which}
 use Rattle.log_text.specs.declared.lists.Which.TheVariants.{Starts, Restarts, Reloads}
+use Rattle.log_text.specs.Lists.{list_names}
 
 -- where the units to start stand
 unfoldable pub starts_place : List ℕ
@@ -38,7 +39,5 @@ pub record IsListOf (content : Option (List ℕ)) (list : List (List ℕ)) : Typ
   pub exact : (unit : List ℕ) → has list unit ≡ has (names_in content) unit
 
 -- the three lists that stand in a world
-pub record AreListsOf (leaves : Leaves) (lists : Lists) : Type 0 where
-  pub starts : IsListOf (content_of leaves (place_of Starts)) lists.starts
-  pub restarts : IsListOf (content_of leaves (place_of Restarts)) lists.restarts
-  pub reloads : IsListOf (content_of leaves (place_of Reloads)) lists.reloads
+abbrev pub AreListsOf : Leaves → Lists → Type 0
+AreListsOf leaves lists = (which : Which) → IsListOf (content_of leaves (place_of which)) (list_names lists which)

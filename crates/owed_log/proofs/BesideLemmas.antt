@@ -1,15 +1,15 @@
 -- What is left alone where lists are recorded, and where one is cleared.
-use Rattle.std.proofs.Common.{◌≡◌, ◌≢◌, ◌⊎◌, ◌++◌, rules, ℕ, false, cond, List, [], ◌∷◌, take, Option, None, Some, refl, sym, ap, ◌∙◌, inl, inr}
+use Rattle.std.proofs.Common.{◌≡◌, ◌≢◌, ◌⊎◌, ◌++◌, rules, ℕ, false, cond, List, [], ◌∷◌, length, take, Option, None, Some, refl, sym, ap, ◌∙◌, inl, inr}
 use Rattle.std.specs.FinMap.{get, gets, remove}
 use Rattle.std.specs.List.{list_any}
-use Rattle.host_trait.specs.Change.{IsMoment, finished}
+use Rattle.host_trait.specs.Change.{Change, IsMiddle, IsMoment, finished}
 use Rattle.host_trait.specs.declared.leaf.LeafKind.{LeafKind}
 use Rattle.host_trait.specs.World.{Leaves, WorldState, seen, extended, stage, with_extended, with_leaf, with_more, without_leaf}
 use Rattle.host_trait.proofs.Seen.{other_of, seen_at, seen_with_leaf}
 use Rattle.host_trait.proofs.Sound.{get_other}
 use Rattle.log_text.specs.declared.lists.Which.{Which}
 use Rattle.log_text.specs.declared.lists.Which.TheVariants.{Starts, Restarts, Reloads}
-use Rattle.log_text.specs.Lists.{block_of}
+use Rattle.log_text.specs.Lists.{block_of, record_order}
 use Rattle.log_text.specs.Log.{block_text}
 use Rattle.switch_names.specs.Names.{Name, is_name}
 use Rattle.tree_put.specs.Sequence.{without_places}
@@ -26,12 +26,16 @@ at_of m w q same = ap (λ (x : WorldState). get x.leaves q) same
 
 -- ---- other places
 
+-- bytes are appended to the log
+append_beside : (text : List ℕ) (w m : WorldState) (q : Name) → q ≢ log_place → IsMoment (Change.Append log_place text) w m → get m.leaves q ≡ get w.leaves q
+append_beside text w m q other (inl is) = at_of m w q is
+append_beside text w m q other (inr (inl is)) = ap (λ (x : WorldState). get x.leaves q) is ∙ more_elsewhere w.leaves log_place text q other
+append_beside text w m q other (inr (inr middle)) = ap (λ (x : WorldState). get x.leaves q) middle.1 ∙ more_elsewhere w.leaves log_place (take middle.0 text) q other
+
 module _ (q : Name) (ne : q ≢ stage) (other : q ≢ log_place) where
   pub writing_beside : (write : LogWrite) (w m : WorldState) → IsWriting write w m → get m.leaves q ≡ get w.leaves q
   writing_beside Nothing w m is = at_of m w q is
-  writing_beside (Append text) w m (inl is) = at_of m w q is
-  writing_beside (Append text) w m (inr (inl is)) = ap (λ (x : WorldState). get x.leaves q) is ∙ more_elsewhere w.leaves log_place text q other
-  writing_beside (Append text) w m (inr (inr middle)) = ap (λ (x : WorldState). get x.leaves q) middle.1 ∙ more_elsewhere w.leaves log_place (take middle.0 text) q other
+  writing_beside (Append text) w m cut = append_beside text w m q other cut
   writing_beside (Put text) w m (inl is) = seen_at m w is q ne
   writing_beside (Put text) w m (inr is) = seen_at m (with_leaf log_place (log_leaf text) w) is q ne ∙ get_other w.leaves log_place q (log_leaf text) (other_of q log_place other)
 
@@ -51,29 +55,28 @@ module _ (q : Name) (ne : q ≢ stage) (other : q ≢ log_place) (apart : (count
       ap (λ (x : WorldState). get x.leaves q) removing.world ∙ removed_beside removing.count u ∙ seen_at u (with_write write w) came q ne ∙ write_beside q ne other write w
 
   pub recorded_beside : (write : LogWrite) (w : WorldState) → get (recorded write w).leaves q ≡ get w.leaves q
-  recorded_beside write w = removed_beside 3 (with_write write w) ∙ write_beside q ne other write w
+  recorded_beside write w = removed_beside (length record_order) (with_write write w) ∙ write_beside q ne other write w
 
 pub removed_elsewhere : (leaves : Leaves) (k q : Name) → q ≢ k → get (remove leaves k) q ≡ get leaves q
 removed_elsewhere leaves k q other = let no = other_of q k other in grind (gets, rules)
 
 pub clearing_beside : (which : Which) (w m : WorldState) (q : Name) → q ≢ log_place → IsMoment (clearing which) w m → get m.leaves q ≡ get w.leaves q
-clearing_beside which w m q other (inl is) = at_of m w q is
+clearing_beside Starts w m q other (inl is) = at_of m w q is
 clearing_beside Starts w m q other (inr (inl is)) = ap (λ (x : WorldState). get x.leaves q) is ∙ removed_elsewhere w.leaves log_place q other
 clearing_beside Starts w m q other (inr (inr middle)) = absurd middle
-clearing_beside Restarts w m q other (inr (inl is)) = ap (λ (x : WorldState). get x.leaves q) is ∙ more_elsewhere w.leaves log_place (block_text (block_of Restarts [])) q other
-clearing_beside Restarts w m q other (inr (inr middle)) =
-    ap (λ (x : WorldState). get x.leaves q) middle.1 ∙ more_elsewhere w.leaves log_place (take middle.0 (block_text (block_of Restarts []))) q other
-clearing_beside Reloads w m q other (inr (inl is)) = ap (λ (x : WorldState). get x.leaves q) is ∙ more_elsewhere w.leaves log_place (block_text (block_of Reloads [])) q other
-clearing_beside Reloads w m q other (inr (inr middle)) =
-    ap (λ (x : WorldState). get x.leaves q) middle.1 ∙ more_elsewhere w.leaves log_place (take middle.0 (block_text (block_of Reloads []))) q other
+clearing_beside Restarts w m q other cut = append_beside (block_text (block_of Restarts [])) w m q other cut
+clearing_beside Reloads w m q other cut = append_beside (block_text (block_of Reloads [])) w m q other cut
 
 -- ---- the manager
 
+append_manager : (text : List ℕ) (w m : WorldState) → IsMoment (Change.Append log_place text) w m → m.manager ≡ w.manager
+append_manager text w m (inl is) = ap (λ (x : WorldState). x.manager) is
+append_manager text w m (inr (inl is)) = ap (λ (x : WorldState). x.manager) is
+append_manager text w m (inr (inr middle)) = ap (λ (x : WorldState). x.manager) middle.1
+
 writing_manager : (write : LogWrite) (w m : WorldState) → IsWriting write w m → m.manager ≡ w.manager
 writing_manager Nothing w m is = ap (λ (x : WorldState). x.manager) is
-writing_manager (Append text) w m (inl is) = ap (λ (x : WorldState). x.manager) is
-writing_manager (Append text) w m (inr (inl is)) = ap (λ (x : WorldState). x.manager) is
-writing_manager (Append text) w m (inr (inr middle)) = ap (λ (x : WorldState). x.manager) middle.1
+writing_manager (Append text) w m cut = append_manager text w m cut
 writing_manager (Put text) w m (inl is) = ap (λ (x : WorldState). x.manager) is
 writing_manager (Put text) w m (inr is) = ap (λ (x : WorldState). x.manager) is
 
@@ -95,13 +98,11 @@ pub recorded_manager : (write : LogWrite) (w : WorldState) → (recorded write w
 recorded_manager write w = gone_manager old_places (with_write write w) ∙ write_manager write w
 
 pub clearing_manager : (which : Which) (w m : WorldState) → IsMoment (clearing which) w m → m.manager ≡ w.manager
-clearing_manager which w m (inl is) = ap (λ (x : WorldState). x.manager) is
+clearing_manager Starts w m (inl is) = ap (λ (x : WorldState). x.manager) is
 clearing_manager Starts w m (inr (inl is)) = ap (λ (x : WorldState). x.manager) is
 clearing_manager Starts w m (inr (inr middle)) = absurd middle
-clearing_manager Restarts w m (inr (inl is)) = ap (λ (x : WorldState). x.manager) is
-clearing_manager Restarts w m (inr (inr middle)) = ap (λ (x : WorldState). x.manager) middle.1
-clearing_manager Reloads w m (inr (inl is)) = ap (λ (x : WorldState). x.manager) is
-clearing_manager Reloads w m (inr (inr middle)) = ap (λ (x : WorldState). x.manager) middle.1
+clearing_manager Restarts w m cut = append_manager (block_text (block_of Restarts [])) w m cut
+clearing_manager Reloads w m cut = append_manager (block_text (block_of Reloads [])) w m cut
 
 -- ---- worlds that are equal but for the stage
 
@@ -124,13 +125,14 @@ module _ (v w : WorldState) (same : seen v ≡ seen w) where
   cleared_seen Restarts = more_seen (block_text (block_of Restarts []))
   cleared_seen Reloads = more_seen (block_text (block_of Reloads []))
 
+  part_seen : (text : List ℕ) (m : WorldState) → IsMiddle (Change.Append log_place text) v m → (u : WorldState) × IsMoment (Change.Append log_place text) w u × (seen m ≡ seen u)
+  part_seen text m middle =
+      let part = take middle.0 text in
+      (record w { leaves = with_more w.leaves log_place part }, inr (inr (middle.0, refl)), ap seen middle.1 ∙ more_seen part)
+
   pub clearing_seen : (which : Which) (m : WorldState) → IsMoment (clearing which) v m → (u : WorldState) × IsMoment (clearing which) w u × (seen m ≡ seen u)
   clearing_seen which m (inl is) = (w, inl refl, ap seen is ∙ same)
   clearing_seen which m (inr (inl is)) = (finished (clearing which) w, inr (inl refl), ap seen is ∙ cleared_seen which)
   clearing_seen Starts m (inr (inr middle)) = absurd middle
-  clearing_seen Restarts m (inr (inr middle)) =
-      let part = take middle.0 (block_text (block_of Restarts [])) in
-      (record w { leaves = with_more w.leaves log_place part }, inr (inr (middle.0, refl)), ap seen middle.1 ∙ more_seen part)
-  clearing_seen Reloads m (inr (inr middle)) =
-      let part = take middle.0 (block_text (block_of Reloads [])) in
-      (record w { leaves = with_more w.leaves log_place part }, inr (inr (middle.0, refl)), ap seen middle.1 ∙ more_seen part)
+  clearing_seen Restarts m (inr (inr middle)) = part_seen (block_text (block_of Restarts [])) m middle
+  clearing_seen Reloads m (inr (inr middle)) = part_seen (block_text (block_of Reloads [])) m middle

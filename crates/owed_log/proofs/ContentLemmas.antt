@@ -1,5 +1,5 @@
 -- What is read at the place of the log.
-use Rattle.std.proofs.Common.{◌≡◌, ◌≢◌, ◌++◌, ◌||◌, zero, suc, true, false, cond, List, [], ℕ, codes, drop, length, take, Option, None, Some, refl, sym, ap, subst, ◌∙◌}
+use Rattle.std.proofs.Common.{◌≡◌, ◌≢◌, ◌++◌, ◌∷◌, ◌||◌, zero, suc, true, false, cond, List, [], ℕ, codes, drop, length, map, take, Option, None, Some, refl, sym, ap, subst, ◌∙◌}
 use Rattle.std.proofs.lemmas.Bool.{both_ways}
 use Rattle.std.specs.Cmp.Lexicographic.{nat_list_eq_equiv}
 use Rattle.std.specs.FinMap.{get, insert}
@@ -7,10 +7,12 @@ use Rattle.std.specs.List.{list_any}
 use Rattle.host_trait.specs.declared.leaf.LeafKind.{LeafKind}
 use Rattle.host_trait.specs.declared.leaf.LeafKind.TheVariants.{File, Link}
 use Rattle.host_trait.specs.World.{Leaves, WorldState, content_of, extended, file_bytes, is_path, leaf_content, seen, stage, store_place, with_extended, with_leaf, with_more}
+use Rattle.host_trait.proofs.NameOrder.{name_from}
 use Rattle.host_trait.proofs.Seen.{other_of, seen_at}
 use Rattle.host_trait.proofs.Sound.{get_other}
 use Rattle.log_text.specs.declared.lists.Which.{Which}
 use Rattle.log_text.specs.declared.lists.Which.TheVariants.{Starts, Restarts, Reloads}
+use Rattle.log_text.specs.Lists.{record_order}
 use Rattle.owed_lists.specs.Lists.{place_of, reloads_place, restarts_place, starts_place}
 use Rattle.switch_names.specs.Names.{Name, is_name}
 use Rattle.tree_put.specs.Put.{AreApart}
@@ -29,34 +31,28 @@ log_apart = record { other = refl; line = refl }
 pub log_other : log_place ≢ stage
 log_other = apart_ne log_place stage log_apart
 
-nothing_taken : (count : ℕ) → take {A = Name} count [] ≡ []
-nothing_taken zero = refl
-nothing_taken (suc count) = refl
+-- a place that is none of an older program's isn't at the first so many of them
+pub apart_from : (q : Name) → ((which : Which) → is_name q (place_of which) ≡ false) → (count : ℕ) → list_any (is_name q) (take count old_places) ≡ false
+apart_from q other = among record_order
+  where
+    among : (order : List Which) (count : ℕ) → list_any (is_name q) (take count (map place_of order)) ≡ false
+    among order zero = refl
+    among [] (suc count) = refl
+    among (which ∷ order) (suc count) = λ i. other which i || among order count i
 
--- the log isn't at the first so many places of an older program
-pub log_not_old : (count : ℕ) → list_any (is_name log_place) (take count old_places) ≡ false
-unfolding log_place starts_place restarts_place reloads_place
-log_not_old zero = refl
-log_not_old (suc zero) = refl
-log_not_old (suc (suc zero)) = refl
-log_not_old (suc (suc (suc count))) = ap (list_any (is_name log_place)) (nothing_taken count)
-
--- a leaf of an older program's lists isn't at the place of the log
-is_other : (which : Which) → is_path (place_of which) log_place ≡ false
+is_other : (which : Which) → is_name log_place (place_of which) ≡ false
 unfolding log_place starts_place restarts_place reloads_place
 is_other Starts = refl
 is_other Restarts = refl
 is_other Reloads = refl
 
-pub old_not_log : (which : Which) → place_of which ≢ log_place
-old_not_log which same = both_ways (is_path (place_of which) log_place) (is_other which) (subst (λ x. is_path (place_of which) x ≡ true) same (nat_list_eq_equiv.refl (place_of which)))
+-- nor is the log
+pub log_not_old : (count : ℕ) → list_any (is_name log_place) (take count old_places) ≡ false
+log_not_old count = apart_from log_place is_other count
 
--- a place that is none of theirs isn't at the first so many of them
-pub apart_from : (q : Name) → ((which : Which) → is_name q (place_of which) ≡ false) → (count : ℕ) → list_any (is_name q) (take count old_places) ≡ false
-apart_from q other zero = refl
-apart_from q other (suc zero) = λ i. other Starts i || false
-apart_from q other (suc (suc zero)) = λ i. other Starts i || (other Restarts i || false)
-apart_from q other (suc (suc (suc count))) = (λ i. other Starts i || (other Restarts i || (other Reloads i || list_any (is_name q) (take count [])))) ∙ ap (list_any (is_name q)) (nothing_taken count)
+-- a leaf of an older program's lists isn't at the place of the log
+pub old_not_log : (which : Which) → place_of which ≢ log_place
+old_not_log which same = both_ways (is_name log_place (place_of which)) (is_other which) (name_from log_place (place_of which) (sym same))
 
 inside_no_stage : (rest : List ℕ) → codes "nix/store/" ++ rest ≢ stage
 unfolding stage
@@ -67,16 +63,16 @@ inside_no_stage rest same =
 pub store_no_stage : (target p : Name) → store_place target ≡ Some p → p ≢ stage
 store_no_stage target p is same = inside_no_stage (drop (length (codes "/nix/store/")) target) (sym (store_place_begins target p is) ∙ same)
 
-inside_not_old : (count : ℕ) (rest : List ℕ) → list_any (is_name (codes "nix/store/" ++ rest)) (take count old_places) ≡ false
+inside_other : (rest : List ℕ) (which : Which) → is_name (codes "nix/store/" ++ rest) (place_of which) ≡ false
 unfolding starts_place restarts_place reloads_place
-inside_not_old zero rest = refl
-inside_not_old (suc zero) rest = refl
-inside_not_old (suc (suc zero)) rest = refl
-inside_not_old (suc (suc (suc count))) rest = ap (list_any (is_name (codes "nix/store/" ++ rest))) (nothing_taken count)
+inside_other rest Starts = refl
+inside_other rest Restarts = refl
+inside_other rest Reloads = refl
 
 store_not_old : (target p : Name) (count : ℕ) → store_place target ≡ Some p → list_any (is_name p) (take count old_places) ≡ false
 store_not_old target p count is =
-    subst (λ q. list_any (is_name q) (take count old_places) ≡ false) (sym (store_place_begins target p is)) (inside_not_old count (drop (length (codes "/nix/store/")) target))
+    let rest = drop (length (codes "/nix/store/")) target in
+    subst (λ q. list_any (is_name q) (take count old_places) ≡ false) (sym (store_place_begins target p is)) (apart_from (codes "nix/store/" ++ rest) (inside_other rest) count)
 
 -- ---- contents
 

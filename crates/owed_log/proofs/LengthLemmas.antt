@@ -1,12 +1,12 @@
 -- How long the log is, and the lists of an older program, at each moment of a record and of a list's clearing.
-use Rattle.std.proofs.Common.{◌≡◌, ◌≢◌, ◌≤◌, ◌⊎◌, ◌++◌, ◌+◌, ◌^◌, ◌||◌, ℕ, true, false, cond, List, [], ◌∷◌, codes, drop, length, take, Option, None, Some, option_map, length-append, refl, sym, ap, subst, ◌∙◌, inl, inr, arith}
+use Rattle.std.proofs.Common.{◌≡◌, ◌≢◌, ◌≤◌, ◌⊎◌, ◌++◌, ◌+◌, ◌^◌, ◌||◌, ℕ, true, false, cond, List, [], ◌∷◌, codes, drop, length, map, take, Option, None, Some, option_map, length-append, refl, sym, ap, subst, ◌∙◌, inl, inr, arith}
 use Rattle.std.proofs.lemmas.Bool.{both_ways, cases_Bool, or_cases, or_right}
 use Rattle.std.proofs.lemmas.Fmt.{decimal_digit}
 use Rattle.std.proofs.lemmas.List.{length-take}
 use Rattle.std.specs.Cmp.Lexicographic.{nat_list_eq_equiv}
 use Rattle.std.specs.FinMap.{get, insert}
-use Rattle.std.specs.List.{list_any}
-use Rattle.host_trait.specs.Change.{IsMoment}
+use Rattle.std.specs.List.{flat_map, list_any}
+use Rattle.host_trait.specs.Change.{Change, IsMoment}
 use Rattle.host_trait.specs.declared.leaf.LeafKind.{LeafKind}
 use Rattle.host_trait.specs.declared.leaf.LeafKind.TheVariants.{File, Link}
 use Rattle.host_trait.specs.World.{Leaves, WorldState, content_of, is_path, leaf_content, seen, stage, store_place, with_extended, with_more, without_leaf}
@@ -18,9 +18,9 @@ use Rattle.leaf_limits.specs.Limits.{AreWithin, leaf_max, length_at, length_of}
 use Rattle.log_text.specs.declared.lists.Lists.{Lists}
 use Rattle.log_text.specs.declared.lists.Which.{Which}
 use Rattle.log_text.specs.declared.lists.Which.TheVariants.{Starts, Restarts, Reloads}
-use Rattle.log_text.specs.Lists.{block_of, no_lists}
+use Rattle.log_text.specs.Lists.{block_of, no_lists, record_order}
 use Rattle.log_text.specs.Log.{block_text, last_line, word}
-use Rattle.owed_lists.specs.Lists.{place_of, reloads_place, restarts_place, starts_place}
+use Rattle.owed_lists.specs.Lists.{place_of}
 use Rattle.owed_lists.proofs.PlaceLemmas.{place_apart}
 use Rattle.switch_names.specs.Names.{Name, has, is_name}
 use Rattle.tree_put.specs.Sequence.{without_places}
@@ -50,17 +50,15 @@ store_no_log : (target p : Name) → store_place target ≡ Some p → p ≢ log
 store_no_log target p is same = inside_no_log (drop (length (codes "/nix/store/")) target) (sym (store_place_begins target p is) ∙ same)
 
 -- a place of an older program is that of one of its lists
-old_is : (q : Name) → has old_places q ≡ true → (which : Which) × (q ≡ place_of which)
-old_is q there = elim (or_cases (is_name q starts_place) (has (restarts_place ∷ reloads_place ∷ []) q) there) [
-  | inl same ↦ (Starts, name_exact q starts_place same)
-  | inr rest ↦ elim (or_cases (is_name q restarts_place) (has (reloads_place ∷ []) q) rest) [
-    | inl same ↦ (Restarts, name_exact q restarts_place same)
-    | inr last ↦ elim (or_cases (is_name q reloads_place) false last) [
-      | inl same ↦ (Reloads, name_exact q reloads_place same)
-      | inr none ↦ absurd (cc)
+pub old_is : (q : Name) → has old_places q ≡ true → (which : Which) × (q ≡ place_of which)
+old_is q there = among record_order there
+  where
+    among : (order : List Which) → has (map place_of order) q ≡ true → (which : Which) × (q ≡ place_of which)
+    among [] none = absurd cc
+    among (which ∷ order) there = elim (or_cases (is_name q (place_of which)) (has (map place_of order) q) there) [
+      | inl same ↦ (which, name_exact q (place_of which) same)
+      | inr rest ↦ among order rest
     ]
-  ]
-]
 
 old_no_log : (q : Name) → has old_places q ≡ true → q ≢ log_place
 old_no_log q there same = let old = old_is q there in old_not_log old.0 (sym old.1 ∙ same)
@@ -194,10 +192,10 @@ pub roomy_record_law : RoomyRecordLaw
 roomy_record_law lists write w v is fits short same = record {
   log =
       let equal = seen_length v (recorded write w) same log_place log_other in
-      let less = removed_length 3 (with_write write w) log_place in
+      let less = removed_length (length record_order) (with_write write w) log_place in
       let roomy = write_roomy lists w fits write is in
       omega (arith, equal, less, roomy);
-  old = old_short v.leaves (seen_short v (recorded write w) same (removed_short 3 (with_write write w) (write_short lists w fits short write is)));
+  old = old_short v.leaves (seen_short v (recorded write w) same (removed_short (length record_order) (with_write write w) (write_short lists w fits short write is)));
 }
 
 -- ---- a list is cleared
@@ -209,12 +207,14 @@ block_with which count = (word which ++ 32 ∷ count) ++ 10 ∷ last_line
 none_counted : (which : Which) → block_text (block_of which []) ≡ block_with which (48 ∷ [])
 none_counted which = ap (block_with which) (decimal_digit 0 (omega arith))
 
--- has 14 bytes or 13
-restarts_length : length (block_text (block_of Restarts [])) ≡ 14
-restarts_length = ap length (none_counted Restarts)
-
-reloads_length : length (block_text (block_of Reloads [])) ≡ 13
-reloads_length = ap length (none_counted Reloads)
+-- has no more than 16 bytes
+few_bytes : (which : Which) → length (block_text (block_of which [])) ≤ 16
+few_bytes which = subst (λ text. length text ≤ 16) (sym (none_counted which)) (by which)
+  where
+    by : (which : Which) → length (block_with which (48 ∷ [])) ≤ 16
+    by Starts = omega arith
+    by Restarts = omega arith
+    by Reloads = omega arith
 
 module _ (w m : WorldState) where
   at_of : m ≡ w → length_at m.leaves log_place ≤ length_at w.leaves log_place + 16
@@ -226,21 +226,21 @@ module _ (w m : WorldState) where
       let longer = more_length w.leaves more in
       omega (arith, equal, longer, few)
 
-  part_longer : (block : List ℕ) → length block ≤ 16 → (n : ℕ) → m.leaves ≡ with_more w.leaves log_place (take n block) → length_at m.leaves log_place ≤ length_at w.leaves log_place + 16
-  part_longer block few n leaves = longer_by (take n block) (let part = part_length n block in omega (arith, part, few)) leaves
+  append_longer : (more : List ℕ) → length more ≤ 16 → IsMoment (Change.Append log_place more) w m → length_at m.leaves log_place ≤ length_at w.leaves log_place + 16
+  append_longer more few (inl same) = at_of same
+  append_longer more few (inr (inl done)) = longer_by more few (ap (λ (x : WorldState). x.leaves) done)
+  append_longer more few (inr (inr middle)) = longer_by (take middle.0 more) (let part = part_length middle.0 more in omega (arith, part, few)) (ap (λ (x : WorldState). x.leaves) middle.1)
 
   clearing_length : (which : Which) → IsMoment (clearing which) w m → length_at m.leaves log_place ≤ length_at w.leaves log_place + 16
-  clearing_length which (inl same) = at_of same
+  clearing_length Starts (inl same) = at_of same
   clearing_length Starts (inr (inl done)) =
       let gone = gone_at (log_place ∷ []) w log_place ∙ ap (λ b. cond (b || false) None (get w.leaves log_place)) (name_itself log_place) in
       let none = none_long (without_leaf log_place w).leaves log_place gone in
       let equal = ap (λ (x : WorldState). length_at x.leaves log_place) done in
       omega (arith, equal, none)
   clearing_length Starts (inr (inr middle)) = absurd middle
-  clearing_length Restarts (inr (inl done)) = longer_by (block_text (block_of Restarts [])) (omega (arith, restarts_length)) (ap (λ (x : WorldState). x.leaves) done)
-  clearing_length Restarts (inr (inr middle)) = part_longer (block_text (block_of Restarts [])) (omega (arith, restarts_length)) middle.0 (ap (λ (x : WorldState). x.leaves) middle.1)
-  clearing_length Reloads (inr (inl done)) = longer_by (block_text (block_of Reloads [])) (omega (arith, reloads_length)) (ap (λ (x : WorldState). x.leaves) done)
-  clearing_length Reloads (inr (inr middle)) = part_longer (block_text (block_of Reloads [])) (omega (arith, reloads_length)) middle.0 (ap (λ (x : WorldState). x.leaves) middle.1)
+  clearing_length Restarts cut = append_longer (block_text (block_of Restarts [])) (few_bytes Restarts) cut
+  clearing_length Reloads cut = append_longer (block_text (block_of Reloads [])) (few_bytes Reloads) cut
 
 pub roomy_clear_law : RoomyClearLaw
 roomy_clear_law which more w m room moment = record {
@@ -251,7 +251,7 @@ roomy_clear_law which more w m room moment = record {
 -- ---- the text of empty lists
 
 pub empty_length : length (text_of no_lists) ≡ 39
-empty_length = λ i. length (none_counted Starts i ++ (none_counted Restarts i ++ (none_counted Reloads i ++ [])))
+empty_length = λ i. length (flat_map (λ which. none_counted which i) record_order)
 
 -- ---- what is told of a log that isn't too long
 

@@ -63,7 +63,7 @@ starts_sorted leaves lists are = by (content_of leaves log_place) are
   where
     by : (content : Option (List ℕ)) → AreListsBy content leaves lists → IsStrictlySortedBy bytes_cmp lists.starts
     by (Some text) gives = subst (λ (l : Lists). IsStrictlySortedBy bytes_cmp l.starts) (sym gives.are) (all_sorted no_lists gives.blocks none_sorted gives.is_log.are_blocks)
-    by None old = old.starts.sorted
+    by None old = (old Starts).sorted
 
 -- ---- what a record gives
 

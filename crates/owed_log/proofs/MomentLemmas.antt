@@ -1,5 +1,5 @@
 -- The lists at each moment of a record, and of a list's clearing.
-use Rattle.std.proofs.Common.{◌≡◌, ◌≢◌, ◌⊎◌, ◌<◌, ◌++◌, ◌||◌, zero, suc, ℕ, Bool, true, false, cond, List, [], ◌∷◌, length, take, Option, None, Some, is_some, length-append, refl, sym, ap, subst, ◌∙◌, inl, inr, arith}
+use Rattle.std.proofs.Common.{◌≡◌, ◌≢◌, ◌⊎◌, ◌<◌, ◌++◌, ◌||◌, zero, suc, ℕ, Bool, true, false, cond, List, [], ◌∷◌, drop, length, map, take, Option, None, Some, is_some, length-append, refl, sym, ap, subst, ◌∙◌, inl, inr, arith}
 use Rattle.std.proofs.lemmas.Bool.{both_ways}
 use Rattle.std.proofs.lemmas.List.{take_all}
 use Rattle.std.specs.FinMap.{get}
@@ -14,10 +14,11 @@ use Rattle.log_text.specs.declared.block.Block.{Block}
 use Rattle.log_text.specs.declared.lists.Lists.{Lists}
 use Rattle.log_text.specs.declared.lists.Which.{Which}
 use Rattle.log_text.specs.declared.lists.Which.TheVariants.{Starts, Restarts, Reloads}
-use Rattle.log_text.specs.Lists.{AreInOrder, AreLists, block_of, lists_of, no_lists, with_list}
+use Rattle.log_text.specs.Lists.{AreInOrder, AreLists, block_of, blocks_of, list_names, lists_after, lists_of, no_lists, record_order, with_list}
 use Rattle.log_text.specs.Log.{IsLog, block_text, log_text}
 use Rattle.log_text.proofs.TornLemmas.{block_some, clear_law}
-use Rattle.owed_lists.specs.Lists.{AreListsOf, IsListOf, reloads_place, restarts_place, starts_place}
+use Rattle.log_text.proofs.WhichLemmas.{no_names}
+use Rattle.owed_lists.specs.Lists.{AreListsOf, IsListOf, place_of, reloads_place, restarts_place, starts_place}
 use Rattle.switch_names.specs.Names.{Name, is_name}
 use Rattle.tree_put.specs.Sequence.{IsRemoving, without_places}
 use Rattle.tree_put.proofs.LeftLemmas.{gone_at}
@@ -49,61 +50,63 @@ kept_list : (count : ℕ) (u : WorldState) (at : Name) (list : List Name) → li
     IsListOf (content_of (without_places (take count old_places) u).leaves at) list
 kept_list count u at list apart is = subst (λ (o : Option (List ℕ)). IsListOf o list) (sym (content_still count u at apart)) is
 
-starts_gone : (count : ℕ) → list_any (is_name starts_place) (take (suc count) old_places) ≡ true
-unfolding starts_place
-starts_gone count = refl
-
-restarts_gone : (count : ℕ) → list_any (is_name restarts_place) (take (suc (suc count)) old_places) ≡ true
-unfolding starts_place restarts_place
-restarts_gone count = refl
-
-reloads_gone : (count : ℕ) → list_any (is_name reloads_place) (take (suc (suc (suc count))) old_places) ≡ true
+-- a place of theirs is one of them
+old_listed : (which : Which) → list_any (is_name (place_of which)) old_places ≡ true
 unfolding starts_place restarts_place reloads_place
-reloads_gone count = refl
+old_listed Starts = refl
+old_listed Restarts = refl
+old_listed Reloads = refl
 
-restarts_stay : list_any (is_name restarts_place) (take 1 old_places) ≡ false
-unfolding starts_place restarts_place
-restarts_stay = refl
+removed_all : (u : WorldState) → NoneOld (without_places old_places u).leaves
+removed_all u which = removed (length record_order) u (place_of which) (old_listed which)
 
-reloads_stay_1 : list_any (is_name reloads_place) (take 1 old_places) ≡ false
-unfolding starts_place reloads_place
-reloads_stay_1 = refl
+-- where none of them has a leaf nothing is listed
+none_left : (leaves : Leaves) → NoneOld leaves → AreListsOf leaves no_lists
+none_left leaves none which = subst (IsListOf (content_of leaves (place_of which))) (sym (no_names which)) (gone_list leaves (place_of which) (none which))
 
-reloads_stay_2 : list_any (is_name reloads_place) (take 2 old_places) ≡ false
+-- ---- lists that are emptied in order
+
+both_empty : (rest : Bool) → cond {A = List Name} rest [] [] ≡ []
+both_empty true = refl
+both_empty false = refl
+
+one_emptied : (other which : Which) (rest : Bool) (lists : Lists) → cond rest [] (list_names (with_list lists other []) which) ≡ cond (is_name (place_of which) (place_of other) || rest) [] (list_names lists which)
 unfolding starts_place restarts_place reloads_place
-reloads_stay_2 = refl
+one_emptied Starts Starts rest lists = both_empty rest
+one_emptied Starts Restarts rest lists = refl
+one_emptied Starts Reloads rest lists = refl
+one_emptied Restarts Starts rest lists = refl
+one_emptied Restarts Restarts rest lists = both_empty rest
+one_emptied Restarts Reloads rest lists = refl
+one_emptied Reloads Starts rest lists = refl
+one_emptied Reloads Restarts rest lists = refl
+one_emptied Reloads Reloads rest lists = both_empty rest
 
--- where all of them are removed no list is left
-none_left : (u : WorldState) (count : ℕ) → AreListsOf (without_places (take (suc (suc (suc count))) old_places) u).leaves no_lists
-none_left u count = record {
-  starts = gone_list _ starts_place (removed (suc (suc (suc count))) u starts_place (starts_gone (suc (suc count))));
-  restarts = gone_list _ restarts_place (removed (suc (suc (suc count))) u restarts_place (restarts_gone (suc count)));
-  reloads = gone_list _ reloads_place (removed (suc (suc (suc count))) u reloads_place (reloads_gone count));
-}
+-- the lists that have names are those whose places are left
+names_left : (which : Which) (order : List Which) (count : ℕ) (lists : Lists) →
+    list_names (lists_after lists (take count (map (λ other. block_of other []) order))) which ≡ cond (list_any (is_name (place_of which)) (take count (map place_of order))) [] (list_names lists which)
+names_left which order zero lists = refl
+names_left which [] (suc count) lists = refl
+names_left which (other ∷ order) (suc count) lists = names_left which order count (with_list lists other []) ∙ one_emptied other which (list_any (is_name (place_of which)) (take count (map place_of order))) lists
 
 -- where no log stands, removals empty the lists in order
 module _ (u : WorldState) (old now : Lists) (log : content_of u.leaves log_place ≡ None) (are : AreListsOf u.leaves old) where
   still_none : (count : ℕ) → content_of (without_places (take count old_places) u).leaves log_place ≡ None
   still_none count = content_still count u log_place (log_not_old count) ∙ log
 
-  same_as : (count : ℕ) (lists : Lists) → AreListsOf (without_places (take count old_places) u).leaves lists → AreListsAt (without_places (take count old_places) u).leaves now → now ≡ lists
-  same_as count lists also is =
-      one_lists (without_places (take count old_places) u).leaves now lists is
-      (subst (λ (o : Option (List ℕ)). AreListsBy o (without_places (take count old_places) u).leaves lists) (sym (still_none count)) also)
+  module _ (count : ℕ) where
+    abbrev then : Leaves
+    then = (without_places (take count old_places) u).leaves
 
-  emptied : (count : ℕ) → AreListsAt (without_places (take count old_places) u).leaves now → AreInOrder old no_lists now
-  emptied zero is = AreInOrder.AsBefore (same_as 0 old are is)
-  emptied (suc zero) is = AreInOrder.First (same_as 1 (record old { starts = [] }) (record {
-    starts = gone_list _ starts_place (removed 1 u starts_place (starts_gone 0));
-    restarts = kept_list 1 u restarts_place old.restarts restarts_stay are.restarts;
-    reloads = kept_list 1 u reloads_place old.reloads reloads_stay_1 are.reloads;
-  }) is)
-  emptied (suc (suc zero)) is = AreInOrder.Second (same_as 2 (record no_lists { reloads = old.reloads }) (record {
-    starts = gone_list _ starts_place (removed 2 u starts_place (starts_gone 1));
-    restarts = gone_list _ restarts_place (removed 2 u restarts_place (restarts_gone 0));
-    reloads = kept_list 2 u reloads_place old.reloads reloads_stay_2 are.reloads;
-  }) is)
-  emptied (suc (suc (suc count))) is = AreInOrder.Recorded (same_as (suc (suc (suc count))) no_lists (none_left u count) is)
+    left : AreListsOf then (lists_after old (take count (blocks_of no_lists)))
+    left which = subst (IsListOf (content_of then (place_of which))) (sym (names_left which record_order count old)) (by (list_any (is_name (place_of which)) (take count old_places)) refl)
+      where
+        by : (gone : Bool) → list_any (is_name (place_of which)) (take count old_places) ≡ gone → IsListOf (content_of then (place_of which)) (cond gone [] (list_names old which))
+        by true gone = gone_list then (place_of which) (removed count u (place_of which) gone)
+        by false apart = kept_list count u (place_of which) (list_names old which) apart (are which)
+
+    emptied : AreListsAt then now → AreInOrder old no_lists now
+    emptied is = (count, one_lists then now (lists_after old (take count (blocks_of no_lists))) is (subst (λ (o : Option (List ℕ)). AreListsBy o then (lists_after old (take count (blocks_of no_lists)))) (sym (still_none count)) left))
 
 -- ---- worlds that are the same but for the stage
 
@@ -114,11 +117,7 @@ lists_seen m w lists same are =
   where
     by : (o : Option (List ℕ)) → AreListsBy o m.leaves lists → AreListsBy o w.leaves lists
     by (Some text) gives = gives
-    by None are = record {
-      starts = subst (λ (o : Option (List ℕ)). IsListOf o lists.starts) (content_seen m w same starts_place (apart_ne starts_place stage (place_apart Starts))) are.starts;
-      restarts = subst (λ (o : Option (List ℕ)). IsListOf o lists.restarts) (content_seen m w same restarts_place (apart_ne restarts_place stage (place_apart Restarts))) are.restarts;
-      reloads = subst (λ (o : Option (List ℕ)). IsListOf o lists.reloads) (content_seen m w same reloads_place (apart_ne reloads_place stage (place_apart Reloads))) are.reloads;
-    }
+    by None are = λ which. subst (λ (o : Option (List ℕ)). IsListOf o (list_names lists which)) (content_seen m w same (place_of which) (apart_ne (place_of which) stage (place_apart which))) (are which)
 
 -- ---- a record
 
@@ -151,7 +150,7 @@ module _ (lists : Lists) (w : WorldState) (are : AreLists lists) where
 
   module _ (old now : Lists) (before : AreListsAt w.leaves old) where
     unchanged : (m : WorldState) → seen m ≡ seen w → AreListsAt m.leaves now → AreInOrder old lists now
-    unchanged m same also = AreInOrder.AsBefore (one_lists w.leaves now old (lists_seen m w now same also) before)
+    unchanged m same also = (0, one_lists w.leaves now old (lists_seen m w now same also) before)
 
     -- a part of what is appended
     part : (text : List ℕ) → IsPrepared w.leaves lists (Append text) → (n : ℕ) (m : WorldState) → m.leaves ≡ with_more w.leaves log_place (take n (text_of lists)) → AreListsAt m.leaves now → AreInOrder old lists now
@@ -176,9 +175,11 @@ module _ (lists : Lists) (w : WorldState) (are : AreLists lists) where
         part text is middle.0 m (ap (λ (x : WorldState). x.leaves) middle.1 ∙ ap (λ t. with_more w.leaves log_place (take middle.0 t)) is.0) also
     writing (Put text) is m (inl same) also = unchanged m same also
     writing (Put text) is m (inr new) also =
-        let log = put text is in
-        AreInOrder.Recorded (one_given log.text now lists
-        (lists_given m.leaves now log.text (content_seen m (with_write (Put text) w) new log_place log_other ∙ file_content (with_write (Put text) w).leaves log_place log.text log.file) also) log.gives)
+        let log = put text is in (
+          length record_order,
+          one_given log.text now lists
+              (lists_given m.leaves now log.text (content_seen m (with_write (Put text) w) new log_place log_other ∙ file_content (with_write (Put text) w).leaves log_place log.text log.file) also) log.gives,
+        )
 
     -- a moment at which the leaves of an older program are removed
     module _ (write : LogWrite) (u m : WorldState) (came : seen u ≡ seen (with_write write w)) (removing : IsRemoving old_places u m) (also : AreListsAt m.leaves now) where
@@ -186,10 +187,13 @@ module _ (lists : Lists) (w : WorldState) (are : AreLists lists) where
       also_then = subst (λ (x : WorldState). AreListsAt x.leaves now) removing.world also
 
       beside : HasLog (with_write write w).leaves lists → AreInOrder old lists now
-      beside log = AreInOrder.Recorded (one_given log.text now lists
-          (lists_given (without_places (take removing.count old_places) u).leaves now log.text
-          (content_still removing.count u log_place (log_not_old removing.count) ∙ content_seen u (with_write write w) came log_place log_other
-          ∙ file_content (with_write write w).leaves log_place log.text log.file) also_then) log.gives)
+      beside log = (
+        length record_order,
+        one_given log.text now lists
+            (lists_given (without_places (take removing.count old_places) u).leaves now log.text
+            (content_still removing.count u log_place (log_not_old removing.count) ∙ content_seen u (with_write write w) came log_place log_other
+            ∙ file_content (with_write write w).leaves log_place log.text log.file) also_then) log.gives,
+      )
 
     none_at : (u : WorldState) → seen u ≡ seen w → IsPrepared w.leaves lists Nothing → content_of u.leaves log_place ≡ None
     none_at u came is = content_seen u w came log_place log_other ∙ content_none w.leaves log_place is.1
@@ -209,10 +213,10 @@ record_law lists write w m old now are is cut before also = moment lists w are o
 -- ---- what is prepared
 
 pub some_text : (lists : Lists) → 0 < length (text_of lists)
-some_text lists =
-    let first = block_text (block_of Starts lists.starts) in
-    let rest = log_text (block_of Restarts lists.restarts ∷ block_of Reloads lists.reloads ∷ []) in
-    omega (arith, block_some (block_of Starts lists.starts), length-append first rest)
+some_text lists = first_some (block_of Starts lists.starts) (drop 1 (blocks_of lists))
+  where
+    first_some : (block : Block) (blocks : List Block) → 0 < length (log_text (block ∷ blocks))
+    first_some block blocks = omega (arith, block_some block, length-append (block_text block) (log_text blocks))
 
 file_stands : (leaves : Leaves) (text : List ℕ) → file_bytes (get leaves log_place) ≡ Some text → IsFileAt leaves log_place
 file_stands leaves text is = ap is_some is
@@ -224,7 +228,7 @@ prepared_law leaves lists text is = (file_stands leaves is.1.whole.text is.1.who
 
 module _ (lists : Lists) (w v : WorldState) (are : AreLists lists) (write : LogWrite) (same : seen v ≡ seen (recorded write w)) where
   log_now : get v.leaves log_place ≡ get (with_write write w).leaves log_place
-  log_now = seen_at v (recorded write w) same log_place log_other ∙ gone_at old_places (with_write write w) log_place ∙ ap (λ b. cond b None (get (with_write write w).leaves log_place)) (log_not_old 3)
+  log_now = seen_at v (recorded write w) same log_place log_other ∙ gone_at old_places (with_write write w) log_place ∙ ap (λ b. cond b None (get (with_write write w).leaves log_place)) (log_not_old (length record_order))
 
   with_log : HasLog (with_write write w).leaves lists → AreListsAt v.leaves lists × IsTidy v.leaves
   with_log log =
@@ -234,15 +238,8 @@ module _ (lists : Lists) (w v : WorldState) (are : AreLists lists) (write : LogW
       )
 
 module _ (write : LogWrite) (w v : WorldState) (same : seen v ≡ seen (recorded write w)) where
-  gone_then : (at : Name) → at ≢ stage → list_any (is_name at) (take 3 old_places) ≡ true → get v.leaves at ≡ None
-  gone_then at other listed = seen_at v (recorded write w) same at other ∙ removed 3 (with_write write w) at listed
-
   none_then : NoneOld v.leaves
-  none_then = record {
-    starts = gone_then starts_place (apart_ne starts_place stage (place_apart Starts)) (starts_gone 2);
-    restarts = gone_then restarts_place (apart_ne restarts_place stage (place_apart Restarts)) (restarts_gone 1);
-    reloads = gone_then reloads_place (apart_ne reloads_place stage (place_apart Reloads)) (reloads_gone 0);
-  }
+  none_then which = seen_at v (recorded write w) same (place_of which) (apart_ne (place_of which) stage (place_apart which)) ∙ removed_all (with_write write w) which
 
   alone_then : (lists : Lists) → AreListsAt v.leaves lists × IsTidy v.leaves → AreAlone v.leaves lists
   alone_then lists both = record { are = both.0; tidy = both.1; none_old = none_then }
@@ -251,7 +248,7 @@ pub recorded_law : RecordedLaw
 recorded_law lists Nothing w v are is same =
     let none = log_now lists w v are Nothing same ∙ is.1 in
     let then = without_places old_places w in
-    let gone : AreListsAt then.leaves no_lists = subst (λ (o : Option (List ℕ)). AreListsBy o then.leaves no_lists) (sym (content_still 3 w log_place (log_not_old 3) ∙ content_none w.leaves log_place is.1)) (none_left w 0) in
+    let gone : AreListsAt then.leaves no_lists = subst (λ (o : Option (List ℕ)). AreListsBy o then.leaves no_lists) (sym (content_still (length record_order) w log_place (log_not_old (length record_order)) ∙ content_none w.leaves log_place is.1)) (none_left then.leaves (removed_all w)) in
     alone_then Nothing w v same lists (subst (AreListsAt v.leaves) (sym is.0) (lists_seen then v no_lists (sym same) gone), inl none)
 recorded_law lists (Append text) w v are is same = alone_then (Append text) w v same lists (with_log lists w v are (Append text) same (appended lists w are text is))
 recorded_law lists (Put text) w v are is same = alone_then (Put text) w v same lists (with_log lists w v are (Put text) same (put lists w are text is))
@@ -267,11 +264,7 @@ filed leaves (inr whole) file = whole
 
 -- where nothing stands there are no lists
 none_at_all : (leaves : Leaves) → get leaves log_place ≡ None → NoneOld leaves → AreListsAt leaves no_lists
-none_at_all leaves none old = subst (λ (o : Option (List ℕ)). AreListsBy o leaves no_lists) (sym (content_none leaves log_place none)) record {
-  starts = gone_list leaves starts_place old.starts;
-  restarts = gone_list leaves restarts_place old.restarts;
-  reloads = gone_list leaves reloads_place old.reloads;
-}
+none_at_all leaves none old = subst (λ (o : Option (List ℕ)). AreListsBy o leaves no_lists) (sym (content_none leaves log_place none)) (none_left leaves old)
 
 pub file_law : FileLaw
 file_law leaves lists alone some = by alone.tidy
@@ -321,7 +314,7 @@ module _ (w : WorldState) (none : NoneOld w.leaves) where
   log_goes = gone_at (log_place ∷ []) w log_place ∙ ap (λ b. cond (b || false) None (get w.leaves log_place)) (name_itself log_place)
 
   none_still : NoneOld without.leaves
-  none_still = record { starts = still starts_place none.starts; restarts = still restarts_place none.restarts; reloads = still reloads_place none.reloads }
+  none_still which = still (place_of which) (none which)
     where
       either : (b : Bool) → cond {A = Option LeafKind} b None None ≡ None
       either true = refl
@@ -368,11 +361,7 @@ module _ (which : Which) (w : WorldState) (old : Lists) (alone : AreAlone w.leav
               ∙ sym done.1;
         };
         tidy = inr (length text, record { text = text; file = there; blocks = r.blocks; is_log = log; is_count = refl });
-        none_old = record {
-          starts = more_elsewhere w.leaves log_place empty starts_place (old_not_log Starts) ∙ alone.none_old.starts;
-          restarts = more_elsewhere w.leaves log_place empty restarts_place (old_not_log Restarts) ∙ alone.none_old.restarts;
-          reloads = more_elsewhere w.leaves log_place empty reloads_place (old_not_log Reloads) ∙ alone.none_old.reloads;
-        };
+        none_old = λ which. more_elsewhere w.leaves log_place empty (place_of which) (old_not_log which) ∙ alone.none_old which;
       }
 
 pub cleared_law : ClearedLaw

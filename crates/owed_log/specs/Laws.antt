@@ -5,7 +5,7 @@ use Rattle.host_trait.specs.Change.{IsMoment, finished}
 use Rattle.host_trait.specs.World.{Leaves, WorldState, IsFileAt, seen}
 use Rattle.log_text.specs.declared.lists.Lists.{Lists}
 use Rattle.log_text.specs.declared.lists.Which.{Which}
-use Rattle.log_text.specs.declared.lists.Which.TheVariants.{Starts, Restarts, Reloads}
+use Rattle.log_text.specs.declared.lists.Which.TheVariants.{Starts}
 use Rattle.log_text.specs.Lists.{AreInOrder, AreLists, no_lists, with_list}
 use Rattle.owed_lists.specs.Lists.{place_of}
 use Rattle.owed_log.specs.declared.log_write.LogWrite.{LogWrite}
@@ -37,10 +37,8 @@ abbrev pub IsTidy : Leaves → Type 0
 IsTidy leaves = IsLogState leaves Absent ⊎ ((count : ℕ) × IsLogState leaves (Whole count))
 
 -- no leaf of an older program's lists stands
-pub record NoneOld (leaves : Leaves) : Type 0 where
-  pub starts : get leaves (place_of Starts) ≡ None
-  pub restarts : get leaves (place_of Restarts) ≡ None
-  pub reloads : get leaves (place_of Reloads) ≡ None
+abbrev pub NoneOld : Leaves → Type 0
+NoneOld leaves = (which : Which) → get leaves (place_of which) ≡ None
 
 -- the lists stand in a log that is absent or whole, and nowhere else
 pub record AreAlone (leaves : Leaves) (lists : Lists) : Type 0 where

@@ -7,7 +7,7 @@ use Rattle.host_trait.specs.declared.leaf.LeafKind.TheVariants.{File}
 use Rattle.host_trait.specs.World.{Leaves, WorldState, IsFileAt, seen, with_leaf}
 use Rattle.log_text.specs.declared.lists.Lists.{Lists}
 use Rattle.log_text.specs.declared.lists.Which.{Which}
-use Rattle.log_text.specs.declared.lists.Which.TheVariants.{Starts, Restarts, Reloads}
+use Rattle.log_text.specs.declared.lists.Which.TheVariants.{Starts}
 use Rattle.log_text.specs.Lists.{AreCounted, block_of, blocks_of, no_lists}
 use Rattle.log_text.specs.Log.{block_text, log_text}
 use Rattle.tree_put.specs.Put.{CanPut, IsOldOrNew}
@@ -86,5 +86,4 @@ pub data IsRecordMoment (write : LogWrite) (w m : WorldState) : Type 0 where
 -- the call that clears a list: that of the units to start is the last, and goes with the log; another gets a block without names
 abbrev pub clearing : Which → Change
 clearing Starts = Change.Remove log_place
-clearing Restarts = Change.Append log_place (block_text (block_of Restarts []))
-clearing Reloads = Change.Append log_place (block_text (block_of Reloads []))
+clearing which = Change.Append log_place (block_text (block_of which []))

@@ -3,7 +3,7 @@ ghost use Rattle.std.specs.Prelude.{◌≡◌, IfOk};
 ghost use Rattle.owed_log.specs.Places.{log_place, old_places};
 
 use host_trait::fixed_path;
-use log_text::Which;
+use log_text::RECORD_ORDER;
 use owed_lists::list_path;
 use std::alloc::{AllocError, Global};
 use switch_names::{Listed, Path};
@@ -21,8 +21,8 @@ pub fn old_paths(alloc: Global) -> Result<Listed<Path>, AllocError>
     ensures { IfOk result (λ paths. paths ≡ old_places) }
 {
     let mut paths = Listed::new(alloc);
-    paths.push(list_path(alloc, Which::Starts)?)?;
-    paths.push(list_path(alloc, Which::Restarts)?)?;
-    paths.push(list_path(alloc, Which::Reloads)?)?;
+    for which in RECORD_ORDER {
+        paths.push(list_path(alloc, which)?)?;
+    }
     Ok(paths)
 }

@@ -13,7 +13,7 @@ ghost use Rattle.owed_log.specs.Writing.{IsFilled, IsPrepared, log_max};
 use crate::log_write::{LOG_MAX, LogWrite};
 use crate::places::log_path;
 use host_trait::{HostFault, Tree};
-use log_text::{Lists, Log, lists_text, read_log};
+use log_text::{Lists, Log, RECORD_ORDER, lists_text, read_log};
 use owed_lists::load;
 use std::alloc::{AllocError, Global};
 use std::collections::BTreeMap;
@@ -132,9 +132,9 @@ impl LogState {
 fn are_empty(lists: &Lists) -> bool
     ensures { IsTrue result ↔ (lists.now ≡ no_lists) }
 {
-    lists.starts.as_slice().is_empty()
-        && lists.restarts.as_slice().is_empty()
-        && lists.reloads.as_slice().is_empty()
+    RECORD_ORDER
+        .iter()
+        .all(|which| lists.of(*which).as_slice().is_empty())
 }
 
 /// Whether a log of so many bytes doesn't become too long with so many more.

@@ -1,15 +1,20 @@
 -- At each moment of the calls after the link, what is owed is what the first world owed.
 use Rattle.std.proofs.Common.{◌≡◌, ◌≢◌, ◌⊎◌, Bool, true, false, IsTrue, List, if◌then◌else◌, refl, sym, ap, subst, ◌∙◌, inl, inr}
 use Rattle.std.proofs.lemmas.Bool.{cases_Bool, false_from_ne_true, or_cases, or_left, or_right}
+use Rattle.host_trait.specs.declared.entry.Act.{Act}
+use Rattle.host_trait.specs.declared.entry.Act.TheVariants as acts
 use Rattle.host_trait.specs.declared.unit_state.State.{State}
 use Rattle.host_trait.specs.declared.unit_state.State.TheVariants.{Active, Inactive, Failed}
 use Rattle.log_text.specs.declared.lists.Lists.{Lists}
+use Rattle.log_text.specs.declared.lists.Which.{Which}
+use Rattle.log_text.specs.declared.lists.Which.TheVariants as kinds
+use Rattle.log_text.specs.Lists.{list_names}
 use Rattle.owed_plan.specs.declared.owed.Owed.{Owed}
-use Rattle.owed_plan.specs.Called.{AfterLinkLaw, AreCalled, IsCalled, IsGiven, IsLeftOf, OwesUnit}
+use Rattle.owed_plan.specs.Called.{AfterLinkLaw, AreCalled, IsCalled, IsDone, IsGiven, IsLeftOf, OwesUnit}
 use Rattle.owed_plan.specs.FinalStates.{brought_by, is_brought}
 use Rattle.owed_plan.specs.Law.{IsSound, stopped}
-use Rattle.owed_plan.specs.Lists.{pending}
-use Rattle.owed_plan.specs.Owed.{Decides, IsOwed, Reloads, Restarts, Starts, Stops, has_live}
+use Rattle.owed_plan.specs.Lists.{act_of, owed_names}
+use Rattle.owed_plan.specs.Owed.{Decides, IsOwed, IsOwedAct, Reloads, Restarts, Starts, Stops, has_live}
 use Rattle.owed_plan.specs.Pull.{IsRoot, Running, Pending, Pulled}
 use Rattle.owed_plan.specs.Steady.{IsSteady}
 use Rattle.owed_plan.specs.Systems.{IsDefined, Systems, Texts, systems_of}
@@ -21,10 +26,10 @@ use Rattle.unit_decide.specs.Decision.{decide}
 use Rattle.unit_decide.specs.Kinds.{is_kind}
 use Rattle.unit_decide.proofs.TableLemmas.{settled_nothing, socket_start_service, target_barred, target_marked, target_not_reloaded, target_not_restarted, target_from_test, target_same, undefined_nothing}
 use Rattle.unit_defs.specs.Pull.{FromRoot, FromWant}
-use Rattle.owed_plan.proofs.CoreLemmas.{reloads_defined, restarts_defined, start_pulled, starts_defined}
+use Rattle.owed_plan.proofs.CoreLemmas.{owed_defined, owed_listed, start_pulled}
 use Rattle.owed_plan.proofs.FinalLemmas.{final_active, final_brought, final_by, final_down, final_of, final_to_bring}
 use Rattle.owed_plan.proofs.PrefixLemmas.{was_active}
-use Rattle.owed_plan.proofs.SteadyLemmas.{reload_no_target, restart_no_target}
+use Rattle.owed_plan.proofs.SteadyLemmas.{no_target}
 use Rattle.unit_decide.proofs.FactsLemmas.{self_same}
 
 is_state_active : (state : State) → (state ≡ Active) ⊎ (state ≢ Active)
@@ -91,11 +96,21 @@ module _ (old new : Texts) (wants : Name → List Name) (states now : Name → S
   abbrev then_ : Name → State
   then_ = stopped owed.stops states
 
+  owes : (act : Act) (unit : Name) → has (owed_names owed act) unit ≡ true → IsOwedAct before states lists act unit
+  owes act unit = ((is_owed act).exact unit).0
+
+  listed : (act : Act) (unit : Name) → IsOwedAct before states lists act unit → has (owed_names owed act) unit ≡ true
+  listed act unit = ((is_owed act).exact unit).1
+
+  -- what is left of a list was owed
+  listed_before : (which : Which) (unit : Name) → has (list_names kept which) unit ≡ true → IsOwedAct before states lists (act_of which) unit
+  listed_before which unit found = owes (act_of which) unit (still_listed (owed_names owed (act_of which)) (list_names kept which) _ unit (called.kept_lists which) found)
+
   -- a unit that is up after the stops was so, and isn't stopped
   up_before : (unit : Name) → then_ unit ≡ Active → (Stops before states lists unit → ⊥) × (states unit ≡ Active)
   up_before unit active =
       let was = was_active (has owed.stops unit) (states unit) (then_ unit) refl active in
-      ((λ stops. was.0 ((is_owed.stops.exact unit).1 stops)), was.1)
+      ((λ stops. was.0 (listed acts.Stop unit stops)), was.1)
 
   -- a target that is up was so after the stops, or has been started
   target_up : (unit : Name) → (before.facts unit).kind ≡ Target → now unit ≡ Active →
@@ -106,11 +121,11 @@ module _ (old new : Texts) (wants : Name → List Name) (states now : Name → S
       by (IsCalled.NotYet same) = inl (sym same ∙ active)
       by (IsCalled.Brought brought down is) =
           elim (brought_either owed unit brought) [
-            | inl starts ↦ inr ((is_owed.starts.exact unit).0 starts, down, is)
-            | inr reloads ↦ absurd (reload_no_target before states lists steady unit target ((is_owed.reloads.exact unit).0 reloads))
+            | inl starts ↦ inr (owes acts.Start unit starts, down, is)
+            | inr reloads ↦ absurd (no_target before states lists steady kinds.Reloads (λ e. absurd cc) unit target (owes acts.Reload unit reloads))
           ]
-      by (IsCalled.Restarted restarts is) = absurd (restart_no_target before states lists steady unit target ((is_owed.restarts.exact unit).0 restarts))
-      by (IsCalled.Halfway restarts is) = absurd (restart_no_target before states lists steady unit target ((is_owed.restarts.exact unit).0 restarts))
+      by (IsCalled.Restarted restarts is) = absurd (no_target before states lists steady kinds.Restarts (λ e. absurd cc) unit target (owes acts.Restart unit restarts))
+      by (IsCalled.Halfway restarts is) = absurd (no_target before states lists steady kinds.Restarts (λ e. absurd cc) unit target (owes acts.Restart unit restarts))
 
   -- what is stopped again is a target that has been started, and is started again
   stopped_again : (unit : Name) → Stops later now kept unit → Starts before states lists unit × (then_ unit ≢ Active) × (now unit ≡ to unit) × Starts later now kept unit
@@ -135,16 +150,13 @@ module _ (old new : Texts) (wants : Name → List Name) (states now : Name → S
   stopped_again unit (Stops.ByService service activates active) = absurd (no_socket_start old new wants now kept service activates.0)
 
   -- the pull stays within that of the first world
-  listed_starts : (unit : Name) → has (pending kept) unit ≡ true → Starts before states lists unit
-  listed_starts unit listed = (is_owed.starts.exact unit).0 (still_listed owed.starts kept.starts _ unit called.starts listed)
-
   root_pulled : (unit : Name) → IsRoot later now kept unit → Pulled before states lists unit
   root_pulled unit (Running defined target active may) =
       elim (target_up unit target active) [
         | inl up ↦ FromRoot unit (Running defined target (up_before unit up).1 may)
         | inr started ↦ start_pulled before states lists sound unit target started.0
       ]
-  root_pulled unit (Pending defined target listed) = start_pulled before states lists sound unit target (listed_starts unit listed)
+  root_pulled unit (Pending defined target listed) = start_pulled before states lists sound unit target (listed_before kinds.Starts unit listed)
 
   pull_within : (unit : Name) → Pulled later now kept unit → Pulled before states lists unit
   pull_within unit (FromRoot _ root) = root_pulled unit root
@@ -153,20 +165,20 @@ module _ (old new : Texts) (wants : Name → List Name) (states now : Name → S
   -- what is owed stays within what was
   reloads_within : (unit : Name) → Reloads later now kept unit → Reloads before states lists unit
   reloads_within unit (Reloads.ByReload decides) = absurd (no_reload old new wants now kept unit decides)
-  reloads_within unit (Reloads.ByReloadList listed defined) = (is_owed.reloads.exact unit).0 (still_listed owed.reloads kept.reloads _ unit called.reloads listed)
+  reloads_within unit (Reloads.ByReloadList listed defined) = listed_before kinds.Reloads unit listed
 
   restarts_within : (unit : Name) → Restarts later now kept unit → Restarts before states lists unit
   restarts_within unit (Restarts.ByRestart decides) = absurd (no_restart old new wants now kept unit decides)
-  restarts_within unit (Restarts.ByRestartList listed defined) = (is_owed.restarts.exact unit).0 (still_listed owed.restarts kept.restarts _ unit called.restarts listed)
+  restarts_within unit (Restarts.ByRestartList listed defined) = listed_before kinds.Restarts unit listed
 
   abbrev IsCalledUnit : Name → Type 0
-  IsCalledUnit unit = Starts before states lists unit ⊎ (Reloads before states lists unit ⊎ Restarts before states lists unit)
+  IsCalledUnit unit = (which : Which) × IsOwedAct before states lists (act_of which) unit
 
   -- what was up and isn't, or is stopped again, was stopped, where it isn't restarted
   down_stopped : (unit : Name) → (has owed.restarts unit ≡ true → ⊥) → (now unit ≡ Active → Stops later now kept unit) → states unit ≡ Active → Stops before states lists unit
   down_stopped unit none again active =
       elim (cases_Bool (has owed.stops unit)) [
-        | inl stops ↦ (is_owed.stops.exact unit).0 stops
+        | inl stops ↦ owes acts.Stop unit stops
         | inr stays ↦ absurd (up (ap (λ b. if b then Inactive else states unit) stays ∙ active))
       ]
     where
@@ -183,82 +195,66 @@ module _ (old new : Texts) (wants : Name → List Name) (states now : Name → S
   starts_within unit (Starts.ByStart decides) =
       let is = defined_target old new wants now kept unit Start (λ e. absurd cc) decides in
       elim (target_up unit is.1 decides.active) [
-        | inl up ↦ inl (Starts.ByStart (record { active = (up_before unit up).1; row = row_before old new wants now kept unit Start (has_live before states lists unit) (λ e. absurd cc) decides }))
-        | inr started ↦ inl started.0
+        | inl up ↦ (kinds.Starts, Starts.ByStart (record { active = (up_before unit up).1; row = row_before old new wants now kept unit Start (has_live before states lists unit) (λ e. absurd cc) decides }))
+        | inr started ↦ (kinds.Starts, started.0)
       ]
-  starts_within unit (Starts.ByStopStart decides) = inl (stopped_again unit (Stops.ByStopStart decides)).0
+  starts_within unit (Starts.ByStopStart decides) = (kinds.Starts, (stopped_again unit (Stops.ByStopStart decides)).0)
   starts_within unit (Starts.ByService service activates) = absurd (no_socket_start old new wants now kept service activates.0)
-  starts_within unit (Starts.ByStartList listed defined) = inl (listed_starts unit listed)
+  starts_within unit (Starts.ByStartList listed defined) = (kinds.Starts, listed_before kinds.Starts unit listed)
   starts_within unit (Starts.ByPull pulled again reloads restarts socketed) =
       elim (cases_Bool (has owed.reloads unit)) [
-        | inl reload ↦ inr (inl ((is_owed.reloads.exact unit).0 reload))
+        | inl reload ↦ (kinds.Reloads, owes acts.Reload unit reload)
         | inr no_reload ↦
             elim (cases_Bool (has owed.restarts unit)) [
-              | inl restart ↦ inr (inr ((is_owed.restarts.exact unit).0 restart))
-              | inr no_restart ↦
-                  inl
-                  (Starts.ByPull (pull_within unit pulled) (down_stopped unit (λ e. cc (sym e ∙ no_restart)) again)
-                  (λ r. cc (sym ((is_owed.reloads.exact unit).1 r) ∙ no_reload)) (λ r. cc (sym ((is_owed.restarts.exact unit).1 r) ∙ no_restart)) socketed)
+              | inl restart ↦ (kinds.Restarts, owes acts.Restart unit restart)
+              | inr no_restart ↦ (
+                kinds.Starts,
+                Starts.ByPull (pull_within unit pulled) (down_stopped unit (λ e. cc (sym e ∙ no_restart)) again)
+                    (λ r. cc (sym (listed acts.Reload unit r) ∙ no_reload)) (λ r. cc (sym (listed acts.Restart unit r) ∙ no_restart)) socketed,
+              )
             ]
       ]
 
-  called_owed : (unit : Name) → IsCalledUnit unit → OwesUnit before states lists unit
-  called_owed unit (inl starts) = OwesUnit.OfStarts starts
-  called_owed unit (inr (inl reloads)) = OwesUnit.OfReloads reloads
-  called_owed unit (inr (inr restarts)) = OwesUnit.OfRestarts restarts
-
   units_within : (unit : Name) → OwesUnit later now kept unit → OwesUnit before states lists unit
-  units_within unit (OwesUnit.OfStops stops) = OwesUnit.OfStarts (stopped_again unit stops).0
-  units_within unit (OwesUnit.OfReloads reloads) = OwesUnit.OfReloads (reloads_within unit reloads)
-  units_within unit (OwesUnit.OfRestarts restarts) = OwesUnit.OfRestarts (restarts_within unit restarts)
-  units_within unit (OwesUnit.OfStarts starts) = called_owed unit (starts_within unit starts)
+  units_within unit (acts.Stop, stops) = (acts.Start, (stopped_again unit stops).0)
+  units_within unit (acts.Reload, reloads) = (acts.Reload, reloads_within unit reloads)
+  units_within unit (acts.Restart, restarts) = (acts.Restart, restarts_within unit restarts)
+  units_within unit (acts.Start, starts) = let is = starts_within unit starts in (act_of is.0, is.1)
 
   -- what is owed nothing is as it was
-  unstopped : (unit : Name) → ¬ OwesUnit before states lists unit → then_ unit ≡ states unit
-  unstopped unit none = ap (λ b. if b then Inactive else states unit) (false_from_ne_true (has owed.stops unit) (λ stops. none (OwesUnit.OfStops ((is_owed.stops.exact unit).0 stops))))
-
   others_kept : (unit : Name) → ¬ OwesUnit before states lists unit → now unit ≡ states unit
   others_kept unit none = by (called.units unit)
     where
+      lacks : (act : Act) → has (owed_names owed act) unit ≡ true → ⊥
+      lacks act found = none (act, owes act unit found)
+
       by : IsCalled owed unit (to unit) (then_ unit) (now unit) → now unit ≡ states unit
-      by (IsCalled.NotYet same) = same ∙ unstopped unit none
+      by (IsCalled.NotYet same) = same ∙ ap (λ b. if b then Inactive else states unit) (false_from_ne_true (has owed.stops unit) (lacks acts.Stop))
       by (IsCalled.Brought brought down is) =
           elim (brought_either owed unit brought) [
-            | inl starts ↦ absurd (none (OwesUnit.OfStarts ((is_owed.starts.exact unit).0 starts)))
-            | inr reloads ↦ absurd (none (OwesUnit.OfReloads ((is_owed.reloads.exact unit).0 reloads)))
+            | inl starts ↦ absurd (lacks acts.Start starts)
+            | inr reloads ↦ absurd (lacks acts.Reload reloads)
           ]
-      by (IsCalled.Restarted restarts is) = absurd (none (OwesUnit.OfRestarts ((is_owed.restarts.exact unit).0 restarts)))
-      by (IsCalled.Halfway restarts is) = absurd (none (OwesUnit.OfRestarts ((is_owed.restarts.exact unit).0 restarts)))
+      by (IsCalled.Restarted restarts is) = absurd (lacks acts.Restart restarts)
+      by (IsCalled.Halfway restarts is) = absurd (lacks acts.Restart restarts)
 
   -- each duty is paid or owed
-  reloads_kept : (unit : Name) → Reloads before states lists unit → IsTrue (is_paid unit) ⊎ Reloads later now kept unit
-  reloads_kept unit reloads =
-      elim (done_or_left owed.reloads kept.reloads _ unit called.reloads ((is_owed.reloads.exact unit).1 reloads)) [
-        | inl done ↦ inl done.1
-        | inr listed ↦ inr (Reloads.ByReloadList listed (reloads_defined before states lists unit reloads))
-      ]
+  still_owed : (which : Which) (unit : Name) → has (list_names kept which) unit ≡ true → IsOwedAct later now kept (act_of which) unit
+  still_owed which unit found = owed_listed later now kept which unit found (owed_defined before states lists sound which unit (listed_before which unit found))
 
-  restarts_kept : (unit : Name) → Restarts before states lists unit → IsTrue (is_paid unit) ⊎ Restarts later now kept unit
-  restarts_kept unit restarts =
-      elim (done_or_left owed.restarts kept.restarts _ unit called.restarts ((is_owed.restarts.exact unit).1 restarts)) [
+  owed_yet : (which : Which) (unit : Name) → IsOwedAct before states lists (act_of which) unit → IsTrue (is_paid unit) ⊎ IsOwedAct later now kept (act_of which) unit
+  owed_yet which unit owes =
+      elim (done_or_left (owed_names owed (act_of which)) (list_names kept which) _ unit (called.kept_lists which) (listed (act_of which) unit owes)) [
         | inl done ↦ inl done.1
-        | inr listed ↦ inr (Restarts.ByRestartList listed (restarts_defined before states lists unit restarts))
-      ]
-
-  starts_kept : (unit : Name) → Starts before states lists unit → IsTrue (is_paid unit) ⊎ Starts later now kept unit
-  starts_kept unit starts =
-      elim (done_or_left owed.starts kept.starts _ unit called.starts ((is_owed.starts.exact unit).1 starts)) [
-        | inl done ↦ inl done.1
-        | inr listed ↦ inr (Starts.ByStartList listed (starts_defined before states lists sound unit starts))
+        | inr left ↦ inr (still_owed which unit left)
       ]
 
   -- points 1 and 2 of what is steady
   stays_steady : IsSteady later now kept
   stays_steady = record {
     pull = λ unit pulled for_good. steady.pull unit (pull_within unit pulled) for_good;
-    starts = λ unit listed for_good. steady.pull unit (start_pulled before states lists sound unit for_good.1 (listed_starts unit listed)) for_good;
-    restarts = λ unit listed target. restart_no_target before states lists steady unit target ((is_owed.restarts.exact unit).0 (still_listed owed.restarts kept.restarts _ unit called.restarts listed));
-    reloads = λ unit listed target. reload_no_target before states lists steady unit target ((is_owed.reloads.exact unit).0 (still_listed owed.reloads kept.reloads _ unit called.reloads listed));
+    starts = λ unit listed for_good. steady.pull unit (start_pulled before states lists sound unit for_good.1 (listed_before kinds.Starts unit listed)) for_good;
+    others = λ which other unit listed target. no_target before states lists steady which other unit target (listed_before which unit listed);
   }
 
   -- the final states, for what is owed at that moment
@@ -269,35 +265,44 @@ module _ (old new : Texts) (wants : Name → List Name) (states now : Name → S
     abbrev final_next : Bool → Bool → Bool → State
     final_next restarts brought stops = final_of restarts brought (if stops then Inactive else now unit) (to unit)
 
+    told : (act : Act) → has (owed_names next act) unit ≡ true → IsOwedAct later now kept act unit
+    told act = ((is_next act).exact unit).0
+
     next_called : is_brought next unit ≡ true → IsCalledUnit unit
     next_called brought =
         elim (brought_either next unit brought) [
-          | inl starts ↦ starts_within unit ((is_next.starts.exact unit).0 starts)
-          | inr reloads ↦ inr (inl (reloads_within unit ((is_next.reloads.exact unit).0 reloads)))
+          | inl starts ↦ starts_within unit (told acts.Start starts)
+          | inr reloads ↦ (kinds.Reloads, reloads_within unit (told acts.Reload reloads))
         ]
 
     next_restarts : has next.restarts unit ≡ true → has owed.restarts unit ≡ true
-    next_restarts restarts = (is_owed.restarts.exact unit).1 (restarts_within unit ((is_next.restarts.exact unit).0 restarts))
+    next_restarts restarts = listed acts.Restart unit (restarts_within unit (told acts.Restart restarts))
 
     next_stops : has next.stops unit ≡ true → then_ unit ≢ Active
-    next_stops stops = (stopped_again unit ((is_next.stops.exact unit).0 stops)).1
+    next_stops stops = (stopped_again unit (told acts.Stop stops)).1
 
     next_again : has next.stops unit ≡ true → is_brought next unit ≡ true
-    next_again stops = or_left (has next.starts unit) (has next.reloads unit) ((is_next.starts.exact unit).1 (stopped_again unit ((is_next.stops.exact unit).0 stops)).3)
+    next_again stops = or_left (has next.starts unit) (has next.reloads unit) (((is_next acts.Start).exact unit).1 (stopped_again unit (told acts.Stop stops)).3)
 
     called_listed : IsCalledUnit unit → (is_brought owed unit ≡ true) ⊎ (has owed.restarts unit ≡ true)
-    called_listed (inl starts) = inl (or_left (has owed.starts unit) (has owed.reloads unit) ((is_owed.starts.exact unit).1 starts))
-    called_listed (inr (inl reloads)) = inl (or_right (has owed.starts unit) (has owed.reloads unit) ((is_owed.reloads.exact unit).1 reloads))
-    called_listed (inr (inr restarts)) = inr ((is_owed.restarts.exact unit).1 restarts)
+    called_listed (kinds.Starts, starts) = inl (or_left (has owed.starts unit) (has owed.reloads unit) (listed acts.Start unit starts))
+    called_listed (kinds.Reloads, reloads) = inl (or_right (has owed.starts unit) (has owed.reloads unit) (listed acts.Reload unit reloads))
+    called_listed (kinds.Restarts, restarts) = inr (listed acts.Restart unit restarts)
+
+    -- what is done with, or listed yet
+    done_or_next : (which : Which) → has (owed_names owed (act_of which)) unit ≡ true → IsDone which owed unit (to unit) (then_ unit) (now unit) ⊎ (has (owed_names next (act_of which)) unit ≡ true)
+    done_or_next which found =
+        elim (done_or_left (owed_names owed (act_of which)) (list_names kept which) _ unit (called.kept_lists which) found) [
+          | inl done ↦ inl done.0
+          | inr left ↦ inr (((is_next (act_of which)).exact unit).1 (still_owed which unit left))
+        ]
 
     -- a unit that is restarted
     restarted : has owed.restarts unit ≡ true → final_next (has next.restarts unit) (is_brought next unit) (has next.stops unit) ≡ to unit
     restarted restarts =
-        elim (done_or_left owed.restarts kept.restarts _ unit called.restarts restarts) [
-          | inl done ↦ final_brought (has next.restarts unit) (is_brought next unit) (has next.stops unit) (now unit) (to unit) done.0 next_again
-          | inr listed ↦
-              ap (λ r. final_next r (is_brought next unit) (has next.stops unit))
-              ((is_next.restarts.exact unit).1 (Restarts.ByRestartList listed (restarts_defined before states lists unit ((is_owed.restarts.exact unit).0 restarts))))
+        elim (done_or_next kinds.Restarts restarts) [
+          | inl done ↦ final_brought (has next.restarts unit) (is_brought next unit) (has next.stops unit) (now unit) (to unit) done next_again
+          | inr again ↦ ap (λ r. final_next r (is_brought next unit) (has next.stops unit)) again
         ]
 
     module _ (none : has owed.restarts unit ≡ false) where
@@ -331,22 +336,14 @@ module _ (old new : Texts) (wants : Name → List Name) (states now : Name → S
       is_or_comes : then_ unit ≢ Active → is_brought owed unit ≡ true → (now unit ≡ to unit) ⊎ (is_brought next unit ≡ true)
       is_or_comes down brought =
           elim (brought_either owed unit brought) [
-            | inl starts ↦
-                elim (done_or_left owed.starts kept.starts _ unit called.starts starts) [
-                  | inl done ↦ inl (given done.0 down)
-                  | inr listed ↦
-                      inr
-                      (or_left (has next.starts unit) (has next.reloads unit)
-                      ((is_next.starts.exact unit).1 (Starts.ByStartList listed (starts_defined before states lists sound unit ((is_owed.starts.exact unit).0 starts)))))
-                ]
-            | inr reloads ↦
-                elim (done_or_left owed.reloads kept.reloads _ unit called.reloads reloads) [
-                  | inl done ↦ inl (given done.0 down)
-                  | inr listed ↦
-                      inr
-                      (or_right (has next.starts unit) (has next.reloads unit)
-                      ((is_next.reloads.exact unit).1 (Reloads.ByReloadList listed (reloads_defined before states lists unit ((is_owed.reloads.exact unit).0 reloads)))))
-                ]
+            | inl starts ↦ elim (done_or_next kinds.Starts starts) [
+              | inl done ↦ inl (given done down)
+              | inr again ↦ inr (or_left (has next.starts unit) (has next.reloads unit) again)
+            ]
+            | inr reloads ↦ elim (done_or_next kinds.Reloads reloads) [
+              | inl done ↦ inl (given done down)
+              | inr again ↦ inr (or_right (has next.starts unit) (has next.reloads unit) again)
+            ]
           ]
 
       up_is_to : then_ unit ≢ Active → now unit ≡ Active → now unit ≡ to unit
@@ -418,9 +415,7 @@ after_link_law old new wants states now lists kept owed loaded bad is_paid sound
           final_by (has next.restarts unit) (is_brought next unit) (has next.stops unit) (now unit) (to unit)
           ∙ same_final old new wants states now lists kept owed to is_paid sound steady is_owed called next is_next unit
           ∙ sym (final_by (has owed.restarts unit) (is_brought owed unit) (has owed.stops unit) (states unit) (to unit));
-      reloads = reloads_kept old new wants states now lists kept owed to is_paid sound steady is_owed called;
-      restarts = restarts_kept old new wants states now lists kept owed to is_paid sound steady is_owed called;
-      starts = starts_kept old new wants states now lists kept owed to is_paid sound steady is_owed called;
+      owed_yet = owed_yet old new wants states now lists kept owed to is_paid sound steady is_owed called;
       units = units_within old new wants states now lists kept owed to is_paid sound steady is_owed called;
       others = others_kept old new wants states now lists kept owed to is_paid sound steady is_owed called;
       steady = stays_steady old new wants states now lists kept owed to is_paid sound steady is_owed called;

@@ -7,9 +7,12 @@ use Rattle.owed_plan.specs.Law.{IsSound, SameOwed}
 use Rattle.host_trait.specs.Manager.{is_active}
 use Rattle.host_trait.proofs.NameOrder.{passes_among}
 use Rattle.host_trait.proofs.StateMaps.{active_from_test}
-use Rattle.owed_plan.specs.Lists.{is_live, pending}
+use Rattle.owed_plan.specs.Lists.{act_of, is_live, pending}
 use Rattle.log_text.specs.declared.lists.Lists.{Lists}
-use Rattle.owed_plan.specs.Owed.{Activates, Decides, Reloads, Restarts, Starts, Stops, has_live}
+use Rattle.log_text.specs.declared.lists.Which.{Which}
+use Rattle.log_text.specs.declared.lists.Which.TheVariants as kinds
+use Rattle.log_text.specs.Lists.{list_names}
+use Rattle.owed_plan.specs.Owed.{Activates, Decides, IsOwedAct, Reloads, Restarts, Starts, Stops, has_live}
 use Rattle.owed_plan.specs.Pull.{IsRoot, Running, Pending, Pulled}
 use Rattle.unit_defs.specs.Pull.{FromRoot, FromWant}
 use Rattle.owed_plan.specs.Systems.{Systems, Counts, IsDefined}
@@ -70,7 +73,6 @@ module _ (systems : Systems) (states : Name → State) (lists : Lists) where
   restart_not_stopped : (unit : Name) → IsSound systems → Decides systems states lists unit Restart → Stops systems states lists unit → ⊥
   restart_not_stopped unit sound decides stops = not_stopped unit Restart (λ e. cc e) (λ e. cc e) (λ e. cc e) (λ e. cc e) sound decides stops
 
-  -- what is started, reloaded or restarted is defined
   root_defined : (unit : Name) → IsRoot systems states lists unit → IsDefined systems unit
   root_defined unit (Running defined target active may) = defined
   root_defined unit (Pending defined target listed) = defined
@@ -79,20 +81,23 @@ module _ (systems : Systems) (states : Name → State) (lists : Lists) where
   pulled_defined sound unit (FromRoot _ root) = root_defined unit root
   pulled_defined sound unit (FromWant _ by reached wanted) = sound.wanted by unit wanted
 
-  pub starts_defined : IsSound systems → (unit : Name) → Starts systems states lists unit → IsDefined systems unit
-  starts_defined sound unit (Starts.ByStart decides) = start_defined (systems.facts unit) (has_live systems states lists unit) decides.row
-  starts_defined sound unit (Starts.ByStopStart decides) = stop_start_defined (systems.facts unit) (has_live systems states lists unit) decides.row
-  starts_defined sound unit (Starts.ByService service activates) = activates.1.1
-  starts_defined sound unit (Starts.ByStartList listed defined) = defined
-  starts_defined sound unit (Starts.ByPull pulled stops reloads restarts socketed) = pulled_defined sound unit pulled
+  -- what is started, restarted or reloaded is defined
+  pub owed_defined : IsSound systems → (which : Which) (unit : Name) → IsOwedAct systems states lists (act_of which) unit → IsDefined systems unit
+  owed_defined sound kinds.Starts unit (Starts.ByStart decides) = start_defined (systems.facts unit) (has_live systems states lists unit) decides.row
+  owed_defined sound kinds.Starts unit (Starts.ByStopStart decides) = stop_start_defined (systems.facts unit) (has_live systems states lists unit) decides.row
+  owed_defined sound kinds.Starts unit (Starts.ByService service activates) = activates.1.1
+  owed_defined sound kinds.Starts unit (Starts.ByStartList listed defined) = defined
+  owed_defined sound kinds.Starts unit (Starts.ByPull pulled stops reloads restarts socketed) = pulled_defined sound unit pulled
+  owed_defined sound kinds.Restarts unit (Restarts.ByRestart decides) = restart_defined (systems.facts unit) (has_live systems states lists unit) decides.row
+  owed_defined sound kinds.Restarts unit (Restarts.ByRestartList listed defined) = defined
+  owed_defined sound kinds.Reloads unit (Reloads.ByReload decides) = reload_defined (systems.facts unit) (has_live systems states lists unit) decides.row
+  owed_defined sound kinds.Reloads unit (Reloads.ByReloadList listed defined) = defined
 
-  pub reloads_defined : (unit : Name) → Reloads systems states lists unit → IsDefined systems unit
-  reloads_defined unit (Reloads.ByReload decides) = reload_defined (systems.facts unit) (has_live systems states lists unit) decides.row
-  reloads_defined unit (Reloads.ByReloadList listed defined) = defined
-
-  pub restarts_defined : (unit : Name) → Restarts systems states lists unit → IsDefined systems unit
-  restarts_defined unit (Restarts.ByRestart decides) = restart_defined (systems.facts unit) (has_live systems states lists unit) decides.row
-  restarts_defined unit (Restarts.ByRestartList listed defined) = defined
+  -- what is listed and defined is owed
+  pub owed_listed : (which : Which) (unit : Name) → IsTrue (has (list_names lists which) unit) → IsDefined systems unit → IsOwedAct systems states lists (act_of which) unit
+  owed_listed kinds.Starts unit listed defined = Starts.ByStartList listed defined
+  owed_listed kinds.Restarts unit listed defined = Restarts.ByRestartList listed defined
+  owed_listed kinds.Reloads unit listed defined = Reloads.ByReloadList listed defined
 
   -- a target that is started is pulled
   pub start_pulled : IsSound systems → (unit : Name) → (systems.facts unit).kind ≡ Target → Starts systems states lists unit → Pulled systems states lists unit
@@ -118,11 +123,19 @@ module _ (systems : Systems) (states : Name → State) (lists : Lists) where
   stopped_socket_starts socket defined is (Stops.ByService service activates active) = Starts.ByService service activates
 
 module _ (systems : Systems) (states : Name → State) (lists : Lists) (later : Name → State) (kept : Lists) (sound : IsSound systems) (partly : IsPartly systems states lists later kept) where
+  -- what is listed afterwards and defined was owed
+  pub listed_before : (which : Which) (unit : Name) → IsTrue (has (list_names kept which) unit) → IsDefined systems unit → IsOwedAct systems states lists (act_of which) unit
+  listed_before which unit listed defined =
+      elim (partly.from which unit listed) [
+        | inl was ↦ owed_listed systems states lists which unit was defined
+        | inr owes ↦ owes
+      ]
+
   -- a target that may start is on the start list where it is stopped
   root_stopped : (unit : Name) → IsDefined systems unit → (systems.facts unit).kind ≡ Target → IsTrue (systems.facts unit).may_start → Stops systems states lists unit → IsRoot systems later kept unit
   root_stopped unit defined target may (Stops.ByStop decides) =
       absurd (target_not_stopped (systems.facts unit) (has_live systems states lists unit) defined target may decides.row)
-  root_stopped unit defined target may (Stops.ByStopStart decides) = Pending defined target (partly.starts_to unit (Starts.ByStopStart decides))
+  root_stopped unit defined target may (Stops.ByStopStart decides) = Pending defined target (partly.starts unit (Starts.ByStopStart decides))
   root_stopped unit defined target may (Stops.BySocketStart decides) =
       absurd (no_service (systems.facts unit).kind target (socket_start_service (systems.facts unit) (has_live systems states lists unit) decides.row))
   root_stopped unit defined target may (Stops.ByService service activates active) =
@@ -134,7 +147,7 @@ module _ (systems : Systems) (states : Name → State) (lists : Lists) (later : 
         | inl still ↦ Running defined target still may
         | inr stops ↦ root_stopped unit defined target may stops
       ]
-  root_kept unit (Pending defined target listed) = Pending defined target (partly.starts_to unit (Starts.ByStartList listed defined))
+  root_kept unit (Pending defined target listed) = Pending defined target (partly.starts unit (Starts.ByStartList listed defined))
 
   pull_to : (unit : Name) → Pulled systems states lists unit → Pulled systems later kept unit
   pull_to unit (FromRoot _ root) = FromRoot unit (root_kept unit root)
@@ -142,7 +155,7 @@ module _ (systems : Systems) (states : Name → State) (lists : Lists) (later : 
 
   root_pulled : (unit : Name) → IsRoot systems later kept unit → Pulled systems states lists unit
   root_pulled unit (Running defined target active may) = FromRoot unit (Running defined target (partly.before unit active) may)
-  root_pulled unit (Pending defined target listed) = start_pulled systems states lists sound unit target (partly.starts_from unit listed defined)
+  root_pulled unit (Pending defined target listed) = start_pulled systems states lists sound unit target (listed_before kinds.Starts unit listed defined)
 
   pub pull_from : (unit : Name) → Pulled systems later kept unit → Pulled systems states lists unit
   pull_from unit (FromRoot _ root) = root_pulled unit root
@@ -154,9 +167,9 @@ module _ (systems : Systems) (states : Name → State) (lists : Lists) (later : 
       elim (live_either systems states lists socket live) [
         | inl active ↦ elim (partly.after socket active) [
           | inl still ↦ live_from_active systems later kept socket still
-          | inr stops ↦ live_from_pending systems later kept socket (partly.starts_to socket (stopped_socket_starts systems states lists socket defined is stops))
+          | inr stops ↦ live_from_pending systems later kept socket (partly.starts socket (stopped_socket_starts systems states lists socket defined is stops))
         ]
-        | inr listed ↦ live_from_pending systems later kept socket (partly.starts_to socket (Starts.ByStartList listed defined))
+        | inr listed ↦ live_from_pending systems later kept socket (partly.starts socket (Starts.ByStartList listed defined))
       ]
 
   has_live_kept : (unit : Name) → has_live systems states lists unit ≡ true → has_live systems later kept unit ≡ true
@@ -232,58 +245,40 @@ module _ (systems : Systems) (states : Name → State) (lists : Lists) (later : 
         | inr stops ↦ absurd (stays stops)
       ]
 
-  reloads_to : (unit : Name) → Reloads systems states lists unit → Reloads systems later kept unit
-  reloads_to unit (Reloads.ByReload decides) =
+  owed_to : (which : Which) (unit : Name) → IsOwedAct systems states lists (act_of which) unit → IsOwedAct systems later kept (act_of which) unit
+  owed_to kinds.Reloads unit (Reloads.ByReload decides) =
       Reloads.ByReload (decides_to Reload reload_same unit (still_active unit (reload_not_stopped systems states lists unit sound decides) decides.active) decides)
-  reloads_to unit (Reloads.ByReloadList listed defined) = Reloads.ByReloadList (partly.reloads_to unit listed defined) defined
-
-  reloads_from : (unit : Name) → Reloads systems later kept unit → Reloads systems states lists unit
-  reloads_from unit (Reloads.ByReload decides) = Reloads.ByReload (decides_from Reload reload_same unit decides)
-  reloads_from unit (Reloads.ByReloadList listed defined) =
-      elim (partly.reloads_from unit listed) [
-        | inl was ↦ Reloads.ByReloadList was defined
-        | inr reloads ↦ reloads
-      ]
-
-  restarts_to : (unit : Name) → Restarts systems states lists unit → Restarts systems later kept unit
-  restarts_to unit (Restarts.ByRestart decides) =
+  owed_to kinds.Reloads unit (Reloads.ByReloadList listed defined) = Reloads.ByReloadList (partly.to kinds.Reloads unit listed defined) defined
+  owed_to kinds.Restarts unit (Restarts.ByRestart decides) =
       Restarts.ByRestart (decides_to Restart restart_same unit (still_active unit (restart_not_stopped systems states lists unit sound decides) decides.active) decides)
-  restarts_to unit (Restarts.ByRestartList listed defined) = Restarts.ByRestartList (partly.restarts_to unit listed defined) defined
+  owed_to kinds.Restarts unit (Restarts.ByRestartList listed defined) = Restarts.ByRestartList (partly.to kinds.Restarts unit listed defined) defined
+  owed_to kinds.Starts unit starts = Starts.ByStartList (partly.starts unit starts) (owed_defined systems states lists sound kinds.Starts unit starts)
 
-  restarts_from : (unit : Name) → Restarts systems later kept unit → Restarts systems states lists unit
-  restarts_from unit (Restarts.ByRestart decides) = Restarts.ByRestart (decides_from Restart restart_same unit decides)
-  restarts_from unit (Restarts.ByRestartList listed defined) =
-      elim (partly.restarts_from unit listed) [
-        | inl was ↦ Restarts.ByRestartList was defined
-        | inr restarts ↦ restarts
-      ]
-
-  starts_to : (unit : Name) → Starts systems states lists unit → Starts systems later kept unit
-  starts_to unit starts = Starts.ByStartList (partly.starts_to unit starts) (starts_defined systems states lists sound unit starts)
-
-  starts_from : (unit : Name) → Starts systems later kept unit → Starts systems states lists unit
-  starts_from unit (Starts.ByStart decides) = Starts.ByStart (decides_from Start start_same unit decides)
-  starts_from unit (Starts.ByStopStart decides) = Starts.ByStopStart (stop_start_from unit decides)
-  starts_from unit (Starts.ByService service activates) =
+  owed_from : (which : Which) (unit : Name) → IsOwedAct systems later kept (act_of which) unit → IsOwedAct systems states lists (act_of which) unit
+  owed_from kinds.Reloads unit (Reloads.ByReload decides) = Reloads.ByReload (decides_from Reload reload_same unit decides)
+  owed_from kinds.Reloads unit (Reloads.ByReloadList listed defined) = listed_before kinds.Reloads unit listed defined
+  owed_from kinds.Restarts unit (Restarts.ByRestart decides) = Restarts.ByRestart (decides_from Restart restart_same unit decides)
+  owed_from kinds.Restarts unit (Restarts.ByRestartList listed defined) = listed_before kinds.Restarts unit listed defined
+  owed_from kinds.Starts unit (Starts.ByStart decides) = Starts.ByStart (decides_from Start start_same unit decides)
+  owed_from kinds.Starts unit (Starts.ByStopStart decides) = Starts.ByStopStart (stop_start_from unit decides)
+  owed_from kinds.Starts unit (Starts.ByService service activates) =
       elim (live_either systems later kept unit activates.2) [
         | inl active ↦ Starts.ByService service (activates_from service unit activates (partly.before unit active))
-        | inr listed ↦ partly.starts_from unit listed activates.1.1
+        | inr listed ↦ listed_before kinds.Starts unit listed activates.1.1
       ]
-  starts_from unit (Starts.ByStartList listed defined) = partly.starts_from unit listed defined
-  starts_from unit (Starts.ByPull pulled stops reloads restarts socketed) =
+  owed_from kinds.Starts unit (Starts.ByStartList listed defined) = listed_before kinds.Starts unit listed defined
+  owed_from kinds.Starts unit (Starts.ByPull pulled stops reloads restarts socketed) =
       Starts.ByPull (pull_from unit pulled)
       (λ active. elim (partly.after unit active) [
         | inl still ↦ stops_from unit (stops still)
         | inr stopped ↦ stopped
       ])
-      (λ reload. reloads (reloads_to unit reload)) (λ restart. restarts (restarts_to unit restart)) socketed
+      (λ reload. reloads (owed_to kinds.Reloads unit reload)) (λ restart. restarts (owed_to kinds.Restarts unit restart)) socketed
 
   -- the same is owed, but for what is stopped already
   pub same_owed : SameOwed systems states later lists kept
   same_owed = record {
     pull = λ unit. (pull_from unit, pull_to unit);
     stops = λ unit. (λ stops. (stops_from unit stops, stops_active systems later kept unit stops), λ both. stops_to unit both.0 both.1);
-    reloads = λ unit. (reloads_from unit, reloads_to unit);
-    restarts = λ unit. (restarts_from unit, restarts_to unit);
-    starts = λ unit. (starts_from unit, starts_to unit);
+    others = λ which unit. (owed_from which unit, owed_to which unit);
   }

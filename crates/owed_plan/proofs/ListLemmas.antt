@@ -4,28 +4,31 @@ use Rattle.std.specs.Cmp.Lexicographic.{slice_cmp}
 use Rattle.std.specs.Ordering.{nat_cmp}
 use Rattle.std.proofs.lemmas.List.Kept.{IsStrictlySortedBy-filter}
 use Rattle.std.proofs.lemmas.Bool.{and_from, and_parts}
+use Rattle.host_trait.specs.declared.entry.Act.{Act}
+use Rattle.host_trait.specs.declared.entry.Act.TheVariants.{Stop, Reload, Restart, Start}
 use Rattle.host_trait.specs.declared.unit_state.State.{State}
 use Rattle.owed_plan.specs.Law.{ListLaw, SameOwed, rest_of}
 use Rattle.host_trait.specs.Manager.{is_active}
 use Rattle.host_trait.proofs.NameOrder.{has_filter}
 use Rattle.host_trait.proofs.StateMaps.{active_from_test}
 use Rattle.log_text.specs.declared.lists.Lists.{Lists}
+use Rattle.log_text.specs.declared.lists.Which.TheVariants.{Starts, Restarts, Reloads}
 use Rattle.owed_lists.proofs.ListLemmas.{one_list}
-use Rattle.owed_plan.specs.Owed.{IsOwed, IsPlan, Stops}
+use Rattle.owed_plan.specs.Lists.{owed_names}
+use Rattle.owed_plan.specs.Owed.{IsOwed, IsOwedAct, IsPlan, Stops}
 use Rattle.owed_plan.specs.declared.owed.Owed.{Owed}
 use Rattle.switch_names.specs.Names.{IsListOf, Name, has}
 use Rattle.owed_plan.specs.Systems.{Systems}
 use Rattle.owed_plan.proofs.PrefixLemmas.{law}
 
+-- two lists of what is owed a kind of act are one
+pub same_names : (systems : Systems) (states : Name → State) (lists : Lists) (one other : Owed) → IsOwed systems states lists one → IsOwed systems states lists other → (act : Act) → owed_names one act ≡ owed_names other act
+same_names systems states lists one other is also act = one_list (owed_names one act) (owed_names other act) (IsOwedAct systems states lists act) (is act) (also act)
+
 pub one_owed : (systems : Systems) (states : Name → State) (lists : Lists) (one other : Owed) → IsPlan systems states lists one → IsPlan systems states lists other → one ≡ other
 one_owed systems states lists one other is also =
-    λ i. record {
-      stops = one_list one.stops other.stops _ is.is_owed.stops also.is_owed.stops i;
-      reloads = one_list one.reloads other.reloads _ is.is_owed.reloads also.is_owed.reloads i;
-      restarts = one_list one.restarts other.restarts _ is.is_owed.restarts also.is_owed.restarts i;
-      starts = one_list one.starts other.starts _ is.is_owed.starts also.is_owed.starts i;
-      left = one_list one.left other.left _ is.left also.left i;
-    }
+    let same = same_names systems states lists one other is.is_owed also.is_owed in
+    λ i. record { stops = same Stop i; reloads = same Reload i; restarts = same Restart i; starts = same Start i; left = one_list one.left other.left _ is.left also.left i }
 
 -- a list of what has P is one of what has Q where both are the same
 same_list : (names : List Name) (P Q : Name → Type 0) → ((unit : Name) → Q unit ↔ P unit) → IsListOf names P → IsListOf names Q
@@ -49,16 +52,14 @@ part_list test names P Q from to list = record {
 }
 
 rest_owed : (systems : Systems) (states later : Name → State) (lists kept : Lists) (owed : Owed) → IsOwed systems states lists owed → SameOwed systems states later lists kept → IsOwed systems later kept (rest_of later owed)
-rest_owed systems states later lists kept owed is same = record {
-  stops =
-      part_list (λ unit. is_active (later unit)) owed.stops (Stops systems states lists) (Stops systems later kept)
-      (λ unit stops. let both = (same.stops unit).0 stops in (both.0, ap is_active both.1))
-      (λ unit stops active. (same.stops unit).1 (stops, active_from_test (later unit) active))
-      is.stops;
-  reloads = same_list owed.reloads _ _ same.reloads is.reloads;
-  restarts = same_list owed.restarts _ _ same.restarts is.restarts;
-  starts = same_list owed.starts _ _ same.starts is.starts;
-}
+rest_owed systems states later lists kept owed is same Stop =
+    part_list (λ unit. is_active (later unit)) owed.stops (Stops systems states lists) (Stops systems later kept)
+    (λ unit stops. let both = (same.stops unit).0 stops in (both.0, ap is_active both.1))
+    (λ unit stops active. (same.stops unit).1 (stops, active_from_test (later unit) active))
+    (is Stop)
+rest_owed systems states later lists kept owed is same Reload = same_list owed.reloads _ _ (same.others Reloads) (is Reload)
+rest_owed systems states later lists kept owed is same Restart = same_list owed.restarts _ _ (same.others Restarts) (is Restart)
+rest_owed systems states later lists kept owed is same Start = same_list owed.starts _ _ (same.others Starts) (is Start)
 
 pub list_law : ListLaw
 list_law systems states later lists kept owed count sound is_owed are_stopped is_recorded =

@@ -2,9 +2,11 @@
 use Rattle.std.proofs.Common.{◌≡◌, ◌⊎◌, IsTrue}
 use Rattle.host_trait.specs.declared.unit_state.State.{State}
 use Rattle.host_trait.specs.declared.unit_state.State.TheVariants.{Active}
-use Rattle.owed_plan.specs.Lists.{pending}
+use Rattle.owed_plan.specs.Lists.{act_of, pending}
 use Rattle.log_text.specs.declared.lists.Lists.{Lists}
-use Rattle.owed_plan.specs.Owed.{Reloads, Restarts, Starts, Stops}
+use Rattle.log_text.specs.declared.lists.Which.{Which}
+use Rattle.log_text.specs.Lists.{list_names}
+use Rattle.owed_plan.specs.Owed.{IsOwedAct, Starts, Stops}
 use Rattle.owed_plan.specs.Systems.{Systems, IsDefined}
 use Rattle.switch_names.specs.declared.unit_kind.UnitKind.TheVariants.{Service, Socket}
 use Rattle.switch_names.specs.Names.{Name, has}
@@ -14,9 +16,6 @@ pub record IsPartly (systems : Systems) (states : Name → State) (lists : Lists
   pub before : (unit : Name) → later unit ≡ Active → states unit ≡ Active
   pub after : (unit : Name) → states unit ≡ Active → (later unit ≡ Active) ⊎ Stops systems states lists unit
   pub order : (service socket : Name) → (systems.facts service).kind ≡ Service → (systems.facts socket).kind ≡ Socket → Stops systems states lists socket → later socket ≡ Active → states service ≡ Active → later service ≡ Active
-  pub starts_from : (unit : Name) → IsTrue (has (pending kept) unit) → IsDefined systems unit → Starts systems states lists unit
-  pub starts_to : (unit : Name) → Starts systems states lists unit → IsTrue (has (pending kept) unit)
-  pub reloads_from : (unit : Name) → IsTrue (has kept.reloads unit) → IsTrue (has lists.reloads unit) ⊎ Reloads systems states lists unit
-  pub reloads_to : (unit : Name) → IsTrue (has lists.reloads unit) → IsDefined systems unit → IsTrue (has kept.reloads unit)
-  pub restarts_from : (unit : Name) → IsTrue (has kept.restarts unit) → IsTrue (has lists.restarts unit) ⊎ Restarts systems states lists unit
-  pub restarts_to : (unit : Name) → IsTrue (has lists.restarts unit) → IsDefined systems unit → IsTrue (has kept.restarts unit)
+  pub starts : (unit : Name) → Starts systems states lists unit → IsTrue (has (pending kept) unit)
+  pub from : (which : Which) (unit : Name) → IsTrue (has (list_names kept which) unit) → IsTrue (has (list_names lists which) unit) ⊎ IsOwedAct systems states lists (act_of which) unit
+  pub to : (which : Which) (unit : Name) → IsTrue (has (list_names lists which) unit) → IsDefined systems unit → IsTrue (has (list_names kept which) unit)

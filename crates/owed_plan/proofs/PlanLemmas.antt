@@ -2,13 +2,14 @@
 use Rattle.std.proofs.Common.{◌≡◌, ◌↔◌, ◌||◌, ◌&&◌, Bool, true, false, List, [], filter, not, if◌then◌else◌, refl, sym, ap, subst, ◌∙◌, inl, inr}
 use Rattle.std.specs.List.{list_any}
 use Rattle.std.proofs.lemmas.Bool.{and_from, and_parts, false_from_ne_true, both_ways, not-true, not_from_false, or_cases, or_left, or_right}
+use Rattle.host_trait.specs.declared.entry.Act.TheVariants as acts
 use Rattle.host_trait.specs.States.{UnitStates, state_of}
 use Rattle.host_trait.specs.declared.unit_state.State.TheVariants.{Active}
 use Rattle.log_text.specs.declared.lists.Lists.{Lists}
 use Rattle.owed_plan.specs.Collected.{IsCollected, IsListBy, comes_up, defined, is_socketed}
 use Rattle.host_trait.specs.Manager.{is_active}
 use Rattle.owed_plan.specs.Lists.{is_live}
-use Rattle.owed_plan.specs.Owed.{Activates, Decides, IsLeft, IsPlan, Reloads, Restarts, Starts, Stops, has_live}
+use Rattle.owed_plan.specs.Owed.{Activates, Decides, IsLeft, IsOwed, IsPlan, Reloads, Restarts, Starts, Stops, has_live}
 use Rattle.owed_plan.specs.Pull.{Pulled}
 use Rattle.owed_plan.specs.Decisions.{Situation, is_left, is_live_socket, is_nothing, is_reloaded, is_restarted, is_socket_started, is_started, is_stopped, leaves, live_sockets, reloads, restarts, decisions_of, starts, stops}
 use Rattle.owed_plan.specs.Systems.{IsSocketed, Systems}
@@ -301,15 +302,13 @@ module _ (systems : Systems) (states : UnitStates) (lists : Lists) where
         or_right (own_starts unit) (has (filter up_test pulled) unit) (pull_to unit reached stops reloads restarts socketed)
 
     pub is_plan : IsPlan systems (state_of states) lists owed
-    is_plan = record {
-      is_owed = record {
-        stops = list_of owed.stops _ _ is.stops (λ unit. (stops_from unit, stops_to unit));
-        reloads = list_of owed.reloads _ _ is.reloads (λ unit. (reloads_from unit, reloads_to unit));
-        restarts = list_of owed.restarts _ _ is.restarts (λ unit. (restarts_from unit, restarts_to unit));
-        starts = list_of owed.starts _ _ is.starts (λ unit. (starts_from unit, starts_to unit));
-      };
-      left = list_of owed.left _ _ is.left (λ unit. (left_from unit, left_to unit));
-    }
+    is_plan = record { is_owed = is_owed; left = list_of owed.left _ _ is.left (λ unit. (left_from unit, left_to unit)) }
+      where
+        is_owed : IsOwed systems (state_of states) lists owed
+        is_owed acts.Stop = list_of owed.stops _ _ is.stops (λ unit. (stops_from unit, stops_to unit))
+        is_owed acts.Reload = list_of owed.reloads _ _ is.reloads (λ unit. (reloads_from unit, reloads_to unit))
+        is_owed acts.Restart = list_of owed.restarts _ _ is.restarts (λ unit. (restarts_from unit, restarts_to unit))
+        is_owed acts.Start = list_of owed.starts _ _ is.starts (λ unit. (starts_from unit, starts_to unit))
 
 -- what waits for a start by a set does so by the list
 seen : (systems : Systems) (states : UnitStates) (lists : Lists) (waiting : List Name) → ((unit : Name) → has waiting unit ≡ has lists.starts unit) →

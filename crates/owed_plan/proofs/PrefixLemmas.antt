@@ -1,15 +1,18 @@
 -- A beginning of the stops in their order, with the lists recorded, is such a part.
 use Rattle.std.proofs.Common.{◌≡◌, ◌⊎◌, ℕ, Bool, true, false, not, List, filter, take, if◌then◌else◌, inl, inr, refl, sym, ap, subst, ◌∙◌}
 use Rattle.std.proofs.lemmas.Bool.{and_from, and_parts}
+use Rattle.host_trait.specs.declared.entry.Act.TheVariants.{Start, Stop}
 use Rattle.host_trait.specs.declared.unit_state.State.{State}
 use Rattle.host_trait.specs.declared.unit_state.State.TheVariants.{Active, Inactive}
 use Rattle.host_trait.proofs.NameOrder.{has_filter}
 use Rattle.owed_plan.specs.Law.{AreStopped, IsRecorded, Law}
 use Rattle.log_text.specs.declared.lists.Lists.{Lists}
+use Rattle.log_text.specs.Lists.{list_names}
 use Rattle.owed_plan.specs.declared.owed.Owed.{Owed}
-use Rattle.owed_plan.specs.Owed.{IsOwed, Reloads, Restarts, Stops, stop_order}
+use Rattle.owed_plan.specs.Lists.{act_of, owed_names}
+use Rattle.owed_plan.specs.Owed.{IsOwed, IsOwedAct, Stops, stop_order}
 use Rattle.owed_plan.specs.Systems.{Systems}
-use Rattle.owed_plan.proofs.CoreLemmas.{same_owed}
+use Rattle.owed_plan.proofs.CoreLemmas.{owed_listed, same_owed}
 use Rattle.owed_plan.proofs.NameLemmas.{has-sockets_first, has-take, take_two}
 use Rattle.owed_plan.proofs.PartLemmas.{IsPartly}
 use Rattle.switch_names.specs.declared.unit_kind.UnitKind.{UnitKind}
@@ -56,7 +59,7 @@ module _ (systems : Systems) (states later : Name → State) (lists kept : Lists
 
   taken_stops : (unit : Name) → has taken unit ≡ true → Stops systems states lists unit
   taken_stops unit found =
-      (is_owed.stops.exact unit).0 (sym (has-sockets_first (λ u. (systems.facts u).kind) owed.stops unit) ∙ has-take count (stop_order systems owed.stops) unit found)
+      ((is_owed Stop).exact unit).0 (sym (has-sockets_first (λ u. (systems.facts u).kind) owed.stops unit) ∙ has-take count (stop_order systems owed.stops) unit found)
 
   before : (unit : Name) → later unit ≡ Active → states unit ≡ Active
   before unit active = (was_active (has taken unit) (states unit) (later unit) (are_stopped unit) active).1
@@ -75,7 +78,7 @@ module _ (systems : Systems) (states later : Name → State) (lists kept : Lists
         | inr found ↦
             absurd
             ((was_active (has taken socket) (states socket) (later socket) (are_stopped socket) active).0
-            (sockets_first systems owed.stops count service socket is_service is_socket ((is_owed.stops.exact socket).1 stops) found))
+            (sockets_first systems owed.stops count service socket is_service is_socket (((is_owed Stop).exact socket).1 stops) found))
       ]
 
   pub is_partly : IsPartly systems states lists later kept
@@ -83,12 +86,11 @@ module _ (systems : Systems) (states later : Name → State) (lists kept : Lists
     before = before;
     after = after;
     order = order;
-    starts_from = λ unit listed defined. (is_owed.starts.exact unit).0 (subst (λ names. has names unit ≡ true) is_recorded.starts listed);
-    starts_to = λ unit starts. subst (λ names. has names unit ≡ true) (sym is_recorded.starts) ((is_owed.starts.exact unit).1 starts);
-    reloads_from = listed_from (Reloads systems states lists) lists.reloads owed.reloads kept.reloads (λ unit. (is_owed.reloads.exact unit).0) is_recorded.reloads;
-    reloads_to = λ unit listed defined. listed_to lists.reloads owed.reloads kept.reloads unit (λ was. (is_owed.reloads.exact unit).1 (Reloads.ByReloadList was defined)) is_recorded.reloads listed;
-    restarts_from = listed_from (Restarts systems states lists) lists.restarts owed.restarts kept.restarts (λ unit. (is_owed.restarts.exact unit).0) is_recorded.restarts;
-    restarts_to = λ unit listed defined. listed_to lists.restarts owed.restarts kept.restarts unit (λ was. (is_owed.restarts.exact unit).1 (Restarts.ByRestartList was defined)) is_recorded.restarts listed;
+    starts = λ unit starts. subst (λ names. has names unit ≡ true) (sym is_recorded.starts) (((is_owed Start).exact unit).1 starts);
+    from = λ which.
+        listed_from (IsOwedAct systems states lists (act_of which)) (list_names lists which) (owed_names owed (act_of which)) (list_names kept which) (λ unit. ((is_owed (act_of which)).exact unit).0) (is_recorded.others which);
+    to = λ which unit listed defined.
+        listed_to (list_names lists which) (owed_names owed (act_of which)) (list_names kept which) unit (λ was. ((is_owed (act_of which)).exact unit).1 (owed_listed systems states lists which unit was defined)) (is_recorded.others which) listed;
   }
 
 pub law : Law

@@ -1,13 +1,16 @@
 -- What was steady is so after some of the stops.
-use Rattle.std.proofs.Common.{◌≡◌, IsTrue, inl, inr}
+use Rattle.std.proofs.Common.{◌≡◌, ◌≢◌, IsTrue, refl, inl, inr}
 use Rattle.host_trait.specs.declared.unit_state.State.{State}
 use Rattle.owed_plan.specs.Law.{IsSound}
-use Rattle.owed_plan.specs.Lists.{pending}
+use Rattle.owed_plan.specs.Lists.{act_of, pending}
 use Rattle.log_text.specs.declared.lists.Lists.{Lists}
-use Rattle.owed_plan.specs.Owed.{Reloads, Restarts, has_live}
+use Rattle.log_text.specs.declared.lists.Which.{Which}
+use Rattle.log_text.specs.declared.lists.Which.TheVariants as kinds
+use Rattle.log_text.specs.Lists.{list_names}
+use Rattle.owed_plan.specs.Owed.{IsOwedAct, Reloads, Restarts, has_live}
 use Rattle.owed_plan.specs.Steady.{IsSteady, IsStoppedForGood, SteadyLaw}
 use Rattle.owed_plan.specs.Systems.{Systems}
-use Rattle.owed_plan.proofs.CoreLemmas.{pull_from, start_pulled}
+use Rattle.owed_plan.proofs.CoreLemmas.{listed_before, pull_from, start_pulled}
 use Rattle.owed_plan.proofs.PartLemmas.{IsPartly}
 use Rattle.owed_plan.proofs.PrefixLemmas.{is_partly}
 use Rattle.switch_names.specs.declared.unit_kind.UnitKind.TheVariants.{Target}
@@ -15,40 +18,31 @@ use Rattle.unit_decide.proofs.TableLemmas.{target_not_reloaded, target_not_resta
 use Rattle.switch_names.specs.Names.{Name, has}
 
 -- no target is reloaded or restarted
-module _ (systems : Systems) (states : Name → State) (lists : Lists) where
-  pub reload_no_target : IsSteady systems states lists → (unit : Name) → (systems.facts unit).kind ≡ Target → Reloads systems states lists unit → ⊥
-  reload_no_target steady unit target (Reloads.ByReload decides) = target_not_reloaded (systems.facts unit) (has_live systems states lists unit) target decides.row
-  reload_no_target steady unit target (Reloads.ByReloadList listed defined) = steady.reloads unit listed target
-
-  pub restart_no_target : IsSteady systems states lists → (unit : Name) → (systems.facts unit).kind ≡ Target → Restarts systems states lists unit → ⊥
-  restart_no_target steady unit target (Restarts.ByRestart decides) = target_not_restarted (systems.facts unit) (has_live systems states lists unit) target decides.row
-  restart_no_target steady unit target (Restarts.ByRestartList listed defined) = steady.restarts unit listed target
+pub no_target : (systems : Systems) (states : Name → State) (lists : Lists) → IsSteady systems states lists → (which : Which) → which ≢ kinds.Starts → (unit : Name) → (systems.facts unit).kind ≡ Target →
+    IsOwedAct systems states lists (act_of which) unit → ⊥
+no_target systems states lists steady kinds.Reloads other unit target (Reloads.ByReload decides) = target_not_reloaded (systems.facts unit) (has_live systems states lists unit) target decides.row
+no_target systems states lists steady kinds.Reloads other unit target (Reloads.ByReloadList listed defined) = steady.others kinds.Reloads other unit listed target
+no_target systems states lists steady kinds.Restarts other unit target (Restarts.ByRestart decides) = target_not_restarted (systems.facts unit) (has_live systems states lists unit) target decides.row
+no_target systems states lists steady kinds.Restarts other unit target (Restarts.ByRestartList listed defined) = steady.others kinds.Restarts other unit listed target
+no_target systems states lists steady kinds.Starts other unit target starts = other refl
 
 module _ (systems : Systems) (states : Name → State) (lists : Lists) (later : Name → State) (kept : Lists) (sound : IsSound systems) (partly : IsPartly systems states lists later kept) (steady : IsSteady systems states lists) where
   pending_steady : (unit : Name) → IsTrue (has (pending kept) unit) → IsStoppedForGood systems unit → ⊥
   pending_steady unit listed for_good =
-      steady.pull unit (start_pulled systems states lists sound unit for_good.1 (partly.starts_from unit listed for_good.0)) for_good
+      steady.pull unit (start_pulled systems states lists sound unit for_good.1 (listed_before systems states lists later kept sound partly kinds.Starts unit listed for_good.0)) for_good
 
-  reloads_steady : (unit : Name) → IsTrue (has kept.reloads unit) → (systems.facts unit).kind ≡ Target → ⊥
-  reloads_steady unit listed target =
-      elim (partly.reloads_from unit listed) [
-        | inl was ↦ steady.reloads unit was target
-        | inr reloads ↦ reload_no_target systems states lists steady unit target reloads
-      ]
-
-  restarts_steady : (unit : Name) → IsTrue (has kept.restarts unit) → (systems.facts unit).kind ≡ Target → ⊥
-  restarts_steady unit listed target =
-      elim (partly.restarts_from unit listed) [
-        | inl was ↦ steady.restarts unit was target
-        | inr restarts ↦ restart_no_target systems states lists steady unit target restarts
+  others_steady : (which : Which) → which ≢ kinds.Starts → (unit : Name) → IsTrue (has (list_names kept which) unit) → (systems.facts unit).kind ≡ Target → ⊥
+  others_steady which other unit listed target =
+      elim (partly.from which unit listed) [
+        | inl was ↦ steady.others which other unit was target
+        | inr owes ↦ no_target systems states lists steady which other unit target owes
       ]
 
   stays_steady : IsSteady systems later kept
   stays_steady = record {
     pull = λ unit pulled. steady.pull unit (pull_from systems states lists later kept sound partly unit pulled);
     starts = pending_steady;
-    restarts = restarts_steady;
-    reloads = reloads_steady;
+    others = others_steady;
   }
 
 pub steady_law : SteadyLaw

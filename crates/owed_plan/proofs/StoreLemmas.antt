@@ -27,7 +27,7 @@ use Rattle.switch_names.proofs.Below.{below_both, below_front}
 use Rattle.unit_defs.specs.Count.{unit_names}
 use Rattle.unit_defs.specs.Files.{drop_in_at, file_of, paths_of, want_at, own_files}
 use Rattle.unit_defs.specs.Fstab.{fstab_of, fstab_path, line_text, names_of, wanted_by_lines}
-use Rattle.unit_defs.specs.declared.part.Part.{Part}
+use Rattle.unit_defs.specs.declared.part.FilePart.{FilePart}
 use Rattle.unit_defs.specs.Part.{line_part, merged, part_of}
 use Rattle.unit_defs.specs.Place.{path_of, place_of, unit_folder}
 use Rattle.unit_defs.proofs.FstabLemmas.{fstab_same}
@@ -132,10 +132,10 @@ module _ (leaves other : Leaves) (same : AreSameInStore leaves other) (system : 
   part_same unit = λ i. option_or (files_same unit i) (option_map line_part (line_text (lines_same i) unit))
 
   own_same : (unit : Name) → own_text leaves system unit ≡ own_text other system unit
-  own_same unit = ap (option_map (λ (part : Part). part.text)) (part_same unit)
+  own_same unit = ap (option_map (λ (part : FilePart). part.text)) (part_same unit)
 
   fault_same : (unit : Name) → own_fault leaves system unit ≡ own_fault other system unit
-  fault_same unit = ap (option_and_then (λ (part : Part). part.fault)) (files_same unit)
+  fault_same unit = ap (option_and_then (λ (part : FilePart). part.fault)) (files_same unit)
 
   units_same : units_of leaves system ≡ units_of other system
   units_same = ap (λ paths. in_order (flat_map (λ path. unit_at (place_of system path)) paths)) paths_same

@@ -1,10 +1,13 @@
 -- Tests on names tell whether the marks of the targets and the lists are steady.
-use Rattle.std.proofs.Common.{◌≡◌, ◌↔◌, ◌&&◌, Bool, true, false, IsTrue, List, None, not, sym, ap, ◌∙◌}
+use Rattle.std.proofs.Common.{◌≡◌, ◌≢◌, ◌↔◌, ◌&&◌, Bool, true, false, IsTrue, List, None, not, refl, sym, ap, ◌∙◌}
 use Rattle.std.specs.List.{list_any}
 use Rattle.std.proofs.lemmas.Bool.{and_from, and_parts, both_ways, false_from_ne_true, not-true, not_from_false}
 use Rattle.host_trait.specs.declared.unit_state.State.{State}
 use Rattle.host_trait.proofs.NameOrder.{passes_among}
 use Rattle.log_text.specs.declared.lists.Lists.{Lists}
+use Rattle.log_text.specs.declared.lists.Which.{Which}
+use Rattle.log_text.specs.declared.lists.Which.TheVariants.{Starts, Restarts, Reloads}
+use Rattle.log_text.specs.Lists.{list_names}
 use Rattle.owed_plan.specs.Pull.{Pulled}
 use Rattle.owed_plan.specs.Steady.{IsSteady, IsStoppedForGood, has_for_good, is_steady, is_target}
 use Rattle.owed_plan.specs.Systems.{systems_in}
@@ -66,16 +69,20 @@ module _ (old new : List Unit) where
           pull = λ unit reached.
               none_from (has_for_good new) (IsStoppedForGood (systems_in old new)) pulled for_good_to (not-true (list_any (has_for_good new) pulled) second.0) unit ((are.exact unit).1 reached);
           starts = none_from (has_for_good new) (IsStoppedForGood (systems_in old new)) lists.starts for_good_to (not-true (list_any (has_for_good new) lists.starts) second.1);
-          restarts = none_from is_target IsTarget lists.restarts target_to (not-true (list_any is_target lists.restarts) third.1);
-          reloads = none_from is_target IsTarget lists.reloads target_to (not-true (list_any is_target lists.reloads) last.1);
+          others = others third.1 last.1;
         }
+      where
+        others : not (list_any is_target lists.restarts) ≡ true → not (list_any is_target lists.reloads) ≡ true → (which : Which) → which ≢ Starts → (unit : Name) → IsTrue (has (list_names lists which) unit) → IsTarget unit → ⊥
+        others restarts reloads Starts other = absurd (other refl)
+        others restarts reloads Restarts other = none_from is_target IsTarget lists.restarts target_to (not-true (list_any is_target lists.restarts) restarts)
+        others restarts reloads Reloads other = none_from is_target IsTarget lists.reloads target_to (not-true (list_any is_target lists.reloads) reloads)
 
     steady_to : IsSteady (systems_in old new) states lists → is_steady new lists pulled ≡ true
     steady_to is =
         let pull = none_to (has_for_good new) (IsStoppedForGood (systems_in old new)) pulled for_good_from (λ unit found. is.pull unit ((are.exact unit).0 found)) in
         let starts = none_to (has_for_good new) (IsStoppedForGood (systems_in old new)) lists.starts for_good_from is.starts in
-        let restarts = none_to is_target IsTarget lists.restarts target_from is.restarts in
-        let reloads = none_to is_target IsTarget lists.reloads target_from is.reloads in
+        let restarts = none_to is_target IsTarget lists.restarts target_from (is.others Restarts (λ e. absurd cc)) in
+        let reloads = none_to is_target IsTarget lists.reloads target_from (is.others Reloads (λ e. absurd cc)) in
         λ i. not (pull i) && not (starts i) && not (restarts i) && not (reloads i)
 
     pub steady_told : (told : Bool) → told ≡ is_steady new lists pulled → IsTrue told ↔ IsSteady (systems_in old new) states lists

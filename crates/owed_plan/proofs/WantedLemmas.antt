@@ -8,8 +8,8 @@ use Rattle.owed_plan.proofs.SystemLemmas.{guarded}
 use Rattle.switch_names.specs.Names.{Name, has, is_name}
 use Rattle.switch_names.specs.UnitName.{IsUnitName, template_of, unit_fault, is_unit}
 use Rattle.unit_decide.proofs.SocketLemmas.{none_found}
-use Rattle.unit_defs.specs.declared.place.Place.{Place}
-use Rattle.unit_defs.specs.declared.place.Place.TheVariants.{File, DropIn, Want}
+use Rattle.unit_defs.specs.declared.place.UnitPlace.{UnitPlace}
+use Rattle.unit_defs.specs.declared.place.UnitPlace.TheVariants.{File, DropIn, Want}
 use Rattle.unit_defs.specs.Files.{folder_wants, paths_of, want_at}
 use Rattle.unit_defs.specs.Fstab.{fstab_of, names_of, wanted_by_lines}
 use Rattle.unit_defs.specs.Place.{place_of}
@@ -33,11 +33,11 @@ flat_more f g name more (x ∷ xs) found =
     ]
 
 -- the name of a leaf in a folder of wanted units
-abbrev wanted_at : Option Place → List Name
+abbrev wanted_at : Option UnitPlace → List Name
 wanted_at (Some (Want unit name)) = name ∷ []
 wanted_at place = []
 
-at_place : (unit name : Name) (place : Option Place) → has (want_at unit place) name ≡ true → has (wanted_at place) name ≡ true
+at_place : (unit name : Name) (place : Option UnitPlace) → has (want_at unit place) name ≡ true → has (wanted_at place) name ≡ true
 at_place unit name None found = absurd (none_found name found)
 at_place unit name (Some (File other)) found = absurd (none_found name found)
 at_place unit name (Some (DropIn other part)) found = absurd (none_found name found)

@@ -1,13 +1,18 @@
 -- What a switch owes after its link has moved, while it makes its calls: NixOS manual, "Unit handling".
 use Rattle.std.specs.Prelude.{◌≡◌, ◌≢◌, ◌⊎◌, ℕ, Bool, IsTrue, List}
+use Rattle.host_trait.specs.declared.entry.Act.{Act}
 use Rattle.host_trait.specs.declared.entry.Bad.{Bad}
 use Rattle.host_trait.specs.declared.unit_state.State.{State}
 use Rattle.host_trait.specs.declared.unit_state.State.TheVariants.{Active, Inactive}
 use Rattle.log_text.specs.declared.lists.Lists.{Lists}
+use Rattle.log_text.specs.declared.lists.Which.{Which}
+use Rattle.log_text.specs.declared.lists.Which.TheVariants.{Restarts}
+use Rattle.log_text.specs.Lists.{list_names}
 use Rattle.owed_plan.specs.declared.owed.Owed.{Owed}
 use Rattle.owed_plan.specs.FinalStates.{brought_by, final_state, is_brought}
 use Rattle.owed_plan.specs.Law.{IsSound, stopped}
-use Rattle.owed_plan.specs.Owed.{IsOwed, Reloads, Restarts, Starts, Stops}
+use Rattle.owed_plan.specs.Lists.{act_of, owed_names}
+use Rattle.owed_plan.specs.Owed.{IsOwed, IsOwedAct}
 use Rattle.owed_plan.specs.Pull.{Pulled}
 use Rattle.owed_plan.specs.Steady.{IsSteady}
 use Rattle.owed_plan.specs.Systems.{Systems, Texts, systems_of}
@@ -29,27 +34,26 @@ pub data IsLeftOf (names left : List Name) (IsDone : Name → Type 0) : Type 0 w
   Stands : left ≡ names → IsLeftOf names left IsDone
   Removed : ((unit : Name) → IsTrue (has left unit) → IsTrue (has names unit)) → ((unit : Name) → IsTrue (has names unit) → IsDone unit) → IsLeftOf names left IsDone
 
+-- a unit of a list is done with: it is restarted, or given what else it waits for
+abbrev pub IsDone : Which → Owed → Name → State → State → State → Type 0
+IsDone Restarts owed unit to before now = now ≡ to
+IsDone which owed unit to before now = IsGiven owed unit to before now
+
 -- some of the calls have been made, and the lists outlive their calls
 pub record AreCalled (owed : Owed) (to before now : Name → State) (kept : Lists) (is_paid : Name → Bool) : Type 0 where
   pub units : (unit : Name) → IsCalled owed unit (to unit) (before unit) (now unit)
-  pub reloads : IsLeftOf owed.reloads kept.reloads (λ unit. IsGiven owed unit (to unit) (before unit) (now unit) × IsTrue (is_paid unit))
-  pub restarts : IsLeftOf owed.restarts kept.restarts (λ unit. (now unit ≡ to unit) × IsTrue (is_paid unit))
-  pub starts : IsLeftOf owed.starts kept.starts (λ unit. IsGiven owed unit (to unit) (before unit) (now unit) × IsTrue (is_paid unit))
+  pub kept_lists : (which : Which) →
+      IsLeftOf (owed_names owed (act_of which)) (list_names kept which) (λ unit. IsDone which owed unit (to unit) (before unit) (now unit) × IsTrue (is_paid unit))
 
 -- a unit is owed something
-pub data OwesUnit (systems : Systems) (states : Name → State) (lists : Lists) (unit : Name) : Type 0 where
-  OfStops : Stops systems states lists unit → OwesUnit systems states lists unit
-  OfReloads : Reloads systems states lists unit → OwesUnit systems states lists unit
-  OfRestarts : Restarts systems states lists unit → OwesUnit systems states lists unit
-  OfStarts : Starts systems states lists unit → OwesUnit systems states lists unit
+abbrev pub OwesUnit : Systems → (Name → State) → Lists → Name → Type 0
+OwesUnit systems states lists unit = (act : Act) × IsOwedAct systems states lists act unit
 
 -- what a moment after the link owes, by what the first world owed
 pub record IsOnTheWay (first after : Systems) (states now : Name → State) (lists kept : Lists) (owed : Owed) (loaded : List ℕ) (bad : List Bad) (is_paid : Name → Bool) : Type 0 where
   pub pull : (unit : Name) → Pulled after now kept unit → Pulled first states lists unit
   pub final : (later : Owed) → IsOwed after now kept later → (unit : Name) → final_state later loaded bad now unit ≡ final_state owed loaded bad states unit
-  pub reloads : (unit : Name) → Reloads first states lists unit → IsTrue (is_paid unit) ⊎ Reloads after now kept unit
-  pub restarts : (unit : Name) → Restarts first states lists unit → IsTrue (is_paid unit) ⊎ Restarts after now kept unit
-  pub starts : (unit : Name) → Starts first states lists unit → IsTrue (is_paid unit) ⊎ Starts after now kept unit
+  pub owed_yet : (which : Which) (unit : Name) → IsOwedAct first states lists (act_of which) unit → IsTrue (is_paid unit) ⊎ IsOwedAct after now kept (act_of which) unit
   pub units : (unit : Name) → OwesUnit after now kept unit → OwesUnit first states lists unit
   pub others : (unit : Name) → ¬ OwesUnit first states lists unit → now unit ≡ states unit
   pub steady : IsSteady after now kept

@@ -3,6 +3,8 @@ use Rattle.std.specs.Prelude.{◌&&◌, ◌++◌, List, map, not, if◌then◌el
 use Rattle.host_trait.specs.declared.entry.Act.{Act}
 use Rattle.host_trait.specs.declared.entry.Act.TheVariants.{Stop, Reload, Restart, Start}
 use Rattle.host_trait.specs.declared.unit_state.State.{State}
+use Rattle.log_text.specs.declared.lists.Which.{Which}
+use Rattle.log_text.specs.declared.lists.Which.TheVariants.{Starts, Restarts, Reloads}
 use Rattle.owed_plan.specs.declared.duty.Duty.{Duty}
 use Rattle.owed_plan.specs.declared.owed.Owed.{Owed}
 use Rattle.host_trait.specs.Manager.{is_active}
@@ -33,6 +35,12 @@ restart_calls owed = map (duty Restart) owed.restarts
 -- the starts, in this order
 abbrev pub start_calls : List Name → List Duty
 start_calls order = map (duty Start) order
+
+-- the calls of a list, given the states before the stops, and the starts in this order
+abbrev pub listed_calls : Owed → List Name → (Name → State) → Which → List Duty
+listed_calls owed order states Reloads = reload_calls owed states
+listed_calls owed order states Restarts = restart_calls owed
+listed_calls owed order states Starts = start_calls order
 
 -- the stops, sockets first; then reloads, restarts, and the starts in this order
 abbrev pub calls_of : Owed → List Name → (Name → State) → List Duty

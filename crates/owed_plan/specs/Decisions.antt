@@ -5,7 +5,7 @@ use Rattle.host_trait.specs.States.{UnitStates, listed_states, state_of}
 use Rattle.host_trait.specs.declared.unit_state.State.{State}
 use Rattle.host_trait.specs.Manager.{is_active}
 use Rattle.owed_plan.specs.Systems.{Systems, systems_in}
-use Rattle.owed_plan.specs.declared.known.Known.{Known}
+use Rattle.owed_plan.specs.declared.known.Inputs.{Inputs}
 use Rattle.owed_plan.specs.declared.deciding.UnitDecision.{UnitDecision}
 use Rattle.switch_names.specs.Names.{Name, has, is_name}
 use Rattle.switch_names.specs.declared.unit_kind.UnitKind.TheVariants.{Target}
@@ -22,7 +22,7 @@ pub record Situation : Type 0 where
   pub waits : Name → Bool
 
 -- the situation as far as it is known
-abbrev pub situation_of : Known → Situation
+abbrev pub situation_of : Inputs → Situation
 situation_of known = record {
   systems = systems_in known.old.now known.new.now;
   states = state_of known.states.now;

@@ -4,8 +4,11 @@ use Rattle.host_trait.specs.declared.unit_state.State.{State}
 use Rattle.host_trait.specs.declared.unit_state.State.TheVariants.{Active, Inactive}
 use Rattle.host_trait.specs.Manager.{is_active}
 use Rattle.log_text.specs.declared.lists.Lists.{Lists}
+use Rattle.log_text.specs.declared.lists.Which.{Which}
+use Rattle.log_text.specs.Lists.{list_names}
 use Rattle.owed_plan.specs.declared.owed.Owed.{Owed}
-use Rattle.owed_plan.specs.Owed.{IsOwed, Reloads, Restarts, Starts, Stops, stop_order}
+use Rattle.owed_plan.specs.Lists.{act_of, owed_names}
+use Rattle.owed_plan.specs.Owed.{IsOwed, IsOwedAct, Stops, stop_order}
 use Rattle.owed_plan.specs.Pull.{Pulled}
 use Rattle.owed_plan.specs.Systems.{Systems, IsDefined}
 use Rattle.switch_names.specs.declared.unit_kind.UnitKind.TheVariants.{Socket}
@@ -22,8 +25,7 @@ lists_of owed = record { starts = owed.starts; restarts = owed.restarts; reloads
 -- the start list is the owed one, each of the others is the owed one or still the old
 pub record IsRecorded (owed : Owed) (old new : Lists) : Type 0 where
   pub starts : new.starts ≡ owed.starts
-  pub restarts : (new.restarts ≡ old.restarts) ⊎ (new.restarts ≡ owed.restarts)
-  pub reloads : (new.reloads ≡ old.reloads) ⊎ (new.reloads ≡ owed.reloads)
+  pub others : (which : Which) → (list_names new which ≡ list_names old which) ⊎ (list_names new which ≡ owed_names owed (act_of which))
 
 -- units are paired with sockets, and what is wanted is defined
 pub record IsSound (systems : Systems) : Type 0 where
@@ -34,9 +36,7 @@ pub record IsSound (systems : Systems) : Type 0 where
 pub record SameOwed (systems : Systems) (states later : Name → State) (lists kept : Lists) : Type 0 where
   pub pull : (unit : Name) → Pulled systems later kept unit ↔ Pulled systems states lists unit
   pub stops : (unit : Name) → Stops systems later kept unit ↔ (Stops systems states lists unit × (later unit ≡ Active))
-  pub reloads : (unit : Name) → Reloads systems later kept unit ↔ Reloads systems states lists unit
-  pub restarts : (unit : Name) → Restarts systems later kept unit ↔ Restarts systems states lists unit
-  pub starts : (unit : Name) → Starts systems later kept unit ↔ Starts systems states lists unit
+  pub others : (which : Which) (unit : Name) → IsOwedAct systems later kept (act_of which) unit ↔ IsOwedAct systems states lists (act_of which) unit
 
 -- the first so many of the stops have been made
 abbrev pub AreStopped : Systems → Owed → ℕ → (Name → State) → (Name → State) → Type 0

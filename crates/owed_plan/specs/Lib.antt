@@ -8,6 +8,7 @@ pub mod Linked
 pub mod Lists
 pub mod Owed
 pub mod Pull
+pub mod Roots
 pub mod StartEdges
 pub mod Steady
 pub mod Store

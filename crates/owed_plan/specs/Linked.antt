@@ -3,10 +3,12 @@ use Rattle.std.specs.Prelude.{◌≡◌, ◌↔◌, ℕ, List}
 use Rattle.host_trait.specs.declared.entry.Bad.{Bad}
 use Rattle.host_trait.specs.declared.unit_state.State.{State}
 use Rattle.log_text.specs.declared.lists.Lists.{Lists}
+use Rattle.log_text.specs.declared.lists.Which.{Which}
 use Rattle.owed_plan.specs.declared.owed.Owed.{Owed}
 use Rattle.owed_plan.specs.FinalStates.{final_state}
 use Rattle.owed_plan.specs.Law.{AfterStops, IsSound, lists_of, stopped}
-use Rattle.owed_plan.specs.Owed.{IsOwed, Reloads, Restarts, Starts, Stops}
+use Rattle.owed_plan.specs.Lists.{act_of}
+use Rattle.owed_plan.specs.Owed.{IsOwed, IsOwedAct, Stops}
 use Rattle.owed_plan.specs.Pull.{Pulled}
 use Rattle.owed_plan.specs.Systems.{Systems, Texts, systems_of}
 use Rattle.switch_names.specs.Names.{Name}
@@ -15,9 +17,7 @@ use Rattle.switch_names.specs.Names.{Name}
 pub record SameAfterLink (first after : Systems) (states then_ : Name → State) (lists kept : Lists) : Type 0 where
   pub pull : (unit : Name) → Pulled after then_ kept unit ↔ Pulled first states lists unit
   pub stops : (unit : Name) → ¬ Stops after then_ kept unit
-  pub reloads : (unit : Name) → Reloads after then_ kept unit ↔ Reloads first states lists unit
-  pub restarts : (unit : Name) → Restarts after then_ kept unit ↔ Restarts first states lists unit
-  pub starts : (unit : Name) → Starts after then_ kept unit ↔ Starts first states lists unit
+  pub others : (which : Which) (unit : Name) → IsOwedAct after then_ kept (act_of which) unit ↔ IsOwedAct first states lists (act_of which) unit
 
 -- as the link moves, after all stops and with all lists recorded, the same is owed, but that no unit is stopped
 abbrev pub LinkLaw : Type 0

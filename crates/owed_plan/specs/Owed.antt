@@ -1,9 +1,11 @@
 -- What a switch owes the units: NixOS manual, "Unit handling".
 use Rattle.std.specs.Prelude.{◌≡◌, ◌&&◌, ◌++◌, Bool, false, IsTrue, List, filter, not}
 use Rattle.std.specs.List.{list_any}
+use Rattle.host_trait.specs.declared.entry.Act.{Act}
+use Rattle.host_trait.specs.declared.entry.Act.TheVariants as acts
 use Rattle.host_trait.specs.declared.unit_state.State.{State}
 use Rattle.host_trait.specs.declared.unit_state.State.TheVariants.{Active}
-use Rattle.owed_plan.specs.Lists.{is_live, pending}
+use Rattle.owed_plan.specs.Lists.{is_live, owed_names, pending}
 use Rattle.log_text.specs.declared.lists.Lists.{Lists}
 use Rattle.owed_plan.specs.Pull.{Pulled}
 use Rattle.owed_plan.specs.Systems.{Systems, Counts, IsDefined, IsSocketed}
@@ -57,6 +59,13 @@ pub data Starts (systems : Systems) (states : Name → State) (lists : Lists) (u
   ByPull : Pulled systems states lists unit → (states unit ≡ Active → Stops systems states lists unit) → ¬ Reloads systems states lists unit →
       ¬ Restarts systems states lists unit → ¬ IsSocketed systems unit → Starts systems states lists unit
 
+-- the unit is owed an act of this kind
+abbrev pub IsOwedAct : Systems → (Name → State) → Lists → Act → Name → Type 0
+IsOwedAct systems states lists acts.Stop unit = Stops systems states lists unit
+IsOwedAct systems states lists acts.Reload unit = Reloads systems states lists unit
+IsOwedAct systems states lists acts.Restart unit = Restarts systems states lists unit
+IsOwedAct systems states lists acts.Start unit = Starts systems states lists unit
+
 -- a changed unit that both systems define, that stays up, and that gets nothing
 pub record IsLeft (systems : Systems) (states : Name → State) (lists : Lists) (unit : Name) : Type 0 where
   pub decided : Decides systems states lists unit Nothing
@@ -65,12 +74,9 @@ pub record IsLeft (systems : Systems) (states : Name → State) (lists : Lists) 
   pub in_new : IsDefined systems unit
   pub changed : is_same (systems.facts unit).outcome ≡ false
 
--- the lists have exactly what is owed
-pub record IsOwed (systems : Systems) (states : Name → State) (lists : Lists) (owed : Owed) : Type 0 where
-  pub stops : IsListOf owed.stops (Stops systems states lists)
-  pub reloads : IsListOf owed.reloads (Reloads systems states lists)
-  pub restarts : IsListOf owed.restarts (Restarts systems states lists)
-  pub starts : IsListOf owed.starts (Starts systems states lists)
+-- the lists have exactly what is owed of each kind
+abbrev pub IsOwed : Systems → (Name → State) → Lists → Owed → Type 0
+IsOwed systems states lists owed = (act : Act) → IsListOf (owed_names owed act) (IsOwedAct systems states lists act)
 
 -- the lists have exactly what is owed, and exactly the units that are left
 pub record IsPlan (systems : Systems) (states : Name → State) (lists : Lists) (owed : Owed) : Type 0 where

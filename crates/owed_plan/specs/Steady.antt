@@ -5,6 +5,9 @@ use Rattle.host_trait.specs.declared.unit_state.State.{State}
 use Rattle.owed_plan.specs.Law.{AfterStops}
 use Rattle.owed_plan.specs.Lists.{pending}
 use Rattle.log_text.specs.declared.lists.Lists.{Lists}
+use Rattle.log_text.specs.declared.lists.Which.{Which}
+use Rattle.log_text.specs.declared.lists.Which.TheVariants.{Starts}
+use Rattle.log_text.specs.Lists.{list_names}
 use Rattle.owed_plan.specs.Pull.{Pulled}
 use Rattle.owed_plan.specs.Systems.{Systems, IsDefined}
 use Rattle.switch_names.specs.declared.unit_kind.UnitKind.TheVariants.{Target}
@@ -24,8 +27,7 @@ IsStoppedForGood systems unit =
 pub record IsSteady (systems : Systems) (states : Name → State) (lists : Lists) : Type 0 where
   pub pull : (unit : Name) → Pulled systems states lists unit → ¬ IsStoppedForGood systems unit
   pub starts : (unit : Name) → IsTrue (has (pending lists) unit) → ¬ IsStoppedForGood systems unit
-  pub restarts : (unit : Name) → IsTrue (has lists.restarts unit) → (systems.facts unit).kind ≢ Target
-  pub reloads : (unit : Name) → IsTrue (has lists.reloads unit) → (systems.facts unit).kind ≢ Target
+  pub others : (which : Which) → which ≢ Starts → (unit : Name) → IsTrue (has (list_names lists which) unit) → (systems.facts unit).kind ≢ Target
 
 -- the facts are of a target that is stopped for good
 abbrev pub is_stopped_for_good : Facts → Bool

@@ -6,7 +6,7 @@ ghost use Rattle.owed_plan.specs.Decisions.{is_reloaded, is_restarted, is_starte
 ghost use Rattle.switch_names.specs.Names.{has, is_name};
 
 use crate::deciding::UnitDecision;
-use crate::known::Known;
+use crate::known::Inputs;
 use host_trait::UnitSet;
 use std::alloc::{AllocError, Global};
 use switch_names::UnitName;
@@ -61,7 +61,7 @@ pub fn add_if(
 /// Adds those of some names that are Active.
 fn add_active(
     alloc: Global,
-    known: Known<'_>,
+    known: Inputs<'_>,
     set: &mut UnitSet,
     names: &[UnitName],
 ) -> Result<(), AllocError>
@@ -76,7 +76,7 @@ fn add_active(
 /// Adds those of some names that the new system defines.
 pub fn add_defined(
     alloc: Global,
-    known: Known<'_>,
+    known: Inputs<'_>,
     set: &mut UnitSet,
     names: &[UnitName],
 ) -> Result<(), AllocError>
@@ -91,7 +91,7 @@ pub fn add_defined(
 /// Adds what a decision stops: its unit, and the Active ones of the sockets to which the unit is left.
 pub fn add_stops(
     alloc: Global,
-    known: Known<'_>,
+    known: Inputs<'_>,
     set: &mut UnitSet,
     decided: &UnitDecision,
 ) -> Result<(), AllocError>

@@ -2,7 +2,7 @@
 ghost use Rattle.std.specs.Prelude.{◌≡◌, IfOk, filter};
 ghost use Rattle.owed_plan.specs.Decisions.{is_left, is_live_socket, is_nothing, is_socket_started, live_sockets, decision_of, decisions_of, situation_of};
 
-use crate::known::Known;
+use crate::known::Inputs;
 use std::alloc::{AllocError, Global};
 use switch_names::{Listed, UnitName};
 use unit_decide::{Decision, Facts, decide_by, is_same, is_target};
@@ -57,7 +57,7 @@ fn is_left(facts: &Facts, decision: Decision) -> bool
 /// Those of some sockets that are live.
 fn live_among(
     alloc: Global,
-    known: Known<'_>,
+    known: Inputs<'_>,
     sockets: &[UnitName],
 ) -> Result<Listed<UnitName>, AllocError>
     ensures { IfOk result (λ live. live ≡ filter (is_live_socket (situation_of known.entry)) sockets.now) }
@@ -74,7 +74,7 @@ fn live_among(
 /// The live sockets of a unit, where they make a difference.
 fn live_sockets(
     alloc: Global,
-    known: Known<'_>,
+    known: Inputs<'_>,
     facts: &Facts,
     unit: &UnitName,
 ) -> Result<Listed<UnitName>, AllocError>
@@ -89,7 +89,11 @@ fn live_sockets(
 }
 
 /// What is decided on an Active unit.
-fn decide_unit(alloc: Global, known: Known<'_>, unit: &UnitName) -> Result<UnitDecision, AllocError>
+fn decide_unit(
+    alloc: Global,
+    known: Inputs<'_>,
+    unit: &UnitName,
+) -> Result<UnitDecision, AllocError>
     ensures { IfOk result (λ decided. decided ≡ decision_of (situation_of known.entry) unit.now) }
 {
     let facts = known.facts(unit);
@@ -104,7 +108,7 @@ fn decide_unit(alloc: Global, known: Known<'_>, unit: &UnitName) -> Result<UnitD
 }
 
 /// What is decided on each Active unit.
-pub fn decide_units(alloc: Global, known: Known<'_>) -> Result<Vec<UnitDecision>, AllocError>
+pub fn decide_units(alloc: Global, known: Inputs<'_>) -> Result<Vec<UnitDecision>, AllocError>
     ensures { IfOk result (λ decisions. decisions.items ≡ decisions_of (situation_of known.entry) known.entry.states.now) }
 {
     let mut decisions = Vec::new(alloc);

@@ -12,14 +12,14 @@ use unit_defs::Defs;
 
 /// What is read to plan a switch: both systems, the states, and the units that wait for a start.
 #[derive(Clone, Copy)]
-pub struct Known<'a> {
+pub struct Inputs<'a> {
     pub old: &'a Defs,
     pub new: &'a Defs,
     pub states: &'a States,
     pub waiting: &'a UnitSet,
 }
 
-impl Known<'_> {
+impl Inputs<'_> {
     /// What the table of decisions reads of a unit.
     pub fn facts(self, unit: &UnitName) -> Facts
         ensures { result ≡ (situation_of self.entry).systems.facts unit.now }

@@ -9,7 +9,7 @@ ghost use Rattle.owed_plan.specs.Systems.{systems_in};
 ghost use Rattle.switch_names.specs.Names.{IsListOf};
 
 use crate::deciding::{UnitDecision, decide_units};
-use crate::known::Known;
+use crate::known::Inputs;
 use crate::owed::Owed;
 use crate::sets::OwedSets;
 use host_trait::{States, UnitSet};
@@ -21,7 +21,7 @@ use unit_defs::Defs;
 /// What is owed by what is decided on each Active unit, the lists and the pull.
 fn collect(
     alloc: Global,
-    known: Known<'_>,
+    known: Inputs<'_>,
     decisions: &[UnitDecision],
     lists: &Lists,
     pulled: &[UnitName],
@@ -51,7 +51,7 @@ pub fn plan(
     ensures { IfOk result (IsPlan (systems_in old.now new.now) (state_of states.now) lists.now) }
 {
     let waiting = UnitSet::of(alloc, lists.starts.as_slice())?;
-    let known = Known {
+    let known = Inputs {
         old,
         new,
         states,

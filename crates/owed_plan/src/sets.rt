@@ -5,7 +5,7 @@ ghost use Rattle.owed_plan.specs.Decisions.{situation_of};
 
 use crate::collecting::{add_defined, add_if, add_reloads, add_restarts, add_starts, add_stops};
 use crate::deciding::UnitDecision;
-use crate::known::Known;
+use crate::known::Inputs;
 use crate::owed::Owed;
 use crate::touched::{Touched, add_pulled};
 use host_trait::UnitSet;
@@ -53,7 +53,7 @@ impl OwedSets {
     fn add(
         &mut self,
         alloc: Global,
-        known: Known<'_>,
+        known: Inputs<'_>,
         decided: &UnitDecision,
     ) -> Result<(), AllocError>
         ensures { OnOk result (AddsDecided (situation_of known.entry) (decided.now ∷ []) self.old self.new) }
@@ -69,7 +69,7 @@ impl OwedSets {
     pub fn add_decided(
         &mut self,
         alloc: Global,
-        known: Known<'_>,
+        known: Inputs<'_>,
         decisions: &[UnitDecision],
     ) -> Result<(), AllocError>
         ensures { OnOk result (AddsDecided (situation_of known.entry) decisions.now self.old self.new) }
@@ -84,7 +84,7 @@ impl OwedSets {
     pub fn add_listed(
         &mut self,
         alloc: Global,
-        known: Known<'_>,
+        known: Inputs<'_>,
         lists: &Lists,
     ) -> Result<(), AllocError>
         ensures { OnOk result (AddsListed (situation_of known.entry) lists.now self.old self.new) }
@@ -98,7 +98,7 @@ impl OwedSets {
     pub fn add_pulled(
         &mut self,
         alloc: Global,
-        known: Known<'_>,
+        known: Inputs<'_>,
         pulled: &[UnitName],
     ) -> Result<(), AllocError>
         ensures { OnOk result (AddsPulled (situation_of known.entry) pulled.now self.old self.new) }

@@ -6,7 +6,7 @@ ghost use Rattle.owed_plan.specs.Decisions.{situation_of};
 ghost use Rattle.switch_names.specs.Names.{has};
 
 use crate::collecting::add_if;
-use crate::known::Known;
+use crate::known::Inputs;
 use host_trait::UnitSet;
 use std::alloc::{AllocError, Global};
 use switch_names::UnitName;
@@ -21,7 +21,7 @@ pub struct Touched<'a> {
 
 impl Touched<'_> {
     /// Whether a unit is Active and isn't stopped.
-    fn stays_up(self, known: Known<'_>, unit: &UnitName) -> bool
+    fn stays_up(self, known: Inputs<'_>, unit: &UnitName) -> bool
         ensures { result ≡ (is_active ((situation_of known.entry).states unit.now) && not (has self.entry.stops.now unit.now)) }
     {
         let is_stopped = self.stops.contains(unit);
@@ -36,7 +36,7 @@ impl Touched<'_> {
     }
 
     /// Whether a pulled unit is to be started: it neither stays up nor comes up otherwise.
-    fn comes_up(self, alloc: Global, known: Known<'_>, unit: &UnitName) -> Result<bool, AllocError>
+    fn comes_up(self, alloc: Global, known: Inputs<'_>, unit: &UnitName) -> Result<bool, AllocError>
         ensures { IfOk result (λ is. is ≡ comes_up (situation_of known.entry) self.entry.stops.now self.entry.reloads.now self.entry.restarts.now unit.now) }
     {
         if self.stays_up(known, unit) {
@@ -52,7 +52,7 @@ impl Touched<'_> {
 /// Adds those of the pulled units that neither stay up nor come up otherwise.
 pub fn add_pulled(
     alloc: Global,
-    known: Known<'_>,
+    known: Inputs<'_>,
     touched: Touched<'_>,
     set: &mut UnitSet,
     pulled: &[UnitName],

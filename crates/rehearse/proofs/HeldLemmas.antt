@@ -28,7 +28,7 @@ module _ (command : Command) where
   held_begins w None none = λ steady. begins_underway w command (refused_by_leaves_law command w none) steady
   held_begins w (Some why) refused = refl
 
-  underway_from : (g w : WorldState) → refusal command g.leaves ≡ None → IsHeld command g w → IsSteadyFor command g → IsUnderway g command w
+  underway_from : (g w : WorldState) → refusal command g.leaves ≡ None → IsHeld command g w → IsSteadyFor command g → IsUnderway command g w
   underway_from g w none held steady = held None (steady_free g none steady) steady
 
   -- a moment of a run that isn't refused
@@ -47,7 +47,7 @@ module _ (command : Command) where
 
   module _ (repeatable : IsRepeatable command) where
     complete_through : (how : End) (g w v : WorldState) → ((why : Refusal) → how ≡ Refused why → ⊥) → IsHeld command g w → IsComplete command how w v →
-        (IsVerdict command how w → IsUnderway g command w → IsVerdict command how g) → IsThrough command how g v
+        (IsVerdict command how w → IsUnderway command g w → IsVerdict command how g) → IsThrough command how g v
     complete_through how g w v not_refused held done verdict = record {
       over = λ none steady. over_then command g w (underway_from g w none held steady) v (ended_over command w v repeatable.changes done.end);
       verdict = λ none steady. verdict done.verdict (underway_from g w none held steady);

@@ -18,7 +18,7 @@ pub record IsRepeatable (command : Command) : Type 0 where
 -- a run of a command keeps this of a world, given why the command is refused there: from a steady world a run that isn't
 -- refused is underway, and one that is refused has changed nothing
 abbrev pub IsHeldBy : Option Refusal → Command → WorldState → WorldState → Type 0
-IsHeldBy None command w m = IsSteadyFor command w → IsUnderway w command m
+IsHeldBy None command w m = IsSteadyFor command w → IsUnderway command w m
 IsHeldBy (Some why) command w m = m ≡ w
 
 -- what each moment of the runs of a command has of the world where the first began

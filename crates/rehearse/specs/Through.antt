@@ -17,7 +17,7 @@ use Rattle.switch_parts.specs.declared.refusal.Refusal.{Refusal}
 -- A command has ended that first began in a world. From one that isn't refused and is steady it is over, and says what a run
 -- says that isn't cut; from one that is refused it is refused for that; and where it was refused, the world that is left is.
 pub record IsThrough (command : Command) (how : End) (first v : WorldState) : Type 0 where
-  pub over : refusal command first.leaves ≡ None → IsSteadyFor command first → IsOver first command v
+  pub over : refusal command first.leaves ≡ None → IsSteadyFor command first → IsOver command first v
   pub verdict : refusal command first.leaves ≡ None → IsSteadyFor command first → IsVerdict command how first
   pub refused : (why : Refusal) → Refuses command first (Some why) → how ≡ Refused why
   pub left_refused : (why : Refusal) → how ≡ Refused why → Refuses command v (Some why)

@@ -6,9 +6,7 @@ ghost use Rattle.store_collect.specs.Unfinished.{is_unfinished, stands_at_one, u
 
 use generations::goal_path;
 use host_trait::{HostFault, Tree};
-use log_text::Which;
-use owed_lists::list_path;
-use owed_log::log_path;
+use owed_log::owed_paths;
 use std::alloc::{AllocError, Global};
 use switch_names::{Listed, Path};
 
@@ -16,11 +14,7 @@ use switch_names::{Listed, Path};
 fn unfinished_paths(alloc: Global) -> Result<Listed<Path>, AllocError>
     ensures { IfOk result (λ paths. paths ≡ unfinished_places) }
 {
-    let mut paths = Listed::new(alloc);
-    paths.push(log_path(alloc)?)?;
-    paths.push(list_path(alloc, Which::Starts)?)?;
-    paths.push(list_path(alloc, Which::Restarts)?)?;
-    paths.push(list_path(alloc, Which::Reloads)?)?;
+    let mut paths = owed_paths(alloc)?;
     paths.push(goal_path(alloc)?)?;
     Ok(paths)
 }

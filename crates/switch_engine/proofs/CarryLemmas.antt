@@ -1,10 +1,9 @@
 -- What carrying a planned command out leaves at each moment and at its end, whichever of its parts it has.
-use Rattle.std.proofs.Common.{◌≡◌, ◌≢◌, ◌↔◌, ◌&&◌, ◌||◌, Bool, IsTrue, true, false, cond, is_some, Option, None, Some, List, [], ◌++◌, refl, sym, ap, subst, ◌∙◌, inl, inr, rules, unwrap_or, ⊎_elim}
+use Rattle.std.proofs.Common.{◌≡◌, ◌≢◌, ◌↔◌, ◌&&◌, ◌||◌, Bool, IsSome, IsTrue, true, false, cond, Option, None, Some, List, [], ◌++◌, refl, sym, ap, subst, ◌∙◌, inl, inr, rules, unwrap_or, ⊎_elim}
 use Rattle.std.proofs.lemmas.Bool.{both_ways, cases_Bool, or_from, or_left}
 use Rattle.std.proofs.lemmas.List.{append-nil}
 use Rattle.std.specs.FinMap.{empty, get, gets}
 use Rattle.activation_stage.specs.ActivationPart.{activation_in, activation_part}
-use Rattle.activation_stage.specs.declared.activation_plan.ActivationPlan.{ActivationPlan}
 use Rattle.activation_stage.specs.Owners.{owners_after}
 use Rattle.etc_manifest.specs.Owners.{OwnerIds}
 use Rattle.boot_entries.specs.BootDefault.{boot_default_in, boot_default_part}
@@ -39,13 +38,14 @@ use Rattle.owed_plan.specs.Calls.{calls_of}
 use Rattle.switch_engine.specs.declared.command.Command.{Command}
 use Rattle.switch_engine.specs.declared.outcome.Outcome.{Outcome}
 use Rattle.switch_engine.specs.declared.plan.Plan.{Plan}
+use Rattle.switch_engine.specs.declared.plan.SwitchPlan.{SwitchPlan}
 use Rattle.switch_engine.specs.declared.row.Row.{Row}
-use Rattle.switch_engine.specs.Carried.{CanRecordBy, CanSetBy, CanSwitchBy, IsSwitchMomentIf, IsSwitchedIf, cleared_by, moves_of}
+use Rattle.switch_engine.specs.Carried.{CanRecordBy, CanMakeBy, CanSwitchBy, IsSwitchedBy, cleared_by, moves_of}
 use Rattle.switch_engine.specs.Commands.{IsQuery, brought_to, if_moved, if_so, is_back, lacks_system, new_system, row, set_to}
 use Rattle.switch_engine.specs.Final.{AreEntries, AreFinalUnits, HasBegunToEnter, HasFailed, IsEndOf, LeavesFailedAt}
-use Rattle.switch_engine.specs.Moments.{IsClearStep, IsMomentOf, IsOnItsWay, IsRecordStep, IsSetStep, IsStepIf, IsStepOf, IsStepTo, NamesOneOf, record_world, set_world}
+use Rattle.switch_engine.specs.Moments.{IsClearStep, IsMomentOf, IsOnItsWay, IsRecordStep, IsDefaultStep, IsStepIf, IsStepOf, IsStepTo, NamesOneOf, record_world, default_world}
 use Rattle.switch_engine.specs.Owing.{IsSteadyFor, IsUnderway}
-use Rattle.switch_engine.specs.Plan.{ArePlanned, AreUnitsPlanned, IsActivationPlanned, IsPlanOf, IsProfilePlanned}
+use Rattle.switch_engine.specs.Plan.{ArePlanned, IsPlanOf, IsDefaultPlanned, IsSwitchPlanned, units_in, units_of}
 use Rattle.switch_engine.specs.Rows.{default_if, gens_to, goal_by, part_if, part_of, switch_in, switch_part}
 use Rattle.activation_stage.proofs.ActivationLemmas.{activation_part_law, activation_plan_law, owners_law}
 use Rattle.boot_entries.proofs.DefaultLemmas.{default_part_law, default_plan_law, default_stays_law}
@@ -61,17 +61,18 @@ use Rattle.switch_engine.proofs.GoalApart.{goal_not_stage, goal_unread_default}
 use Rattle.switch_engine.proofs.GoalKeptLemmas.{IsGoalKept, IsMoveToBy, IsProfileKept, IsRecorded, system_still, kept_recorded, move_to_kept, moves_to, recorded_at, recorded_same, row_same}
 use Rattle.switch_engine.proofs.RefusesLemmas.{refused_by_leaves_law}
 use Rattle.switch_engine.proofs.StepLeaves.{IsDefaultLeft, IsUnitsEnd, brought_from, default_kept, goal_menu, goal_names_same, goal_not_own, goal_profile, goal_store, link_not_stage, names_since, names_then, of_goal, profile_not_own, profile_not_stage, record_kept, record_last, record_only, record_part_moment, set_end, set_goal, set_menu, set_names, set_part_moment, set_step, small_row, switch_end, switch_final, switch_if_moment, switch_menu, switch_names, switch_step, units_end}
+use Rattle.switch_engine.proofs.SwitchedIf.{IsSwitchMomentIf, IsSwitchedIf}
 use Rattle.switch_engine.proofs.UnderwayLemmas.{IsFreeCommand, free_command, has_a_system, underway}
 use Rattle.switch_names.specs.Names.{Name}
 use Rattle.switch_names.specs.SystemName.{IsSystemPath}
-use Rattle.switch_parts.specs.Part.{IsFree, IsMomentOf as IsPartMoment, IsOnly, IsPart, IsSameFor, Part, both, final_leaf}
+use Rattle.switch_parts.specs.Part.{IsFree, IsPartMoment, IsOnly, IsPart, IsSameFor, Part, both, final_leaf}
 use Rattle.switch_parts.proofs.Parts.{false_by, first_free, first_moment, moment_then, only_beside, second_free, second_moment}
 use Rattle.unit_defs.specs.declared.unit.Unit.{Unit}
 use Rattle.unit_stage.specs.declared.unit_plan.UnitPlan.{UnitPlan}
 use Rattle.unit_stage.specs.End.{AreEndStates}
 use Rattle.unit_stage.specs.Order.{IsOrderedAt}
 use Rattle.unit_stage.specs.Owned.{reads_units}
-use Rattle.unit_stage.specs.Plan.{IsOwedBy, IsUnitPlanOf, owed_of}
+use Rattle.unit_stage.specs.Plan.{IsOwedBy, owed_of}
 use Rattle.unit_stage.proofs.EndLemmas.{one_end}
 use Rattle.unit_stage.proofs.OwnedLemmas.{not_reads_stage}
 use Rattle.unit_stage.proofs.SystemsLemmas.{is_system}
@@ -86,36 +87,37 @@ pub record IsCarriedFrom (command : Command) (owed : Owed) (order : List Name) (
   pub has : lacks_system command w.leaves ≡ false
   pub named : IsSystemPath (new_system command w.leaves)
   pub free : IsFreeCommand command w.leaves
-  pub is_owed : (row command w.leaves).switches ≡ true → IsOwedBy (row command w.leaves).start_up w (new_system command w.leaves) owed
+  pub is_owed : (row command w.leaves).switches ≡ true → IsOwedBy (row command w.leaves).start_up (new_system command w.leaves) w owed
   pub is_ordered : (row command w.leaves).switches ≡ true → IsOrderedAt w.leaves (new_system command w.leaves) owed order
 
 -- ---- what a plan says
 
-owed_planned : (start_up switches : Bool) (system : Name) (w : WorldState) (plan : UnitPlan) → AreUnitsPlanned start_up switches system w plan → switches ≡ true → IsOwedBy start_up w system (owed_of plan)
-owed_planned start_up true system w plan planned same = (planned.lists, record { listed = planned.planned.listed; is_owed = planned.planned.planned.is_owed })
-owed_planned start_up false system w plan planned same = absurd (both_ways _ refl same)
+module _ (start_up switches : Bool) (system : Name) (w : WorldState) (nothing : UnitPlan) where
+  owed_planned : (plan : Option SwitchPlan) → IsSwitchPlanned start_up switches system w plan → switches ≡ true → IsOwedBy start_up system w (owed_of (units_in plan nothing))
+  owed_planned None off on = absurd (both_ways _ off on)
+  owed_planned (Some plan) (switched, planned, activated) on = (planned.lists, record { listed = planned.planned.listed; is_owed = planned.planned.planned.is_owed })
 
-order_planned : (start_up switches : Bool) (system : Name) (w : WorldState) (plan : UnitPlan) → AreUnitsPlanned start_up switches system w plan → switches ≡ true → IsOrderedAt w.leaves system (owed_of plan) plan.ordered.units
-order_planned start_up true system w plan planned same = (plan.ordered, planned.in_order, refl)
-order_planned start_up false system w plan planned same = absurd (both_ways _ refl same)
+  order_planned : (plan : Option SwitchPlan) → IsSwitchPlanned start_up switches system w plan → switches ≡ true → IsOrderedAt w.leaves system (owed_of (units_in plan nothing)) (units_in plan nothing).ordered.units
+  order_planned None off on = absurd (both_ways _ off on)
+  order_planned (Some plan) (switched, planned, activated) on = (plan.units.ordered, planned.in_order, refl)
 
 module _ (plan : Plan) (w : WorldState) (is : IsPlanOf w plan) (changes : IsQuery plan.command → ⊥) where
   -- the parts are those of the command's row
   pub planned_parts : ArePlanned (row plan.command w.leaves) w plan
   planned_parts = subst (λ (r : Row). ArePlanned r w plan) is.resolved is.planned
 
-  pub carried_from : IsCarriedFrom plan.command (owed_of plan.units) plan.units.ordered.units w
+  pub carried_from : IsCarriedFrom plan.command (owed_of (units_of plan)) (units_of plan).ordered.units w
   carried_from = record {
     on = changes_on plan.command w.leaves changes;
     has = has_a_system plan.command w.leaves (refused_by_leaves_law plan.command w is.not_refused);
     named = subst (λ (r : Row). IsSystemPath r.system) is.resolved is.named;
     free = free_command plan.command w.leaves (refused_by_leaves_law plan.command w is.not_refused);
-    is_owed = owed_planned (row plan.command w.leaves).start_up (row plan.command w.leaves).switches (new_system plan.command w.leaves) w plan.units planned_parts.units;
-    is_ordered = order_planned (row plan.command w.leaves).start_up (row plan.command w.leaves).switches (new_system plan.command w.leaves) w plan.units planned_parts.units;
+    is_owed = owed_planned (row plan.command w.leaves).start_up (row plan.command w.leaves).switches (new_system plan.command w.leaves) w plan.nothing plan.switch planned_parts.switch;
+    is_ordered = order_planned (row plan.command w.leaves).start_up (row plan.command w.leaves).switches (new_system plan.command w.leaves) w plan.nothing plan.switch planned_parts.switch;
   }
 
 -- the profile is moved as is planned
-pub moves_same : (moves : Option Move) (system : Name) (w : WorldState) (o : Option BootDefaultPlan) → IsProfilePlanned moves system w o → moves_of o ≡ moves
+pub moves_same : (moves : Option Move) (system : Name) (w : WorldState) (o : Option BootDefaultPlan) → IsDefaultPlanned moves system w o → moves_of o ≡ moves
 moves_same moves system w None planned = sym planned
 moves_same moves system w (Some plan) planned = sym planned.0
 
@@ -129,8 +131,8 @@ can_record (Some (Point n)) system gens w free = record {
 }
 
 -- a boot default that is planned can be made once the goal is recorded
-pub can_set : (moves : Option Move) (system : Name) → IsSystemPath system → (w r : WorldState) (o : Option BootDefaultPlan) → IsProfilePlanned moves system w o → IsOnly (goal_part false) w r → IsFree (default_in moves system r.leaves) r.leaves →
-    CanSetBy system o r
+pub can_set : (moves : Option Move) (system : Name) → IsSystemPath system → (w r : WorldState) (o : Option BootDefaultPlan) → IsDefaultPlanned moves system w o → IsOnly (goal_part false) w r → IsFree (default_in moves system r.leaves) r.leaves →
+    CanMakeBy system o r
 can_set moves system named w r None planned only free = tt
 can_set moves system named w r (Some plan) planned only free = record {
   named = named;
@@ -140,28 +142,21 @@ can_set moves system named w r (Some plan) planned only free = record {
   free = first_free (boot_default_in plan.to system r.leaves) (goal_by plan.to) r.leaves (subst (λ mv. IsFree (default_in mv system r.leaves) r.leaves) planned.0 free);
 }
 
--- the units are switched where an activation is planned
-pub switches_same : (switches : Bool) (system : Name) (w : WorldState) (o : Option ActivationPlan) → IsActivationPlanned switches system w o → is_some o ≡ switches
-switches_same switches system w None planned = sym planned
-switches_same switches system w (Some activation) planned = sym planned.0
-
 -- a planned switch of the units can be made where the profile has been set
-pub can_switch : (start_up switches : Bool) (system : Name) → IsSystemPath system → (w u : WorldState) (plan : UnitPlan) (o : Option ActivationPlan) → AreUnitsPlanned start_up switches system w plan → IsActivationPlanned switches system w o →
-    u.manager ≡ w.manager → (switches ≡ true → IsOwedBy start_up u system (owed_of plan)) → (switches ≡ true → IsOrderedAt u.leaves system (owed_of plan) plan.ordered.units) →
-    (switches ≡ true → (lists : Lists) (write : LogWrite) → IsWriteFor w.leaves lists write → IsWriteFor u.leaves lists write) → IsSameFor (activation_in system w.leaves) w u → IsFree (part_if switches (switch_in start_up system u.leaves)) u.leaves → CanSwitchBy system plan o u
-can_switch start_up switches system named w u plan None units planned manager is_owed is_ordered written same free = tt
-can_switch start_up switches system named w u plan (Some activation) units planned manager is_owed is_ordered written same free =
-    let of_units : IsUnitPlanOf start_up system w plan = subst (λ b. AreUnitsPlanned start_up b system w plan) planned.0 units in
-    record {
-      named = named;
-      start_up = start_up;
-      is_owed = is_owed planned.0;
-      write = written planned.0 plan.recorded plan.write of_units.write;
-      in_order = is_ordered planned.0;
-      duties = of_units.duties ∙ ap (λ (k : ManagerState). calls_of (owed_of plan) plan.ordered.units (state_of k.states)) (sym manager);
-      planned = activation_plan_law system w u activation named same planned.1;
-      free = subst (λ b. IsFree (part_if b (switch_in start_up system u.leaves)) u.leaves) planned.0 free;
-    }
+pub can_switch : (start_up switches : Bool) (system : Name) → IsSystemPath system → (w u : WorldState) (plan : Option SwitchPlan) (nothing : UnitPlan) → IsSwitchPlanned start_up switches system w plan →
+    u.manager ≡ w.manager → (switches ≡ true → IsOwedBy start_up system u (owed_of (units_in plan nothing))) → (switches ≡ true → IsOrderedAt u.leaves system (owed_of (units_in plan nothing)) (units_in plan nothing).ordered.units) →
+    (switches ≡ true → (lists : Lists) (write : LogWrite) → IsWriteFor w.leaves lists write → IsWriteFor u.leaves lists write) → IsSameFor (activation_in system w.leaves) w u → IsFree (part_if switches (switch_in start_up system u.leaves)) u.leaves → CanSwitchBy system plan u
+can_switch start_up switches system named w u None nothing planned manager is_owed is_ordered written same free = tt
+can_switch start_up switches system named w u (Some plan) nothing (on, of_units, of_activation) manager is_owed is_ordered written same free = record {
+  named = named;
+  start_up = start_up;
+  is_owed = is_owed on;
+  write = written on plan.units.recorded plan.units.write of_units.write;
+  in_order = is_ordered on;
+  duties = of_units.duties ∙ ap (λ (k : ManagerState). calls_of (owed_of plan.units) plan.units.ordered.units (state_of k.states)) (sym manager);
+  planned = activation_plan_law system w u plan.activation named same of_activation;
+  free = subst (λ b. IsFree (part_if b (switch_in start_up system u.leaves)) u.leaves) on free;
+}
 
 -- ---- which units have failed
 
@@ -182,22 +177,25 @@ none_failed defs outcome is = (
     not_failed is = cc
 
 -- what the outcome says is what the world leaves
-pub verdict : (start_up switches : Bool) (system : Name) (plan : UnitPlan) (w u v : WorldState) (outcome : Outcome) → AreUnitsPlanned start_up switches system w plan → u.manager ≡ w.manager → IsSwitchedIf switches system (owed_of plan) plan.ordered.units u v →
-    (switches ≡ true → outcome.states ≡ v.manager.states) → IsTrue outcome.failed ↔ HasFailed plan.defs outcome.states → (switches ≡ false → outcome ≡ record { states = empty; failed = false }) →
+pub verdict : (start_up switches : Bool) (system : Name) (plan : Option SwitchPlan) (nothing : UnitPlan) (w u v : WorldState) (outcome : Outcome) → IsSwitchPlanned start_up switches system w plan → u.manager ≡ w.manager → IsSwitchedBy system plan u v →
+    (IsSome plan → outcome.states ≡ v.manager.states) → IsTrue outcome.failed ↔ HasFailed (units_in plan nothing).defs outcome.states → (plan ≡ None → outcome ≡ record { states = empty; failed = false }) →
     IsTrue outcome.failed ↔ LeavesFailedAt start_up (if_so switches system) w
-verdict start_up true system plan w u v outcome planned same end states failed none =
-    let is_owed = owed_planned start_up true system w plan planned refl in
-    let says = left_failed system (owed_of plan) plan.ordered.units w v plan.defs outcome.states planned.defs (states refl) (brought_from system (owed_of plan) plan.ordered.units w u v same end.units) in (
-      λ is. (owed_of plan, is_owed, says.0 (failed.0 is)),
+verdict start_up switches system None nothing w u v outcome off same end states failed none =
+    subst (λ b. IsTrue outcome.failed ↔ LeavesFailedAt start_up (if_so b system) w) (sym off) (λ is. absurd (both_ways _ (ap (λ (o : Outcome). o.failed) (none refl)) is), λ left. absurd left)
+verdict start_up switches system (Some plan) nothing w u v outcome planned same end states failed none =
+    let owed = owed_of plan.units in
+    let is_owed = owed_planned start_up switches system w nothing (Some plan) planned planned.0 in
+    let says = left_failed system owed plan.units.ordered.units w v plan.units.defs outcome.states planned.1.defs (states refl) (brought_from system owed plan.units.ordered.units w u v same end.units) in
+    subst (λ b. IsTrue outcome.failed ↔ LeavesFailedAt start_up (if_so b system) w) (sym planned.0) (
+      λ is. (owed, is_owed, says.0 (failed.0 is)),
       λ left. failed.1 (says.1 (
         left.2.0,
         record {
-          failed = sym (one_end start_up system is_owed.0 (owed_of plan) w is_owed.1 left.0 left.1 left.2.0) ∙ left.2.1.failed;
+          failed = sym (one_end start_up system is_owed.0 owed w is_owed.1 left.0 left.1 left.2.0) ∙ left.2.1.failed;
           defined = left.2.1.defined;
         },
       )),
     )
-verdict start_up false system plan w u v outcome planned same end states failed none = (λ is. absurd (both_ways _ (ap (λ (o : Outcome). o.failed) (none refl)) is), λ left. absurd left)
 
 -- ---- the goal is removed, where the profile is moved
 
@@ -226,7 +224,7 @@ all_entered command w m entries are journal = record { entries = entries; are_en
 
 -- where the system is the boot default, each place of that is at its end, by the first world
 set_left : (moves : Option Move) (system : Name) → IsSystemPath system → (w r : WorldState) (gens : Gens) → IsBootGens gens → gens ≡ gens_to moves system w.leaves → IsPartMoment (default_if moves system gens) w r → IsFree (default_in moves system r.leaves) r.leaves → (u : WorldState) →
-    seen u ≡ set_world moves system r → IsDefaultLeft moves system gens w u
+    seen u ≡ default_world moves system r → IsDefaultLeft moves system gens w u
 set_left None system named w r gens are same at free u is = tt
 set_left (Some move) system named w r gens are same at free u is = λ q own.
     set_end system named r (Some move) free u is q own
@@ -259,7 +257,7 @@ second_left (Some move) system gens are w r u v e q ne at left set same is_e =
 
 -- ---- the moments and the end of a command
 
-on_its_way : (moves : Option Move) (command : Command) (w m : WorldState) → IsUnderway w command m → IsOnItsWay moves command w m
+on_its_way : (moves : Option Move) (command : Command) (w m : WorldState) → IsUnderway command w m → IsOnItsWay moves command w m
 on_its_way None command w m underway = underway
 on_its_way (Some Set) command w m underway = underway
 on_its_way (Some (Point n)) command w m underway = inl underway
@@ -319,7 +317,7 @@ module _ (command : Command) (owed : Owed) (order : List Name) (w : WorldState) 
       record { links = λ n. stays (link_path n) (link_owned n) (link_not_stage n); same = stays profile profile_owned profile_not_stage }
 
   -- where the goal is as it was, or recorded, the command is underway
-  underway_at : (m : WorldState) → IsPartMoment (both first second) w m → IsGoalKept moves w.leaves m.leaves → IsSteadyFor command w → IsUnderway w command m
+  underway_at : (m : WorldState) → IsPartMoment (both first second) w m → IsGoalKept moves w.leaves m.leaves → IsSteadyFor command w → IsUnderway command w m
   underway_at m moment kept steady =
       let same = row_same command gens w m carried.has moment.keeps.1 kept (profile_kept m moment) in
       underway command w m carried.on same (system_still command w.leaves m.leaves same (profile_kept m moment) carried.has) carried.named carried.free moment steady
@@ -376,24 +374,24 @@ module _ (command : Command) (owed : Owed) (order : List Name) (w : WorldState) 
 
     -- ---- the system is made the boot default
 
-    set_alone : (m : WorldState) → IsSetStep moves system r m → IsPartMoment second r m
+    set_alone : (m : WorldState) → IsDefaultStep moves system r m → IsPartMoment second r m
     set_alone m step = subst (λ (part : Part). IsPartMoment part r m) same_part (set_part_moment system carried.named r moves record_free m step)
 
-    set_of_parts : (m : WorldState) → IsSetStep moves system r m → IsPartMoment (both first second) w m
+    set_of_parts : (m : WorldState) → IsDefaultStep moves system r m → IsPartMoment (both first second) w m
     set_of_parts m step = of_second w m (moment_then second second_is w r m at_record (set_alone m step))
 
-    set_recorded : (m : WorldState) → IsSetStep moves system r m → IsRecorded moves m.leaves
+    set_recorded : (m : WorldState) → IsDefaultStep moves system r m → IsRecorded moves m.leaves
     set_recorded m step = recorded_same moves r.leaves m.leaves (set_goal system carried.named r moves record_free m step) recorded
 
-    set_named : (m : WorldState) → IsSetStep moves system r m → NamesOneOf (if_moved moves system) w m
+    set_named : (m : WorldState) → IsDefaultStep moves system r m → NamesOneOf (if_moved moves system) w m
     set_named m step = names_since (if_moved moves system) w r m (goal_names_same w r only_goal) (set_names moves system carried.named r m to_r record_free step)
 
-    set_between : (m : WorldState) → IsSetStep moves system r m → IsMenuBetween w.leaves m.leaves
+    set_between : (m : WorldState) → IsDefaultStep moves system r m → IsMenuBetween w.leaves m.leaves
     set_between m step =
         menu_since_law r.leaves w.leaves m.leaves (λ q own. sym (goal_menu w r only_goal q own)) (goal_store w r only_goal) (set_menu system carried.named r moves to_r record_free m step)
 
     -- each moment of making the system the boot default is one of the command
-    pub set_moment : (m : WorldState) → IsSetStep moves system r m → IsMomentOf command w m
+    pub set_moment : (m : WorldState) → IsDefaultStep moves system r m → IsMomentOf command w m
     set_moment m step = record {
       step = step_as m (IsStepTo.Setting r is_r step);
       underway = λ steady. on_its_way moves command w m (underway_at m (set_of_parts m step) (kept_recorded moves w.leaves m.leaves (set_recorded m step)) steady);
@@ -402,8 +400,8 @@ module _ (command : Command) (owed : Owed) (order : List Name) (w : WorldState) 
       menu = set_between m step;
     }
 
-    module _ (u : WorldState) (is : seen u ≡ set_world moves system r) where
-      last_set : IsSetStep moves system r u
+    module _ (u : WorldState) (is : seen u ≡ default_world moves system r) where
+      last_set : IsDefaultStep moves system r u
       last_set = set_step system carried.named r moves record_free u is
 
       pub alone_set : IsPartMoment second w u
@@ -448,7 +446,7 @@ module _ (command : Command) (owed : Owed) (order : List Name) (w : WorldState) 
           by false same_b apart = absurd (both_ways _ refl same_b)
 
       -- and so the same is owed, and the starts are in the same order
-      pub owed_still : switches ≡ true → IsOwedBy start_up u system owed
+      pub owed_still : switches ≡ true → IsOwedBy start_up system u owed
       owed_still switched = owed_same start_up system w u (is_system system carried.named) (units_same switched) owed (carried.is_owed switched)
 
       -- and the same has to be written to record it
@@ -566,7 +564,7 @@ module _ (command : Command) (owed : Owed) (order : List Name) (w : WorldState) 
         still_on_its_way : (m : WorldState) → m ≡ v → IsSteadyFor command w → IsOnItsWay moves command w m
         still_on_its_way m same steady =
             on_its_way moves command w m
-            (subst (λ (x : WorldState). IsUnderway w command x) (sym same) (underway_at v (switch_of_parts v moment) (kept_recorded moves w.leaves v.leaves (switch_recorded v moment)) steady))
+            (subst (λ (x : WorldState). IsUnderway command w x) (sym same) (underway_at v (switch_of_parts v moment) (kept_recorded moves w.leaves v.leaves (switch_recorded v moment)) steady))
 
         clear_on_its_way : (o : Option Move) → moves ≡ o → (m : WorldState) → IsClearStep o v m → IsSteadyFor command w → IsOnItsWay moves command w m
         clear_on_its_way None same m step steady = still_on_its_way m step steady

@@ -1,6 +1,7 @@
 -- At each moment of a command the journal has grown by a beginning of what it enters.
 use Rattle.std.proofs.Common.{◌≡◌, Bool, true, false, List, [], ◌++◌, map, take, drop, append-nil, append_assoc, ◌∷◌, refl, sym, ap, subst, ◌∙◌, inl, inr}
 use Rattle.std.proofs.lemmas.List.{map-append, take-append-drop}
+use Rattle.std.specs.List.{flat_map}
 use Rattle.activation_stage.specs.ActivationPart.{IsActivating}
 use Rattle.activation_stage.specs.ActivationPart.IsActivating.{Making, Setting}
 use Rattle.accounts_stage.specs.AccountsPart.{puts_of}
@@ -10,18 +11,18 @@ use Rattle.host_trait.specs.Manager.{loading}
 use Rattle.host_trait.specs.States.{state_of}
 use Rattle.host_trait.specs.World.{WorldState}
 use Rattle.log_text.specs.declared.lists.Which.{Which}
-use Rattle.log_text.specs.declared.lists.Which.TheVariants.{Reloads, Restarts, Starts}
+use Rattle.log_text.specs.declared.lists.Which.TheVariants.{Starts}
 use Rattle.owed_log.specs.declared.log_write.LogWrite.{LogWrite}
 use Rattle.owed_log.specs.Writing.{recorded}
 use Rattle.owed_log.proofs.BesideLemmas.{clearing_manager, record_manager, recorded_manager}
-use Rattle.owed_plan.specs.Calls.{reload_calls, restart_calls, start_calls, stop_calls}
+use Rattle.owed_plan.specs.Calls.{listed_calls, stop_calls}
 use Rattle.owed_plan.specs.declared.duty.Duty.{Duty}
 use Rattle.owed_plan.specs.declared.owed.Owed.{Owed}
 use Rattle.switch_engine.specs.declared.command.Command.{Command}
-use Rattle.switch_engine.specs.Carried.{IsSwitchMomentIf}
 use Rattle.switch_engine.specs.Commands.{brought_to, if_so, row}
 use Rattle.switch_engine.specs.Final.{AreEntries, HasBegunToEnter}
 use Rattle.switch_engine.specs.Moments.{AreStopped, IsSwitchMoment}
+use Rattle.switch_engine.proofs.SwitchedIf.{IsSwitchMomentIf}
 use Rattle.switch_names.specs.Names.{Name}
 use Rattle.tree_put.specs.Sequence.{with_puts}
 use Rattle.tree_put.proofs.SequenceLemmas.{puts_manager}
@@ -30,7 +31,7 @@ use Rattle.unit_stage.specs.Acts.IsPerforming.{After, Within}
 use Rattle.unit_stage.specs.End.{entries_of}
 use Rattle.unit_stage.specs.Order.{IsOrderedAt}
 use Rattle.unit_stage.specs.Plan.{IsOwedBy}
-use Rattle.unit_stage.specs.Steps.{IsBringStep, IsClearingMoment, IsGiveMoment, IsListMoment, IsStopStep, with_given, with_loaded, with_stops}
+use Rattle.unit_stage.specs.Steps.{IsBringStep, IsClearingMoment, IsGiveMoment, IsListMoment, IsStopStep, give_order, with_given, with_loaded, with_stops}
 use Rattle.unit_stage.specs.Steps.IsBringStep.{Giving, Linked, Waiting}
 use Rattle.unit_stage.specs.System.{definitions_of}
 use Rattle.unit_stage.proofs.CallLemmas.{entered, performed-append}
@@ -87,24 +88,16 @@ made_clearing which calls w m (inl part) = made_some calls w m part
 made_clearing which calls w m (inr moment) = made_all calls w.manager m.manager (clearing_manager which (with_calls calls w) m moment)
 
 made_listed : (which : Which) (calls : List Duty) (w m : WorldState) → IsListMoment which calls w m → HasMade calls w.manager m.manager
+made_listed Starts calls w m moment = made_clearing Starts calls w m moment
 made_listed which [] w m is = made_none [] w.manager m.manager (ap (λ (x : WorldState). x.manager.journal) is)
 made_listed which (call ∷ calls) w m moment = made_clearing which (call ∷ calls) w m moment
 
-made_grouped : (reloads restarts starts : List Duty) (w m : WorldState) → IsGiveMoment reloads restarts starts w m → HasMade (reloads ++ (restarts ++ starts)) w.manager m.manager
-made_grouped reloads restarts starts w m (IsGiveMoment.Reloading moment) = made_more reloads (restarts ++ starts) w.manager m.manager (made_listed Reloads reloads w m moment)
-made_grouped reloads restarts starts w m (IsGiveMoment.Restarting moment) =
-    made_then reloads (restarts ++ starts) w.manager m.manager
-    (made_more restarts starts (performed reloads w.manager) m.manager
-    (subst (λ (k : ManagerState). HasMade restarts k m.manager) (given_manager Reloads reloads w) (made_listed Restarts restarts (with_given Reloads reloads w) m moment)))
-made_grouped reloads restarts starts w m (IsGiveMoment.Starting moment) =
-    made_then reloads (restarts ++ starts) w.manager m.manager
-    (made_then restarts starts (performed reloads w.manager) m.manager
-    (subst (λ (k : ManagerState). HasMade starts k m.manager) (given_manager Restarts restarts (with_given Reloads reloads w) ∙ ap (performed restarts) (given_manager Reloads reloads w))
-    (made_clearing Starts starts (with_given Restarts restarts (with_given Reloads reloads w)) m moment)))
-
-made_giving : (reloads restarts starts : List Duty) (w m : WorldState) → IsGiveMoment reloads restarts starts w m → HasMade (reloads ++ restarts ++ starts) w.manager m.manager
-made_giving reloads restarts starts w m step =
-    subst (λ (calls : List Duty). HasMade calls w.manager m.manager) (sym (append_assoc reloads restarts starts)) (made_grouped reloads restarts starts w m step)
+made_giving : (calls : Which → List Duty) (order : List Which) (w m : WorldState) → IsGiveMoment calls order w m → HasMade (flat_map calls order) w.manager m.manager
+made_giving calls [] w m is = made_none [] w.manager m.manager (ap (λ (x : WorldState). x.manager.journal) is)
+made_giving calls (which ∷ order) w m (inl moment) = made_more (calls which) (flat_map calls order) w.manager m.manager (made_listed which (calls which) w m moment)
+made_giving calls (which ∷ order) w m (inr later) =
+    made_then (calls which) (flat_map calls order) w.manager m.manager
+    (subst (λ (k : ManagerState). HasMade (flat_map calls order) k m.manager) (given_manager which (calls which) w) (made_giving calls order (with_given which (calls which) w) m later))
 
 -- ---- what changes leaves alone
 
@@ -128,7 +121,7 @@ module _ (system : Name) (owed : Owed) (order : List Name) (w : WorldState) wher
   stops = stop_calls owed
 
   abbrev gives : List Duty
-  gives = reload_calls owed (state_of w.manager.states) ++ restart_calls owed ++ start_calls order
+  gives = flat_map (listed_calls owed order (state_of w.manager.states)) give_order
 
   abbrev stop_entries : List Entry
   stop_entries = map (entry_of w.manager.loaded) stops
@@ -169,14 +162,14 @@ module _ (system : Name) (owed : Owed) (order : List Name) (w : WorldState) wher
   stopping write u (IsStopStep.Recording step) = made_none stops w.manager u.manager (ap (λ (k : ManagerState). k.journal) (record_manager write w u step))
   stopping write u (IsStopStep.Stopping step) = subst (λ (k : ManagerState). HasMade stops k u.manager) (recorded_manager write w) (made_some stops (recorded write w) u step)
 
-  bringing : (v u : WorldState) → v.manager ≡ stopped → IsBringStep system (reload_calls owed (state_of w.manager.states)) (restart_calls owed) (start_calls order) v u →
+  bringing : (v u : WorldState) → v.manager ≡ stopped → IsBringStep system (listed_calls owed order (state_of w.manager.states)) v u →
       HasGrown (entries_of system owed order w) w.manager u.manager
   bringing v u before (Waiting is) = grown_stopped u (ap (λ (x : WorldState). x.manager) is ∙ before)
   bringing v u before (Linked is) = grown_stopped u (ap (λ (x : WorldState). x.manager) is ∙ before)
   bringing v u before (Giving step) =
       grown_gives u.manager
       (subst (λ (k : ManagerState). HasMade gives (loading (definitions_of system) k) u.manager) before
-      (made_giving (reload_calls owed (state_of w.manager.states)) (restart_calls owed) (start_calls order) (with_loaded system v) u step))
+      (made_giving (listed_calls owed order (state_of w.manager.states)) give_order (with_loaded system v) u step))
 
   grown : (m : WorldState) → IsSwitchMoment system owed order w m → HasGrown (entries_of system owed order w) w.manager m.manager
   grown m (IsSwitchMoment.Stopping write is_write moment) =
@@ -190,7 +183,7 @@ module _ (system : Name) (owed : Owed) (order : List Name) (w : WorldState) wher
 
 -- a switch of the units, where they are switched, that began where the manager is that of a first world
 pub switch_enters :
-    (command : Command) (start_up switches : Bool) (system : Name) (owed : Owed) (order : List Name) (w u m : WorldState) → start_up ≡ (row command w.leaves).start_up → if_so switches system ≡ brought_to command w.leaves → (switches ≡ true → IsOwedBy start_up w system owed) →
+    (command : Command) (start_up switches : Bool) (system : Name) (owed : Owed) (order : List Name) (w u m : WorldState) → start_up ≡ (row command w.leaves).start_up → if_so switches system ≡ brought_to command w.leaves → (switches ≡ true → IsOwedBy start_up system w owed) →
     (switches ≡ true → IsOrderedAt w.leaves system owed order) → u.manager ≡ w.manager → IsSwitchMomentIf switches system owed order u m → HasBegunToEnter command w m
 switch_enters command start_up true system owed order w u m starts brought is_owed is_ordered same moment =
     let some = subst (λ (k : ManagerState). HasGrown (entries_of system owed order (record u { manager = k })) k m.manager) same (grown system owed order u m moment) in

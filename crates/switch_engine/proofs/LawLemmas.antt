@@ -35,7 +35,7 @@ nothing_entered command w = record {
   others = λ unit other. refl;
 }
 
-pub begins_underway : (w : WorldState) (command : Command) → refusal command w.leaves ≡ None → IsSteadyFor command w → IsUnderway w command w
+pub begins_underway : (w : WorldState) (command : Command) → refusal command w.leaves ≡ None → IsSteadyFor command w → IsUnderway command w w
 begins_underway w command none steady = record {
   same_row = refl;
   same_end = λ v. (λ is. is, λ is. is);
@@ -58,7 +58,7 @@ begins_step command w = by (row command w.leaves).changes
     by true = IsStepTo.Recording (record_begins (moved_by (row command w.leaves)))
     by false = refl
 
-begins_on_its_way : (moves : Option Move) (command : Command) (w : WorldState) → IsUnderway w command w → IsOnItsWay moves command w w
+begins_on_its_way : (moves : Option Move) (command : Command) (w : WorldState) → IsUnderway command w w → IsOnItsWay moves command w w
 begins_on_its_way None command w underway = underway
 begins_on_its_way (Some Set) command w underway = underway
 begins_on_its_way (Some (Point n)) command w underway = inl underway
@@ -88,7 +88,7 @@ paid_since : (to : Option Name) (act : Act) (unit : Name) (xs ys : List Entry) �
 paid_since None act unit xs ys paid = absurd paid
 paid_since (Some system) act unit xs ys paid = list_any-append (pays system act unit) xs ys ∙ or_right _ _ paid
 
-module _ (command : Command) (first w : WorldState) (before : IsUnderway first command w) where
+module _ (command : Command) (first w : WorldState) (before : IsUnderway command first w) where
   abbrev entered_then : (m : WorldState) → HasEntered command w m → HasEntered command first m
   entered_then m after = record {
     entered = before.since.entered ++ after.entered;
@@ -104,7 +104,7 @@ module _ (command : Command) (first w : WorldState) (before : IsUnderway first c
       (subst (λ (to : Option Name). IsPaidBy to act unit entered) (ap switched_by before.same_row) paid)
 
   -- a run that is underway, and from there underway again
-  pub stays_underway : (m : WorldState) → IsUnderway w command m → IsUnderway first command m
+  pub stays_underway : (m : WorldState) → IsUnderway command w m → IsUnderway command first m
   stays_underway m after = record {
     same_row = after.same_row ∙ before.same_row;
     same_end = λ v. (λ is. (before.same_end v).0 ((after.same_end v).0 is), λ is. (after.same_end v).1 ((before.same_end v).1 is));
@@ -122,7 +122,7 @@ module _ (command : Command) (first w : WorldState) (before : IsUnderway first c
   }
 
   -- a run that is underway, and from there over
-  pub over_then : (v : WorldState) → IsOver w command v → IsOver first command v
+  pub over_then : (v : WorldState) → IsOver command w v → IsOver command first v
   over_then v after = record {
     final = (before.same_end v).0 after.final;
     since = entered_then v after.since;
@@ -145,7 +145,7 @@ has_paid start_up true system w v entries final are =
     let states = final.0 in
     let same = arranges w.leaves system are.0 are.1 are.3 in
     record {
-      owed_alone = subst (λ (entries : List Entry). AllByRecursion (λ entry. units.OwesUnit start_up w system entry.unit) entries) (sym are.4) (entered_owed start_up w system are.0 are.2 are.1 same);
+      owed_alone = subst (λ (entries : List Entry). AllByRecursion (λ entry. units.OwesUnit start_up system w entry.unit) entries) (sym are.4) (entered_owed start_up w system are.0 are.2 are.1 same);
       others = λ unit other. states.2 unit ∙ left_alone start_up w system states.0 states.1 unit other;
       paid = λ act unit owes. subst (λ (entries : List Entry). units.IsPaid system act unit entries) (sym are.4) (entered_paid start_up w system are.0 are.2 are.1 same act unit owes);
     }
@@ -156,7 +156,7 @@ has_paid start_up false system w v entries final are = record {
 }
 
 -- a run that has come to its end is over
-pub ended_over : (command : Command) (w v : WorldState) → (IsQuery command → ⊥) → IsEndOf command w v → IsOver w command v
+pub ended_over : (command : Command) (w v : WorldState) → (IsQuery command → ⊥) → IsEndOf command w v → IsOver command w v
 ended_over command w v changes end =
     let brought : brought_to command w.leaves ≡ switched_to command w.leaves = ap (λ b. if_so (b && (row command w.leaves).switches) (new_system command w.leaves)) (changes_on command w.leaves changes) in
     let paid = has_paid (row command w.leaves).start_up (row command w.leaves).switches (new_system command w.leaves) w v end.entries
@@ -170,26 +170,26 @@ ended_over command w v changes end =
 -- ---- any number of cuts
 
 -- what is on its way is underway, or a rollback has come to its end
-pub either : (moves : Option Move) (command : Command) (w m : WorldState) → IsOnItsWay moves command w m → IsUnderway w command m ⊎ HasComeBack command w m
+pub either : (moves : Option Move) (command : Command) (w m : WorldState) → IsOnItsWay moves command w m → IsUnderway command w m ⊎ HasComeBack command w m
 either None command w m underway = inl underway
 either (Some Set) command w m underway = inl underway
 either (Some (Point n)) command w m is = is
 
 -- where the profile doesn't go back it is underway
-pub never_back : (moves : Option Move) (command : Command) (w m : WorldState) → is_back moves ≡ false → IsOnItsWay moves command w m → IsUnderway w command m
+pub never_back : (moves : Option Move) (command : Command) (w m : WorldState) → is_back moves ≡ false → IsOnItsWay moves command w m → IsUnderway command w m
 never_back None command w m none underway = underway
 never_back (Some Set) command w m none underway = underway
 never_back (Some (Point n)) command w m none is = absurd (both_ways _ none refl)
 
 -- however often runs of a command are cut that doesn't go back, the last leaves what one that isn't cut leaves
-pub alike : (command : Command) (cuts : List WorldState) (w v : WorldState) → (IsQuery command → ⊥) → goes_back command w.leaves ≡ false → refusal command w.leaves ≡ None → IsSteadyFor command w → LeadsBy command cuts w v → IsOver w command v
+pub alike : (command : Command) (cuts : List WorldState) (w v : WorldState) → (IsQuery command → ⊥) → goes_back command w.leaves ≡ false → refusal command w.leaves ≡ None → IsSteadyFor command w → LeadsBy command cuts w v → IsOver command w v
 alike command [] w v changes ahead none steady led = ended_over command w v changes led
 alike command (m ∷ cuts) w v changes ahead none steady led =
     let underway = never_back (row command w.leaves).moves command w m ahead (led.0.underway steady) in
     over_then command w m underway v
     (alike command cuts m v changes (ap (λ (r : Row). is_back r.moves) underway.same_row ∙ ahead) underway.not_refused underway.steady led.1)
 
-pub come_in : (command : Command) (first w : WorldState) → IsUnderway first command w → (cuts : List WorldState) → HasComeBackIn command w cuts → HasComeBackIn command first cuts
+pub come_in : (command : Command) (first w : WorldState) → IsUnderway command first w → (cuts : List WorldState) → HasComeBackIn command w cuts → HasComeBackIn command first cuts
 come_in command first w before [] none = absurd none
 come_in command first w before (m ∷ cuts) is = ⊎_elim
     (λ here. inl (record { over = over_then command first w before m here.over; cleared = here.cleared }))
@@ -197,7 +197,7 @@ come_in command first w before (m ∷ cuts) is = ⊎_elim
     is
 
 -- and of any command the last is over, or one of them had come to its end when it was cut
-pub come_back : (command : Command) (cuts : List WorldState) (w v : WorldState) → (IsQuery command → ⊥) → refusal command w.leaves ≡ None → IsSteadyFor command w → LeadsBy command cuts w v → IsOver w command v ⊎ HasComeBackIn command w cuts
+pub come_back : (command : Command) (cuts : List WorldState) (w v : WorldState) → (IsQuery command → ⊥) → refusal command w.leaves ≡ None → IsSteadyFor command w → LeadsBy command cuts w v → IsOver command w v ⊎ HasComeBackIn command w cuts
 come_back command [] w v changes none steady led = inl (ended_over command w v changes led)
 come_back command (m ∷ cuts) w v changes none steady led = ⊎_elim
     (λ underway. ⊎_elim

@@ -28,6 +28,7 @@ pub mod SourceLemmas
 pub mod StepLeaves
 pub mod StoreApart
 pub mod SwitchLemmas
+pub mod SwitchedIf
 pub mod UnderwayLemmas
 pub mod VerdictLemmas
 pub mod WayOfCommand

@@ -2,7 +2,6 @@
 use Rattle.std.proofs.Common.{◌≡◌, Bool, true, false, cond, Option, None, Some, option_map, refl, sym, ap, subst, ◌∙◌}
 use Rattle.std.proofs.lemmas.Option.{none-some}
 use Rattle.activation_stage.specs.ActivationPart.{IsActivationPlanOf, activation_in}
-use Rattle.activation_stage.specs.declared.activation_plan.ActivationPlan.{ActivationPlan}
 use Rattle.generations.specs.declared.gens.Gens.{Gens}
 use Rattle.generations.specs.declared.moving.Move.{Move}
 use Rattle.generations.specs.declared.moving.Move.TheVariants.{Point, Set}
@@ -10,11 +9,11 @@ use Rattle.generations.specs.Move.{move_part}
 use Rattle.host_trait.specs.World.{Leaves, WorldState}
 use Rattle.leaf_limits.specs.declared.too_long.TooLong.{TooLong}
 use Rattle.leaf_limits.specs.Limits.{first_long}
-use Rattle.switch_engine.specs.declared.plan.Plan.{Plan}
+use Rattle.switch_engine.specs.declared.plan.SwitchPlan.{SwitchPlan}
 use Rattle.switch_engine.specs.declared.row.Row.{Row}
 use Rattle.switch_engine.specs.Commands.{if_so}
 use Rattle.switch_engine.specs.Owing.{IsLongBy, IsLongLogTo}
-use Rattle.switch_engine.specs.Plan.{ArePlanned, AreUnitsPlanned, IsActivationPlanned}
+use Rattle.switch_engine.specs.Plan.{IsSwitchPlanned}
 use Rattle.switch_engine.specs.Rows.{default_if, gens_to, parts_in}
 use Rattle.switch_names.specs.Names.{Name}
 use Rattle.switch_names.proofs.Outcomes.{none_mapped}
@@ -54,28 +53,24 @@ unless false why o is = (refl, is)
 
 -- ---- what a plan puts too long
 
--- nothing, where no activation is planned
-pub long_none : (its : Row) (w : WorldState) (plan : Option ActivationPlan) → plan ≡ None → IsActivationPlanned its.switches its.system w plan → IsLongBy its w None
-long_none its w plan none planned =
-    let off : its.switches ≡ false = subst (λ (o : Option ActivationPlan). IsActivationPlanned its.switches its.system w o) none planned in (
-      None,
-      subst (λ b. IsLongLogTo its.start_up (if_so b its.system) w None) (sym off) refl,
-      sym (ap (λ b. (parts_in its.start_up b its.moves its.system w.leaves).long w.leaves) off ∙ unswitched_short its.start_up its.moves its.system w.leaves),
-    )
+-- nothing, where no switch of the units is planned
+pub long_none : (its : Row) (w : WorldState) → its.switches ≡ false → IsLongBy its w None
+long_none its w off = (
+  None,
+  subst (λ b. IsLongLogTo its.start_up (if_so b its.system) w None) (sym off) refl,
+  sym (ap (λ b. (parts_in its.start_up b its.moves its.system w.leaves).long w.leaves) off ∙ unswitched_short its.start_up its.moves its.system w.leaves),
+)
 
 -- else the first of the log and of what the activation puts so
 pub long_some :
-    (its : Row) (w : WorldState) (plan : Plan) (activation : ActivationPlan) (log long : Option TooLong) → plan.activation ≡ Some activation → ArePlanned its w plan →
-    ((start_up : Bool) (w : WorldState) (system : Name) → IsUnitPlanOf start_up system w plan.units → IsLongLog start_up w system log) →
-    ((system : Name) (leaves : Leaves) → IsActivationPlanOf system leaves activation → long ≡ (activation_in system leaves).long leaves) → IsLongBy its w (first_long log long)
-long_some its w plan activation log long some planned of_log of_activation =
-    let activated = subst (λ (o : Option ActivationPlan). IsActivationPlanned its.switches its.system w o) some planned.activation in
-    let on = activated.0 in
-    let units = subst (λ b. AreUnitsPlanned its.start_up b its.system w plan.units) on planned.units in (
-      log,
-      subst (λ b. IsLongLogTo its.start_up (if_so b its.system) w log) (sym on) (of_log its.start_up w its.system units),
-      ap (first_long log)
-          (of_activation its.system w.leaves activated.1
-          ∙ sym (switched_long its.start_up its.moves its.system w.leaves)
-          ∙ ap (λ b. (parts_in its.start_up b its.moves its.system w.leaves).long w.leaves) (sym on)),
-    )
+    (its : Row) (w : WorldState) (plan : SwitchPlan) (log long : Option TooLong) → IsSwitchPlanned its.start_up its.switches its.system w (Some plan) →
+    ((start_up : Bool) (w : WorldState) (system : Name) → IsUnitPlanOf start_up system w plan.units → IsLongLog start_up system w log) →
+    ((system : Name) (leaves : Leaves) → IsActivationPlanOf system leaves plan.activation → long ≡ (activation_in system leaves).long leaves) → IsLongBy its w (first_long log long)
+long_some its w plan log long (on, of_units, of_activation) is_log is_long = (
+  log,
+  subst (λ b. IsLongLogTo its.start_up (if_so b its.system) w log) (sym on) (is_log its.start_up w its.system of_units),
+  ap (first_long log)
+      (is_long its.system w.leaves of_activation
+      ∙ sym (switched_long its.start_up its.moves its.system w.leaves)
+      ∙ ap (λ b. (parts_in its.start_up b its.moves its.system w.leaves).long w.leaves) (sym on)),
+)

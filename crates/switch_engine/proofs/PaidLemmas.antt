@@ -1,8 +1,8 @@
 -- What a switch enters pays what it owes, and is about no other unit.
 use Rattle.std.proofs.Common.{◌≡◌, ◌&&◌, ◌||◌, ◌++◌, Bool, true, false, not, List, [], ◌∷◌, map, if◌then◌else◌, refl, sym, ap, subst, ◌∙◌, inl, inr}
-use Rattle.std.specs.List.{AllByRecursion, list_any}
-use Rattle.std.proofs.lemmas.Bool.{or_cases, or_left, or_right}
-use Rattle.std.proofs.lemmas.List.{map-append}
+use Rattle.std.specs.List.{AllByRecursion, flat_map, list_any}
+use Rattle.std.proofs.lemmas.Bool.{false_from_ne_true, or_cases, or_left, or_right}
+use Rattle.std.proofs.lemmas.List.{append-nil, map-append}
 use Rattle.std.proofs.lemmas.List.Folds.{list_any-append}
 use Rattle.host_trait.specs.declared.entry.Act.{Act}
 use Rattle.host_trait.specs.declared.entry.Act.TheVariants.{Stop, Reload, Restart, Start}
@@ -13,11 +13,14 @@ use Rattle.host_trait.specs.Manager.{is_active}
 use Rattle.host_trait.specs.States.{state_of}
 use Rattle.host_trait.specs.World.{WorldState}
 use Rattle.log_text.specs.declared.lists.Lists.{Lists}
+use Rattle.log_text.specs.declared.lists.Which.{Which}
+use Rattle.log_text.specs.declared.lists.Which.TheVariants.{Starts, Restarts, Reloads}
 use Rattle.owed_plan.specs.declared.duty.Duty.{Duty}
 use Rattle.owed_plan.specs.declared.owed.Owed.{Owed}
-use Rattle.owed_plan.specs.Calls.{duty, reload_act, reload_calls, restart_calls, start_calls, stop_calls}
+use Rattle.owed_plan.specs.Calls.{duty, listed_calls, reload_act, stop_calls}
 use Rattle.owed_plan.specs.FinalStates.{brought_by}
-use Rattle.owed_plan.specs.Owed.{sockets_first}
+use Rattle.owed_plan.specs.Lists.{owed_names}
+use Rattle.owed_plan.specs.Owed.{IsOwedAct, sockets_first}
 use Rattle.owed_plan.specs.Systems.{Systems, systems_at}
 use Rattle.owed_plan.proofs.NameLemmas.{has-sockets_first}
 use Rattle.switch_names.specs.Names.{Name, has, is_name}
@@ -26,9 +29,12 @@ use Rattle.host_trait.proofs.NameOrder.{name_itself}
 use Rattle.unit_stage.specs.Acts.{entry_of}
 use Rattle.unit_stage.specs.End.{entries_of, state_after}
 use Rattle.unit_stage.specs.Order.{ArrangesStarts}
-use Rattle.unit_stage.specs.Owes.{IsOwedAct, IsPaid, Owes, OwesUnit, is_stop, pays}
+use Rattle.unit_stage.specs.Owes.{IsPaid, Owes, OwesUnit, is_stop, pays}
 use Rattle.unit_stage.specs.Plan.{IsOwedBy}
+use Rattle.unit_stage.specs.Steps.{give_order}
 use Rattle.unit_stage.specs.System.{current_system, definitions_of}
+use Rattle.unit_stage.proofs.GivenLemmas.{given_after, given_before, turn_split}
+use Rattle.unit_stage.proofs.PayLemmas.{all_listed}
 use Rattle.unit_stage.proofs.WaitingLemmas.{same_waiting}
 
 -- what holds of each of some and of each of others
@@ -82,7 +88,7 @@ reload_no_stop states stops unit = either (is_active (states unit) && not (has s
 
 -- ---- what a switch enters
 
-module _ (start_up : Bool) (w : WorldState) (system : Name) (owed : Owed) (is : IsOwedBy start_up w system owed) where
+module _ (start_up : Bool) (w : WorldState) (system : Name) (owed : Owed) (is : IsOwedBy start_up system w owed) where
   abbrev systems : Systems
   systems = systems_at w.leaves (current_system w.leaves) system
 
@@ -90,23 +96,22 @@ module _ (start_up : Bool) (w : WorldState) (system : Name) (owed : Owed) (is : 
   states = state_of w.manager.states
 
   -- the units of the four lists are owed something
-  owes : (act : Act) (unit : Name) → IsOwedAct systems states is.0 act unit → OwesUnit start_up w system unit
+  owes : (act : Act) (unit : Name) → IsOwedAct systems states is.0 act unit → OwesUnit start_up system w unit
   owes act unit holds = (act, (is.0, is.1.listed, holds))
 
-  lacks : (names : List Name) (act : Act) (unit : Name) → ¬ OwesUnit start_up w system unit → (has names unit ≡ true → IsOwedAct systems states is.0 act unit) → has names unit ≡ false
-  lacks names act unit none exact = either (has names unit) refl
-    where
-      either : (b : Bool) → has names unit ≡ b → has names unit ≡ false
-      either true found = absurd (none (owes act unit (exact found)))
-      either false found = found
+  listed_owed : (act : Act) (unit : Name) → has (owed_names owed act) unit ≡ true → OwesUnit start_up system w unit
+  listed_owed act unit found = owes act unit (((is.1.is_owed act).exact unit).0 found)
+
+  lacks : (act : Act) (unit : Name) → ¬ OwesUnit start_up system w unit → has (owed_names owed act) unit ≡ false
+  lacks act unit none = false_from_ne_true (has (owed_names owed act) unit) (λ found. none (listed_owed act unit found))
 
   -- a unit that is owed nothing stays in its state
-  pub left_alone : (unit : Name) → ¬ OwesUnit start_up w system unit → state_after system owed w unit ≡ states unit
+  pub left_alone : (unit : Name) → ¬ OwesUnit start_up system w unit → state_after system owed w unit ≡ states unit
   left_alone unit none =
-      let stops = lacks owed.stops Stop unit none (λ found. (is.1.is_owed.stops.exact unit).0 found) in
-      let reloads = lacks owed.reloads Reload unit none (λ found. (is.1.is_owed.reloads.exact unit).0 found) in
-      let restarts = lacks owed.restarts Restart unit none (λ found. (is.1.is_owed.restarts.exact unit).0 found) in
-      let starts = lacks owed.starts Start unit none (λ found. (is.1.is_owed.starts.exact unit).0 found) in
+      let stops = lacks Stop unit none in
+      let reloads = lacks Reload unit none in
+      let restarts = lacks Restart unit none in
+      let starts = lacks Start unit none in
       let to = brought_by (definitions_of system) w.manager.bad unit in
       λ i. if restarts i then to
       else if (starts i || reloads i) && is_active (states unit) && not (stops i) then Active
@@ -115,21 +120,25 @@ module _ (start_up : Bool) (w : WorldState) (system : Name) (owed : Owed) (is : 
       else states unit
 
   module _ (order : List Name) (arranges : ArrangesStarts owed order) where
-    pub entered_owed : AllByRecursion (λ entry. OwesUnit start_up w system entry.unit) (entries_of system owed order w)
+    abbrev listed : Which → List Duty
+    listed = listed_calls owed order states
+
+    abbrev given : List Duty
+    given = flat_map listed give_order
+
+    pub entered_owed : AllByRecursion (λ entry. OwesUnit start_up system w entry.unit) (entries_of system owed order w)
     entered_owed =
-        let P : Name → Type 0 = λ unit. OwesUnit start_up w system unit in
-        let C : Duty → Type 0 = λ call. P call.unit in
-        let same : (call : Duty) → C call → C call = λ call holds. holds in
-        let reloads : AllByRecursion C (reload_calls owed states) = all_calls P (reload_act states owed.stops) owed.reloads (λ unit found. owes Reload unit ((is.1.is_owed.reloads.exact unit).0 found)) in
-        let restarts : AllByRecursion C (restart_calls owed) = all_calls P (λ n. Restart) owed.restarts (λ unit found. owes Restart unit ((is.1.is_owed.restarts.exact unit).0 found)) in
-        let starts : AllByRecursion C (start_calls order) = all_calls P (λ n. Start) order (λ unit found. owes Start unit ((is.1.is_owed.starts.exact unit).0 (sym (arranges unit) ∙ found))) in
-        let stops : AllByRecursion C (stop_calls owed) = all_calls P (λ n. Stop) (sockets_first unit_kind owed.stops)
-        (λ unit found. owes Stop unit ((is.1.is_owed.stops.exact unit).0 (sym (has-sockets_first unit_kind owed.stops unit) ∙ found))) in
+        let P : Name → Type 0 = λ unit. OwesUnit start_up system w unit in
+        let stops : AllByRecursion (λ (call : Duty). P call.unit) (stop_calls owed) = all_calls P (λ n. Stop) (sockets_first unit_kind owed.stops)
+        (λ unit found. listed_owed Stop unit (sym (has-sockets_first unit_kind owed.stops unit) ∙ found)) in
         all_joined (λ (entry : Entry). P entry.unit) (λ (entry : Entry). P entry.unit) (λ entry holds. holds) (map (entry_of w.manager.loaded) (stop_calls owed))
-        (map (entry_of (definitions_of system)) (reload_calls owed states ++ restart_calls owed ++ start_calls order))
-        (all_entries P w.manager.loaded (stop_calls owed) stops)
-        (all_entries P (definitions_of system) (reload_calls owed states ++ restart_calls owed ++ start_calls order)
-        (all_joined C C same (reload_calls owed states ++ restart_calls owed) (start_calls order) (all_joined C C same (reload_calls owed states) (restart_calls owed) reloads restarts) starts))
+        (map (entry_of (definitions_of system)) given) (all_entries P w.manager.loaded (stop_calls owed) stops)
+        (all_entries P (definitions_of system) given (all_listed (λ (call : Duty). P call.unit) listed each give_order))
+      where
+        each : (which : Which) → AllByRecursion (λ (call : Duty). OwesUnit start_up system w call.unit) (listed which)
+        each Reloads = all_calls (OwesUnit start_up system w) (reload_act states owed.stops) owed.reloads (listed_owed Reload)
+        each Restarts = all_calls (OwesUnit start_up system w) (λ n. Restart) owed.restarts (listed_owed Restart)
+        each Starts = all_calls (OwesUnit start_up system w) (λ n. Start) order (λ unit found. listed_owed Start unit (sym (arranges unit) ∙ found))
 
     -- whether one of the entries of these calls pays
     abbrev pays_stop : Act → Name → Bool
@@ -138,54 +147,37 @@ module _ (start_up : Bool) (w : WorldState) (system : Name) (owed : Owed) (is : 
     abbrev pays_by : List Duty → Act → Name → Bool
     pays_by calls act unit = list_any (pays system act unit) (map (entry_of (definitions_of system)) calls)
 
-    -- whether one of all entries does, by the four kinds of calls
-    paid_by : (act : Act) (unit : Name) →
-        list_any (pays system act unit) (entries_of system owed order w)
-        ≡ (pays_stop act unit || (pays_by (reload_calls owed states) act unit || pays_by (restart_calls owed) act unit || pays_by (start_calls order) act unit))
-    paid_by act unit =
-        let p = pays system act unit in
-        let to = entry_of (definitions_of system) in
-        list_any-append p (map (entry_of w.manager.loaded) (stop_calls owed)) (map to (reload_calls owed states ++ restart_calls owed ++ start_calls order))
-        ∙ ap (λ b. pays_stop act unit || b)
-        (ap (list_any p) (map-append to (reload_calls owed states ++ restart_calls owed) (start_calls order))
-        ∙ list_any-append p (map to (reload_calls owed states ++ restart_calls owed)) (map to (start_calls order))
-        ∙ ap (λ b. b || pays_by (start_calls order) act unit)
-        (ap (list_any p) (map-append to (reload_calls owed states) (restart_calls owed))
-        ∙ list_any-append p (map to (reload_calls owed states)) (map to (restart_calls owed))))
-
     module _ (act : Act) (unit : Name) where
-      abbrev reloads : Bool
-      reloads = pays_by (reload_calls owed states) act unit
-
-      abbrev restarts : Bool
-      restarts = pays_by (restart_calls owed) act unit
-
-      abbrev starts : Bool
-      starts = pays_by (start_calls order) act unit
-
       abbrev Pays : Type 0
       Pays = IsPaid system act unit (entries_of system owed order w)
 
+      -- one of all entries does where one of a stop does, or one of a call of a list
+      paid_by : list_any (pays system act unit) (entries_of system owed order w) ≡ (pays_stop act unit || pays_by given act unit)
+      paid_by = list_any-append (pays system act unit) (map (entry_of w.manager.loaded) (stop_calls owed)) (map (entry_of (definitions_of system)) given)
+
       by_stop : pays_stop act unit ≡ true → Pays
-      by_stop is = paid_by act unit ∙ or_left (pays_stop act unit) (reloads || restarts || starts) is
+      by_stop is = paid_by ∙ or_left (pays_stop act unit) (pays_by given act unit) is
 
-      by_reload : reloads ≡ true → Pays
-      by_reload is = paid_by act unit ∙ or_right (pays_stop act unit) (reloads || restarts || starts) (or_left (reloads || restarts) starts (or_left reloads restarts is))
+      joined : (calls more : List Duty) → pays_by (calls ++ more) act unit ≡ (pays_by calls act unit || pays_by more act unit)
+      joined calls more =
+          let to = entry_of (definitions_of system) in
+          ap (list_any (pays system act unit)) (map-append to calls more) ∙ list_any-append (pays system act unit) (map to calls) (map to more)
 
-      by_restart : restarts ≡ true → Pays
-      by_restart is = paid_by act unit ∙ or_right (pays_stop act unit) (reloads || restarts || starts) (or_left (reloads || restarts) starts (or_right reloads restarts is))
-
-      by_start : starts ≡ true → Pays
-      by_start is = paid_by act unit ∙ or_right (pays_stop act unit) (reloads || restarts || starts) (or_right (reloads || restarts) starts is)
+      by_list : (which : Which) → pays_by (listed which) act unit ≡ true → Pays
+      by_list which is =
+          let first = flat_map listed (given_before which) in let last = flat_map listed (given_after which) in
+          paid_by ∙ or_right (pays_stop act unit) (pays_by given act unit)
+          (ap (λ calls. pays_by calls act unit) (turn_split listed which (listed which) [] (sym (append-nil (listed which)))) ∙ joined (first ++ listed which) last
+          ∙ or_left (pays_by (first ++ listed which) act unit) (pays_by last act unit) (joined first (listed which) ∙ or_right (pays_by first act unit) (pays_by (listed which) act unit) is))
 
     paid_in : (act : Act) (unit : Name) → IsOwedAct systems states is.0 act unit → IsPaid system act unit (entries_of system owed order w)
     paid_in Stop unit holds =
-        by_stop Stop unit (stops_pay system w.manager.loaded unit (sockets_first unit_kind owed.stops) ∙ has-sockets_first unit_kind owed.stops unit ∙ (is.1.is_owed.stops.exact unit).1 holds)
+        by_stop Stop unit (stops_pay system w.manager.loaded unit (sockets_first unit_kind owed.stops) ∙ has-sockets_first unit_kind owed.stops unit ∙ ((is.1.is_owed Stop).exact unit).1 holds)
     paid_in Reload unit holds =
-        by_reload Reload unit (others_pay system Reload (reload_act states owed.stops) unit refl (reload_no_stop states owed.stops) owed.reloads ((is.1.is_owed.reloads.exact unit).1 holds))
-    paid_in Restart unit holds = by_restart Restart unit (others_pay system Restart (λ n. Restart) unit refl (λ n. refl) owed.restarts ((is.1.is_owed.restarts.exact unit).1 holds))
-    paid_in Start unit holds = by_start Start unit (others_pay system Start (λ n. Start) unit refl (λ n. refl) order (arranges unit ∙ (is.1.is_owed.starts.exact unit).1 holds))
+        by_list Reload unit Reloads (others_pay system Reload (reload_act states owed.stops) unit refl (reload_no_stop states owed.stops) owed.reloads (((is.1.is_owed Reload).exact unit).1 holds))
+    paid_in Restart unit holds = by_list Restart unit Restarts (others_pay system Restart (λ n. Restart) unit refl (λ n. refl) owed.restarts (((is.1.is_owed Restart).exact unit).1 holds))
+    paid_in Start unit holds = by_list Start unit Starts (others_pay system Start (λ n. Start) unit refl (λ n. refl) order (arranges unit ∙ ((is.1.is_owed Start).exact unit).1 holds))
 
-    pub entered_paid : (act : Act) (unit : Name) → Owes start_up w system act unit → IsPaid system act unit (entries_of system owed order w)
+    pub entered_paid : (act : Act) (unit : Name) → Owes start_up system w act unit → IsPaid system act unit (entries_of system owed order w)
     entered_paid act unit holds =
         paid_in act unit (subst (λ (l : Lists). IsOwedAct systems states l act unit) (same_waiting start_up w.leaves system holds.0 is.0 holds.1 is.1.listed) holds.2)

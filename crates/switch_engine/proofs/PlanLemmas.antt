@@ -1,16 +1,11 @@
 -- Why the parts of a command are refused, by what is read of a world.
 use Rattle.std.proofs.Common.{◌≡◌, ◌↔◌, ℕ, IsTrue, Bool, true, false, cond, Option, None, Some, is_none, option_map, refl, sym, ap, subst, ◌∙◌}
-use Rattle.std.proofs.lemmas.Bool.{both_ways}
 use Rattle.std.specs.Option.{option_or}
-use Rattle.activation_stage.specs.ActivationPart.{IsActivationPlanOf, activation_in}
-use Rattle.activation_stage.specs.declared.activation_plan.ActivationPlan.{ActivationPlan}
-use Rattle.boot_entries.specs.BootDefault.{IsDefaultPlanOf, boot_default_in}
-use Rattle.boot_entries.specs.declared.boot_default.BootDefaultPlan.{BootDefaultPlan}
+use Rattle.activation_stage.specs.ActivationPart.{activation_in}
+use Rattle.boot_entries.specs.BootDefault.{boot_default_in}
+use Rattle.boot_entries.specs.Entries.{version_path}
 use Rattle.generations.specs.declared.moving.Move.{Move}
-use Rattle.host_trait.specs.Change.{IsSame}
-use Rattle.host_trait.specs.Host.{HostState, Passes, Told}
 use Rattle.host_trait.specs.World.{Leaves, WorldState, content_of}
-use Rattle.host_trait.proofs.Moments.{told_after}
 use Rattle.leaf_limits.specs.declared.too_long.TooLong.{TooLong}
 use Rattle.leaf_limits.specs.Limits.{first_long, is_long}
 use Rattle.owed_log.specs.Lengths.{AreOwedShort}
@@ -18,11 +13,9 @@ use Rattle.switch_engine.specs.declared.command.Command.{Command}
 use Rattle.switch_engine.specs.Commands.{if_so, lacks_system, missing, new_system, row, switched_by, switched_to}
 use Rattle.switch_engine.specs.declared.row.Row.{Row}
 use Rattle.switch_engine.specs.Owing.{IsLongBy, IsSteadyTo, Refuses, RefusesBy}
-use Rattle.switch_engine.specs.Plan.{AreGensBy, AreUnitsPlanned, IsActivationPlanned, IsProfilePlanned}
 use Rattle.switch_engine.specs.Lengths.{too_long_by}
 use Rattle.switch_engine.specs.Rows.{gens_to, goal_by, part_if, parts_in, parts_refusal, refusal_before_length, refusal_with, refusal_in_parts, switch_in, system_refusal, too_many_by, version_refusal}
 use Rattle.switch_engine.specs.Resolved.{IsGoalPast, Lacks}
-use Rattle.switch_engine.specs.System.{version_path}
 use Rattle.switch_engine.proofs.MovedPart.{default_in}
 use Rattle.switch_engine.proofs.RefusesLemmas.{some_log_to}
 use Rattle.switch_engine.proofs.ShortLemmas.{little_before_length}
@@ -34,57 +27,34 @@ use Rattle.switch_parts.specs.declared.refusal.Refusal.TheVariants.{InTheWay, No
 use Rattle.tree_put.specs.First.{first_in_the_way}
 use Rattle.unit_stage.specs.declared.unit_plan.UnitPlan.{UnitPlan}
 use Rattle.unit_stage.specs.Owes.{IsSteadyWorld}
-use Rattle.unit_stage.specs.Plan.{IsUnitPlanOf, no_units}
+use Rattle.unit_stage.specs.Plan.{no_units}
 use Rattle.unit_stage.specs.System.{unit_refusal}
-use Rattle.unit_stage.specs.Units.{units_part}
 
 module _ (start_up switches : Bool) (moves : Option Move) (system : Name) (leaves : Leaves) where
   abbrev way : Option Name
   way = first_in_the_way ((parts_in start_up switches moves system leaves).places leaves) leaves
 
-  abbrev units_reason : Option Refusal
-  units_reason = (part_if switches (units_part start_up system)).refusal leaves
-
-  abbrev activation_reason : Option Refusal
-  activation_reason = (part_if switches (activation_in system leaves)).refusal leaves
+  abbrev switch_reason : Option Refusal
+  switch_reason = (part_if switches (switch_in start_up system leaves)).refusal leaves
 
   abbrev profile_reason : Option Refusal
   profile_reason = (default_in moves system leaves).refusal leaves
 
-  -- the reasons in their order
-  reasons : refusal_before_length start_up switches moves system leaves ≡ option_or (option_map InTheWay way) (option_or (option_or units_reason activation_reason) profile_reason)
-  reasons = by switches
-    where
-      by : (b : Bool) →
-          option_or (option_map InTheWay way) (option_or ((part_if b (switch_in start_up system leaves)).refusal leaves) profile_reason)
-          ≡ option_or (option_map InTheWay way) (option_or (option_or ((part_if b (units_part start_up system)).refusal leaves) ((part_if b (activation_in system leaves)).refusal leaves)) profile_reason)
-      by true = refl
-      by false = refl
-
   -- something is in the way
   pub way_refused : (why : Refusal) → option_map InTheWay way ≡ Some why → refusal_before_length start_up switches moves system leaves ≡ Some why
-  way_refused why is = reasons ∙ ap (λ o. option_or o (option_or (option_or units_reason activation_reason) profile_reason)) is
+  way_refused why is = ap (λ o. option_or o (option_or switch_reason profile_reason)) is
 
   module _ (free : way ≡ None) where
-    free_reasons : refusal_before_length start_up switches moves system leaves ≡ option_or (option_or units_reason activation_reason) profile_reason
-    free_reasons = reasons ∙ ap (λ o. option_or (option_map InTheWay o) (option_or (option_or units_reason activation_reason) profile_reason)) free
+    free_reasons : refusal_before_length start_up switches moves system leaves ≡ option_or switch_reason profile_reason
+    free_reasons = ap (λ o. option_or (option_map InTheWay o) (option_or switch_reason profile_reason)) free
 
-    -- nothing is, and so the units are refused
-    pub units_refused : (why : Refusal) → units_reason ≡ Some why → refusal_before_length start_up switches moves system leaves ≡ Some why
-    units_refused why is = free_reasons ∙ ap (λ o. option_or (option_or o activation_reason) profile_reason) is
+    -- nothing is, and so the switch of the units is refused
+    pub switch_refused : (why : Refusal) → switch_reason ≡ Some why → refusal_before_length start_up switches moves system leaves ≡ Some why
+    switch_refused why is = free_reasons ∙ ap (λ o. option_or o profile_reason) is
 
-    module _ (none : units_reason ≡ None) where
-      -- or they aren't, and so the activation is
-      pub activation_refused : (why : Refusal) → activation_reason ≡ Some why → refusal_before_length start_up switches moves system leaves ≡ Some why
-      activation_refused why is = free_reasons ∙ ap (λ o. option_or (option_or o activation_reason) profile_reason) none ∙ ap (λ o. option_or o profile_reason) is
-
-      -- or it isn't, and so the parts are refused for what the profile is refused for
-      pub profile_refused : (why : Option Refusal) → activation_reason ≡ None → profile_reason ≡ why → refusal_before_length start_up switches moves system leaves ≡ why
-      profile_refused why other is = free_reasons ∙ ap (λ o. option_or (option_or o activation_reason) profile_reason) none ∙ ap (λ o. option_or o profile_reason) other ∙ is
-
--- what is told before a call that changes nothing is told after it
-pub told_still : {a b : HostState} {P : WorldState → Type 0} → Passes a b IsSame → Told a P → Told b P
-told_still {P = P} same told = told_after same same.tells P (λ w v is there. subst P (sym there) (told.has w is))
+    -- or it isn't, and so the parts are refused for what the profile is refused for
+    pub profile_refused : (why : Option Refusal) → switch_reason ≡ None → profile_reason ≡ why → refusal_before_length start_up switches moves system leaves ≡ why
+    profile_refused why none is = free_reasons ∙ ap (λ o. option_or o profile_reason) none ∙ is
 
 -- without a move of the profile
 pub unmoved_free : (system : Name) (moves : Option Move) (leaves : Leaves) → moves ≡ None → (default_in moves system leaves).refusal leaves ≡ None
@@ -104,17 +74,6 @@ pub goal_refused : (moves : Option Move) (move : Move) (system : Name) (leaves :
     (default_in moves system leaves).refusal leaves ≡ why
 goal_refused moves move system leaves why on free refused =
     ap (λ mv. (default_in mv system leaves).refusal leaves) on ∙ ap (λ o. option_or o ((goal_by move).refusal leaves)) free ∙ refused
-
-pub default_on : (moves : Option Move) (move : Move) (system : Name) (w : WorldState) (plan : BootDefaultPlan) → moves ≡ Some move → IsDefaultPlanOf move system w.leaves plan → IsProfilePlanned moves system w (Some plan)
-default_on moves move system w plan on planned = (
-  on ∙ ap Some (sym planned.to),
-  subst (λ mv. IsDefaultPlanOf mv system w.leaves plan) (sym planned.to) planned,
-)
-
--- without generations the profile isn't moved
-pub no_gens : (moves : Option Move) (leaves : Leaves) → AreGensBy moves leaves None → moves ≡ None
-no_gens None leaves none = refl
-no_gens (Some move) leaves none = absurd (both_ways _ none refl)
 
 -- a command that has what goal it wants is refused for what its system is refused for
 has_its_system : (log : Option TooLong) (command : Command) (leaves : Leaves) → lacks_system command leaves ≡ false → refusal_with log command leaves ≡ system_refusal log command leaves
@@ -186,27 +145,20 @@ module _ (its : Row) (w : WorldState) where
 
 -- ---- what is planned
 
--- a switch of the units is refused for what their part is refused for
-pub refused_switch : (start_up switches : Bool) (named system : Name) (leaves : Leaves) (why : Option Refusal) → switches ≡ true → named ≡ system → unit_refusal leaves named ≡ why → (part_if switches (units_part start_up system)).refusal leaves ≡ why
-refused_switch start_up switches named system leaves why on is refused = ap (λ b. (part_if b (units_part start_up system)).refusal leaves) on ∙ ap (unit_refusal leaves) (sym is) ∙ refused
+-- a switch is refused for what the units are refused for
+pub units_refused : (start_up switches : Bool) (system : Name) (leaves : Leaves) (why : Refusal) → switches ≡ true → unit_refusal leaves system ≡ Some why → (part_if switches (switch_in start_up system leaves)).refusal leaves ≡ Some why
+units_refused start_up switches system leaves why on refused =
+    ap (λ b. (part_if b (switch_in start_up system leaves)).refusal leaves) on ∙ ap (λ o. option_or o ((activation_in system leaves).refusal leaves)) refused
 
--- and for what the activation is refused for
-pub refused_activation : (switches : Bool) (named system : Name) (leaves : Leaves) (why : Option Refusal) → switches ≡ true → named ≡ system → (activation_in named leaves).refusal leaves ≡ why → (part_if switches (activation_in system leaves)).refusal leaves ≡ why
-refused_activation switches named system leaves why on is refused =
-    ap (λ b. (part_if b (activation_in system leaves)).refusal leaves) on ∙ ap (λ s. (activation_in s leaves).refusal leaves) (sym is) ∙ refused
+-- or they aren't, and so for what the activation is refused for
+pub activation_refused : (start_up switches : Bool) (system : Name) (leaves : Leaves) (why : Option Refusal) → switches ≡ true → unit_refusal leaves system ≡ None → (activation_in system leaves).refusal leaves ≡ why →
+    (part_if switches (switch_in start_up system leaves)).refusal leaves ≡ why
+activation_refused start_up switches system leaves why on none refused =
+    ap (λ b. (part_if b (switch_in start_up system leaves)).refusal leaves) on ∙ ap (λ o. option_or o ((activation_in system leaves).refusal leaves)) none ∙ refused
 
 -- what a plan says of its world's steadiness is said for its command
-pub steady_off : (start_up switches : Bool) (system : Name) (w : WorldState) (units : UnitPlan) → switches ≡ false → units ≡ no_units → IsTrue units.steady ↔ IsSteadyTo start_up (if_so switches system) w
-steady_off start_up switches system w units off none =
-    (λ is. subst (λ b. IsSteadyTo start_up (if_so b system) w) (sym off) tt, λ steady. ap (λ (units : UnitPlan). units.steady) none)
+pub steady_off : (start_up switches : Bool) (system : Name) (w : WorldState) → switches ≡ false → IsTrue no_units.steady ↔ IsSteadyTo start_up (if_so switches system) w
+steady_off start_up switches system w off = (λ is. subst (λ b. IsSteadyTo start_up (if_so b system) w) (sym off) tt, λ steady. refl)
 
-pub steady_on : (start_up switches : Bool) (named system : Name) (w : WorldState) (units : UnitPlan) → switches ≡ true → named ≡ system → IsTrue units.steady ↔ IsSteadyWorld start_up w named → IsTrue units.steady ↔ IsSteadyTo start_up (if_so switches system) w
-steady_on start_up switches named system w units on is told =
-    subst (λ b. IsTrue units.steady ↔ IsSteadyTo start_up (if_so b system) w) (sym on) (subst (λ s. IsTrue units.steady ↔ IsSteadyWorld start_up w s) is told)
-
--- what is planned for a system is planned for its command
-pub planned_on : (start_up switches : Bool) (named system : Name) (w : WorldState) (units : UnitPlan) → switches ≡ true → named ≡ system → IsUnitPlanOf start_up named w units → AreUnitsPlanned start_up switches system w units
-planned_on start_up switches named system w units on is planned = subst (λ b. AreUnitsPlanned start_up b system w units) (sym on) (subst (λ s. IsUnitPlanOf start_up s w units) is planned)
-
-pub activation_on : (switches : Bool) (named system : Name) (w : WorldState) (plan : ActivationPlan) → switches ≡ true → named ≡ system → IsActivationPlanOf named w.leaves plan → IsActivationPlanned switches system w (Some plan)
-activation_on switches named system w plan on is planned = (on, subst (λ s. IsActivationPlanOf s w.leaves plan) is planned)
+pub steady_on : (start_up switches : Bool) (system : Name) (w : WorldState) (units : UnitPlan) → switches ≡ true → IsTrue units.steady ↔ IsSteadyWorld start_up system w → IsTrue units.steady ↔ IsSteadyTo start_up (if_so switches system) w
+steady_on start_up switches system w units on told = subst (λ b. IsTrue units.steady ↔ IsSteadyTo start_up (if_so b system) w) (sym on) told

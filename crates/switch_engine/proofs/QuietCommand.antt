@@ -10,15 +10,16 @@ use Rattle.generations.specs.GoalPart.{owns_goal}
 use Rattle.host_trait.specs.World.{WorldState, seen}
 use Rattle.owed_plan.specs.declared.owed.Owed.{Owed}
 use Rattle.switch_engine.specs.declared.command.Command.{Command}
-use Rattle.switch_engine.specs.Carried.{IsSwitchMomentIf, IsSwitchedIf, cleared_by}
+use Rattle.switch_engine.specs.Carried.{cleared_by}
 use Rattle.switch_engine.specs.Commands.{if_so, new_system, row}
-use Rattle.switch_engine.specs.Moments.{IsSwitched, record_world, set_world}
+use Rattle.switch_engine.specs.Moments.{IsSwitched, record_world, default_world}
 use Rattle.switch_engine.specs.Quiet.{IsQuietCommand, IsQuietSwitch, command_first, first_by, is_not_quiet, is_quiet}
 use Rattle.switch_engine.specs.Rows.{default_if, final, switched_leaf}
 use Rattle.switch_engine.proofs.CarryLemmas.{IsCarriedFrom, activation_same, alone_set, clear_last, clear_only, ends}
 use Rattle.switch_engine.proofs.MovedQuiet.{default_not_quiet, goal_not_quiet}
 use Rattle.switch_engine.proofs.QuietLemmas.{not_owned, quiet_between, quiet_none, quiet_not_stage}
 use Rattle.switch_engine.proofs.QuietWay.{first_kept}
+use Rattle.switch_engine.proofs.SwitchedIf.{IsSwitchMomentIf, IsSwitchedIf}
 use Rattle.switch_names.specs.Names.{Name}
 use Rattle.tree_put.specs.Written.{WritesOnly}
 use Rattle.tree_put.proofs.WrittenLemmas.{writes_none, writes_then}
@@ -38,7 +39,7 @@ module _ (command : Command) (owed : Owed) (order : List Name) (w : WorldState) 
   abbrev system : Name
   system = new_system command w.leaves
 
-  module _ (r : WorldState) (is_r : seen r ≡ record_world moves w) (u : WorldState) (is_u : seen u ≡ set_world moves system r) where
+  module _ (r : WorldState) (is_r : seen r ≡ record_world moves w) (u : WorldState) (is_u : seen u ≡ default_world moves system r) where
     -- what was done before has changed no quiet place
     kept_before : (q : Name) → is_quiet q ≡ true → get u.leaves q ≡ get w.leaves q
     kept_before q quiet = (alone_set command owed order w carried r is_r u is_u).only.leaves q (moved_not_own moves system _ q quiet) (quiet_not_stage q quiet)

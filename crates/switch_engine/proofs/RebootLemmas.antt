@@ -96,7 +96,7 @@ module _ (system : Name) (named : IsSystemPath system) (first w u : WorldState) 
   read : (activation_in system w.leaves).reads q ≡ true
   read = read_of system named w.leaves q own
 
-  underway_end : IsUnderway first (Switch system) w → get u.leaves q ≡ (activation_in system w.leaves).end w.leaves q
+  underway_end : IsUnderway (Switch system) first w → get u.leaves q ≡ (activation_in system w.leaves).end w.leaves q
   underway_end is = ((is.same_end u).1 final).leaves q (not_stage system named w.leaves q read) ∙ end_there false system (Some Set) w.leaves q own read
 
 done_there : (system : Name) (named : IsSystemPath system) (first w : WorldState) → IsFinalOf (Switch system) first w → IsDone (activation_in system first.leaves) first w
@@ -267,7 +267,7 @@ module _ (system : Name) (named : IsSystemPath system) (q : Name) (own : (owns_a
       all_started cuts cut.1 v (boots_again r cut.0 cut.1 led.0 ∙ boots) led.1 ∙ cut_start_up r cut.0 cut.1 boots led.0
 
   -- what a switch leaves there is what an activation leaves from each of its moments, and from its end
-  switched_left : (first w u : WorldState) → IsSound first.leaves → refusal (Switch system) first.leaves ≡ None → IsUnderway first (Switch system) w ⊎ IsOver first (Switch system) w → IsFinalOf (Switch system) first u → get u.leaves q ≡ left_from w
+  switched_left : (first w u : WorldState) → IsSound first.leaves → refusal (Switch system) first.leaves ≡ None → IsUnderway (Switch system) first w ⊎ IsOver (Switch system) first w → IsFinalOf (Switch system) first u → get u.leaves q ≡ left_from w
   switched_left first w u sound free (inl is) final = underway_end system named first w u final q own is
   switched_left first w u sound free (inr is) final =
       let ne = not_stage system named w.leaves q (read_of system named w.leaves q own) in

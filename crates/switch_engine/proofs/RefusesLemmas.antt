@@ -1,5 +1,6 @@
 -- Why a world refuses a command: how long its log is hangs on what it owes, and a steady world's isn't too long.
 use Rattle.std.proofs.Common.{◌≡◌, Bool, Option, None, Some, is_none, refl, sym, ap, subst, ◌∙◌}
+use Rattle.boot_entries.specs.Entries.{version_path}
 use Rattle.host_trait.specs.World.{Leaves, WorldState, content_of}
 use Rattle.leaf_limits.specs.declared.too_long.TooLong.{TooLong}
 use Rattle.leaf_limits.specs.Limits.{first_long}
@@ -7,7 +8,6 @@ use Rattle.switch_engine.specs.declared.command.Command.{Command}
 use Rattle.switch_engine.specs.Commands.{lacks_system, missing, row, switched_to}
 use Rattle.switch_engine.specs.Owing.{IsLongLogTo, IsSteadyFor, IsSteadyTo, Refuses}
 use Rattle.switch_engine.specs.Rows.{parts_in, parts_refusal, refusal, refusal_before_length, refusal_in_parts, refusal_with, system_refusal, too_much_by}
-use Rattle.switch_engine.specs.System.{version_path}
 use Rattle.switch_engine.proofs.LongLemmas.{none_refused, unless}
 use Rattle.switch_names.specs.Names.{Name}
 use Rattle.switch_names.proofs.Outcomes.{option_or_parts}

@@ -11,6 +11,7 @@ use Rattle.activation_stage.specs.ActivationPart.{activation_in}
 use Rattle.activation_stage.specs.Owners.{owners_after}
 use Rattle.boot_entries.specs.BootDefault.{boot_default_in}
 use Rattle.boot_entries.specs.Sources.{menu_too_long, taken_of}
+use Rattle.boot_entries.specs.Entries.{version_path}
 use Rattle.etc_farm.specs.EtcPart.{etc_part, takes_etc}
 use Rattle.etc_farm.proofs.LongLemmas.{none_too_long}
 use Rattle.generations.specs.declared.moving.Move.{Move}
@@ -27,7 +28,6 @@ use Rattle.owed_log.specs.Places.{is_owed_place}
 use Rattle.switch_engine.specs.Commands.{is_back}
 use Rattle.switch_engine.specs.Lengths.{takes_by, takes_goal, takes_menu, takes_moved, takes_switch, too_long_by}
 use Rattle.switch_engine.specs.Rows.{default_if, gens_to, goal_by, parts_in, refusal_before_length, switch_in, too_many_by, too_much_by}
-use Rattle.switch_engine.specs.System.{version_path}
 use Rattle.switch_engine.proofs.FewLemmas.{first_none, parts_few}
 use Rattle.switch_names.specs.Names.{Name, has, is_name}
 use Rattle.switch_names.specs.SystemName.{IsSystemPath}

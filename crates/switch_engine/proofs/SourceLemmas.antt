@@ -1,6 +1,7 @@
 -- The paths of what a command takes, and the length of the file of its system.
 use Rattle.std.proofs.Common.{◌≡◌, ◌++◌, ◌∷◌, ◌||◌, ℕ, Bool, true, false, List, [], length, Option, None, Some, is_none, option_map, unwrap_or, refl, sym, subst}
 use Rattle.accounts_stage.specs.Lengths.{takes_accounts}
+use Rattle.boot_entries.specs.Entries.{version_path}
 use Rattle.etc_farm.specs.EtcPart.{takes_etc}
 use Rattle.generations.specs.declared.gens.Gens.{Gens}
 use Rattle.generations.specs.declared.moving.Move.{Move}
@@ -9,7 +10,6 @@ use Rattle.leaf_limits.specs.Limits.{AreTaken}
 use Rattle.leaf_limits.proofs.LongLemmas.{taken_both}
 use Rattle.owed_log.specs.Places.{is_owed_place, log_place, old_places}
 use Rattle.switch_engine.specs.Lengths.{takes_by, takes_moved, takes_switch}
-use Rattle.switch_engine.specs.System.{version_path}
 use Rattle.switch_names.specs.Names.{Name, is_name}
 use Rattle.unit_stage.specs.System.{takes_switched}
 

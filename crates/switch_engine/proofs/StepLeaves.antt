@@ -29,12 +29,11 @@ use Rattle.host_trait.specs.World.{Leaves, WorldState, is_path, seen, stage}
 use Rattle.host_trait.proofs.Seen.{seen_at}
 use Rattle.owed_plan.specs.declared.owed.Owed.{Owed}
 use Rattle.owed_plan.specs.FinalStates.{final_state}
-use Rattle.switch_engine.specs.Carried.{IsSwitchMomentIf, IsSwitchedIf}
 use Rattle.switch_engine.specs.declared.command.Command.{Command}
 use Rattle.switch_engine.specs.declared.command.Command.TheVariants.{Switch, Test, Boot, DryActivate, Rollback, StartUp}
 use Rattle.switch_engine.specs.Commands.{if_moved, if_so, is_back, row}
 use Rattle.switch_engine.specs.Final.{AreEntries, AreFinalUnits}
-use Rattle.switch_engine.specs.Moments.{IsRecordStep, IsSetStep, IsSwitchEnd, IsSwitchStep, NamesOneOf, record_world, set_world}
+use Rattle.switch_engine.specs.Moments.{IsRecordStep, IsDefaultStep, IsSwitchEnd, IsSwitchStep, NamesOneOf, record_world, default_world}
 use Rattle.switch_engine.specs.Rows.{default_if, default_part, goal_by, part_if, switch_in, switch_part}
 use Rattle.boot_entries.proofs.DefaultLemmas.{default_end_law, default_moment_law, default_names_law, default_part_law, default_stays_law}
 use Rattle.boot_entries.proofs.GensLemmas.{gens_after_law}
@@ -45,9 +44,10 @@ use Rattle.switch_engine.proofs.PartsLemmas.{are_parted, goal_parted, switch_if_
 use Rattle.switch_engine.proofs.GoalApart.{goal_not_stage, goal_owned, goal_unread_default}
 use Rattle.switch_engine.proofs.GoalKeptLemmas.{IsGoalKept, IsMoveToBy, kept_first, kept_recorded, recorded_at}
 use Rattle.switch_engine.proofs.SwitchLemmas.{switch_part_moment}
+use Rattle.switch_engine.proofs.SwitchedIf.{IsSwitchMomentIf, IsSwitchedIf}
 use Rattle.switch_names.specs.Names.{Name}
 use Rattle.switch_names.specs.SystemName.{IsSystemPath}
-use Rattle.switch_parts.specs.Part.{IsAtEnd, IsFree, IsMomentOf as IsPartMoment, IsOnly, final_leaf}
+use Rattle.switch_parts.specs.Part.{IsAtEnd, IsFree, IsPartMoment, IsOnly, final_leaf}
 use Rattle.switch_parts.specs.Store.{is_in_store}
 use Rattle.switch_parts.proofs.Parts.{false_by, first_free, first_moment, second_moment}
 use Rattle.unit_stage.specs.End.{IsBrought, entries_of}
@@ -146,39 +146,39 @@ record_kept (Some (Point n)) w m step = ⊎_elim
 -- ---- a system is made the boot default, or the profile isn't moved
 
 module _ (system : Name) (named : IsSystemPath system) (w : WorldState) where
-  pub set_part_moment : (moves : Option Move) → IsFree (default_in moves system w.leaves) w.leaves → (m : WorldState) → IsSetStep moves system w m → IsPartMoment (default_in moves system w.leaves) w m
+  pub set_part_moment : (moves : Option Move) → IsFree (default_in moves system w.leaves) w.leaves → (m : WorldState) → IsDefaultStep moves system w m → IsPartMoment (default_in moves system w.leaves) w m
   set_part_moment (Some move) free m step =
       of_default move system (gens_moved move system w.leaves) (gens_after_law move system w.leaves named) w m
       (default_moment_law move system w m named (first_free (boot_default_in move system w.leaves) (goal_by move) w.leaves free) step)
   set_part_moment None free m step = record { keeps = tt; only = record { leaves = λ q none ne. seen_at m w step q ne; manager = λ none. manager_seen m w step } }
 
   -- the goal stays as it is
-  pub set_goal : (moves : Option Move) → IsFree (default_in moves system w.leaves) w.leaves → (m : WorldState) → IsSetStep moves system w m → get m.leaves goal_place ≡ get w.leaves goal_place
+  pub set_goal : (moves : Option Move) → IsFree (default_in moves system w.leaves) w.leaves → (m : WorldState) → IsDefaultStep moves system w m → get m.leaves goal_place ≡ get w.leaves goal_place
   set_goal (Some move) free m step =
       (default_moment_law move system w m named (first_free (boot_default_in move system w.leaves) (goal_by move) w.leaves free) step).only.leaves goal_place not_of_default goal_not_stage
   set_goal None free m step = seen_at m w step goal_place goal_not_stage
 
-  pub set_step : (moves : Option Move) → IsFree (default_in moves system w.leaves) w.leaves → (u : WorldState) → seen u ≡ set_world moves system w → IsSetStep moves system w u
+  pub set_step : (moves : Option Move) → IsFree (default_in moves system w.leaves) w.leaves → (u : WorldState) → seen u ≡ default_world moves system w → IsDefaultStep moves system w u
   set_step (Some move) free u is = (default_end_law move system w u named (first_free (boot_default_in move system w.leaves) (goal_by move) w.leaves free) is).0
   set_step None free u is = is
 
   -- what the boot default owns is at its end
-  pub set_end : (moves : Option Move) → IsFree (default_in moves system w.leaves) w.leaves → (u : WorldState) → seen u ≡ set_world moves system w → IsSetEnd moves system w u
+  pub set_end : (moves : Option Move) → IsFree (default_in moves system w.leaves) w.leaves → (u : WorldState) → seen u ≡ default_world moves system w → IsSetEnd moves system w u
   set_end (Some move) free u is = (default_end_law move system w u named (first_free (boot_default_in move system w.leaves) (goal_by move) w.leaves free) is).1
   set_end None free u is = tt
 
-  set_calls : (moves : Option Move) → IsFree (default_in moves system w.leaves) w.leaves → (u : WorldState) → seen u ≡ set_world moves system w → u.manager ≡ w.manager
+  set_calls : (moves : Option Move) → IsFree (default_in moves system w.leaves) w.leaves → (u : WorldState) → seen u ≡ default_world moves system w → u.manager ≡ w.manager
   set_calls (Some move) free u is = (set_part_moment (Some move) free u (set_step (Some move) free u is)).only.manager refl
   set_calls None free u is = manager_seen u w is
 
   -- the boot menu at each of its moments
-  pub set_menu : (moves : Option Move) → IsMoveToBy moves system w.leaves → IsFree (default_in moves system w.leaves) w.leaves → (m : WorldState) → IsSetStep moves system w m → IsMenuBetween w.leaves m.leaves
+  pub set_menu : (moves : Option Move) → IsMoveToBy moves system w.leaves → IsFree (default_in moves system w.leaves) w.leaves → (m : WorldState) → IsDefaultStep moves system w m → IsMenuBetween w.leaves m.leaves
   set_menu (Some move) to free m step = menu_law move system w m named to (first_free (boot_default_in move system w.leaves) (goal_by move) w.leaves free) step
   set_menu None to free m step = menu_begins_law w.leaves m.leaves (λ q own. seen_at m w step q (menu_not_stage q own))
 
 -- ---- a switch of the units
 
-pub switch_if_moment : (start_up switches : Bool) (system : Name) → IsSystemPath system → (owed : Owed) (order : List Name) (u m : WorldState) → (switches ≡ true → IsOwedBy start_up u system owed) →
+pub switch_if_moment : (start_up switches : Bool) (system : Name) → IsSystemPath system → (owed : Owed) (order : List Name) (u m : WorldState) → (switches ≡ true → IsOwedBy start_up system u owed) →
     (switches ≡ true → IsOrderedAt u.leaves system owed order) → IsFree (part_if switches (switch_in start_up system u.leaves)) u.leaves → IsSwitchMomentIf switches system owed order u m → IsPartMoment (part_if switches (switch_in start_up system u.leaves)) u m
 switch_if_moment start_up true system named owed order u m is_owed is_ordered free moment =
     switch_part_moment start_up system named owed u (is_owed refl) order (arranges u.leaves system owed order (is_ordered refl)) free m moment
@@ -187,12 +187,12 @@ switch_if_moment start_up false system named owed order u m is_owed is_ordered f
   only = record { leaves = λ q none ne. ap (λ (x : WorldState). get x.leaves q) same; manager = λ none. ap (λ (x : WorldState). x.manager) same };
 }
 
-pub switch_step : (start_up switches : Bool) (system : Name) (owed : Owed) (order : List Name) (u m : WorldState) → (switches ≡ true → IsOwedBy start_up u system owed) → (switches ≡ true → IsOrderedAt u.leaves system owed order) →
+pub switch_step : (start_up switches : Bool) (system : Name) (owed : Owed) (order : List Name) (u m : WorldState) → (switches ≡ true → IsOwedBy start_up system u owed) → (switches ≡ true → IsOrderedAt u.leaves system owed order) →
     IsSwitchMomentIf switches system owed order u m → IsSwitchStep start_up (if_so switches system) u m
 switch_step start_up true system owed order u m is_owed is_ordered moment = (owed, order, is_owed refl, is_ordered refl, moment)
 switch_step start_up false system owed order u m is_owed is_ordered same = ap seen same
 
-pub switch_end : (start_up switches : Bool) (system : Name) (owed : Owed) (order : List Name) (u v : WorldState) → (switches ≡ true → IsOwedBy start_up u system owed) → (switches ≡ true → IsOrderedAt u.leaves system owed order) →
+pub switch_end : (start_up switches : Bool) (system : Name) (owed : Owed) (order : List Name) (u v : WorldState) → (switches ≡ true → IsOwedBy start_up system u owed) → (switches ≡ true → IsOrderedAt u.leaves system owed order) →
     IsSwitchedIf switches system owed order u v → IsSwitchEnd start_up (if_so switches system) u v
 switch_end start_up true system owed order u v is_owed is_ordered end = (owed, order, is_owed refl, is_ordered refl, end)
 switch_end start_up false system owed order u v is_owed is_ordered same = ap seen same
@@ -255,7 +255,7 @@ module _ (start_up switches : Bool) (system : Name) (named : IsSystemPath system
       menu_stays_law first u.leaves m.leaves before (λ q own. moment.only.leaves q (menu_not_own q own) (menu_not_stage q own))
       (λ q own. moment.only.leaves q (profile_not_own q own) (owned_other q stage own stage_not_owned))
 
-pub set_names : (moves : Option Move) (system : Name) → IsSystemPath system → (w m : WorldState) → IsMoveToBy moves system w.leaves → IsFree (default_in moves system w.leaves) w.leaves → IsSetStep moves system w m →
+pub set_names : (moves : Option Move) (system : Name) → IsSystemPath system → (w m : WorldState) → IsMoveToBy moves system w.leaves → IsFree (default_in moves system w.leaves) w.leaves → IsDefaultStep moves system w m →
     NamesOneOf (if_moved moves system) w m
 set_names (Some move) system named w m to free step = default_names_law move system w m named to (first_free (boot_default_in move system w.leaves) (goal_by move) w.leaves free) step
 set_names None system named w m to free step = seen_names w m step
@@ -330,7 +330,7 @@ pub record IsUnitsEnd (start_up : Bool) (to : Option Name) (w v : WorldState) : 
   pub are_entered : AreEntries start_up to w entries
   pub journal : v.manager.journal ≡ w.manager.journal ++ entries
 
-pub units_end : (start_up switches : Bool) (system : Name) (owed : Owed) (order : List Name) (w u v : WorldState) → (switches ≡ true → IsOwedBy start_up w system owed) → (switches ≡ true → IsOrderedAt w.leaves system owed order) →
+pub units_end : (start_up switches : Bool) (system : Name) (owed : Owed) (order : List Name) (w u v : WorldState) → (switches ≡ true → IsOwedBy start_up system w owed) → (switches ≡ true → IsOrderedAt w.leaves system owed order) →
     u.manager ≡ w.manager → IsSwitchedIf switches system owed order u v → IsUnitsEnd start_up (if_so switches system) w v
 units_end start_up true system owed order w u v is_owed is_ordered same is =
     let brought = brought_from system owed order w u v same is.units in

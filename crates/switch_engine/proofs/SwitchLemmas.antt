@@ -1,8 +1,9 @@
 -- All steps of a switch of the units, one after the other: each is a moment of its parts, and the last leaves them at their ends.
-use Rattle.std.proofs.Common.{◌≡◌, Bool, true, false, cond, ◌||◌, List, [], length, ◌++◌, None, Some, refl, sym, ap, subst, ◌∙◌, inl, inr}
+use Rattle.std.proofs.Common.{◌≡◌, Bool, true, false, cond, ◌||◌, List, length, None, Some, refl, sym, ap, subst, ◌∙◌, inl, inr}
 use Rattle.std.proofs.lemmas.Bool.{both_ways, cases_Bool, or_from}
 use Rattle.std.specs.Cmp.Lexicographic.{same_text}
 use Rattle.std.specs.FinMap.{get}
+use Rattle.std.specs.List.{flat_map}
 use Rattle.activation_stage.specs.ActivationPart.{CanActivate, IsActivating, IsActivationPlanOf, activation_in, activation_part}
 use Rattle.activation_stage.specs.declared.activation_plan.ActivationPlan.{ActivationPlan}
 use Rattle.activation_stage.specs.Owners.{owners_after}
@@ -10,22 +11,20 @@ use Rattle.etc_manifest.specs.Owners.{OwnerIds}
 use Rattle.host_trait.specs.Change.{definitions_place}
 use Rattle.host_trait.specs.declared.leaf.LeafKind.TheVariants.{Link}
 use Rattle.host_trait.specs.declared.manager_state.ManagerState.{ManagerState}
-use Rattle.host_trait.specs.declared.entry.Act.TheVariants.{Restart}
 use Rattle.host_trait.specs.declared.unit_state.State.{State}
 use Rattle.host_trait.specs.Manager.{loading}
 use Rattle.host_trait.specs.States.{state_of}
 use Rattle.host_trait.specs.World.{WorldState, is_path, seen}
 use Rattle.host_trait.proofs.Seen.{seen_at}
-use Rattle.log_text.specs.declared.lists.Which.TheVariants.{Restarts, Reloads}
+use Rattle.log_text.specs.declared.lists.Which.{Which}
+use Rattle.log_text.specs.declared.lists.Which.TheVariants.{Starts, Restarts, Reloads}
 use Rattle.owed_lists.specs.Lists.{reloads_place, restarts_place, starts_place}
-use Rattle.log_text.specs.declared.lists.Lists.{Lists}
-use Rattle.log_text.specs.Lists.{with_list}
 use Rattle.owed_log.specs.declared.log_write.LogWrite.{LogWrite}
 use Rattle.owed_log.specs.Laws.{AreAlone}
 use Rattle.owed_log.specs.Places.{log_place}
 use Rattle.owed_log.specs.Writing.{IsWriteFor, recorded}
 use Rattle.owed_log.proofs.BesideLemmas.{recorded_manager}
-use Rattle.owed_plan.specs.Calls.{reload_act, reload_calls, restart_calls, start_calls, stop_calls}
+use Rattle.owed_plan.specs.Calls.{listed_calls, stop_calls}
 use Rattle.owed_plan.specs.declared.duty.Duty.{Duty}
 use Rattle.owed_plan.specs.declared.owed.Owed.{Owed}
 use Rattle.owed_plan.specs.Law.{lists_of}
@@ -41,7 +40,7 @@ use Rattle.switch_engine.proofs.QuietWay.{activation_end, first_kept}
 use Rattle.switch_engine.proofs.QuietLemmas.{not_owned, quiet_between, quiet_not_stage, quiet_whole, units_not_quiet, units_written}
 use Rattle.switch_names.specs.Names.{Name}
 use Rattle.switch_names.specs.SystemName.{IsSystemPath}
-use Rattle.switch_parts.specs.Part.{IsAtEnd, IsFree, IsMomentOf, IsOnly, IsPart, Part}
+use Rattle.switch_parts.specs.Part.{IsAtEnd, IsFree, IsPartMoment, IsOnly, IsPart, Part}
 use Rattle.tree_put.specs.Written.{WritesOnly}
 use Rattle.switch_parts.proofs.Parts.{first_free, first_moment, is_final, moment_then, only_beside, only_first, only_then, second_free, second_moment}
 use Rattle.unit_stage.specs.Acts.{CanPerform, IsPerforming, performed, with_calls}
@@ -49,7 +48,7 @@ use Rattle.unit_stage.specs.Laws.{AreSameBeside}
 use Rattle.unit_stage.specs.Order.{ArrangesStarts}
 use Rattle.unit_stage.specs.Owned.{owns_units}
 use Rattle.unit_stage.specs.Plan.{IsOwedBy}
-use Rattle.unit_stage.specs.Steps.{AreSameUnits, CanBring, HasLogFor, IsBringMoment, IsBringStep, IsGiveMoment, IsStopMoment, IsStopStep, IsUnitMoment, with_brought, with_loaded, with_stops}
+use Rattle.unit_stage.specs.Steps.{AreSameUnits, CanBring, IsBringMoment, IsBringStep, IsStopMoment, IsStopStep, IsUnitMoment, give_order, with_brought, with_loaded, with_stops}
 use Rattle.unit_stage.specs.System.{IsSystem, current_place, definitions_of, system_leaf}
 use Rattle.unit_stage.specs.Units.{AreUnitsKept, units_part}
 use Rattle.unit_stage.proofs.CallLemmas.{same_bad, same_loaded}
@@ -57,17 +56,16 @@ use Rattle.unit_stage.proofs.ElsewhereLemmas.{bring_elsewhere, lists_elsewhere, 
 use Rattle.unit_stage.proofs.MomentLemmas.{are_named, free_law, underway_law}
 use Rattle.unit_stage.proofs.OwnedLemmas.{not_owns_store, not_reads_stage, owned_not_stage, reads_store}
 use Rattle.unit_stage.proofs.SameLemmas.{same_bringing, units_seen, units_then}
-use Rattle.unit_stage.proofs.CallingLemmas.{lists_left}
 use Rattle.unit_stage.proofs.ComeLemmas.{recorded_alone}
-use Rattle.unit_stage.proofs.GivenLemmas.{Ended, ended, given_all_manager, log_for, none_to_give}
+use Rattle.unit_stage.proofs.GivenLemmas.{Ended, ended, log_for, no_listed}
 use Rattle.unit_stage.proofs.ListsLemmas.{alone_same}
-use Rattle.unit_stage.proofs.StandLemmas.{same_lists_of, stored_not_stage}
+use Rattle.unit_stage.proofs.StandLemmas.{all_given_manager, same_lists_of, stored_not_stage}
 use Rattle.unit_stage.proofs.StepLemmas.{all_taken, manager_seen}
 use Rattle.unit_stage.proofs.SystemsLemmas.{is_system}
-use Rattle.unit_stage.proofs.TableLemmas.{all_entered, can_rest, final_states, in_one, ready, started_all}
+use Rattle.unit_stage.proofs.TableLemmas.{all_entered, can_rest, final_states, given_all, ready}
 use Rattle.unit_stage.proofs.UnitsPartLemmas.{unit_moment_law, units_part_law}
 
-module _ (start_up : Bool) (system : Name) (named : IsSystemPath system) (owed : Owed) (w : WorldState) (is_owed : IsOwedBy start_up w system owed) (order : List Name) (arranges : ArrangesStarts owed order)
+module _ (start_up : Bool) (system : Name) (named : IsSystemPath system) (owed : Owed) (w : WorldState) (is_owed : IsOwedBy start_up system w owed) (order : List Name) (arranges : ArrangesStarts owed order)
     (free : IsFree (switch_in start_up system w.leaves) w.leaves) where
   abbrev owners : OwnerIds
   owners = owners_after system w.leaves
@@ -109,7 +107,7 @@ module _ (start_up : Bool) (system : Name) (named : IsSystemPath system) (owed :
 
   -- ---- the stops
 
-  stop_units : (write : LogWrite) → IsWriteFor w.leaves (lists_of owed) write → (m : WorldState) → IsStopMoment write (stop_calls owed) w m → IsMomentOf units w m
+  stop_units : (write : LogWrite) → IsWriteFor w.leaves (lists_of owed) write → (m : WorldState) → IsStopMoment write (stop_calls owed) w m → IsPartMoment units w m
   stop_units write is_write m moment =
       let u = moment.0 in
       unit_moment_law start_up system owed order w m system_is is_owed arranges (IsUnitMoment.Stopping write is_write u moment.1 (units_seen u m moment.2)) (record {
@@ -117,7 +115,7 @@ module _ (start_up : Bool) (system : Name) (named : IsSystemPath system) (owed :
         manager = λ never. absurd (both_ways true never refl);
       })
 
-  stop_moment : (write : LogWrite) → IsWriteFor w.leaves (lists_of owed) write → (m : WorldState) → IsStopMoment write (stop_calls owed) w m → IsMomentOf whole w m
+  stop_moment : (write : LogWrite) → IsWriteFor w.leaves (lists_of owed) write → (m : WorldState) → IsStopMoment write (stop_calls owed) w m → IsPartMoment whole w m
   stop_moment write is_write m moment = first_moment units activation units_is activation_is (units_parted start_up system owners) w m (stop_units write is_write m moment)
 
   module _ (u : WorldState) (stopped : AreStopped owed w u) where
@@ -135,7 +133,7 @@ module _ (start_up : Bool) (system : Name) (named : IsSystemPath system) (owed :
       stopped.2,
     )
 
-    at_stop : IsMomentOf whole w u
+    at_stop : IsPartMoment whole w u
     at_stop = stop_moment write stopped.1 u last_stop
 
     -- ---- the activation
@@ -154,14 +152,14 @@ module _ (start_up : Bool) (system : Name) (named : IsSystemPath system) (owed :
       free = still_free;
     }
 
-    activate_moment : (m : WorldState) → IsActivating system u m → IsMomentOf whole w m
+    activate_moment : (m : WorldState) → IsActivating system u m → IsPartMoment whole w m
     activate_moment m moment =
-        let part : IsMomentOf activation u m =
-        subst (λ (o : OwnerIds). IsMomentOf (activation_part system o) u m) same_owners (activation_moment_law system u m named still_free moment) in
+        let part : IsPartMoment activation u m =
+        subst (λ (o : OwnerIds). IsPartMoment (activation_part system o) u m) same_owners (activation_moment_law system u m named still_free moment) in
         moment_then whole whole_is w u m at_stop (second_moment units activation units_is activation_is (units_parted start_up system owners) u m part)
 
     module _ (v : WorldState) (activated : HasActivated system u v) where
-      at_ready : IsMomentOf whole w v
+      at_ready : IsPartMoment whole w v
       at_ready = activate_moment v activated.moment
 
       -- the units are as they were after the stops
@@ -187,14 +185,17 @@ module _ (start_up : Bool) (system : Name) (named : IsSystemPath system) (owed :
 
       -- ---- the system comes into use
 
+      abbrev listed : Which → List Duty
+      listed = listed_calls owed order states
+
       abbrev IsBringing : WorldState → Type 0
-      IsBringing m = IsBringMoment system (reload_calls owed states) (restart_calls owed) (start_calls order) v m
+      IsBringing m = IsBringMoment system listed v m
 
       bring_only : (m : WorldState) → IsBringing m → IsOnly units v m
       bring_only m moment = record {
         leaves = λ q none ne.
             seen_at m moment.0 moment.2 q ne
-            ∙ bring_elsewhere q none (reload_calls owed states) (restart_calls owed) (start_calls order) system v moment.0 moment.1;
+            ∙ bring_elsewhere q none listed system v moment.0 moment.1;
         manager = λ never. absurd (both_ways true never refl);
       }
 
@@ -203,7 +204,7 @@ module _ (start_up : Bool) (system : Name) (named : IsSystemPath system) (owed :
 
       bring_units : (m : WorldState) → IsBringing m → AreUnitsKept start_up system w m
       bring_units m moment =
-          let there = same_bringing (reload_calls owed states) (restart_calls owed) (start_calls order) system stopped_world v moment.0 units_ready moment.1 in
+          let there = same_bringing listed system stopped_world v moment.0 units_ready moment.1 in
           let step : IsUnitMoment system owed order w m = IsUnitMoment.Bringing write stopped.1 there.0 there.1 (units_then there.0 moment.0 m there.2 (units_seen moment.0 m moment.2)) in
           let beside : AreSameBeside w m =
           λ q read none. (all_only m moment).leaves q (or_from _ _ none (not_activated q read)) (λ same. both_ways _ not_reads_stage (subst (λ x. units.reads x ≡ true) same read)) in
@@ -212,7 +213,7 @@ module _ (start_up : Bool) (system : Name) (named : IsSystemPath system) (owed :
             underway = λ before steady. underway_law start_up system owed order w m system_is is_owed arranges before steady step beside;
           }
 
-      bring_moment : (m : WorldState) → IsBringing m → IsMomentOf whole w m
+      bring_moment : (m : WorldState) → IsBringing m → IsPartMoment whole w m
       bring_moment m moment = record {
         keeps = (bring_units m moment, activation_is.keeps_then w v m at_ready.keeps.1 (kept_beside v m (bring_only m moment)));
         only = all_only m moment;
@@ -221,43 +222,32 @@ module _ (start_up : Bool) (system : Name) (named : IsSystemPath system) (owed :
       defined : get v.leaves definitions_place ≡ Some (Link (definitions_of system))
       defined = activated.end.end definitions_place definitions_owned ∙ definitions_end system (owners_after system u.leaves) u.leaves
 
-      module _ (reloads restarts starts : List Duty) (reload : reloads ≡ reload_calls owed states) (restart : restarts ≡ restart_calls owed) (start : starts ≡ start_calls order) where
-        pub can_bring : CanBring system reloads restarts starts v
+      module _ (calls : Which → List Duty) (are : (which : Which) → calls which ≡ listed which) where
+        same : calls ≡ listed
+        same = λ i which. are which i
+
+        pub can_bring : CanBring system calls v
         can_bring =
             let clear = all_clear v.leaves (first_free units activation v.leaves (whole_is.stays_free w v at_ready.keeps free)).way in
-            record {
+            subst (λ calls. CanBring system calls v) (sym same) (record {
               load = record { stage = clear.stage; current = clear.current; defined = defined };
-              reload_log = subst (λ calls. HasLogFor calls v.leaves) (sym reload) (log_for v.leaves (lists_of owed) alone_ready (reload_act states owed.stops) owed.reloads (λ none. ap (λ (l : Lists). l.reloads) none));
-              restart_log = subst (λ calls. HasLogFor calls v.leaves) (sym restart) (log_for v.leaves (lists_of owed) alone_ready (λ unit. Restart) owed.restarts (λ none. ap (λ (l : Lists). l.restarts) none));
-              calls =
-                  subst (λ (manager : ManagerState). CanPerform (reloads ++ restarts ++ starts) (loading (definitions_of system) manager)) (sym ready_manager)
-                  (subst (λ calls. CanPerform calls (ready owed (definitions_of system) w.manager)) (λ i. sym reload i ++ sym restart i ++ sym start i)
-                  (can_rest owed (definitions_of system) w.manager order));
-            }
+              log = log_for owed order states v.leaves alone_ready;
+              can_call =
+                  subst (λ (manager : ManagerState). CanPerform (flat_map listed give_order) (loading (definitions_of system) manager)) (sym ready_manager)
+                  (can_rest owed (definitions_of system) w.manager order);
+            })
 
-        pub bringing : (m : WorldState) → IsBringMoment system reloads restarts starts v m → IsSwitchMoment system owed order w m
-        bringing m moment =
-            let step : IsBringing m =
-            subst (λ calls. IsBringMoment system (reload_calls owed states) (restart_calls owed) calls v m) start
-            (subst (λ calls. IsBringMoment system (reload_calls owed states) calls starts v m) restart
-            (subst (λ calls. IsBringMoment system calls restarts starts v m) reload moment)) in
-            IsSwitchMoment.Bringing u v stopped activated step
+        pub bringing : (m : WorldState) → IsBringMoment system calls v m → IsSwitchMoment system owed order w m
+        bringing m moment = IsSwitchMoment.Bringing u v stopped activated (subst (λ calls. IsBringMoment system calls v m) same moment)
 
         -- ---- the end
 
-        module _ (d : WorldState) (brought : seen d ≡ seen (with_brought system reloads restarts starts v)) where
+        module _ (d : WorldState) (brought : seen d ≡ seen (with_brought system calls v)) where
           last_step : IsBringing d
-          last_step = (
-            with_brought system (reload_calls owed states) (restart_calls owed) (start_calls order) v,
-            IsBringStep.Giving (IsGiveMoment.Starting (inr (inr (inl refl)))),
-            brought ∙ (λ i. seen (with_brought system (reload i) (restart i) (start i) v)),
-          )
+          last_step = (with_brought system listed v, IsBringStep.Giving (inr (inr (inr refl))), brought ∙ (λ i. seen (with_brought system (same i) v)))
 
           at_end : Ended system d.leaves
-          at_end = ended system reloads restarts starts v d (lists_of owed)
-              (subst (λ calls. calls ≡ [] → with_list (lists_of owed) Reloads [] ≡ lists_of owed) (sym reload) (none_to_give (reload_act states owed.stops) owed.reloads (λ names. lists_left owed.starts owed.restarts names)))
-              (subst (λ calls. calls ≡ [] → with_list (lists_left owed.starts owed.restarts []) Restarts [] ≡ lists_left owed.starts owed.restarts []) (sym restart) (none_to_give (λ unit. Restart) owed.restarts (λ names. lists_left owed.starts names [])))
-              alone_ready can_bring brought
+          at_end = ended system calls v d (lists_of owed) (λ which other none. no_listed owed order states which other (sym (are which) ∙ none)) alone_ready can_bring brought
 
           -- an owned place is at its end
           owned_end : (q : Name) → owns_units q ≡ true → get d.leaves q ≡ cond (is_path q current_place) (Some (system_leaf system)) None
@@ -276,7 +266,7 @@ module _ (start_up : Bool) (system : Name) (named : IsSystemPath system) (owed :
               ]
 
               lists_gone : is_path q log_place || (is_path q reloads_place || (is_path q restarts_place || (is_path q starts_place || false))) ≡ true → get d.leaves q ≡ None
-              lists_gone = gone_at_place log_place _ at_end.log (gone_at_place reloads_place _ at_end.old.reloads (gone_at_place restarts_place _ at_end.old.restarts (gone_at_place starts_place _ at_end.old.starts (λ never. absurd (both_ways false refl never)))))
+              lists_gone = gone_at_place log_place _ at_end.log (gone_at_place reloads_place _ (at_end.old Reloads) (gone_at_place restarts_place _ (at_end.old Restarts) (gone_at_place starts_place _ (at_end.old Starts) (λ never. absurd (both_ways false refl never)))))
 
           -- a place of the activation is at the end that it had from the beginning
           activated_end : (q : Name) → owns_units q ≡ false → activation.owns q ≡ true → get d.leaves q ≡ activation.end w.leaves q
@@ -297,17 +287,16 @@ module _ (start_up : Bool) (system : Name) (named : IsSystemPath system) (owed :
           pub switched : IsSwitched system owed order w d
           switched =
               let text = definitions_of system in
-              let rest = reload_calls owed states ++ restart_calls owed ++ start_calls order in
-              let manager : d.manager ≡ started_all owed text w.manager order =
-              manager_seen d (with_brought system reloads restarts starts v) brought ∙ given_all_manager reloads restarts starts (with_loaded system v)
-              ∙ (λ i. performed (start i) (performed (restart i) (performed (reload i) (loading text (ready_manager i))))) in
-              let all = manager ∙ in_one owed text w.manager order in
+              let rest = flat_map listed give_order in
+              let manager : d.manager ≡ given_all owed text w.manager order =
+              manager_seen d (with_brought system calls v) brought ∙ all_given_manager calls give_order (with_loaded system v)
+              ∙ (λ i. performed (flat_map (same i) give_order) (loading text (ready_manager i))) in
               record {
                 leaves = is_final whole w d (all_only d last_step) all_at_end;
                 units = record {
                   states = λ unit. ap (λ (m : ManagerState). state_of m.states unit) manager ∙ final_states owed text w.manager order arranges unit;
-                  loaded = ap (λ (m : ManagerState). m.loaded) all ∙ same_loaded rest (ready owed text w.manager);
-                  bad = ap (λ (m : ManagerState). m.bad) all ∙ same_bad rest (ready owed text w.manager) ∙ same_bad (stop_calls owed) w.manager;
+                  loaded = ap (λ (m : ManagerState). m.loaded) manager ∙ same_loaded rest (ready owed text w.manager);
+                  bad = ap (λ (m : ManagerState). m.bad) manager ∙ same_bad rest (ready owed text w.manager) ∙ same_bad (stop_calls owed) w.manager;
                   journal = ap (λ (m : ManagerState). m.journal) manager ∙ all_entered owed text w.manager order;
                 };
               }
@@ -327,7 +316,7 @@ module _ (start_up : Bool) (system : Name) (named : IsSystemPath system) (owed :
 
   -- ---- each moment of a switch of the units is one of its parts
 
-  pub switch_part_moment : (m : WorldState) → IsSwitchMoment system owed order w m → IsMomentOf whole w m
+  pub switch_part_moment : (m : WorldState) → IsSwitchMoment system owed order w m → IsPartMoment whole w m
   switch_part_moment m (IsSwitchMoment.Stopping write is_write moment) = stop_moment write is_write m moment
   switch_part_moment m (IsSwitchMoment.Activating u stopped moment) = activate_moment u stopped m moment
   switch_part_moment m (IsSwitchMoment.Bringing u v stopped activated moment) = bring_moment u stopped v activated m moment

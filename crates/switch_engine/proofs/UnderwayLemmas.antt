@@ -6,6 +6,7 @@ use Rattle.std.specs.FinMap.{get}
 use Rattle.std.specs.List.{AllByRecursion}
 use Rattle.activation_stage.specs.ActivationPart.{activation_part}
 use Rattle.activation_stage.specs.Owners.{owners_after}
+use Rattle.boot_entries.specs.Entries.{version_path}
 use Rattle.etc_manifest.specs.Owners.{OwnerIds}
 use Rattle.generations.specs.declared.gens.Gens.{Gens}
 use Rattle.generations.specs.declared.moving.Move.{Move}
@@ -26,7 +27,6 @@ use Rattle.switch_engine.specs.Owing.{IsPaidBy, IsSteadyFor, IsSteadyTo, IsUnder
 use Rattle.switch_engine.specs.Rows.{default_if, final, gens_to, part_of, parts, parts_in, refusal, refusal_before_length, refusal_by, refusal_in_parts, switch_part, system_refusal, too_many_by, too_much_by}
 use Rattle.leaf_limits.specs.Limits.{is_long, leaf_max}
 use Rattle.switch_engine.specs.Lengths.{too_long_by}
-use Rattle.switch_engine.specs.System.{version_path}
 use Rattle.activation_stage.proofs.ActivationLemmas.{owners_law}
 use Rattle.boot_entries.proofs.DefaultLemmas.{default_stays_law}
 use Rattle.switch_engine.proofs.ShortLemmas.{owed_short, parts_little, version_short}
@@ -44,7 +44,7 @@ use Rattle.switch_parts.specs.declared.refusal.Refusal.{Refusal}
 use Rattle.switch_parts.specs.declared.refusal.Refusal.TheVariants.{InTheWay, NoSystem}
 use Rattle.switch_engine.proofs.LongLemmas.{none_refused, unless}
 use Rattle.switch_parts.specs.Limits.{long_refusal}
-use Rattle.switch_parts.specs.Part.{IsFree, IsMomentOf, IsPart, final_leaf}
+use Rattle.switch_parts.specs.Part.{IsFree, IsPartMoment, IsPart, final_leaf}
 use Rattle.switch_parts.proofs.Parts.{ends_alike, first_free}
 use Rattle.unit_stage.specs.Owes.{IsSteadyWorld}
 use Rattle.unit_stage.specs.Units.{AreUnitsUnderway, units_part}
@@ -99,6 +99,7 @@ free_command command leaves none =
 -- ---- the file that each system has
 
 version_inside : (system : Name) → IsSystemPath system → IsInStore (version_path system)
+unfolding version_path
 version_inside system named =
     let path : system ≡ store_folder ++ store_name system =
     subst (λ p. p ≡ store_folder ++ store_name p) named.same (store_path_is _ (IsStorePath-from_named system named.no_fault).begins) in
@@ -152,7 +153,7 @@ since_none start_up w m same = record {
   steady = tt;
 }
 
-units_by : (start_up : Bool) (moves : Option Move) (system : Name) (owners : OwnerIds) (gens : Gens) (w m : WorldState) → IsFree (parts start_up true moves system owners gens) w.leaves → IsMomentOf (parts start_up true moves system owners gens) w m → IsSteadyWorld start_up w system →
+units_by : (start_up : Bool) (moves : Option Move) (system : Name) (owners : OwnerIds) (gens : Gens) (w m : WorldState) → IsFree (parts start_up true moves system owners gens) w.leaves → IsPartMoment (parts start_up true moves system owners gens) w m → IsSteadyWorld start_up system w →
     AreUnitsUnderway start_up system w m
 units_by start_up moves system owners gens w m free moment steady =
     let both = first_free (switch_part start_up system owners) (default_if moves system gens) w.leaves free in
@@ -160,12 +161,12 @@ units_by start_up moves system owners gens w m free moment steady =
     moment.keeps.0.0.underway (record { way = units.way; refusal = units.refusal }) steady
 
 -- what is read of what is owed is short enough, where it was and the units are switched
-short_by : (start_up switches : Bool) (moves : Option Move) (system : Name) (owners : OwnerIds) (gens : Gens) (w m : WorldState) → IsFree (parts start_up switches moves system owners gens) w.leaves → IsMomentOf (parts start_up switches moves system owners gens) w m → IsSteadyTo start_up (if_so switches system) w →
+short_by : (start_up switches : Bool) (moves : Option Move) (system : Name) (owners : OwnerIds) (gens : Gens) (w m : WorldState) → IsFree (parts start_up switches moves system owners gens) w.leaves → IsPartMoment (parts start_up switches moves system owners gens) w m → IsSteadyTo start_up (if_so switches system) w →
     (switches ≡ true → AreOwedShort w.leaves) → switches ≡ true → AreOwedShort m.leaves
 short_by start_up true moves system owners gens w m free moment steady owed on = (units_by start_up moves system owners gens w m free moment steady).short (owed refl)
 short_by start_up false moves system owners gens w m free moment steady owed on = absurd (both_ways false refl on)
 
-since_by : (start_up switches : Bool) (moves : Option Move) (system : Name) (owners : OwnerIds) (gens : Gens) (w m : WorldState) → IsFree (parts start_up switches moves system owners gens) w.leaves → IsMomentOf (parts start_up switches moves system owners gens) w m → IsSteadyTo start_up (if_so switches system) w →
+since_by : (start_up switches : Bool) (moves : Option Move) (system : Name) (owners : OwnerIds) (gens : Gens) (w m : WorldState) → IsFree (parts start_up switches moves system owners gens) w.leaves → IsPartMoment (parts start_up switches moves system owners gens) w m → IsSteadyTo start_up (if_so switches system) w →
     IsSince start_up (if_so switches system) w m
 since_by start_up true moves system owners gens w m free moment steady = since_units start_up system w m (units_by start_up moves system owners gens w m free moment steady)
 since_by start_up false (Some move) system owners gens w m free moment steady = since_none start_up w m (moment.only.manager refl)
@@ -176,25 +177,25 @@ since_by start_up false None system owners gens w m free moment steady = since_n
 -- A moment of the parts keeps the owners where the units are switched, and without that nothing asks for them. It keeps the
 -- generations where the profile is set, and without that nothing asks for these.
 module _ (start_up : Bool) (system : Name) (w m : WorldState) where
-  final_owners : (switches : Bool) (moves : Option Move) → IsMomentOf (parts_in start_up switches moves system w.leaves) w m → (q : Name) →
+  final_owners : (switches : Bool) (moves : Option Move) → IsPartMoment (parts_in start_up switches moves system w.leaves) w m → (q : Name) →
       final_leaf (parts_in start_up switches moves system m.leaves) m.leaves q ≡ final_leaf (parts start_up switches moves system (owners_after system w.leaves) (gens_to moves system m.leaves)) m.leaves q
   final_owners true moves moment q =
       ap (λ (o : OwnerIds). final_leaf (parts start_up true moves system o (gens_to moves system m.leaves)) m.leaves q) (owners_law system (owners_after system w.leaves) w m moment.keeps.0.1)
   final_owners false moves moment q = refl
 
-  final_gens : (switches : Bool) (moves : Option Move) → IsMomentOf (parts_in start_up switches moves system w.leaves) w m → (q : Name) →
+  final_gens : (switches : Bool) (moves : Option Move) → IsPartMoment (parts_in start_up switches moves system w.leaves) w m → (q : Name) →
       final_leaf (parts start_up switches moves system (owners_after system w.leaves) (gens_to moves system m.leaves)) m.leaves q ≡ final_leaf (parts_in start_up switches moves system w.leaves) m.leaves q
   final_gens switches (Some move) moment q =
       ap (λ (gens : Gens). final_leaf (parts start_up switches (Some move) system (owners_after system w.leaves) gens) m.leaves q) (default_stays_law move system (gens_moved move system w.leaves) w m moment.keeps.1.0)
   final_gens switches None moment q = refl
 
-  free_owners : (switches : Bool) (moves : Option Move) → IsMomentOf (parts_in start_up switches moves system w.leaves) w m →
+  free_owners : (switches : Bool) (moves : Option Move) → IsPartMoment (parts_in start_up switches moves system w.leaves) w m →
       IsFree (parts start_up switches moves system (owners_after system w.leaves) (gens_to moves system m.leaves)) m.leaves → IsFree (parts_in start_up switches moves system m.leaves) m.leaves
   free_owners true moves moment free =
       subst (λ (o : OwnerIds). IsFree (parts start_up true moves system o (gens_to moves system m.leaves)) m.leaves) (sym (owners_law system (owners_after system w.leaves) w m moment.keeps.0.1)) free
   free_owners false moves moment free = free
 
-  free_gens : (switches : Bool) (moves : Option Move) → IsMomentOf (parts_in start_up switches moves system w.leaves) w m → IsFree (parts_in start_up switches moves system w.leaves) m.leaves →
+  free_gens : (switches : Bool) (moves : Option Move) → IsPartMoment (parts_in start_up switches moves system w.leaves) w m → IsFree (parts_in start_up switches moves system w.leaves) m.leaves →
       IsFree (parts start_up switches moves system (owners_after system w.leaves) (gens_to moves system m.leaves)) m.leaves
   free_gens switches (Some move) moment free =
       subst (λ (gens : Gens). IsFree (parts start_up switches (Some move) system (owners_after system w.leaves) gens) m.leaves)
@@ -204,7 +205,7 @@ module _ (start_up : Bool) (system : Name) (w m : WorldState) where
 -- ---- a command is underway
 
 module _ (command : Command) (w m : WorldState) (on : (row command w.leaves).changes ≡ true) (same : row command m.leaves ≡ row command w.leaves)
-    (has : lacks_system command m.leaves ≡ false) (named : IsSystemPath (new_system command w.leaves)) (free : IsFreeCommand command w.leaves) (moment : IsMomentOf (part_of command w.leaves) w m) where
+    (has : lacks_system command m.leaves ≡ false) (named : IsSystemPath (new_system command w.leaves)) (free : IsFreeCommand command w.leaves) (moment : IsPartMoment (part_of command w.leaves) w m) where
   abbrev start_up : Bool
   start_up = (row command w.leaves).start_up
 
@@ -255,7 +256,7 @@ module _ (command : Command) (w m : WorldState) (on : (row command w.leaves).cha
       ap (λ b. cond b (Some (missing command)) (system_refusal None command m.leaves)) has
       ∙ ap (λ (r : Row). refused_by r.start_up r.switches r.moves r.system m.leaves) same ∙ by_free start_up switches moves system m.leaves named (still_free steady)
 
-  pub underway : IsSteadyFor command w → IsUnderway w command m
+  pub underway : IsSteadyFor command w → IsUnderway command w m
   underway steady =
       let since = since_by start_up switches moves system (owners_after system w.leaves) (gens_to moves system w.leaves) w m free.parts moment steady in
       record {

@@ -57,7 +57,7 @@ verdict_if start_up true system inside g w v same ends first left =
     (failed_at_end start_up system g v first.0).1 (failed.0, failed.1, same_defined g.leaves w.leaves system failed.0 inside same ∙ failed.2)
 verdict_if start_up false system inside g w v same ends first left = absurd left
 
-pub same_verdict : (command : Command) (g w v : WorldState) → IsSystemPath (new_system command w.leaves) → IsUnderway g command w → IsEndOf command w v → LeavesFailed command w ↔ LeavesFailed command g
+pub same_verdict : (command : Command) (g w v : WorldState) → IsSystemPath (new_system command w.leaves) → IsUnderway command g w → IsEndOf command w v → LeavesFailed command w ↔ LeavesFailed command g
 same_verdict command g w v named before end =
     let its = row command w.leaves in
     let system = its.system in let start_up = its.start_up in let b = its.changes && its.switches in

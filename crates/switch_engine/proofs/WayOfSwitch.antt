@@ -10,6 +10,7 @@ use Rattle.host_trait.specs.World.{WorldState, seen}
 use Rattle.host_trait.proofs.Moments.{goes_on, leads_as, leads_then, one_world, passes_as, told_after, told_as}
 use Rattle.owed_log.specs.declared.log_write.LogWrite.{LogWrite}
 use Rattle.log_text.specs.declared.lists.Lists.{Lists}
+use Rattle.log_text.specs.declared.lists.Which.{Which}
 use Rattle.owed_log.specs.declared.log_write.LogWrite.TheVariants.{Nothing, Append, Put}
 use Rattle.owed_log.specs.Places.{log_place}
 use Rattle.owed_log.specs.Writing.{CanWrite, IsPrepared, IsWriteFor}
@@ -32,7 +33,8 @@ use Rattle.unit_stage.specs.declared.unit_plan.UnitPlan.{UnitPlan}
 use Rattle.unit_stage.specs.Order.{ArrangesStarts}
 use Rattle.unit_stage.specs.Owned.{owns_units}
 use Rattle.unit_stage.specs.Plan.{owed_of}
-use Rattle.unit_stage.specs.Steps.{AreCallsOf, CanBring, IsBringMoment, IsStopMoment, with_brought, with_stops}
+use Rattle.unit_stage.specs.PlanCalls.{AreCallsOf}
+use Rattle.unit_stage.specs.Steps.{CanBring, IsBringMoment, IsStopMoment, with_brought, with_stops}
 use Rattle.unit_stage.specs.Units.{units_part}
 use Rattle.unit_stage.proofs.OrderLemmas.{arranges}
 use Rattle.unit_stage.proofs.TableLemmas.{can_stops}
@@ -65,8 +67,8 @@ record IsReadyQuietly (system : Name) (owed : Owed) (w v : WorldState) : Type 0 
   activated : HasActivated system stopped v
   quiet : ActivatesQuietly system stopped v
 
-module _ (system : Name) (plan : UnitPlan) (activation : ActivationPlan) (write : LogWrite) (stops reloads restarts starts : List Duty) (is_write : write ≡ plan.write)
-    (calls : (states : Name → State) → plan.duties ≡ calls_of (owed_of plan) plan.ordered.units states → AreCallsOf (owed_of plan) plan.ordered.units states stops reloads restarts starts)
+module _ (system : Name) (plan : UnitPlan) (activation : ActivationPlan) (write : LogWrite) (stops : List Duty) (calls : Which → List Duty) (is_write : write ≡ plan.write)
+    (are : (states : Name → State) → plan.duties ≡ calls_of (owed_of plan) plan.ordered.units states → AreCallsOf (owed_of plan) plan.ordered.units states stops calls)
     {a : HostState} (can : Told a (CanSwitch system plan activation)) where
   abbrev owed : Owed
   owed = owed_of plan
@@ -77,8 +79,8 @@ module _ (system : Name) (plan : UnitPlan) (activation : ActivationPlan) (write 
   arranged_at : (w : WorldState) → a.world ≡ Some w → ArrangesStarts owed order
   arranged_at w is = arranges w.leaves system owed order (can.has w is).in_order
 
-  calls_at : (w : WorldState) → a.world ≡ Some w → AreCallsOf owed order (state_of w.manager.states) stops reloads restarts starts
-  calls_at w is = calls (state_of w.manager.states) (can.has w is).duties
+  calls_at : (w : WorldState) → a.world ≡ Some w → AreCallsOf owed order (state_of w.manager.states) stops calls
+  calls_at w is = are (state_of w.manager.states) (can.has w is).duties
 
   write_at : (w : WorldState) → a.world ≡ Some w → IsWriteFor w.leaves (lists_of owed) write
   write_at w is = subst (IsWriteFor w.leaves (lists_of owed)) (sym is_write) (can.has w is).write
@@ -117,27 +119,27 @@ module _ (system : Name) (plan : UnitPlan) (activation : ActivationPlan) (write 
               leads_then came (leads_both activate_way.tells activated (HasActivated system) (λ u v moment end. record { moment = moment; end = end })) (IsReady system owed)
               (λ w u v is is_u came activated. record { stopped = u; came = came; activated = activated })
 
-          pub units_can : Told c (CanBring system reloads restarts starts)
+          pub units_can : Told c (CanBring system calls)
           units_can =
-              told_after second_way gets_ready (CanBring system reloads restarts starts)
-              (λ w v is at. let known = can.has w is in let calls = calls_at w is in
-              can_bring known.start_up system known.named owed w known.is_owed order (arranged_at w is) known.free at.stopped at.came v at.activated reloads restarts starts calls.are_reloads calls.are_restarts calls.are_starts)
+              told_after second_way gets_ready (CanBring system calls)
+              (λ w v is at. let known = can.has w is in
+              can_bring known.start_up system known.named owed w known.is_owed order (arranged_at w is) known.free at.stopped at.came v at.activated calls (calls_at w is).are_listed)
 
-          pub third_way : {d : HostState} → Passes c d (IsBringMoment system reloads restarts starts) → Passes a d (IsSwitchMoment system owed order)
+          pub third_way : {d : HostState} → Passes c d (IsBringMoment system calls) → Passes a d (IsSwitchMoment system owed order)
           third_way bring_way =
               goes_on second_way gets_ready bring_way (IsSwitchMoment system owed order) (λ w m is moment. moment)
-              (λ w v m is is_v at moment. let known = can.has w is in let calls = calls_at w is in
-              bringing known.start_up system known.named owed w known.is_owed order (arranged_at w is) known.free at.stopped at.came v at.activated reloads restarts starts calls.are_reloads calls.are_restarts calls.are_starts m moment)
+              (λ w v m is is_v at moment. let known = can.has w is in
+              bringing known.start_up system known.named owed w known.is_owed order (arranged_at w is) known.free at.stopped at.came v at.activated calls (calls_at w is).are_listed m moment)
 
-          pub ends : {d : HostState} → Comes c d (with_brought system reloads restarts starts) → Leads a d (IsSwitched system owed order)
+          pub ends : {d : HostState} → Comes c d (with_brought system calls) → Leads a d (IsSwitched system owed order)
           ends brought =
               leads_then gets_ready brought (IsSwitched system owed order)
-              (λ w v d is is_v at came. let known = can.has w is in let calls = calls_at w is in
-              switched known.start_up system known.named owed w known.is_owed order (arranged_at w is) known.free at.stopped at.came v at.activated reloads restarts starts calls.are_reloads calls.are_restarts calls.are_starts d came)
+              (λ w v d is is_v at came. let known = can.has w is in
+              switched known.start_up system known.named owed w known.is_owed order (arranged_at w is) known.free at.stopped at.came v at.activated calls (calls_at w is).are_listed d came)
 
           -- and each quiet place is written as the activation writes it
           pub ends_quietly :
-              {d : HostState} → Comes c d (with_brought system reloads restarts starts) → Leads a b (WritesOnly owns_units) → Leads b c (ActivatesQuietly system) → Leads c d (WritesOnly owns_units) →
+              {d : HostState} → Comes c d (with_brought system calls) → Leads a b (WritesOnly owns_units) → Leads b c (ActivatesQuietly system) → Leads c d (WritesOnly owns_units) →
               Leads a d (IsQuietSwitch system)
           ends_quietly brought before quiet after =
               leads_then
@@ -145,8 +147,8 @@ module _ (system : Name) (plan : UnitPlan) (activation : ActivationPlan) (write 
               (leads_both (leads_both activate_way.tells activated (HasActivated system) (λ u v moment end. record { moment = moment; end = end })) quiet (λ u v. HasActivated system u v × ActivatesQuietly system u v)
               (λ u v done quiet. (done, quiet)))
               (IsReadyQuietly system owed) (λ w u v is is_u first second. record { stopped = u; came = first.0; before = first.1; activated = second.0; quiet = second.1 }))
-              (leads_both brought after (λ v d. (seen d ≡ seen (with_brought system reloads restarts starts v)) × WritesOnly owns_units v d) (λ v d came writes. (came, writes)))
+              (leads_both brought after (λ v d. (seen d ≡ seen (with_brought system calls v)) × WritesOnly owns_units v d) (λ v d came writes. (came, writes)))
               (IsQuietSwitch system)
-              (λ w v d is is_v at both. let known = can.has w is in let calls = calls_at w is in
-              switched_quietly known.start_up system known.named owed w known.is_owed order (arranged_at w is) known.free at.stopped at.came v at.activated reloads restarts starts calls.are_reloads calls.are_restarts calls.are_starts d both.0
+              (λ w v d is is_v at both. let known = can.has w is in
+              switched_quietly known.start_up system known.named owed w known.is_owed order (arranged_at w is) known.free at.stopped at.came v at.activated calls (calls_at w is).are_listed d both.0
               at.before at.quiet both.1)

@@ -1,5 +1,5 @@
 -- What each step of carrying a plan out needs, and what it leaves: NixOS manual, "What happens during a system switch?".
-use Rattle.std.specs.Prelude.{◌≡◌, Bool, true, false, List, Option, None, Some, option_map}
+use Rattle.std.specs.Prelude.{◌≡◌, Bool, Option, None, Some, IfSome, option_map}
 use Rattle.activation_stage.specs.ActivationPart.{IsActivationPlanOf}
 use Rattle.activation_stage.specs.declared.activation_plan.ActivationPlan.{ActivationPlan}
 use Rattle.boot_entries.specs.BootDefault.{CanMakeDefault}
@@ -10,9 +10,10 @@ use Rattle.generations.specs.Goal.{goal_place}
 use Rattle.host_trait.specs.States.{state_of}
 use Rattle.host_trait.specs.World.{WorldState, seen, without_leaf}
 use Rattle.owed_log.specs.Writing.{IsWriteFor}
-use Rattle.owed_plan.specs.declared.owed.Owed.{Owed}
 use Rattle.owed_plan.specs.Calls.{calls_of}
-use Rattle.switch_engine.specs.Moments.{IsRecordStep, IsSetStep, IsSwitchMoment, IsSwitched, record_world, set_world}
+use Rattle.switch_engine.specs.declared.plan.SwitchPlan.{SwitchPlan}
+use Rattle.switch_engine.specs.Moments.{IsRecordStep, IsDefaultStep, IsSwitchMoment, IsSwitched, record_world, default_world}
+use Rattle.switch_engine.specs.Presence.{where_some}
 use Rattle.switch_engine.specs.Rows.{switch_in}
 use Rattle.switch_names.specs.Names.{Name}
 use Rattle.switch_names.specs.SystemName.{IsSystemPath}
@@ -33,36 +34,32 @@ CanRecordBy (Some Set) w = Unit {0}
 CanRecordBy (Some (Point n)) w = CanPut goal_place w
 
 -- a system can be made the boot default, where that is planned
-abbrev pub CanSetBy : Name → Option BootDefaultPlan → WorldState → Type 0
-CanSetBy system None w = Unit {0}
-CanSetBy system (Some plan) w = CanMakeDefault system plan w
+abbrev pub CanMakeBy : Name → Option BootDefaultPlan → WorldState → Type 0
+CanMakeBy system plan w = IfSome plan (λ plan. CanMakeDefault system plan w)
 
 -- what is owed, as the machine starts up or later, what has to be written to record it, the starts in order and the calls of a plan are
 -- those of this world, and so is the activation, and nothing is in the way
 pub record CanSwitch (system : Name) (plan : UnitPlan) (activation : ActivationPlan) (w : WorldState) : Type 0 where
   pub named : IsSystemPath system
   pub start_up : Bool
-  pub is_owed : IsOwedBy start_up w system (owed_of plan)
+  pub is_owed : IsOwedBy start_up system w (owed_of plan)
   pub write : IsWriteFor w.leaves plan.recorded plan.write
   pub in_order : IsOrderedAt w.leaves system (owed_of plan) plan.ordered.units
   pub duties : plan.duties ≡ calls_of (owed_of plan) plan.ordered.units (state_of w.manager.states)
   pub planned : IsActivationPlanOf system w.leaves activation
   pub free : IsFree (switch_in start_up system w.leaves) w.leaves
 
--- the same, where an activation is planned, as it is where the units are switched
-abbrev pub CanSwitchBy : Name → UnitPlan → Option ActivationPlan → WorldState → Type 0
-CanSwitchBy system plan None w = Unit {0}
-CanSwitchBy system plan (Some activation) w = CanSwitch system plan activation w
+-- the same, where a switch of the units is planned
+abbrev pub CanSwitchBy : Name → Option SwitchPlan → WorldState → Type 0
+CanSwitchBy system plan w = IfSome plan (λ plan. CanSwitch system plan.units plan.activation w)
 
--- a moment of a switch of the units, where they are switched
-abbrev pub IsSwitchMomentIf : Bool → Name → Owed → List Name → WorldState → WorldState → Type 0
-IsSwitchMomentIf true system owed order u m = IsSwitchMoment system owed order u m
-IsSwitchMomentIf false system owed order u m = m ≡ u
+-- a moment of a switch of the units, where one is planned
+abbrev pub IsSwitchMomentBy : Name → Option SwitchPlan → WorldState → WorldState → Type 0
+IsSwitchMomentBy system plan u m = where_some (m ≡ u) (λ plan. IsSwitchMoment system (owed_of plan.units) plan.units.ordered.units u m) plan
 
--- the world that a switch of the units leaves, where they are switched
-abbrev pub IsSwitchedIf : Bool → Name → Owed → List Name → WorldState → WorldState → Type 0
-IsSwitchedIf true system owed order u v = IsSwitched system owed order u v
-IsSwitchedIf false system owed order u v = v ≡ u
+-- the world that a switch of the units leaves, where one is planned
+abbrev pub IsSwitchedBy : Name → Option SwitchPlan → WorldState → WorldState → Type 0
+IsSwitchedBy system plan u v = where_some (v ≡ u) (λ plan. IsSwitched system (owed_of plan.units) plan.units.ordered.units u v) plan
 
 -- the world without the goal, where the profile is moved
 abbrev pub cleared_by : Option Move → WorldState → WorldState
@@ -73,9 +70,9 @@ cleared_by (Some move) w = without_leaf goal_place w
 pub record IsPrepared (moves : Option Move) (system : Name) (w u : WorldState) : Type 0 where
   pub recorded : WorldState
   pub is_recorded : seen recorded ≡ record_world moves w
-  pub is_set : seen u ≡ set_world moves system recorded
+  pub is_set : seen u ≡ default_world moves system recorded
 
 -- the goal is being recorded, or it is recorded and the system is being made the boot default
 pub data IsPreparing (moves : Option Move) (system : Name) (w m : WorldState) : Type 0 where
   Recording : IsRecordStep moves w m → IsPreparing moves system w m
-  Setting : (r : WorldState) → seen r ≡ record_world moves w → IsSetStep moves system r m → IsPreparing moves system w m
+  Setting : (r : WorldState) → seen r ≡ record_world moves w → IsDefaultStep moves system r m → IsPreparing moves system w m

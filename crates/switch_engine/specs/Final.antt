@@ -34,7 +34,7 @@ pub record IsFinalOf (command : Command) (w v : WorldState) : Type 0 where
 -- what a switch of the units to a system enters in the journal, and nothing without one
 abbrev pub AreEntries : Bool → Option Name → WorldState → List Entry → Type 0
 AreEntries start_up None w entries = entries ≡ []
-AreEntries start_up (Some system) w entries = (owed : Owed) × (order : List Name) × IsOwedBy start_up w system owed × IsOrderedAt w.leaves system owed order × (entries ≡ entries_of system owed order w)
+AreEntries start_up (Some system) w entries = (owed : Owed) × (order : List Name) × IsOwedBy start_up system w owed × IsOrderedAt w.leaves system owed order × (entries ≡ entries_of system owed order w)
 
 -- the world at the end of a command, whose journal has grown by exactly what the command enters
 pub record IsEndOf (command : Command) (w v : WorldState) : Type 0 where
@@ -64,7 +64,7 @@ pub record IsLeftFailed (system : Name) (owed : Owed) (w : WorldState) (unit : N
 -- a switch of the units to a system leaves one of them failed
 abbrev pub LeavesFailedAt : Bool → Option Name → WorldState → Type 0
 LeavesFailedAt start_up None w = ⊥
-LeavesFailedAt start_up (Some system) w = (owed : Owed) × IsOwedBy start_up w system owed × ((unit : Name) × IsLeftFailed system owed w unit)
+LeavesFailedAt start_up (Some system) w = (owed : Owed) × IsOwedBy start_up system w owed × ((unit : Name) × IsLeftFailed system owed w unit)
 
 -- a command leaves a unit failed that its system defines
 abbrev pub LeavesFailed : Command → WorldState → Type 0

@@ -2,6 +2,7 @@
 use Rattle.std.specs.Prelude.{◌&&◌, ◌||◌, Bool, true, false, Option, None, Some}
 use Rattle.accounts_stage.specs.Lengths.{takes_accounts}
 use Rattle.boot_entries.specs.Sources.{taken_of}
+use Rattle.boot_entries.specs.Entries.{version_path}
 use Rattle.etc_farm.specs.EtcPart.{takes_etc}
 use Rattle.generations.specs.declared.gens.Gens.{Gens}
 use Rattle.generations.specs.declared.moving.Move.{Move}
@@ -10,7 +11,6 @@ use Rattle.host_trait.specs.World.{Leaves}
 use Rattle.leaf_limits.specs.Limits.{long_past}
 use Rattle.owed_log.specs.Places.{is_owed_place}
 use Rattle.switch_engine.specs.Commands.{is_back}
-use Rattle.switch_engine.specs.System.{version_path}
 use Rattle.switch_names.specs.Names.{Name, has, is_name}
 use Rattle.switch_parts.specs.declared.refusal.Refusal.{Refusal}
 use Rattle.switch_parts.specs.declared.refusal.What.TheVariants.{LeafBytes}

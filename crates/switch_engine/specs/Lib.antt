@@ -5,8 +5,8 @@ pub mod Lengths
 pub mod Moments
 pub mod Owing
 pub mod Plan
+pub mod Presence
 pub mod Quiet
 pub mod Reboot
 pub mod Resolved
 pub mod Rows
-pub mod System

@@ -13,7 +13,7 @@ use Rattle.host_trait.specs.States.{state_of}
 use Rattle.host_trait.specs.World.{WorldState, seen, stage, with_leaf}
 use Rattle.owed_log.specs.declared.log_write.LogWrite.{LogWrite}
 use Rattle.owed_log.specs.Writing.{IsWriteFor}
-use Rattle.owed_plan.specs.Calls.{reload_calls, restart_calls, start_calls, stop_calls}
+use Rattle.owed_plan.specs.Calls.{listed_calls, stop_calls}
 use Rattle.owed_plan.specs.declared.owed.Owed.{Owed}
 use Rattle.owed_plan.specs.Law.{lists_of}
 use Rattle.switch_engine.specs.declared.command.Command.{Command}
@@ -43,7 +43,7 @@ pub data IsSwitchMoment (system : Name) (owed : Owed) (order : List Name) (w m :
   Stopping : (write : LogWrite) → IsWriteFor w.leaves (lists_of owed) write → IsStopMoment write (stop_calls owed) w m → IsSwitchMoment system owed order w m
   Activating : (u : WorldState) → AreStopped owed w u → IsActivating system u m → IsSwitchMoment system owed order w m
   Bringing : (u v : WorldState) → AreStopped owed w u → HasActivated system u v →
-      IsBringMoment system (reload_calls owed (state_of w.manager.states)) (restart_calls owed) (start_calls order) v m → IsSwitchMoment system owed order w m
+      IsBringMoment system (listed_calls owed order (state_of w.manager.states)) v m → IsSwitchMoment system owed order w m
 
 -- the world that a switch of the units leaves: each place is at its end, and so is each unit
 pub record IsSwitched (system : Name) (owed : Owed) (order : List Name) (w v : WorldState) : Type 0 where
@@ -64,24 +64,24 @@ record_world (Some (Point n)) w = seen (with_leaf goal_place (goal_leaf n) w)
 
 -- a step of making a system the boot default, where the profile is moved to it: the profile is being moved, or it is moved,
 -- and the boot menu is being made
-abbrev pub IsSetStep : Option Move → Name → WorldState → WorldState → Type 0
-IsSetStep None system w m = seen m ≡ seen w
-IsSetStep (Some move) system w m = IsMakingDefault move system w m
+abbrev pub IsDefaultStep : Option Move → Name → WorldState → WorldState → Type 0
+IsDefaultStep None system w m = seen m ≡ seen w
+IsDefaultStep (Some move) system w m = IsMakingDefault move system w m
 
 -- but for the stage, the world in which a system is the boot default, where the profile is moved to it
-abbrev pub set_world : Option Move → Name → WorldState → WorldState
-set_world None system w = seen w
-set_world (Some move) system w = default_end move system w
+abbrev pub default_world : Option Move → Name → WorldState → WorldState
+default_world None system w = seen w
+default_world (Some move) system w = default_end move system w
 
 -- a step of a switch of the units, where they are switched to a system
 abbrev pub IsSwitchStep : Bool → Option Name → WorldState → WorldState → Type 0
 IsSwitchStep start_up None w m = seen m ≡ seen w
-IsSwitchStep start_up (Some system) w m = (owed : Owed) × (order : List Name) × IsOwedBy start_up w system owed × IsOrderedAt w.leaves system owed order × IsSwitchMoment system owed order w m
+IsSwitchStep start_up (Some system) w m = (owed : Owed) × (order : List Name) × IsOwedBy start_up system w owed × IsOrderedAt w.leaves system owed order × IsSwitchMoment system owed order w m
 
 -- the world that a switch of the units leaves, where they are switched to a system
 abbrev pub IsSwitchEnd : Bool → Option Name → WorldState → WorldState → Type 0
 IsSwitchEnd start_up None w v = seen v ≡ seen w
-IsSwitchEnd start_up (Some system) w v = (owed : Owed) × (order : List Name) × IsOwedBy start_up w system owed × IsOrderedAt w.leaves system owed order × IsSwitched system owed order w v
+IsSwitchEnd start_up (Some system) w v = (owed : Owed) × (order : List Name) × IsOwedBy start_up system w owed × IsOrderedAt w.leaves system owed order × IsSwitched system owed order w v
 
 -- a step of removing the goal, where the profile is moved
 abbrev pub IsClearStep : Option Move → WorldState → WorldState → Type 0
@@ -92,9 +92,9 @@ IsClearStep (Some move) w m = IsOldOrGone goal_place w m
 -- being removed; each begins in the world that the one before it leaves
 pub data IsStepTo (start_up : Bool) (moves : Option Move) (system : Name) (switches : Option Name) (w m : WorldState) : Type 0 where
   Recording : IsRecordStep moves w m → IsStepTo start_up moves system switches w m
-  Setting : (r : WorldState) → seen r ≡ record_world moves w → IsSetStep moves system r m → IsStepTo start_up moves system switches w m
-  Switching : (r u : WorldState) → seen r ≡ record_world moves w → seen u ≡ set_world moves system r → IsSwitchStep start_up switches u m → IsStepTo start_up moves system switches w m
-  Clearing : (r u v : WorldState) → seen r ≡ record_world moves w → seen u ≡ set_world moves system r → IsSwitchEnd start_up switches u v → IsClearStep moves v m →
+  Setting : (r : WorldState) → seen r ≡ record_world moves w → IsDefaultStep moves system r m → IsStepTo start_up moves system switches w m
+  Switching : (r u : WorldState) → seen r ≡ record_world moves w → seen u ≡ default_world moves system r → IsSwitchStep start_up switches u m → IsStepTo start_up moves system switches w m
+  Clearing : (r u v : WorldState) → seen r ≡ record_world moves w → seen u ≡ default_world moves system r → IsSwitchEnd start_up switches u v → IsClearStep moves v m →
       IsStepTo start_up moves system switches w m
 
 -- where exactly a moment stands: a command that changes nothing has none but its beginning
@@ -108,14 +108,14 @@ IsStepOf command w m = IsStepIf (row command w.leaves).changes (row command w.le
 
 -- a rollback has come to its end: it is over, and no goal stands
 pub record HasComeBack (command : Command) (w m : WorldState) : Type 0 where
-  pub over : IsOver w command m
+  pub over : IsOver command w m
   pub cleared : get m.leaves goal_place ≡ None
 
 -- a run is underway; where the profile goes back, it has come to its end once the goal is removed
 abbrev pub IsOnItsWay : Option Move → Command → WorldState → WorldState → Type 0
-IsOnItsWay None command w m = IsUnderway w command m
-IsOnItsWay (Some Set) command w m = IsUnderway w command m
-IsOnItsWay (Some (Point n)) command w m = IsUnderway w command m ⊎ HasComeBack command w m
+IsOnItsWay None command w m = IsUnderway command w m
+IsOnItsWay (Some Set) command w m = IsUnderway command w m
+IsOnItsWay (Some (Point n)) command w m = IsUnderway command w m ⊎ HasComeBack command w m
 
 -- the profile names the system that it named, or the one that it is moved to
 abbrev pub NamesOneOf : Option Name → WorldState → WorldState → Type 0

@@ -20,7 +20,7 @@ use Rattle.unit_stage.specs.Plan.{IsLongLog}
 -- a switch of the units to a system, where there is one, owes a unit of a world an act of this kind
 abbrev pub OwesActTo : Bool → Option Name → WorldState → Act → Name → Type 0
 OwesActTo start_up None w act unit = ⊥
-OwesActTo start_up (Some system) w act unit = Owes start_up w system act unit
+OwesActTo start_up (Some system) w act unit = Owes start_up system w act unit
 
 -- a command owes a unit of a world an act of this kind
 abbrev pub OwesAct : Command → WorldState → Act → Name → Type 0
@@ -38,7 +38,7 @@ IsPaidBy (Some system) act unit entries = IsPaid system act unit entries
 -- a steady world, as far as a switch of the units looks at it
 abbrev pub IsSteadyTo : Bool → Option Name → WorldState → Type 0
 IsSteadyTo start_up None w = Unit {0}
-IsSteadyTo start_up (Some system) w = IsSteadyWorld start_up w system
+IsSteadyTo start_up (Some system) w = IsSteadyWorld start_up system w
 
 -- such a world for a command
 abbrev pub IsSteadyFor : Command → WorldState → Type 0
@@ -47,7 +47,7 @@ IsSteadyFor command w = IsSteadyTo (row command w.leaves).start_up (switched_to 
 -- the log that a switch of the units to a system, where there is one, records what it owes in, where that would be too long
 abbrev pub IsLongLogTo : Bool → Option Name → WorldState → Option TooLong → Type 0
 IsLongLogTo start_up None w long = long ≡ None
-IsLongLogTo start_up (Some system) w long = IsLongLog start_up w system long
+IsLongLogTo start_up (Some system) w long = IsLongLog start_up system w long
 
 -- the first in byte order of that log and of what the parts of a row put, where one would be too long
 abbrev pub IsLongBy : Row → WorldState → Option TooLong → Type 0
@@ -73,7 +73,7 @@ pub record HasEntered (command : Command) (first w : WorldState) : Type 0 where
 -- A run of a command that began in a world is underway in another: the command has there the row that it had, leaves from
 -- there what it leaves from the first world, and isn't refused. What it owed the units is paid or still owed, only these units
 -- have been called, and every other is in the state that it was in.
-pub record IsUnderway (first : WorldState) (command : Command) (w : WorldState) : Type 0 where
+pub record IsUnderway (command : Command) (first w : WorldState) : Type 0 where
   pub same_row : row command w.leaves ≡ row command first.leaves
   pub same_end : (v : WorldState) → IsFinalOf command w v ↔ IsFinalOf command first v
   pub since : HasEntered command first w
@@ -84,7 +84,7 @@ pub record IsUnderway (first : WorldState) (command : Command) (w : WorldState) 
 
 -- A run of a command that began in a world is over in another: that shows what the command leaves, each duty is paid,
 -- and no unit was touched that was owed nothing.
-pub record IsOver (first : WorldState) (command : Command) (w : WorldState) : Type 0 where
+pub record IsOver (command : Command) (first w : WorldState) : Type 0 where
   pub final : IsFinalOf command first w
   pub since : HasEntered command first w
   pub paid : (act : Act) (unit : Name) → OwesAct command first act unit → IsPaidBy (switched_to command first.leaves) act unit since.entered

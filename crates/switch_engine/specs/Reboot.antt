@@ -45,5 +45,5 @@ LeadsByStartUps (cut ∷ cuts) r v = IsCutStartUp r cut.0 cut.1 × LeadsByStartU
 abbrev pub SwitchRebootLaw : Type 0
 SwitchRebootLaw =
     (system : Name) (cuts : List (WorldState × WorldState)) (first w r u v : WorldState) → IsSystemPath system → IsSound first.leaves → refusal (Switch system) first.leaves ≡ None →
-    IsUnderway first (Switch system) w ⊎ IsOver first (Switch system) w → boot_system w.leaves ≡ Some system → IsAfterReboot w r → IsFinalOf (Switch system) first u → LeadsByStartUps cuts r v →
+    IsUnderway (Switch system) first w ⊎ IsOver (Switch system) first w → boot_system w.leaves ≡ Some system → IsAfterReboot w r → IsFinalOf (Switch system) first u → LeadsByStartUps cuts r v →
     AreActivatedAlike u v

@@ -5,6 +5,7 @@ use Rattle.std.specs.Option.{option_or}
 use Rattle.accounts_stage.specs.Rows.{rows_too_many}
 use Rattle.activation_stage.specs.ActivationPart.{activation_part}
 use Rattle.activation_stage.specs.Owners.{owners_after}
+use Rattle.boot_entries.specs.Entries.{version_path}
 use Rattle.etc_farm.specs.EtcPart.{entries_too_many}
 use Rattle.etc_manifest.specs.Owners.{OwnerIds}
 use Rattle.boot_entries.specs.BootDefault.{boot_default_part}
@@ -20,7 +21,6 @@ use Rattle.leaf_limits.specs.Limits.{first_long}
 use Rattle.switch_engine.specs.declared.command.Command.{Command}
 use Rattle.switch_engine.specs.Commands.{is_back, lacks_system, missing, new_system, row}
 use Rattle.switch_engine.specs.Lengths.{too_long_by}
-use Rattle.switch_engine.specs.System.{version_path}
 use Rattle.switch_names.specs.Names.{Name}
 use Rattle.switch_parts.specs.declared.refusal.Refusal.{Refusal}
 use Rattle.switch_parts.specs.declared.refusal.Refusal.TheVariants.{InTheWay, NoSystem}

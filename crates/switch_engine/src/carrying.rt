@@ -1,18 +1,15 @@
 //! Carries a planned command out.
-ghost use Rattle.std.specs.Prelude.{◌≡◌, ◌↔◌, IfOk, IsTrue, Some, OnOk, false, is_some};
+ghost use Rattle.std.specs.Prelude.{◌≡◌, ◌↔◌, IfOk, IsSome, IsTrue, None, OnOk, false};
 ghost use Rattle.std.specs.FinMap.{empty};
-ghost use Rattle.std.specs.Option.{option_copied};
-ghost use Rattle.boot_entries.specs.BootDefault.{IsDefaultFor};
-ghost use Rattle.boot_entries.specs.declared.boot_default.BootDefaultPlan.{BootDefaultPlan};
 ghost use Rattle.generations.specs.Goal.{goal_leaf, goal_place};
 ghost use Rattle.host_trait.specs.World.{WorldState, seen, with_leaf};
 ghost use Rattle.host_trait.specs.Host.{Told, Leads, Comes, Passes, HasCause};
 ghost use Rattle.owed_log.specs.Writing.{IsFilled};
-ghost use Rattle.switch_engine.specs.Carried.{CanRecordBy, CanSetBy, CanSwitch, CanSwitchBy, IsPrepared, IsPreparing, IsSwitchMomentIf, IsSwitchedIf, cleared_by, moves_of};
+ghost use Rattle.switch_engine.specs.Carried.{CanRecordBy, CanMakeBy, CanSwitch, CanSwitchBy, IsPrepared, IsPreparing, IsSwitchMomentBy, IsSwitchedBy, cleared_by, moves_of};
 ghost use Rattle.switch_engine.specs.Commands.{IsBoot, IsQuery};
 ghost use Rattle.switch_engine.specs.Final.{HasFailed, IsEndOf, LeavesFailed};
-ghost use Rattle.switch_engine.specs.Moments.{IsClearStep, IsMomentOf, IsRecordStep, IsSetStep, IsSwitchMoment, IsSwitched, record_world, set_world};
-ghost use Rattle.switch_engine.specs.Plan.{IsPlanOf, IsSound};
+ghost use Rattle.switch_engine.specs.Moments.{IsClearStep, IsMomentOf, IsRecordStep, IsDefaultStep, IsSwitchMoment, IsSwitched, record_world, default_world};
+ghost use Rattle.switch_engine.specs.Plan.{IsPlanOf, IsSound, units_of};
 ghost use Rattle.switch_engine.specs.Quiet.{IsQuietCommand, IsQuietSwitch, is_not_quiet};
 ghost use Rattle.unit_stage.specs.Plan.{owed_of};
 ghost use Rattle.tree_put.specs.Put.{CanPut, IsOldOrNew};
@@ -22,7 +19,7 @@ ghost use Rattle.unit_stage.specs.System.{system_leaf};
 use crate::outcome::{Outcome, has_failed};
 use crate::plan::Plan;
 use activation_stage::{ActivationPlan, activate};
-use boot_entries::{BootDefaultPlan, make_boot_default};
+use boot_entries::make_boot_default;
 use generations::{Move, clear_goal, record_goal};
 use host_trait::{HostFault, Leaf, Manager, Tree};
 use std::alloc::Global;
@@ -43,42 +40,33 @@ fn record_kept<T: Tree>(alloc: Global, host: &mut T, number: u32) -> Result<(), 
 }
 
 /// Records the goal of a rollback where the profile goes back to a generation.
-fn record_back<T: Tree>(
-    alloc: Global,
-    host: &mut T,
-    plan: Option<&BootDefaultPlan>,
-) -> Result<(), HostFault>
-    requires { Told (T.host host.old) (CanRecordBy (moves_of (option_copied plan))) }
-    ensures ok { OnOk result (Leads (T.host host.old) (T.host host.new) (λ w r. seen r ≡ record_world (moves_of (option_copied plan.entry)) w)) }
+fn record_back<T: Tree>(alloc: Global, host: &mut T, plan: &Plan) -> Result<(), HostFault>
+    requires { Told (T.host host.old) (CanRecordBy (moves_of plan.now.boot_default)) }
+    ensures ok { OnOk result (Leads (T.host host.old) (T.host host.new) (λ w r. seen r ≡ record_world (moves_of plan.now.boot_default) w)) }
     ensures written { OnOk result (Leads (T.host host.old) (T.host host.new) (WritesOnly is_not_quiet)) }
-    ensures moments { Passes (T.host host.old) (T.host host.new) (IsRecordStep (moves_of (option_copied plan.entry))) }
+    ensures moments { Passes (T.host host.old) (T.host host.new) (IsRecordStep (moves_of plan.now.boot_default)) }
     ensures cause { HasCause (T.host host.old) (T.host host.new) result }
 {
-    let Some(plan) = plan else {
+    let Some(boot_default) = &plan.boot_default else {
         return Ok(());
     };
-    match plan.to {
+    match boot_default.to {
         Move::Set => Ok(()),
         Move::Point(number) => record_kept(alloc, host, number),
     }
 }
 
 /// Makes a system the boot default, where that is planned: moves the profile, and makes the boot menu.
-fn set_profile<T: Tree>(
-    alloc: Global,
-    host: &mut T,
-    system: &SystemName,
-    plan: Option<&BootDefaultPlan>,
-) -> Result<(), HostFault>
-    requires can { Told (T.host host.old) (CanSetBy system.now (option_copied plan)) }
-    requires sound { (profile : BootDefaultPlan) → option_copied plan ≡ Some profile → IsDefaultFor system.now profile }
-    ensures ok { OnOk result (Leads (T.host host.old) (T.host host.new) (λ w u. seen u ≡ set_world (moves_of (option_copied plan.entry)) system.now w)) }
+fn make_default<T: Tree>(alloc: Global, host: &mut T, plan: &Plan) -> Result<(), HostFault>
+    requires can { Told (T.host host.old) (CanMakeBy plan.now.row.system plan.now.boot_default) }
+    requires sound { IsSound plan.now }
+    ensures ok { OnOk result (Leads (T.host host.old) (T.host host.new) (λ w u. seen u ≡ default_world (moves_of plan.now.boot_default) plan.now.row.system w)) }
     ensures written { OnOk result (Leads (T.host host.old) (T.host host.new) (WritesOnly is_not_quiet)) }
-    ensures moments { Passes (T.host host.old) (T.host host.new) (IsSetStep (moves_of (option_copied plan.entry)) system.now) }
+    ensures moments { Passes (T.host host.old) (T.host host.new) (IsDefaultStep (moves_of plan.now.boot_default) plan.now.row.system) }
     ensures cause { HasCause (T.host host.old) (T.host host.new) result }
 {
-    match plan {
-        Some(plan) => make_boot_default(alloc, host, system, plan),
+    match &plan.boot_default {
+        Some(boot_default) => make_boot_default(alloc, host, plan.to(), boot_default),
         None => Ok(()),
     }
 }
@@ -132,46 +120,46 @@ fn carry_switch<H: Manager>(
     Ok(Outcome { states, failed })
 }
 
-/// Carries a planned switch of the units out where they are switched, and with them an activation is
-/// planned. Else no state is told.
+/// Carries a planned switch of the units out, where one is planned. Else no state is told.
 fn carry_units<H: Manager>(
     alloc: Global,
     host: &mut H,
-    system: &SystemName,
-    plan: &UnitPlan,
-    activation: Option<&ActivationPlan>,
+    plan: &Plan,
     current: &Leaf,
 ) -> Result<Outcome, HostFault>
-    requires can { Told (H.host host.old) (CanSwitchBy system.now plan.now (option_copied activation)) }
-    requires filled { IsFilled plan.now.write }
-    requires current { current.now ≡ system_leaf system.now }
-    ensures ok { OnOk result (Leads (H.host host.old) (H.host host.new) (IsSwitchedIf (is_some (option_copied activation.entry)) system.now (owed_of plan.now) plan.now.ordered.units)) }
-    ensures quiet { OnOk result (IsTrue (is_some (option_copied activation.entry)) → Leads (H.host host.old) (H.host host.new) (IsQuietSwitch system.now)) }
-    ensures states { IfOk result (λ outcome. IsTrue (is_some (option_copied activation.entry)) → Told (H.host host.new) (λ v. outcome.states ≡ v.manager.states)) }
-    ensures failed { IfOk result (λ outcome. IsTrue (is_some (option_copied activation.entry)) → IsTrue outcome.failed ↔ HasFailed plan.now.defs outcome.states) }
-    ensures none { is_some (option_copied activation.entry) ≡ false → IfOk result (λ outcome. outcome ≡ record { states = empty; failed = false }) }
-    ensures moments { Passes (H.host host.old) (H.host host.new) (IsSwitchMomentIf (is_some (option_copied activation.entry)) system.now (owed_of plan.now) plan.now.ordered.units) }
+    requires can { Told (H.host host.old) (CanSwitchBy plan.now.row.system plan.now.switch) }
+    requires sound { IsSound plan.now }
+    requires current { current.now ≡ system_leaf plan.now.row.system }
+    ensures ok { OnOk result (Leads (H.host host.old) (H.host host.new) (IsSwitchedBy plan.now.row.system plan.now.switch)) }
+    ensures quiet { OnOk result (IsSome plan.now.switch → Leads (H.host host.old) (H.host host.new) (IsQuietSwitch plan.now.row.system)) }
+    ensures states { IfOk result (λ outcome. IsSome plan.now.switch → Told (H.host host.new) (λ v. outcome.states ≡ v.manager.states)) }
+    ensures failed { IfOk result (λ outcome. IsTrue outcome.failed ↔ HasFailed (units_of plan.now).defs outcome.states) }
+    ensures none { IfOk result (λ outcome. plan.now.switch ≡ None → outcome ≡ record { states = empty; failed = false }) }
+    ensures moments { Passes (H.host host.old) (H.host host.new) (IsSwitchMomentBy plan.now.row.system plan.now.switch) }
     ensures cause { HasCause (H.host host.old) (H.host host.new) result }
 {
-    match activation {
-        Some(activation) => carry_switch(alloc, host, system, plan, activation, current),
+    match &plan.switch {
+        Some(switch) => carry_switch(
+            alloc,
+            host,
+            plan.to(),
+            &switch.units,
+            &switch.activation,
+            current,
+        ),
         None => Ok(Outcome::none(alloc)),
     }
 }
 
 /// Removes the goal of a rollback, where the profile is moved. All that was done before is kept beyond a loss of
 /// power first.
-fn clear_back<T: Tree>(
-    alloc: Global,
-    host: &mut T,
-    plan: Option<&BootDefaultPlan>,
-) -> Result<(), HostFault>
-    ensures ok { OnOk result (Leads (T.host host.old) (T.host host.new) (λ w v. v ≡ cleared_by (moves_of (option_copied plan.entry)) w)) }
+fn clear_back<T: Tree>(alloc: Global, host: &mut T, plan: &Plan) -> Result<(), HostFault>
+    ensures ok { OnOk result (Leads (T.host host.old) (T.host host.new) (λ w v. v ≡ cleared_by (moves_of plan.now.boot_default) w)) }
     ensures written { OnOk result (Leads (T.host host.old) (T.host host.new) (WritesOnly is_not_quiet)) }
-    ensures moments { Passes (T.host host.old) (T.host host.new) (IsClearStep (moves_of (option_copied plan.entry))) }
+    ensures moments { Passes (T.host host.old) (T.host host.new) (IsClearStep (moves_of plan.now.boot_default)) }
     ensures cause { HasCause (T.host host.old) (T.host host.new) result }
 {
-    let Some(_plan) = plan else {
+    let Some(_boot_default) = &plan.boot_default else {
         return Ok(());
     };
     host.sync(alloc)?;
@@ -179,14 +167,10 @@ fn clear_back<T: Tree>(
 }
 
 /// Removes the goal of a rollback, where the profile is moved, and has what was done kept beyond a loss of power.
-fn finish<T: Tree>(
-    alloc: Global,
-    host: &mut T,
-    plan: Option<&BootDefaultPlan>,
-) -> Result<(), HostFault>
-    ensures ok { OnOk result (Leads (T.host host.old) (T.host host.new) (λ w v. v ≡ cleared_by (moves_of (option_copied plan.entry)) w)) }
+fn finish<T: Tree>(alloc: Global, host: &mut T, plan: &Plan) -> Result<(), HostFault>
+    ensures ok { OnOk result (Leads (T.host host.old) (T.host host.new) (λ w v. v ≡ cleared_by (moves_of plan.now.boot_default) w)) }
     ensures written { OnOk result (Leads (T.host host.old) (T.host host.new) (WritesOnly is_not_quiet)) }
-    ensures moments { Passes (T.host host.old) (T.host host.new) (IsClearStep (moves_of (option_copied plan.entry))) }
+    ensures moments { Passes (T.host host.old) (T.host host.new) (IsClearStep (moves_of plan.now.boot_default)) }
     ensures cause { HasCause (T.host host.old) (T.host host.new) result }
 {
     clear_back(alloc, host, plan)?;
@@ -195,22 +179,17 @@ fn finish<T: Tree>(
 }
 
 /// Records the goal of a rollback, and then makes its system the boot default, where that is planned.
-fn prepare<T: Tree>(
-    alloc: Global,
-    host: &mut T,
-    system: &SystemName,
-    plan: Option<&BootDefaultPlan>,
-) -> Result<(), HostFault>
-    requires record { Told (T.host host.old) (CanRecordBy (moves_of (option_copied plan))) }
-    requires can { Told (T.host host.old) (λ w. (r : WorldState) → seen r ≡ record_world (moves_of (option_copied plan)) w → CanSetBy system.now (option_copied plan) r) }
-    requires sound { (profile : BootDefaultPlan) → option_copied plan ≡ Some profile → IsDefaultFor system.now profile }
-    ensures ok { OnOk result (Leads (T.host host.old) (T.host host.new) (IsPrepared (moves_of (option_copied plan.entry)) system.now)) }
+fn prepare<T: Tree>(alloc: Global, host: &mut T, plan: &Plan) -> Result<(), HostFault>
+    requires record { Told (T.host host.old) (CanRecordBy (moves_of plan.now.boot_default)) }
+    requires can { Told (T.host host.old) (λ w. (r : WorldState) → seen r ≡ record_world (moves_of plan.now.boot_default) w → CanMakeBy plan.now.row.system plan.now.boot_default r) }
+    requires sound { IsSound plan.now }
+    ensures ok { OnOk result (Leads (T.host host.old) (T.host host.new) (IsPrepared (moves_of plan.now.boot_default) plan.now.row.system)) }
     ensures written { OnOk result (Leads (T.host host.old) (T.host host.new) (WritesOnly is_not_quiet)) }
-    ensures moments { Passes (T.host host.old) (T.host host.new) (IsPreparing (moves_of (option_copied plan.entry)) system.now) }
+    ensures moments { Passes (T.host host.old) (T.host host.new) (IsPreparing (moves_of plan.now.boot_default) plan.now.row.system) }
     ensures cause { HasCause (T.host host.old) (T.host host.new) result }
 {
     record_back(alloc, host, plan)?;
-    set_profile(alloc, host, system, plan)?;
+    make_default(alloc, host, plan)?;
     Ok(())
 }
 
@@ -233,15 +212,14 @@ pub fn carry_out<H: Manager>(alloc: Global, host: &mut H, plan: &Plan) -> Result
     ensures ok { OnOk result (Leads (H.host host.old) (H.host host.new) (IsEndOf plan.now.command)) }
     ensures quiet { OnOk result (Leads (H.host host.old) (H.host host.new) (IsQuietCommand plan.now.command)) }
     ensures states { IfOk result (λ outcome. (IsBoot plan.now.command → ⊥) → Told (H.host host.new) (λ v. outcome.states ≡ v.manager.states)) }
-    ensures failed { IfOk result (λ outcome. IsTrue outcome.failed ↔ HasFailed plan.now.units.defs outcome.states) }
+    ensures failed { IfOk result (λ outcome. IsTrue outcome.failed ↔ HasFailed (units_of plan.now).defs outcome.states) }
     ensures verdict { IfOk result (λ outcome. Told (H.host host.old) (λ w. IsTrue outcome.failed ↔ LeavesFailed plan.now.command w)) }
     ensures moments { Passes (H.host host.old) (H.host host.new) (IsMomentOf plan.now.command) }
     ensures cause { HasCause (H.host host.old) (H.host host.new) result }
 {
     let current = system_leaf(alloc, plan.to())?;
-    prepare(alloc, host, plan.to(), plan.profile())?;
-    let activation = plan.activation();
-    let outcome = carry_units(alloc, host, plan.to(), plan.units(), activation, &current)?;
-    finish(alloc, host, plan.profile())?;
+    prepare(alloc, host, plan)?;
+    let outcome = carry_units(alloc, host, plan, &current)?;
+    finish(alloc, host, plan)?;
     Ok(outcome)
 }

@@ -34,20 +34,20 @@ pub fn refused_by_leaves()
 
 /// A run that isn't refused is underway in the world where it begins, where that is steady.
 pub fn a_run_begins_underway()
-    ensures { (first : WorldState) (command : Command) → refusal command first.leaves ≡ None → IsSteadyFor command first → IsUnderway first command first }
+    ensures { (first : WorldState) (command : Command) → refusal command first.leaves ≡ None → IsSteadyFor command first → IsUnderway command first first }
 {}
 
 /// A run that is underway in a world, from which one is underway in another, is underway there; and it
 /// is over where that one is over.
 pub fn a_run_stays_underway()
-    ensures underway { (first w m : WorldState) (command : Command) → IsUnderway first command w → IsUnderway w command m → IsUnderway first command m }
-    ensures over { (first w v : WorldState) (command : Command) → IsUnderway first command w → IsOver w command v → IsOver first command v }
+    ensures underway { (first w m : WorldState) (command : Command) → IsUnderway command first w → IsUnderway command w m → IsUnderway command first m }
+    ensures over { (first w v : WorldState) (command : Command) → IsUnderway command first w → IsOver command w v → IsOver command first v }
 {}
 
 /// A run that has come to its end is over: each duty is paid, and no unit was touched that was owed
 /// nothing.
 pub fn an_ended_run_is_over()
-    ensures { (first v : WorldState) (command : Command) → (IsQuery command → ⊥) → IsEndOf command first v → IsOver first command v }
+    ensures { (first v : WorldState) (command : Command) → (IsQuery command → ⊥) → IsEndOf command first v → IsOver command first v }
 {}
 
 /// However often runs of a command are cut, each at any of its moments, the last leaves what a run
@@ -55,20 +55,20 @@ pub fn an_ended_run_is_over()
 /// one step further where a cut came after its goal was removed: see `cut_rollbacks_end_alike`.
 pub fn cut_runs_end_alike()
     ensures { (command : Command) (cuts : List WorldState) (first last : WorldState) → (IsQuery command → ⊥) → goes_back command first.leaves ≡ false
-        → refusal command first.leaves ≡ None → IsSteadyFor command first → LeadsBy command cuts first last → IsOver first command last }
+        → refusal command first.leaves ≡ None → IsSteadyFor command first → LeadsBy command cuts first last → IsOver command first last }
 {}
 
 /// However often runs of any command are cut, the last leaves what a run leaves that isn't cut, or one of them
 /// was cut when all was done that the first had begun, and no goal of a rollback stood any more.
 pub fn cut_rollbacks_end_alike()
     ensures { (command : Command) (cuts : List WorldState) (first last : WorldState) → (IsQuery command → ⊥) → refusal command first.leaves ≡ None
-        → IsSteadyFor command first → LeadsBy command cuts first last → IsOver first command last ⊎ HasComeBackIn command first cuts }
+        → IsSteadyFor command first → LeadsBy command cuts first last → IsOver command first last ⊎ HasComeBackIn command first cuts }
 {}
 
 /// A run that goes on where another was cut leaves a unit failed that the system defines exactly where
 /// one does that isn't cut.
 pub fn a_cut_leaves_the_same_failed()
-    ensures { (first w v : WorldState) (command : Command) → IsSystemPath (new_system command w.leaves) → IsUnderway first command w
+    ensures { (first w v : WorldState) (command : Command) → IsSystemPath (new_system command w.leaves) → IsUnderway command first w
         → IsEndOf command w v → LeavesFailed command w ↔ LeavesFailed command first }
 {}
 

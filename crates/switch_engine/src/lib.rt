@@ -19,4 +19,3 @@ pub use plan::Plan;
 pub use planning::plan_all;
 pub use row::{Row, resolve};
 pub use switch_parts::{MapFile, PlanFault, Refusal, TableFile, What};
-pub use system::version_path;

@@ -1,9 +1,9 @@
 //! Plans what a command does, before anything is put or changed.
 ghost use Rattle.std.specs.Prelude.{◌≡◌, ◌↔◌, false, true, None, Option, Some, is_none, IfOk, IfSome, IsErrOf, IsTrue, OnOk, option_map};
 ghost use Rattle.std.specs.Option.{option_copied};
-ghost use Rattle.activation_stage.specs.ActivationPart.{activation_in};
 ghost use Rattle.boot_entries.specs.BootDefault.{IsDefaultFor};
 ghost use Rattle.boot_entries.specs.declared.boot_default.BootDefaultPlan.{BootDefaultPlan};
+ghost use Rattle.boot_entries.specs.Entries.{version_path};
 ghost use Rattle.generations.specs.Gens.{IsGensOf};
 ghost use Rattle.host_trait.specs.declared.tree.HostFault.TheVariants.{Device};
 ghost use Rattle.host_trait.specs.Host.{Told};
@@ -17,25 +17,24 @@ ghost use Rattle.switch_engine.specs.declared.row.Row.{Row};
 ghost use Rattle.switch_engine.specs.Commands.{switched_by};
 ghost use Rattle.switch_engine.specs.Lengths.{too_long_by};
 ghost use Rattle.switch_engine.specs.Owing.{IsLongBy, IsSteadyFor, IsSteadyTo, Refuses, RefusesBy};
-ghost use Rattle.switch_engine.specs.Plan.{AreGensBy, ArePlanned, AreUnitsPlanned, IsActivationPlanned, IsPlanOf, IsProfilePlanned, IsSound};
+ghost use Rattle.switch_engine.specs.Plan.{AreGensBy, ArePlanned, IsDefaultPlanned, IsPlanOf, IsSound, IsSwitchPlanned, units_in, units_of};
 ghost use Rattle.switch_engine.specs.Resolved.{IsGoalPast};
-ghost use Rattle.switch_engine.specs.Rows.{default_if, gens_to, goal_by, part_if, parts_in, refusal_before_length, refusal_by, too_many_by, too_much_by, version_refusal};
-ghost use Rattle.switch_engine.specs.System.{version_path};
+ghost use Rattle.switch_engine.specs.Rows.{default_if, gens_to, goal_by, part_if, parts_in, refusal_before_length, refusal_by, switch_in, too_many_by, too_much_by, version_refusal};
 ghost use Rattle.switch_parts.specs.declared.plan_fault.PlanFault.TheVariants.{Host, Refused};
 ghost use Rattle.switch_parts.specs.declared.refusal.Refusal.{Refusal};
 ghost use Rattle.switch_parts.specs.declared.refusal.Refusal.TheVariants.{InTheWay};
 ghost use Rattle.tree_put.specs.First.{first_in_the_way};
 ghost use Rattle.tree_put.specs.Found.{AreFound};
-ghost use Rattle.unit_stage.specs.Units.{units_part};
+ghost use Rattle.unit_stage.specs.Plan.{no_units};
 
 use crate::command::Command;
 use crate::places::{check_way, places_of};
-use crate::plan::Plan;
+use crate::plan::{Plan, SwitchPlan};
 use crate::row::{Resolved, Row, resolve};
 use crate::sources::{is_owed_short, too_long};
 use crate::system::version_length;
 use accounts_stage::too_many_rows;
-use activation_stage::{ActivationPlan, plan_activation};
+use activation_stage::plan_activation;
 use boot_entries::{BootDefaultPlan, plan_boot_default};
 use etc_farm::too_many_entries;
 use generations::{Gens, Move, all};
@@ -46,7 +45,7 @@ use std::collections::BTreeMap;
 use switch_names::Path;
 use switch_parts::{PlanFault, Refusal, What, long_refusal, refuse, too_many as too_many_of};
 use tree_put::{Found, nothing_found};
-use unit_stage::{UnitPlan, plan_units, too_many_units};
+use unit_stage::{plan_units, too_many_units};
 
 /// The generations that stand, where a row moves the profile: those that are known, else they are read.
 fn gens_for<T: Tree>(
@@ -92,50 +91,28 @@ fn check_places<T: Tree>(
     Ok(())
 }
 
-/// Plans what a command does to the units, or nothing where it doesn't switch them.
+/// Plans a switch of the units, with the accounts and `/etc`, or nothing where a command doesn't switch them.
 fn plan_switch<H: Manager>(
     alloc: Global,
     host: &mut H,
     findings: &mut BTreeMap<Path, Found>,
     row: &Row,
-) -> Result<UnitPlan, PlanFault>
+) -> Result<Option<SwitchPlan>, PlanFault>
     requires found { Told (H.host host.old) (λ w. AreFound w.leaves findings.old) }
-    ensures plan { IfOk result (λ plan. Told (H.host host.old) (λ w. AreUnitsPlanned row.now.start_up row.now.switches row.now.system w plan)) }
-    ensures filled { IfOk result (λ plan. IsFilled plan.write) }
-    ensures steady { IfOk result (λ plan. Told (H.host host.old) (λ w. IsTrue plan.steady ↔ IsSteadyTo row.now.start_up (switched_by row.now) w)) }
-    ensures not_refused { OnOk result (Told (H.host host.old) (λ w. (part_if row.now.switches (units_part row.now.start_up row.now.system)).refusal w.leaves ≡ None)) }
+    ensures plan { IfOk result (λ plan. Told (H.host host.old) (λ w. IsSwitchPlanned row.now.start_up row.now.switches row.now.system w plan)) }
+    ensures filled { IfOk result (λ plan. IsFilled (units_in plan no_units).write) }
+    ensures steady { IfOk result (λ plan. Told (H.host host.old) (λ w. IsTrue (units_in plan no_units).steady ↔ IsSteadyTo row.now.start_up (switched_by row.now) w)) }
+    ensures not_refused { OnOk result (Told (H.host host.old) (λ w. (part_if row.now.switches (switch_in row.now.start_up row.now.system w.leaves)).refusal w.leaves ≡ None)) }
     ensures refused { (why : Refusal) → IsErrOf result (Refused why)
-        → Told (H.host host.old) (λ w. (part_if row.now.switches (units_part row.now.start_up row.now.system)).refusal w.leaves ≡ Some why) }
-    ensures others { OnOk result (Told (H.host host.old) (λ w. AreFound w.leaves findings.new)) }
+        → Told (H.host host.old) (λ w. (part_if row.now.switches (switch_in row.now.start_up row.now.system w.leaves)).refusal w.leaves ≡ Some why) }
     ensures reads { IsReadingOf (H.host host.old) (H.host host.new) (IsErrOf result (Host Device)) }
-{
-    if !row.switches {
-        return Ok(UnitPlan::none(alloc));
-    }
-    let plan = plan_units(alloc, host, findings, &row.system, row.start_up)?;
-    Ok(plan)
-}
-
-/// Plans the accounts and `/etc` where a command switches the units, or nothing.
-fn plan_accounts_and_etc<T: Tree>(
-    alloc: Global,
-    host: &mut T,
-    findings: &mut BTreeMap<Path, Found>,
-    row: &Row,
-) -> Result<Option<ActivationPlan>, PlanFault>
-    requires found { Told (T.host host.old) (λ w. AreFound w.leaves findings.old) }
-    ensures plan { IfOk result (λ plan. Told (T.host host.old) (λ w. IsActivationPlanned row.now.switches row.now.system w plan)) }
-    ensures not_refused { OnOk result (Told (T.host host.old) (λ w. (part_if row.now.switches (activation_in row.now.system w.leaves)).refusal w.leaves ≡ None)) }
-    ensures refused { (why : Refusal) → IsErrOf result (Refused why)
-        → Told (T.host host.old) (λ w. (part_if row.now.switches (activation_in row.now.system w.leaves)).refusal w.leaves ≡ Some why) }
-    ensures others { OnOk result (Told (T.host host.old) (λ w. AreFound w.leaves findings.new)) }
-    ensures reads { IsReadingOf (T.host host.old) (T.host host.new) (IsErrOf result (Host Device)) }
 {
     if !row.switches {
         return Ok(None);
     }
-    let plan = plan_activation(alloc, host, findings, &row.system)?;
-    Ok(Some(plan))
+    let units = plan_units(alloc, host, findings, &row.system, row.start_up)?;
+    let activation = plan_activation(alloc, host, findings, &row.system)?;
+    Ok(Some(SwitchPlan { units, activation }))
 }
 
 /// Why the goal that is recorded refuses a move of the profile: where that goes back, and the goal is longer than may be read.
@@ -149,7 +126,7 @@ fn goal_refusal(to: Move, past: Option<u64>) -> Option<Refusal>
 }
 
 /// Plans to make the system of a command the boot default, or nothing where the profile isn't moved.
-fn plan_profile<T: Tree>(
+fn plan_default<T: Tree>(
     alloc: Global,
     host: &mut T,
     row: &Row,
@@ -158,7 +135,7 @@ fn plan_profile<T: Tree>(
 ) -> Result<Option<BootDefaultPlan>, PlanFault>
     requires gens { Told (T.host host.old) (λ w. AreGensBy row.now.moves w.leaves gens) }
     requires past { Told (T.host host.old) (λ w. IsGoalPast row.now.moves w.leaves past) }
-    ensures plan { IfOk result (λ plan. Told (T.host host.old) (λ w. IsProfilePlanned row.now.moves row.now.system w plan)) }
+    ensures plan { IfOk result (λ plan. Told (T.host host.old) (λ w. IsDefaultPlanned row.now.moves row.now.system w plan)) }
     ensures sound { IfOk result (λ plan. (profile : BootDefaultPlan) → plan ≡ Some profile → IsDefaultFor row.now.system profile) }
     ensures not_refused { OnOk result (Told (T.host host.old) (λ w. (default_if row.now.moves row.now.system (gens_to row.now.moves row.now.system w.leaves)).refusal w.leaves ≡ None)) }
     ensures refused { (why : Refusal) → IsErrOf result (Refused why)
@@ -191,7 +168,7 @@ fn plan_parts<H: Manager>(
     ensures command { IfOk result (λ its. its.0.command ≡ command.now) }
     ensures row { IfOk result (λ its. its.0.row ≡ row.now) }
     ensures plan { IfOk result (λ its. Told (H.host host.old) (λ w. ArePlanned row.now w its.0)) }
-    ensures steady { IfOk result (λ its. Told (H.host host.old) (λ w. IsTrue its.0.units.steady ↔ IsSteadyTo row.now.start_up (switched_by row.now) w)) }
+    ensures steady { IfOk result (λ its. Told (H.host host.old) (λ w. IsTrue (units_of its.0).steady ↔ IsSteadyTo row.now.start_up (switched_by row.now) w)) }
     ensures sound { IfOk result (λ its. IsSound its.0) }
     ensures short { IfOk result (λ its. Told (H.host host.old) (λ w. IsTrue its.1 → row.now.switches ≡ true → AreOwedShort w.leaves)) }
     ensures not_refused { OnOk result (Told (H.host host.old) (λ w. refusal_before_length row.now.start_up row.now.switches row.now.moves row.now.system w.leaves ≡ None)) }
@@ -205,10 +182,9 @@ fn plan_parts<H: Manager>(
     let mut findings = nothing_found(alloc);
     check_places(alloc, host, &mut findings, row, gens.as_ref())?;
     let short = is_owed_short(alloc, &findings, row)?;
-    let units = plan_switch(alloc, host, &mut findings, row)?;
-    let activation = plan_accounts_and_etc(alloc, host, &mut findings, row)?;
-    let profile = plan_profile(alloc, host, row, gens, past)?;
-    Ok((Plan::new(planned, its, units, activation, profile), short))
+    let switch = plan_switch(alloc, host, &mut findings, row)?;
+    let boot_default = plan_default(alloc, host, row, gens, past)?;
+    Ok((Plan::new(alloc, planned, its, switch, boot_default), short))
 }
 
 /// What there is too much of for a row that switches the units: units, then entries below `/etc`, and then rows of account
@@ -273,11 +249,11 @@ fn check_owed<T: Tree>(alloc: Global, host: &mut T, row: &Row, short: bool) -> R
 fn long_of(alloc: Global, plan: &Plan) -> Result<Option<TooLong>, AllocError>
     ensures { IfOk result (λ long. (its : Row) (w : WorldState) → ArePlanned its w plan.now → IsLongBy its w long) }
 {
-    let Some(activation) = plan.activation() else {
+    let Some(switch) = &plan.switch else {
         return Ok(None);
     };
-    let log = plan.units().long_log(alloc)?;
-    let long = activation.long(alloc)?;
+    let log = switch.units.long_log(alloc)?;
+    let long = switch.activation.long(alloc)?;
     Ok(first_long(log, long))
 }
 
@@ -322,7 +298,7 @@ fn plan_row<H: Manager>(
     ensures command { IfOk result (λ plan. plan.command ≡ command.now) }
     ensures row { IfOk result (λ plan. plan.row ≡ row.now) }
     ensures plan { IfOk result (λ plan. Told (H.host host.old) (λ w. ArePlanned row.now w plan)) }
-    ensures steady { IfOk result (λ plan. Told (H.host host.old) (λ w. IsTrue plan.units.steady ↔ IsSteadyTo row.now.start_up (switched_by row.now) w)) }
+    ensures steady { IfOk result (λ plan. Told (H.host host.old) (λ w. IsTrue (units_of plan).steady ↔ IsSteadyTo row.now.start_up (switched_by row.now) w)) }
     ensures sound { IfOk result IsSound }
     ensures not_refused { OnOk result (Told (H.host host.old) (λ w. RefusesBy row.now w None)) }
     ensures refused { (why : Refusal) → IsErrOf result (Refused why) → Told (H.host host.old) (λ w. RefusesBy row.now w (Some why)) }
@@ -372,7 +348,7 @@ pub fn plan_all<H: Manager>(
 ) -> Result<Plan, PlanFault>
     ensures command { IfOk result (λ plan. plan.command ≡ command.now) }
     ensures plan { IfOk result (λ plan. Told (H.host host.old) (λ w. IsPlanOf w plan)) }
-    ensures steady { IfOk result (λ plan. Told (H.host host.old) (λ w. IsTrue plan.units.steady ↔ IsSteadyFor command.now w)) }
+    ensures steady { IfOk result (λ plan. Told (H.host host.old) (λ w. IsTrue (units_of plan).steady ↔ IsSteadyFor command.now w)) }
     ensures sound { IfOk result IsSound }
     ensures refused { (why : Refusal) → IsErrOf result (Refused why) → Told (H.host host.old) (λ w. Refuses command.now w (Some why)) }
     ensures reads { IsReadingOf (H.host host.old) (H.host host.new) (IsErrOf result (Host Device)) }

@@ -10,7 +10,7 @@ ghost use Rattle.switch_engine.specs.Rows.{gens_to};
 ghost use Rattle.tree_put.specs.Found.{AreFound};
 
 use crate::row::Row;
-use crate::system::version_path;
+use boot_entries::version_path;
 use generations::{Move, after_move, all, goal_path};
 use host_trait::{HostFault, Tree};
 use leaf_limits::{is_long, long_past};

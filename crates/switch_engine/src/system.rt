@@ -1,13 +1,14 @@
 //! The file that each built system has.
 ghost use Rattle.std.specs.Prelude.{◌≡◌, IfOk, length, option_map};
+ghost use Rattle.boot_entries.specs.Entries.{version_path};
 ghost use Rattle.host_trait.specs.Host.{Told};
 ghost use Rattle.host_trait.specs.Reading.{IsReading};
 ghost use Rattle.host_trait.specs.World.{content_of};
-ghost use Rattle.switch_engine.specs.System.{version_path};
 
+use boot_entries::version_path;
 use host_trait::{HostFault, Tree, content};
-use std::alloc::{AllocError, Global};
-use switch_names::{Bytes, Path, SystemName};
+use std::alloc::Global;
+use switch_names::{Bytes, SystemName};
 
 /// How many bytes a content has, where there is one.
 fn length_of(content: &Option<Bytes>) -> Option<u64>
@@ -16,16 +17,6 @@ fn length_of(content: &Option<Bytes>) -> Option<u64>
     match content {
         Some(bytes) => Some(bytes.as_slice().len() as u64),
         None => None,
-    }
-}
-
-/// The file that each built system has.
-pub fn version_path(alloc: Global, system: &SystemName) -> Result<Path, AllocError>
-    ensures { IfOk result (λ path. path ≡ version_path system.now) }
-{
-    match system.path().join(alloc, "nixos-version") {
-        Ok(path) => Ok(path),
-        Err(_) => Err(AllocError),
     }
 }
 

@@ -9,7 +9,7 @@ use Rattle.switch_names.proofs.Outcomes.{option_or_parts, option_or_nothing, non
 use Rattle.std.specs.List.{find}
 use Rattle.tree_put.specs.WrittenPlace.{is_in_the_way}
 use Rattle.switch_parts.proofs.LongLemmas.{long_parts, none_long}
-use Rattle.switch_parts.specs.Part.{AreParted, IsAtEnd, IsDone, IsFree, IsMomentOf, IsOnly, IsPart, IsSameFor, Part, both, final_leaf}
+use Rattle.switch_parts.specs.Part.{AreParted, IsAtEnd, IsDone, IsFree, IsPartMoment, IsOnly, IsPart, IsSameFor, Part, both, final_leaf}
 
 pub left_false : (a b : Bool) → a || b ≡ false → a ≡ false
 left_false true b is = absurd (both_ways _ is refl)
@@ -102,7 +102,7 @@ module _ (p q : Part) (first : IsPart p) (second : IsPart q) where
 
   module _ (parted : AreParted p q) where
     -- a moment of one part's work is one of both
-    pub first_moment : (w m : WorldState) → IsMomentOf p w m → IsMomentOf (both p q) w m
+    pub first_moment : (w m : WorldState) → IsPartMoment p w m → IsPartMoment (both p q) w m
     first_moment w m moment = record {
       keeps = (moment.keeps, second.frame w m (only_beside p q second parted.first parted.manager w m moment.only));
       only = record {
@@ -111,7 +111,7 @@ module _ (p q : Part) (first : IsPart p) (second : IsPart q) where
       };
     }
 
-    pub second_moment : (w m : WorldState) → IsMomentOf q w m → IsMomentOf (both p q) w m
+    pub second_moment : (w m : WorldState) → IsPartMoment q w m → IsPartMoment (both p q) w m
     second_moment w m moment = record {
       keeps = (first.frame w m (only_beside q p first parted.second (and_swap p.calls q.calls parted.manager) w m moment.only), moment.keeps);
       only = record {
@@ -126,10 +126,10 @@ module _ (p q : Part) (first : IsPart p) (second : IsPart q) where
         and_swap a false none = refl
 
 module _ (p : Part) (part : IsPart p) where
-  pub moment_self : (w : WorldState) → IsMomentOf p w w
+  pub moment_self : (w : WorldState) → IsPartMoment p w w
   moment_self w = record { keeps = part.keeps_self w; only = record { leaves = λ q none ne. refl; manager = λ none. refl } }
 
-  pub moment_then : (w v m : WorldState) → IsMomentOf p w v → IsMomentOf p v m → IsMomentOf p w m
+  pub moment_then : (w v m : WorldState) → IsPartMoment p w v → IsPartMoment p v m → IsPartMoment p w m
   moment_then w v m one then = record {
     keeps = part.keeps_then w v m one.keeps then.keeps;
     only = record {
@@ -139,7 +139,7 @@ module _ (p : Part) (part : IsPart p) where
   }
 
   -- a switch from any moment leaves the same at each place as one from the beginning
-  pub ends_alike : (w m : WorldState) → IsMomentOf p w m → (q : Name) → q ≢ stage → final_leaf p m.leaves q ≡ final_leaf p w.leaves q
+  pub ends_alike : (w m : WorldState) → IsPartMoment p w m → (q : Name) → q ≢ stage → final_leaf p m.leaves q ≡ final_leaf p w.leaves q
   ends_alike w m moment q ne = elim (cases_Bool (p.owns q)) [
     | inl is ↦ ap (λ b. cond b (p.end m.leaves q) (get m.leaves q)) is ∙ part.same_end w m moment.keeps q is ∙ sym (ap (λ b. cond b (p.end w.leaves q) (get w.leaves q)) is)
     | inr not ↦ ap (λ b. cond b (p.end m.leaves q) (get m.leaves q)) not ∙ moment.only.leaves q not ne ∙ sym (ap (λ b. cond b (p.end w.leaves q) (get w.leaves q)) not)
@@ -186,7 +186,7 @@ module _ (p q : Part) (first : IsPart p) (second : IsPart q) (beside : (at : Nam
 
 module _ (p : Part) (part : IsPart p) where
   -- where a part is done, it keeps what the last moment of its work keeps
-  pub done_keeps : p.calls ≡ false → (w u v : WorldState) → IsMomentOf p w u → IsAtEnd p w u → IsDone p w v → p.Keeps w v
+  pub done_keeps : p.calls ≡ false → (w u v : WorldState) → IsPartMoment p w u → IsAtEnd p w u → IsDone p w v → p.Keeps w v
   done_keeps silent w u v moment end done = part.keeps_then w u v moment.keeps (part.frame u v (record {
     leaves = λ q read. elim (cases_Bool (p.owns q)) [
       | inl own ↦ done.end q own ∙ sym (end q own)

@@ -57,7 +57,7 @@ pub record IsPart (part : Part) : Type 0 where
   pub no_stage : part.reads stage ≡ false
 
 -- each moment of a part's work
-pub record IsMomentOf (part : Part) (w m : WorldState) : Type 0 where
+pub record IsPartMoment (part : Part) (w m : WorldState) : Type 0 where
   pub keeps : part.Keeps w m
   pub only : IsOnly part w m
 

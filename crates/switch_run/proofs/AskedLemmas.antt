@@ -32,7 +32,7 @@ use Rattle.switch_run.specs.CollectionEnding.{IsCollectionBroken, IsCollectionRu
 use Rattle.switch_run.specs.Commands.{command_for, command_of}
 use Rattle.switch_run.specs.Ending.{HasCome, IsEnding, IsSinkCaused}
 use Rattle.switch_run.specs.Listing.{IsInList, IsListing, IsListOf, asks_list}
-use Rattle.switch_run.specs.Moments.{IsMomentOf}
+use Rattle.switch_run.specs.Moments.{IsMomentFor}
 use Rattle.switch_run.specs.Output.{IsIdle}
 use Rattle.switch_run.specs.Output.IsBrokenOff.{BeforeReport}
 use Rattle.switch_run.specs.Rehearsing.{AsksRehearsal, IsInRehearsal, IsNumber, IsRehearsing, Tells, is_rehearsal, rehearsed_word}
@@ -152,7 +152,7 @@ module _ (words : List (List ℕ)) (host_state after : HostState) (sink put : Si
   unread : IsUntouched host_state after → (given : Option Command) → put ≡ sink → ending ≡ Err (fault.Host host.Memory) → IsEnding given host_state after sink put ending
   unread untouched given quiet is = unread_as (λ s e. IsEnding given host_state after sink s e) quiet is (record {
     come = come given;
-    moments = same_as untouched.same (IsMomentOf given) (λ w told. begins given w);
+    moments = same_as untouched.same (IsMomentFor given) (λ w told. begins given w);
     cause = untouched_cause untouched (IsErrOf {T = Bool} (Err (fault.Host host.Memory)) (fault.Host host.Device)) memory_no_device;
     sink_cause = no_sink sink (IsErrOf {T = Bool} (Err (fault.Host host.Memory)) fault.Sink) (host_no_sink host.Memory);
   })
@@ -253,19 +253,19 @@ module _ (words : List (List ℕ)) (host_state after : HostState) (sink put : Si
       unread_as (λ s e. IsSinkCaused sink s (IsErrOf e fault.Sink)) quiet is (no_sink sink (IsErrOf {T = Bool} (Err (fault.Host host.Memory)) fault.Sink) (host_no_sink host.Memory))
 
   -- nothing changes where no command is given
-  without_command : command_of words ≡ None → Passes host_state after IsSame → Passes host_state after (IsMomentOf (command_of words))
-  without_command none same = subst (λ (given : Option Command). Passes host_state after (IsMomentOf given)) (sym none) same
+  without_command : command_of words ≡ None → Passes host_state after IsSame → Passes host_state after (IsMomentFor (command_of words))
+  without_command none same = subst (λ (given : Option Command). Passes host_state after (IsMomentFor given)) (sym none) same
 
-  pub moments : IsRun words host_state after sink put ending → AsksNoCollection words → Passes host_state after (IsMomentOf (command_of words))
-  moments (Answered (asked.Command command) asks is) none = subst (λ (given : Option Command). Passes host_state after (IsMomentOf given)) (sym asks) is.moments
+  pub moments : IsRun words host_state after sink put ending → AsksNoCollection words → Passes host_state after (IsMomentFor (command_of words))
+  moments (Answered (asked.Command command) asks is) none = subst (λ (given : Option Command). Passes host_state after (IsMomentFor given)) (sym asks) is.moments
   moments (Answered asked.Generations asks is) none = without_command (no_command_listed words asks) is.unchanged
   moments (Answered (asked.Rehearsal number) asks is) none = without_command (no_command words asks.1.word asks.1.behind) is.0.same
   moments (Answered (asked.RehearsalWithJobs number) asks is) none = without_command (no_command words asks.1.word asks.1.behind) is.0.same
   moments (Answered (asked.Collection keep) asks is) none = absurd (none keep asks)
   moments (Answered asked.Nothing asks is) none = without_command asks.command is.moments
-  moments (Unread same quiet is) none = same_as same.same (IsMomentOf (command_of words)) (λ w told. begins (command_of words) w)
+  moments (Unread same quiet is) none = same_as same.same (IsMomentFor (command_of words)) (λ w told. begins (command_of words) w)
 
-  pub each : IsRun words host_state after sink put ending → AsksNoCollection words → IsHost host_state → EachMoment host_state after (IsMomentOf (command_of words))
+  pub each : IsRun words host_state after sink put ending → AsksNoCollection words → IsHost host_state → EachMoment host_state after (IsMomentFor (command_of words))
   each is none host_is = each_moment host_is (moments is none) (λ w told. begins (command_of words) w)
 
   -- ---- what its status tells

@@ -20,7 +20,7 @@ use Rattle.switch_engine.specs.Commands.{IsBoot, IsQuery, brought_to, if_so, new
 use Rattle.switch_engine.specs.Final.{AreEntries, AreFinalUnits, IsEndOf, LeavesFailed, LeavesFailedAt}
 use Rattle.switch_engine.specs.Moments as engine
 use Rattle.switch_engine.specs.Owing.{Refuses}
-use Rattle.switch_engine.specs.Plan.{IsPlanOf}
+use Rattle.switch_engine.specs.Plan.{IsPlanOf, units_of}
 use Rattle.switch_engine.specs.Quiet.{IsQuietCommand, command_first, is_not_quiet}
 use Rattle.switch_engine.specs.Rows.{final, part_of}
 use Rattle.switch_engine.proofs.QuietLemmas.{quiet_none}
@@ -36,7 +36,7 @@ use Rattle.dry_report.proofs.PutLemmas.{puts_as, puts_nothing, puts_then}
 use Rattle.switch_run.specs.declared.run_fault.RunFault.{RunFault}
 use Rattle.switch_run.specs.declared.run_fault.RunFault.TheVariants.{Usage, Refused, Host, Sink}
 use Rattle.switch_run.specs.Ending.{HasCome, HasReported, IsEnding, IsSinkCaused}
-use Rattle.switch_run.specs.Moments.{IsMomentOf}
+use Rattle.switch_run.specs.Moments.{IsMomentFor}
 use Rattle.switch_run.specs.Output.{IsBrokenOff, IsFailedOutput, IsIdle, IsInClosing, IsInReport, IsWhole}
 use Rattle.switch_run.specs.Output.IsBrokenOff.{AfterReport, BeforeReport}
 use Rattle.switch_run.specs.Output.IsFailedOutput.{InClosing, InReport}
@@ -112,7 +112,7 @@ module _ {host : HostState} {sink : SinkState} where
       IsEnding given host host sink sink (Err y)
   nothing_done given y come no_device no_output = record {
     come = come;
-    moments = started (IsMomentOf given) (λ w is. begins given w);
+    moments = started (IsMomentFor given) (λ w is. begins given w);
     cause = started_of (IsErrOf (Err y) (Host Device)) no_device;
     sink_cause = no_sink sink (IsErrOf (Err y) Sink) no_output;
   }
@@ -131,13 +131,13 @@ module _ {host after : HostState} {sink : SinkState} (command : Command) where
       IsReadingOf host after (IsErrOf {T = Plan} (Err f) (plan.Host Device)) → IsEnding (Some command) host after sink sink (Err (fault_of f))
   unplanned (plan.Refused why) refused reads = record {
     come = record { refused = refused why refl; idle = read_idle reads.moments };
-    moments = same_as reads.moments (IsMomentOf (Some command)) (λ w is. begins (Some command) w);
+    moments = same_as reads.moments (IsMomentFor (Some command)) (λ w is. begins (Some command) w);
     cause = causes (started_of ⊥ (λ none. none)) reads.cause (λ is. absurd (refused_no_host why is));
     sink_cause = no_sink sink (IsErrOf {T = Bool} (Err (Refused why)) Sink) (refused_no_sink why);
   }
   unplanned (plan.Host why) refused reads = record {
     come = BeforeReport (read_idle reads.moments);
-    moments = same_as reads.moments (IsMomentOf (Some command)) (λ w is. begins (Some command) w);
+    moments = same_as reads.moments (IsMomentFor (Some command)) (λ w is. begins (Some command) w);
     cause = causes (started_of ⊥ (λ none. none)) reads.cause (plan_host why);
     sink_cause = no_sink sink (IsErrOf {T = Bool} (Err (Host why)) Sink) (host_no_sink why);
   }
@@ -156,13 +156,13 @@ module _ {host : HostState} (plan : Plan) (planned : Told host (λ w. IsPlanOf w
         not_refused = not_refused;
         output = InReport (started IsSame (λ w is. refl)) (told_as planned (λ w. Puts sink put (IsInReport plan.command w)) (λ w is planned. reported w planned));
       };
-      moments = started (IsMomentOf (Some plan.command)) (λ w is. begins (Some plan.command) w);
+      moments = started (IsMomentFor (Some plan.command)) (λ w is. begins (Some plan.command) w);
       cause = started_of (IsErrOf {T = Bool} (Err Sink) (Host Device)) (sink_no_host Device);
       sink_cause = sink_as cause (IsErrOf {T = Bool} (Err Sink) Sink) (λ is. refl);
     }
     unreported (Host Memory) reported cause = record {
       come = BeforeReport (record { unchanged = started IsSame (λ w is. refl); silent = reported });
-      moments = started (IsMomentOf (Some plan.command)) (λ w is. begins (Some plan.command) w);
+      moments = started (IsMomentFor (Some plan.command)) (λ w is. begins (Some plan.command) w);
       cause = started_of (IsErrOf {T = Bool} (Err (Host Memory)) (Host Device)) memory_no_device;
       sink_cause = sink_as cause (IsErrOf {T = Bool} (Err (Host Memory)) Sink) (λ is. absurd (host_no_sink Memory is));
     }
@@ -184,7 +184,7 @@ module _ {host : HostState} (plan : Plan) (planned : Told host (λ w. IsPlanOf w
           verdict = record { has = λ w is. (λ never. absurd cc, λ left. absurd (query_fails plan.command query w left)) };
           output = told_as report_put (λ w. Puts sink put (IsWhole plan.command w)) (λ w is put. puts_as put (IsWhole plan.command w) (λ more report. query_whole plan.command query w more report));
         };
-        moments = started (IsMomentOf (Some plan.command)) (λ w is. begins (Some plan.command) w);
+        moments = started (IsMomentFor (Some plan.command)) (λ w is. begins (Some plan.command) w);
         cause = started_of (IsErrOf {T = Bool} (Ok false) (Host Device)) (ok_no_fault false (Host Device));
         sink_cause = sink_as put_cause (IsErrOf {T = Bool} (Ok false) Sink) (ok_no_fault false Sink);
       }
@@ -216,8 +216,8 @@ module _ {host : HostState} (plan : Plan) (planned : Told host (λ w. IsPlanOf w
           }
 
       module _ {after : HostState} (changes : IsQuery plan.command → ⊥) (moments : Passes host after (engine.IsMomentOf plan.command)) where
-        run_moments : Passes host after (IsMomentOf (Some plan.command))
-        run_moments = passes_as moments (IsMomentOf (Some plan.command)) (λ w m is moment. of_command plan.command w m (not_refused.has w is) moment)
+        run_moments : Passes host after (IsMomentFor (Some plan.command))
+        run_moments = passes_as moments (IsMomentFor (Some plan.command)) (λ w m is moment. of_command plan.command w m (not_refused.has w is) moment)
 
         -- the host has failed under the command
         pub uncarried : {T : Type 0} (f : HostFault) → HasCause {T = T} host after (Err f) → IsEnding (Some plan.command) host after sink put (Err (Host f))
@@ -230,7 +230,7 @@ module _ {host : HostState} (plan : Plan) (planned : Told host (λ w. IsPlanOf w
 
         module _ (led : Leads host after (IsEndOf plan.command)) (states : UnitStates) (told : (IsBoot plan.command → ⊥) → Told after (λ v. states ≡ v.manager.states)) where
           abbrev text : List ℕ
-          text = close_of (failed_in plan.units.defs states)
+          text = close_of (failed_in (units_of plan).defs states)
 
           closing_is : Told host (λ w. IsClosing plan.command w text)
           closing_is = told_as planned (λ w. IsClosing plan.command w text)
@@ -323,7 +323,7 @@ module _ {host before : HostState} {F : Type 0} (command : Command) (reads : IsR
   pub ending_after : {after : HostState} {sink put : SinkState} (ending : Result Bool RunFault) → IsEnding (Some command) before after sink put ending → IsEnding (Some command) host after sink put ending
   ending_after {after} {sink} {put} ending is = record {
     come = come_after after sink put ending is.come;
-    moments = same_then reads.moments is.moments (IsMomentOf (Some command)) (λ w told. begins (Some command) w) (λ w m told moment. moment);
+    moments = same_then reads.moments is.moments (IsMomentFor (Some command)) (λ w told. begins (Some command) w) (λ w m told moment. moment);
     cause = causes reads.cause is.cause (λ fault. fault);
     sink_cause = is.sink_cause;
   }

@@ -16,10 +16,10 @@ use Rattle.switch_names.specs.SystemName.{IsSystemPath}
 use Rattle.switch_parts.specs.declared.refusal.Refusal.{Refusal}
 use Rattle.dry_report.proofs.RerunLemmas.{keeps_report, keeps_same}
 use Rattle.dry_report.specs.Report.{KeepsReport}
-use Rattle.switch_run.specs.Moments.{IsMomentBy, IsMomentOf}
+use Rattle.switch_run.specs.Moments.{IsMomentBy, IsMomentFor}
 
 -- the world at the beginning is one
-pub begins : (given : Option Command) (w : WorldState) → IsMomentOf given w w
+pub begins : (given : Option Command) (w : WorldState) → IsMomentFor given w w
 begins None w = refl
 begins (Some command) w = by
   where
@@ -28,15 +28,15 @@ begins (Some command) w = by
     by (Some why) is = refl
 
 -- each moment of a command that isn't refused is one of its run
-pub of_command : (command : Command) (w m : WorldState) → Refuses command w None → engine.IsMomentOf command w m → IsMomentOf (Some command) w m
+pub of_command : (command : Command) (w m : WorldState) → Refuses command w None → engine.IsMomentOf command w m → IsMomentFor (Some command) w m
 of_command command w m none moment = λ why is. subst (λ (o : Option Refusal). IsMomentBy o command w m) (one_refusal_law command w None why none is) moment
 
 -- each moment is one by why the world at the beginning refuses the command
-pub by_refusal : (command : Command) (w m : WorldState) → IsMomentOf (Some command) w m → (why : Option Refusal) × Refuses command w why × IsMomentBy why command w m
+pub by_refusal : (command : Command) (w m : WorldState) → IsMomentFor (Some command) w m → (why : Option Refusal) × Refuses command w why × IsMomentBy why command w m
 by_refusal command w m moment = let its = some_refusal_law command w in (its.0, its.1, moment its.0 its.1)
 
 -- each moment of a query is the world at the beginning
-pub of_query : (command : Command) (w m : WorldState) → IsQuery command → IsMomentOf (Some command) w m → m ≡ w
+pub of_query : (command : Command) (w m : WorldState) → IsQuery command → IsMomentFor (Some command) w m → m ≡ w
 of_query command w m query moment = let its = by_refusal command w m moment in by its.0 its.2
   where
     by : (o : Option Refusal) → IsMomentBy o command w m → m ≡ w
@@ -44,7 +44,7 @@ of_query command w m query moment = let its = by_refusal command w m moment in b
     by (Some why) moment = moment
 
 -- at each moment a machine boots into the system that it would have booted into, or into the new one
-pub boots_of : (command : Command) (w m : WorldState) → IsMomentOf (Some command) w m → BootsOldOrNew command w m
+pub boots_of : (command : Command) (w m : WorldState) → IsMomentFor (Some command) w m → BootsOldOrNew command w m
 boots_of command w m moment = let its = by_refusal command w m moment in by its.0 its.2
   where
     by : (o : Option Refusal) → IsMomentBy o command w m → BootsOldOrNew command w m
@@ -52,7 +52,7 @@ boots_of command w m moment = let its = by_refusal command w m moment in by its.
     by (Some why) same = inl (ap (λ (x : WorldState). boot_system x.leaves) same)
 
 -- the report is kept at each moment
-pub of_report : (command : Command) (w m : WorldState) → (lacks_system command w.leaves ≡ false → IsSystemPath (new_system command w.leaves)) → IsMomentOf (Some command) w m → KeepsReport command w m
+pub of_report : (command : Command) (w m : WorldState) → (lacks_system command w.leaves ≡ false → IsSystemPath (new_system command w.leaves)) → IsMomentFor (Some command) w m → KeepsReport command w m
 of_report command w m named moment = let its = by_refusal command w m moment in by its.0 its.1 its.2
   where
     by : (o : Option Refusal) → Refuses command w o → IsMomentBy o command w m → KeepsReport command w m

@@ -21,8 +21,8 @@ use Rattle.switch_run.proofs.WordLemmas.{named_of}
 
 -- where runs of words lead a command that doesn't go back, it is underway or over
 reached : (words : List (List ℕ)) (command : Command) → command_of words ≡ Some command → (IsQuery command → ⊥) → (cuts : List WorldState) (w v : WorldState) → goes_back command w.leaves ≡ false →
-    refusal command w.leaves ≡ None → IsSteadyFor command w → RunsReach words cuts w v → IsUnderway w command v ⊎ IsOver w command v
-reached words command given changes [] w v ahead none steady (inl same) = inl (subst (IsUnderway w command) (sym same) (engine.begins_underway w command none steady))
+    refusal command w.leaves ≡ None → IsSteadyFor command w → RunsReach words cuts w v → IsUnderway command w v ⊎ IsOver command w v
+reached words command given changes [] w v ahead none steady (inl same) = inl (subst (IsUnderway command w) (sym same) (engine.begins_underway w command none steady))
 reached words command given changes [] w v ahead none steady (inr ended) = inr (engine.ended_over command w v changes (ended command given))
 reached words command given changes (m ∷ cuts) w v ahead none steady led =
     let underway = engine.never_back (row command w.leaves).moves command w m ahead ((moment_of words command given w m none steady led.0).underway steady) in

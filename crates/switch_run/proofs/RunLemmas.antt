@@ -25,7 +25,7 @@ use Rattle.switch_run.specs.declared.run_fault.RunFault.TheVariants as fault
 use Rattle.switch_run.specs.declared.status.Status.{Status}
 use Rattle.switch_run.specs.declared.status.Status.TheVariants.{Done, Usage, Refused, HostFault, SinkFault, NoMemory}
 use Rattle.switch_run.specs.Ending.{HasCome, IsDone, IsEnding}
-use Rattle.switch_run.specs.Moments.{IsMomentOf}
+use Rattle.switch_run.specs.Moments.{IsMomentFor}
 use Rattle.switch_run.specs.Output.{IsBrokenOff, IsFailedOutput, IsIdle, IsPutFirst, IsWhole}
 use Rattle.switch_run.specs.Output.IsBrokenOff.{AfterReport, BeforeReport}
 use Rattle.switch_run.specs.Run.{Answers, IsAnswerTo, IsBroken, IsEnded, IsVerdict, status_of}
@@ -185,15 +185,15 @@ module _ {host_state after : HostState} {sink put : SinkState} (given : Option C
 
   pub queries : (command : Command) → given ≡ Some command → IsQuery command → Passes host_state after IsSame
   queries command some query =
-      passes_as is.moments IsSame (λ w m told moment. of_query command w m query (subst (λ (g : Option Command). IsMomentOf g w m) some moment))
+      passes_as is.moments IsSame (λ w m told moment. of_query command w m query (subst (λ (g : Option Command). IsMomentFor g w m) some moment))
 
   pub same_report : (command : Command) → ((leaves : Leaves) → lacks_system command leaves ≡ false → IsSystemPath (new_system command leaves)) → given ≡ Some command → Passes host_state after (KeepsReport command)
   same_report command named some =
-      passes_as is.moments (KeepsReport command) (λ w m told moment. of_report command w m (named w.leaves) (subst (λ (g : Option Command). IsMomentOf g w m) some moment))
+      passes_as is.moments (KeepsReport command) (λ w m told moment. of_report command w m (named w.leaves) (subst (λ (g : Option Command). IsMomentFor g w m) some moment))
 
   pub boots : (command : Command) → given ≡ Some command → Passes host_state after (BootsOldOrNew command)
   boots command some =
-      passes_as is.moments (BootsOldOrNew command) (λ w m told moment. boots_of command w m (subst (λ (g : Option Command). IsMomentOf g w m) some moment))
+      passes_as is.moments (BootsOldOrNew command) (λ w m told moment. boots_of command w m (subst (λ (g : Option Command). IsMomentFor g w m) some moment))
 
   pub broken_off : IsBroken status → (command : Command) → given ≡ Some command → IsBrokenOff command host_state after sink put
   broken_off s command some = let it = broken_of ending (subst IsBroken tells s) in come_as (Some command) (Err (fault.Host it.0)) some it.1

@@ -2,12 +2,6 @@
 use Rattle.std.proofs.Common.{◌≡◌, ◌⊎◌, ℕ, Bool, false, List, [], ◌∷◌, Option, None, Some, sym, ap, subst, ◌∙◌, inl, inr, ⊎_elim}
 use Rattle.host_trait.specs.States.{UnitStates, state_of}
 use Rattle.host_trait.specs.World.{WorldState}
-use Rattle.log_text.specs.declared.lists.Lists.{Lists}
-use Rattle.owed_lists.proofs.ListLemmas.{one_list}
-use Rattle.owed_plan.specs.declared.owed.Owed.{Owed}
-use Rattle.owed_plan.specs.FinalStates.{final_state}
-use Rattle.owed_plan.specs.Owed.{IsOwed}
-use Rattle.owed_plan.specs.Systems.{systems_at}
 use Rattle.generations.specs.declared.moving.Move.{Move}
 use Rattle.generations.specs.declared.moving.Move.TheVariants.{Point, Set}
 use Rattle.switch_engine.specs.declared.command.Command.{Command}
@@ -23,21 +17,18 @@ use Rattle.switch_engine.proofs.RefusesLemmas.{steady_refusal_law}
 use Rattle.switch_names.specs.Names.{Name}
 use Rattle.switch_parts.specs.declared.refusal.Refusal.{Refusal}
 use Rattle.switch_run.specs.Commands.{command_of}
-use Rattle.switch_run.specs.Moments.{IsMomentOf}
+use Rattle.switch_run.specs.Moments.{IsMomentFor}
 use Rattle.switch_run.specs.Runs.{LooksAlike, MayBeCut, RunsLead}
-use Rattle.unit_stage.specs.End.{state_after}
-use Rattle.unit_stage.specs.Plan.{IsOwedBy}
-use Rattle.unit_stage.specs.System.{current_system, definitions_of}
-use Rattle.unit_stage.proofs.WaitingLemmas.{same_waiting}
+use Rattle.unit_stage.proofs.EndLemmas as ends
 
 -- ---- runs of words are runs of their command
 
 -- each moment of a run is one of its command, from a steady world that doesn't refuse it
-pub steady_moment : (command : Command) (w m : WorldState) → refusal command w.leaves ≡ None → IsSteadyFor command w → IsMomentOf (Some command) w m → moments.IsMomentOf command w m
+pub steady_moment : (command : Command) (w m : WorldState) → refusal command w.leaves ≡ None → IsSteadyFor command w → IsMomentFor (Some command) w m → moments.IsMomentOf command w m
 steady_moment command w m none steady moment = moment None (subst (λ (o : Option Refusal). Refuses command w o) none (steady_refusal_law command w steady))
 
-pub moment_of : (words : List (List ℕ)) (command : Command) → command_of words ≡ Some command → (w m : WorldState) → refusal command w.leaves ≡ None → IsSteadyFor command w → IsMomentOf (command_of words) w m → moments.IsMomentOf command w m
-moment_of words command given w m none steady moment = steady_moment command w m none steady (subst (λ (o : Option Command). IsMomentOf o w m) given moment)
+pub moment_of : (words : List (List ℕ)) (command : Command) → command_of words ≡ Some command → (w m : WorldState) → refusal command w.leaves ≡ None → IsSteadyFor command w → IsMomentFor (command_of words) w m → moments.IsMomentOf command w m
+moment_of words command given w m none steady moment = steady_moment command w m none steady (subst (λ (o : Option Command). IsMomentFor o w m) given moment)
 
 lead_by : (words : List (List ℕ)) (command : Command) → command_of words ≡ Some command → (cuts : List WorldState) (w v : WorldState) → goes_back command w.leaves ≡ false →
     refusal command w.leaves ≡ None → IsSteadyFor command w → RunsLead words cuts w v → LeadsBy command cuts w v
@@ -47,13 +38,13 @@ lead_by words command given (m ∷ cuts) w v ahead none steady led =
     let underway = engine.never_back (row command w.leaves).moves command w m ahead (moment.underway steady) in
     (moment, lead_by words command given cuts m v (ap (λ (r : Row). is_back r.moves) underway.same_row ∙ ahead) underway.not_refused underway.steady led.1)
 
-pub over : (words : List (List ℕ)) (cuts : List WorldState) (first last : WorldState) → (may : MayBeCut words first) → goes_back may.command first.leaves ≡ false → RunsLead words cuts first last → IsOver first may.command last
+pub over : (words : List (List ℕ)) (cuts : List WorldState) (first last : WorldState) → (may : MayBeCut words first) → goes_back may.command first.leaves ≡ false → RunsLead words cuts first last → IsOver may.command first last
 over words cuts first last may ahead led =
     engine.alike may.command cuts first last may.changes ahead may.not_refused may.steady
     (lead_by words may.command may.given cuts first last ahead may.not_refused may.steady led)
 
 come_by : (words : List (List ℕ)) (command : Command) → command_of words ≡ Some command → (IsQuery command → ⊥) → (cuts : List WorldState) (w v : WorldState) → refusal command w.leaves ≡ None → IsSteadyFor command w →
-    RunsLead words cuts w v → IsOver w command v ⊎ HasComeBackIn command w cuts
+    RunsLead words cuts w v → IsOver command w v ⊎ HasComeBackIn command w cuts
 come_by words command given changes [] w v none steady led = inl (engine.ended_over command w v changes (led command given))
 come_by words command given changes (m ∷ cuts) w v none steady led = ⊎_elim
     (λ underway. ⊎_elim
@@ -63,12 +54,12 @@ come_by words command given changes (m ∷ cuts) w v none steady led = ⊎_elim
     (λ come. inr (inl come))
     (engine.either (row command w.leaves).moves command w m ((moment_of words command given w m none steady led.0).underway steady))
 
-pub back : (words : List (List ℕ)) (cuts : List WorldState) (first last : WorldState) → (may : MayBeCut words first) → RunsLead words cuts first last → IsOver first may.command last ⊎ HasComeBackIn may.command first cuts
+pub back : (words : List (List ℕ)) (cuts : List WorldState) (first last : WorldState) → (may : MayBeCut words first) → RunsLead words cuts first last → IsOver may.command first last ⊎ HasComeBackIn may.command first cuts
 back words cuts first last may led = come_by words may.command may.given may.changes cuts first last may.not_refused may.steady led
 
 -- ---- what is on its way since one world is so since an earlier one
 
-pub on_its_way_then : (moves : Option Move) (command : Command) (first w m : WorldState) → IsUnderway first command w → IsOnItsWay moves command w m → IsOnItsWay moves command first m
+pub on_its_way_then : (moves : Option Move) (command : Command) (first w m : WorldState) → IsUnderway command first w → IsOnItsWay moves command w m → IsOnItsWay moves command first m
 on_its_way_then None command first w m before underway = engine.stays_underway command first w before m underway
 on_its_way_then (Some Set) command first w m before underway = engine.stays_underway command first w before m underway
 on_its_way_then (Some (Point n)) command first w m before is = ⊎_elim
@@ -78,31 +69,10 @@ on_its_way_then (Some (Point n)) command first w m before is = ⊎_elim
 
 -- ---- a command leaves one world to see
 
--- what is owed, whatever is left alone
-abbrev kept_owed : Owed → Owed
-kept_owed owed = record { stops = owed.stops; reloads = owed.reloads; restarts = owed.restarts; starts = owed.starts; left = [] }
-
-one_owed : (start_up : Bool) (w : WorldState) (system : Name) (one other : Owed) → IsOwedBy start_up w system one → IsOwedBy start_up w system other → kept_owed one ≡ kept_owed other
-one_owed start_up w system one other is also =
-    let mine = is.1.is_owed in
-    let lists = same_waiting start_up w.leaves system is.0 also.0 is.1.listed also.1.listed in
-    let others = subst (λ (l : Lists). IsOwed (systems_at w.leaves (current_system w.leaves) system) (state_of w.manager.states) l other) (sym lists) also.1.is_owed in
-    λ i. record {
-      stops = one_list one.stops other.stops _ mine.stops others.stops i;
-      reloads = one_list one.reloads other.reloads _ mine.reloads others.reloads i;
-      restarts = one_list one.restarts other.restarts _ mine.restarts others.restarts i;
-      starts = one_list one.starts other.starts _ mine.starts others.starts i;
-      left = [];
-    }
-
-one_state : (start_up : Bool) (w : WorldState) (system : Name) (one other : Owed) → IsOwedBy start_up w system one → IsOwedBy start_up w system other → (unit : Name) → state_after system one w unit ≡ state_after system other w unit
-one_state start_up w system one other is also unit =
-    ap (λ (owed : Owed). final_state owed (definitions_of system) w.manager.bad (state_of w.manager.states) unit) (one_owed start_up w system one other is also)
-
 one_end_of_states : (start_up : Bool) (to : Option Name) (w v u : WorldState) → AreFinalUnits start_up to w v → AreFinalUnits start_up to w u → (unit : Name) → state_of v.manager.states unit ≡ state_of u.manager.states unit
 one_end_of_states start_up None w v u is also unit = ap (λ (states : UnitStates). state_of states unit) (is.0 ∙ sym also.0)
 one_end_of_states start_up (Some system) w v u is also unit =
-    is.0.2 unit ∙ one_state start_up w system is.0.0 also.0.0 is.0.1 also.0.1 unit ∙ sym (also.0.2 unit)
+    is.0.2 unit ∙ ends.one_end start_up system also.0.1.0 also.0.0 w also.0.1.1 is.0.0 is.0.1 unit ∙ sym (also.0.2 unit)
 
 one_loaded : (start_up : Bool) (to : Option Name) (w v u : WorldState) → AreFinalUnits start_up to w v → AreFinalUnits start_up to w u → v.manager.loaded ≡ u.manager.loaded
 one_loaded start_up None w v u is also = is.1 ∙ sym also.1

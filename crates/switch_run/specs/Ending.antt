@@ -14,7 +14,7 @@ use Rattle.switch_parts.specs.declared.refusal.Refusal.{Refusal}
 use Rattle.dry_report.specs.Report.{IsReport}
 use Rattle.switch_run.specs.declared.run_fault.RunFault.{RunFault}
 use Rattle.switch_run.specs.declared.run_fault.RunFault.TheVariants.{Usage, Refused, Host, Sink}
-use Rattle.switch_run.specs.Moments.{IsMomentOf}
+use Rattle.switch_run.specs.Moments.{IsMomentFor}
 use Rattle.switch_run.specs.Output.{IsBrokenOff, IsFailedOutput, IsIdle, IsInReport, IsWhole}
 
 -- a command has come to its end, has written no leaf that stood, and says whether it left a unit failed
@@ -54,7 +54,7 @@ pub record IsSinkCaused (old new : SinkState) (fault : Type 0) : Type 0 where
 -- how a run ends whose words give this command or none
 pub record IsEnding (given : Option Command) (host after : HostState) (sink put : SinkState) (ending : Result Bool RunFault) : Type 0 where
   pub come : HasCome given host after sink put ending
-  pub moments : Passes host after (IsMomentOf given)
+  pub moments : Passes host after (IsMomentFor given)
   pub cause : HasCauseOf host after (IsErrOf ending (Host Device))
   pub sink_cause : IsSinkCaused sink put (IsErrOf ending Sink)
 

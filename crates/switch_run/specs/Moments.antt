@@ -12,6 +12,6 @@ IsMomentBy None command w m = engine.IsMomentOf command w m
 IsMomentBy (Some why) command w m = m ≡ w
 
 -- what each moment of a run has, whose words give this command or none: without a command nothing changes
-abbrev pub IsMomentOf : Option Command → WorldState → WorldState → Type 0
-IsMomentOf None w m = m ≡ w
-IsMomentOf (Some command) w m = (why : Option Refusal) → Refuses command w why → IsMomentBy why command w m
+abbrev pub IsMomentFor : Option Command → WorldState → WorldState → Type 0
+IsMomentFor None w m = m ≡ w
+IsMomentFor (Some command) w m = (why : Option Refusal) → Refuses command w why → IsMomentBy why command w m

@@ -8,19 +8,19 @@ use Rattle.switch_engine.specs.Final.{IsEndOf}
 use Rattle.switch_engine.specs.Reboot.{AreActivatedAlike}
 use Rattle.switch_names.specs.Names.{Name}
 use Rattle.switch_run.specs.Commands.{command_of}
-use Rattle.switch_run.specs.Moments.{IsMomentOf}
+use Rattle.switch_run.specs.Moments.{IsMomentFor}
 use Rattle.switch_run.specs.Runs.{HasEnded, MayBeCut}
 
 -- Runs of these words lead from one world to another: each is cut, in one of these worlds, which is a moment of a run from the
 -- world before, and the last is cut there too, or comes to its end.
 abbrev pub RunsReach : List (List ℕ) → List WorldState → WorldState → WorldState → Type 0
 RunsReach words [] w v = (v ≡ w) ⊎ HasEnded words w v
-RunsReach words (m ∷ cuts) w v = IsMomentOf (command_of words) w m × RunsReach words cuts m v
+RunsReach words (m ∷ cuts) w v = IsMomentFor (command_of words) w m × RunsReach words cuts m v
 
 -- a run of a start-up was cut in a moment of it, and the machine starts up again from there, or from its reboot
 pub record IsCutRun (r m again : WorldState) : Type 0 where
   pub sound : IsSound r.leaves
-  pub moment : IsMomentOf (Some StartUp) r m
+  pub moment : IsMomentFor (Some StartUp) r m
   pub after : (again ≡ m) ⊎ IsAfterReboot m again
 
 -- Start-ups lead from one world to another: each but the last is cut, and goes on in the second of these worlds, and the last

@@ -9,7 +9,7 @@ use Rattle.switch_engine.specs.Owing.{IsSteadyFor}
 use Rattle.switch_engine.specs.Rows.{refusal}
 use Rattle.switch_names.specs.Names.{Name}
 use Rattle.switch_run.specs.Commands.{command_of}
-use Rattle.switch_run.specs.Moments.{IsMomentOf}
+use Rattle.switch_run.specs.Moments.{IsMomentFor}
 
 -- Runs of these words may be cut from this world on: they give a command that changes something, nothing refuses it there,
 -- and the world is steady for it.
@@ -28,7 +28,7 @@ HasEnded words w v = (command : Command) → command_of words ≡ Some command �
 -- of a run from the world before, and the last comes to its end.
 abbrev pub RunsLead : List (List ℕ) → List WorldState → WorldState → WorldState → Type 0
 RunsLead words [] w v = HasEnded words w v
-RunsLead words (m ∷ cuts) w v = IsMomentOf (command_of words) w m × RunsLead words cuts m v
+RunsLead words (m ∷ cuts) w v = IsMomentFor (command_of words) w m × RunsLead words cuts m v
 
 -- two worlds look alike: the same leaves but for the stage's, the same states of units, and the same definitions loaded
 pub record LooksAlike (one other : WorldState) : Type 0 where

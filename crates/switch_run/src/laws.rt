@@ -19,7 +19,7 @@ pub fn cut_runs_end_as_one()
     ensures alike { (words : List (List ℕ)) (cuts : List WorldState) (first last uncut : WorldState) → (may : MayBeCut words first)
         → goes_back may.command first.leaves ≡ false → RunsLead words cuts first last → RunsLead words [] first uncut → LooksAlike last uncut }
     ensures over { (words : List (List ℕ)) (cuts : List WorldState) (first last : WorldState) → (may : MayBeCut words first)
-        → goes_back may.command first.leaves ≡ false → RunsLead words cuts first last → IsOver first may.command last }
+        → goes_back may.command first.leaves ≡ false → RunsLead words cuts first last → IsOver may.command first last }
 {}
 
 /// However often rollbacks are cut, the one that then comes to its end leaves what one leaves that isn't cut, and so for
@@ -27,7 +27,7 @@ pub fn cut_runs_end_as_one()
 /// has begun anew, one generation further back.
 pub fn cut_rollbacks_end_as_one()
     ensures { (words : List (List ℕ)) (cuts : List WorldState) (first last : WorldState) → (may : MayBeCut words first)
-        → RunsLead words cuts first last → IsOver first may.command last ⊎ HasComeBackIn may.command first cuts }
+        → RunsLead words cuts first last → IsOver may.command first last ⊎ HasComeBackIn may.command first cuts }
 {}
 
 /// Where runs of a switch were cut, however often, and the machine was then rebooted and has booted into its system, the

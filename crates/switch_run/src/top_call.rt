@@ -21,7 +21,7 @@ ghost use Rattle.switch_run.specs.Collecting.{AnswersCollection, AsksCollection,
 ghost use Rattle.switch_run.specs.CollectionEnding.{IsCollectionBroken, IsCollectionRefused, IsCollectionUnput};
 ghost use Rattle.switch_run.specs.Commands.{command_of};
 ghost use Rattle.switch_run.specs.Listing.{IsInList, IsListOf, asks_list};
-ghost use Rattle.switch_run.specs.Moments.{IsMomentOf};
+ghost use Rattle.switch_run.specs.Moments.{IsMomentFor};
 ghost use Rattle.switch_run.specs.Rehearsing.{AsksRehearsal, IsInRehearsal, Tells};
 ghost use Rattle.switch_run.specs.Output.{IsBrokenOff, IsFailedOutput, IsIdle, IsPutFirst, IsWhole};
 ghost use Rattle.switch_run.specs.Run.{Answers, IsBroken, IsEnded, IsVerdict};
@@ -121,18 +121,18 @@ pub fn run<H: Manager, S: Sink>(alloc: Global, words: &[Text], host: &mut H, out
 
     // Whatever cuts it, the same run ends as if it hadn't been cut, and the journal has grown by a
     // beginning of exactly what the command enters. Of a collection see above.
-    ensures each_moment { AsksNoCollection words.now → EachMoment (H.host host.old) (H.host host.new) (IsMomentOf (command_of words.now)) }
-    ensures moments { AsksNoCollection words.now → Passes (H.host host.old) (H.host host.new) (IsMomentOf (command_of words.now)) }
+    ensures each_moment { AsksNoCollection words.now → EachMoment (H.host host.old) (H.host host.new) (IsMomentFor (command_of words.now)) }
+    ensures moments { AsksNoCollection words.now → Passes (H.host host.old) (H.host host.new) (IsMomentFor (command_of words.now)) }
 
     // A machine that loses power then boots into the system that it would have booted into before, or into the new one.
     ensures boots { (command : Command) → command_of words.now ≡ Some command → Passes (H.host host.old) (H.host host.new) (BootsOldOrNew command) }
 
     // However often runs of these words were cut before, since one that wasn't refused began in a steady world: each
     // moment is underway from there, or a rollback has come to its end, and the end is the one that it has.
-    ensures after_cuts { (command : Command) (first : WorldState) → command_of words.now ≡ Some command → Told (H.host host.old) (λ w. IsUnderway first command w)
+    ensures after_cuts { (command : Command) (first : WorldState) → command_of words.now ≡ Some command → Told (H.host host.old) (λ w. IsUnderway command first w)
         → EachMoment (H.host host.old) (H.host host.new) (λ w m. IsOnItsWay (row command first.leaves).moves command first m) }
     ensures after_cuts_ended { (command : Command) (first : WorldState) → command_of words.now ≡ Some command → (IsQuery command → ⊥) → IsEnded result
-        → Told (H.host host.old) (λ w. IsUnderway first command w) → Leads (H.host host.old) (H.host host.new) (λ w v. IsOver first command v) }
+        → Told (H.host host.old) (λ w. IsUnderway command first w) → Leads (H.host host.old) (H.host host.new) (λ w v. IsOver command first v) }
 {
     let ending = run_words(alloc, words, host, out);
     status_of(ending)

@@ -6,7 +6,7 @@ use Rattle.switch_names.specs.declared.name_fault.NameFault.{NameFault}
 use Rattle.switch_names.specs.UnitName.{IsUnitName, is_template, template_of, unit_fault}
 use Rattle.host_trait.specs.World.{Leaves}
 use Rattle.unit_text.specs.declared.assignment.Assignment.{Assignment}
-use Rattle.unit_defs.specs.declared.part.Part.{Part}
+use Rattle.unit_defs.specs.declared.part.FilePart.{FilePart}
 use Rattle.unit_defs.specs.declared.unit.Unit.{Unit}
 use Rattle.unit_defs.specs.Defs.{AreDefsOf, AreUnitsOf, found_in, names_in, own_in}
 use Rattle.unit_defs.specs.Units.{can_be_wanted, find_text, in_order, own_text, wanted, wants_of, words_in}
@@ -31,7 +31,7 @@ module _ (own other : List ℕ → Option (List Assignment)) (same : (name : Lis
 -- what was found of a system is what its leaves say
 pub are_defs : (leaves : Leaves) (system : List ℕ) (units : List Unit) → AreUnitsOf leaves system units → AreDefsOf leaves system units
 are_defs leaves system units are =
-    let same : (name : List ℕ) → IsUnitName name → own_in units name ≡ own_text leaves system name = λ name named. ap (option_map (λ (part : Part). part.text)) (are.part name named) in
+    let same : (name : List ℕ) → IsUnitName name → own_in units name ≡ own_text leaves system name = λ name named. ap (option_map (λ (part : FilePart). part.text)) (are.part name named) in
     record {
       own = same;
       found = λ name named. find_same (own_in units) (own_text leaves system) same name;

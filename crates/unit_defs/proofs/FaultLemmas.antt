@@ -10,7 +10,7 @@ use Rattle.host_trait.specs.World.{Leaves, bytes_cmp}
 use Rattle.host_trait.proofs.Places.{bytes_total}
 use Rattle.unit_defs.specs.declared.defs_fault.DefsFault.{DefsFault}
 use Rattle.unit_defs.specs.declared.defs_fault.DefsFault.TheVariants.{Text}
-use Rattle.unit_defs.specs.declared.part.Part.{Part}
+use Rattle.unit_defs.specs.declared.part.FilePart.{FilePart}
 use Rattle.unit_defs.specs.declared.unit.Unit.{Unit}
 use Rattle.unit_defs.specs.Defs.{AreSorted, AreUnitsOf, first_faulty, part_in, unit_in}
 use Rattle.switch_names.specs.Names.{is_name}
@@ -22,17 +22,17 @@ use Rattle.switch_names.proofs.Names.{name_turned}
 use Rattle.host_trait.proofs.NameOrder.{less_is_other, name_exact, name_itself}
 
 abbrev fault_of : Unit → Option ℕ
-fault_of unit = option_and_then (λ (part : Part). part.fault) unit.part
+fault_of unit = option_and_then (λ (part : FilePart). part.fault) unit.part
 
 abbrev fault_in : List Unit → List ℕ → Option ℕ
-fault_in units name = option_and_then (λ (part : Part). part.fault) (part_in units name)
+fault_in units name = option_and_then (λ (part : FilePart). part.fault) (part_in units name)
 
 both_none : {X Y : Type 0} (f : X → Y) (a : Option X) (b : Option Y) → option_or (option_map f a) b ≡ None → (a ≡ None) × (b ≡ None)
 both_none f None b is = (refl, is)
 both_none f (Some x) b is = absurd (cc)
 
 fault_chosen : (b : Bool) (unit : Unit) (rest : Option Unit) →
-    option_and_then (λ (part : Part). part.fault) (option_and_then (λ (u : Unit). u.part) (cond b (Some unit) rest)) ≡ cond b (fault_of unit) (option_and_then (λ (part : Part). part.fault) (option_and_then (λ (u : Unit). u.part) rest))
+    option_and_then (λ (part : FilePart). part.fault) (option_and_then (λ (u : Unit). u.part) (cond b (Some unit) rest)) ≡ cond b (fault_of unit) (option_and_then (λ (part : FilePart). part.fault) (option_and_then (λ (u : Unit). u.part) rest))
 fault_chosen true unit rest = refl
 fault_chosen false unit rest = refl
 
@@ -69,7 +69,7 @@ first_line unit units name line (Some n) is first sorted rest =
       earlier = λ other less.
           fault_chosen (is_name other unit.name) unit (unit_in units other)
           ∙ ap (λ b. cond b (fault_of unit) (fault_in units other)) (less_is_other other unit.name less)
-          ∙ ap (λ o. option_and_then (λ (part : Part). part.fault) (option_and_then (λ (u : Unit). u.part) o)) (lower_lacks unit.name units other less sorted.0);
+          ∙ ap (λ o. option_and_then (λ (part : FilePart). part.fault) (option_and_then (λ (u : Unit). u.part) o)) (lower_lacks unit.name units other less sorted.0);
     })
 first_line unit units name line None is first sorted rest =
     let there = rest first in
@@ -97,8 +97,8 @@ first_in [] name line sorted is = absurd (cc)
 first_in (unit ∷ units) name line sorted is = first_line unit units name line (fault_of unit) refl is sorted (first_in units name line sorted.1)
 
 -- a line of an fstab has no fault
-of_files : (files : Option Part) (line : Option (List Assignment)) →
-    option_and_then (λ (part : Part). part.fault) (option_or files (option_map line_part line)) ≡ option_and_then (λ (part : Part). part.fault) files
+of_files : (files : Option FilePart) (line : Option (List Assignment)) →
+    option_and_then (λ (part : FilePart). part.fault) (option_or files (option_map line_part line)) ≡ option_and_then (λ (part : FilePart). part.fault) files
 of_files (Some part) line = refl
 of_files None None = refl
 of_files None (Some text) = refl
@@ -106,7 +106,7 @@ of_files None (Some text) = refl
 module _ (leaves : Leaves) (system : List ℕ) (units : List Unit) (are : AreUnitsOf leaves system units) where
   fault_same : (name : List ℕ) → IsUnitName name → own_fault leaves system name ≡ fault_in units name
   fault_same name named =
-      sym (ap (option_and_then (λ (part : Part). part.fault)) (are.part name named) ∙ of_files (file_part leaves system name) (line_text (fstab_of leaves system) name))
+      sym (ap (option_and_then (λ (part : FilePart). part.fault)) (are.part name named) ∙ of_files (file_part leaves system name) (line_text (fstab_of leaves system) name))
 
 pub no_fault : (leaves : Leaves) (system : List ℕ) (units : List Unit) → AreUnitsOf leaves system units → None ≡ first_faulty units → HasNoFault leaves system
 no_fault leaves system units are none = λ unit named. fault_same leaves system units are unit named ∙ none_faulty units unit (sym none)

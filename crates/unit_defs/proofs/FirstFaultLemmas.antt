@@ -10,9 +10,9 @@ use Rattle.switch_names.specs.UnitName.{IsUnitName, template_of}
 use Rattle.switch_names.specs.Names.{has, is_name}
 use Rattle.host_trait.specs.declared.leaf.LeafKind.{LeafKind}
 use Rattle.host_trait.specs.World.{Leaves, bytes_cmp, content_of, leaf_content}
-use Rattle.unit_defs.specs.declared.part.Part.{Part}
-use Rattle.unit_defs.specs.declared.place.Place.{Place}
-use Rattle.unit_defs.specs.declared.place.Place.TheVariants.{File, DropIn, Want}
+use Rattle.unit_defs.specs.declared.part.FilePart.{FilePart}
+use Rattle.unit_defs.specs.declared.place.UnitPlace.{UnitPlace}
+use Rattle.unit_defs.specs.declared.place.UnitPlace.TheVariants.{File, DropIn, Want}
 use Rattle.unit_defs.specs.Files.{base_of, drop_in_at, drop_ins_of, file_of, paths_of}
 use Rattle.unit_defs.specs.Found.{is_file}
 use Rattle.unit_text.specs.declared.assignment.Assignment.{Assignment}
@@ -135,13 +135,13 @@ has_by_some {X} {A} g f name gives (x ∷ xs) some = has-append (f x) (flat_map 
 one_name : (unit other : List ℕ) → is_name other unit ≡ true → has (other ∷ []) unit ≡ true
 one_name unit other is = ap (λ b. b || false) (name_turned unit other ∙ is)
 
-at_file : (unit : List ℕ) (place : Option Place) → is_file unit place ≡ true → has (unit_at place) unit ≡ true
+at_file : (unit : List ℕ) (place : Option UnitPlace) → is_file unit place ≡ true → has (unit_at place) unit ≡ true
 at_file unit None is = absurd (cc)
 at_file unit (Some (File other)) is = one_name unit other is
 at_file unit (Some (DropIn other name)) is = absurd (cc)
 at_file unit (Some (Want other name)) is = absurd (cc)
 
-at_drop_in : (unit : List ℕ) (place : Option Place) (content : Option (List ℕ)) → (length (drop_in_at unit place content) == 0) ≡ false → has (unit_at place) unit ≡ true
+at_drop_in : (unit : List ℕ) (place : Option UnitPlace) (content : Option (List ℕ)) → (length (drop_in_at unit place content) == 0) ≡ false → has (unit_at place) unit ≡ true
 at_drop_in unit None content is = absurd (cc)
 at_drop_in unit (Some (File other)) content is = absurd (cc)
 at_drop_in unit (Some (Want other name)) content is = absurd (cc)
@@ -165,15 +165,15 @@ caused (Some file) drop_ins template all is = inl refl
 caused None [] template all is = absurd (cc)
 caused None (drop_in ∷ drop_ins) template all is = inr (some_more (length drop_ins))
 
-has_part : (part : Option Part) (line : ℕ) → option_and_then (λ (p : Part). p.fault) part ≡ Some line → is_some part ≡ true
+has_part : (part : Option FilePart) (line : ℕ) → option_and_then (λ (p : FilePart). p.fault) part ≡ Some line → is_some part ≡ true
 has_part None line is = absurd (cc)
 has_part (Some part) line is = refl
 
-part_of_text : (part : Option Part) → is_some (option_map (λ (p : Part). p.text) part) ≡ is_some part
+part_of_text : (part : Option FilePart) → is_some (option_map (λ (p : FilePart). p.text) part) ≡ is_some part
 part_of_text None = refl
 part_of_text (Some part) = refl
 
-files_or_line : (files : Option Part) (line : Option (List Assignment)) → is_some (option_or files (option_map line_part line)) ≡ true → (is_some files ≡ true) ⊎ (is_some line ≡ true)
+files_or_line : (files : Option FilePart) (line : Option (List Assignment)) → is_some (option_or files (option_map line_part line)) ≡ true → (is_some files ≡ true) ⊎ (is_some line ≡ true)
 files_or_line (Some part) line is = inl refl
 files_or_line None (Some text) is = inr refl
 files_or_line None None is = absurd (cc)
@@ -227,7 +227,7 @@ module _ (leaves : Leaves) (system : List ℕ) where
   faulty_there : (unit : List ℕ) (line : ℕ) → IsUnitName unit → own_fault leaves system unit ≡ Some line → has (units_of leaves system) unit ≡ true
   faulty_there unit line named faulty = part_there unit named (has_part (file_part leaves system unit) line faulty)
 
-  named_at : (unit : List ℕ) (path : List ℕ) (place : Option Place) → place_of system path ≡ place → has (unit_at place) unit ≡ true → IsUnitName unit
+  named_at : (unit : List ℕ) (path : List ℕ) (place : Option UnitPlace) → place_of system path ≡ place → has (unit_at place) unit ≡ true → IsUnitName unit
   named_at unit path None is there = absurd (cc)
   named_at unit path (Some (Want other name)) is there = absurd (cc)
   named_at unit path (Some (File other)) is there = subst IsUnitName (sym (only_name unit other there)) ((places_named system path (File other)).0 is).0

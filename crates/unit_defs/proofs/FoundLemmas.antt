@@ -6,10 +6,10 @@ use Rattle.std.specs.Option.{option_map_or, option_or, unwrap_or}
 use Rattle.std.proofs.lemmas.List.{append-nil}
 use Rattle.host_trait.specs.World.{bytes_cmp}
 use Rattle.unit_text.specs.declared.assignment.Assignment.{Assignment}
-use Rattle.unit_defs.specs.declared.reading.found.Found.{Found}
+use Rattle.unit_defs.specs.declared.reading.found.FoundUnits.{FoundUnits}
 use Rattle.unit_defs.specs.declared.reading.found.UnitFiles.{UnitFiles}
-use Rattle.unit_defs.specs.declared.part.Part.{Part}
-use Rattle.unit_defs.specs.declared.place.Place.TheVariants.{File, DropIn, Want}
+use Rattle.unit_defs.specs.declared.part.FilePart.{FilePart}
+use Rattle.unit_defs.specs.declared.place.UnitPlace.TheVariants.{File, DropIn, Want}
 use Rattle.unit_defs.specs.Found.{Joins, Takes, drop_in_in, file_in, files_in, line_in, wants_in}
 use Rattle.switch_names.specs.Names.{is_name}
 use Rattle.host_trait.proofs.NameOrder.{name_exact}
@@ -32,7 +32,7 @@ first_kept None text = refl
 first_kept (Some line) text = refl
 
 -- what is found of a unit, and where nothing is found of it yet, what it begins with
-module _ (old : Found) (unit : List ℕ) (was nothing : UnitFiles) (is : was ≡ unwrap_or (files_in old unit) nothing)
+module _ (old : FoundUnits) (unit : List ℕ) (was nothing : UnitFiles) (is : was ≡ unwrap_or (files_in old unit) nothing)
     (no_file : nothing.file ≡ None) (no_drop_ins : nothing.drop_ins.entries ≡ []) (no_line : nothing.line ≡ None) (no_wants : nothing.wants ≡ []) where
   file_was : was.file ≡ file_in old unit
   file_was = ap (λ (f : UnitFiles). f.file) is ∙ by (files_in old unit)
@@ -63,10 +63,10 @@ module _ (old : Found) (unit : List ℕ) (was nothing : UnitFiles) (is : was ≡
       by (Some files) = refl
 
   -- these files are put at the unit
-  abbrev Puts : Found → UnitFiles → Type 0
+  abbrev Puts : FoundUnits → UnitFiles → Type 0
   Puts new files = (other : List ℕ) → files_in new other ≡ cond (is_name unit other) (Some files) (files_in old other)
 
-  module _ (new : Found) (files : UnitFiles) (given : Puts new files) where
+  module _ (new : FoundUnits) (files : UnitFiles) (given : Puts new files) where
     at : {Y : Type 0} (obs : Option UnitFiles → Y) (other : List ℕ) → obs (files_in new other) ≡ cond (is_name unit other) (obs (Some files)) (obs (files_in old other))
     at obs other = ap obs (given other) ∙ chosen obs (is_name unit other) (Some files) (files_in old other)
 
@@ -94,7 +94,7 @@ module _ (old : Found) (unit : List ℕ) (was nothing : UnitFiles) (is : was ≡
     wants_same : files.wants ≡ was.wants → (other : List ℕ) → wants_in new other ≡ wants_in old other
     wants_same same other = wants_at other ∙ kept unit other _ (wants_in old) (same ∙ wants_was)
 
-  pub takes_file : (new : Found) (part : Option Part) → Puts new (record { file = part; drop_ins = was.drop_ins; line = was.line; wants = was.wants }) → Takes (Some (File unit)) part old new
+  pub takes_file : (new : FoundUnits) (part : Option FilePart) → Puts new (record { file = part; drop_ins = was.drop_ins; line = was.line; wants = was.wants }) → Takes (Some (File unit)) part old new
   takes_file new part given = record {
     file = λ other. file_at new _ given other;
     drop_in = λ other name. drop_in_same new _ given refl other name;
@@ -102,7 +102,7 @@ module _ (old : Found) (unit : List ℕ) (was nothing : UnitFiles) (is : was ≡
     wants = λ other. wants_same new _ given refl other ∙ sym (append-nil (wants_in old other));
   }
 
-  pub takes_drop_in : (new : Found) (name : List ℕ) (content : Option Part) (part : Part) (files : UnitFiles) → content ≡ Some part → Puts new files → files.file ≡ was.file → files.line ≡ was.line → files.wants ≡ was.wants →
+  pub takes_drop_in : (new : FoundUnits) (name : List ℕ) (content : Option FilePart) (part : FilePart) (files : UnitFiles) → content ≡ Some part → Puts new files → files.file ≡ was.file → files.line ≡ was.line → files.wants ≡ was.wants →
       ((other : List ℕ) → get bytes_cmp files.drop_ins other ≡ option_or (get bytes_cmp was.drop_ins other) (cond (is_name name other) (Some part) None)) →
       Takes (Some (DropIn unit name)) content old new
   takes_drop_in new name content part files is_part given file line wants drops = subst (λ one. Takes (Some (DropIn unit name)) one old new) (sym is_part) (record {
@@ -114,7 +114,7 @@ module _ (old : Found) (unit : List ℕ) (was nothing : UnitFiles) (is : was ≡
     wants = λ other. wants_same new files given wants other ∙ sym (append-nil (wants_in old other));
   })
     where
-      by : (b c : Bool) (x y : Option Part) → (b ≡ true → x ≡ y) → cond b (option_or x (cond c (Some part) None)) y ≡ option_or y (cond (b && c) (Some part) None)
+      by : (b c : Bool) (x y : Option FilePart) → (b ≡ true → x ≡ y) → cond b (option_or x (cond c (Some part) None)) y ≡ option_or y (cond (b && c) (Some part) None)
       by true c x y same = ap (λ o. option_or o (cond c (Some part) None)) (same refl)
       by false c x None same = refl
       by false c x (Some y) same = refl
@@ -126,8 +126,8 @@ module _ (old : Found) (unit : List ℕ) (was nothing : UnitFiles) (is : was ≡
           by (is_name unit other) (is_name name other_name) (drop_in_in old unit other_name) (drop_in_in old other other_name)
           (λ is. ap (λ u. drop_in_in old u other_name) (name_exact unit other is))
 
-  pub takes_want : (new : Found) (name : List ℕ) (files : UnitFiles) → Puts new files → files.file ≡ was.file → files.drop_ins ≡ was.drop_ins → files.line ≡ was.line → files.wants ≡ was.wants ++ name ∷ [] →
-      (part : Option Part) → Takes (Some (Want unit name)) part old new
+  pub takes_want : (new : FoundUnits) (name : List ℕ) (files : UnitFiles) → Puts new files → files.file ≡ was.file → files.drop_ins ≡ was.drop_ins → files.line ≡ was.line → files.wants ≡ was.wants ++ name ∷ [] →
+      (part : Option FilePart) → Takes (Some (Want unit name)) part old new
   takes_want new name files given file drops line wants part = record {
     file = λ other. file_same new files given file other;
     drop_in = λ other other_name. drop_in_same new files given drops other other_name;
@@ -142,7 +142,7 @@ module _ (old : Found) (unit : List ℕ) (was nothing : UnitFiles) (is : was ≡
       by : (other : List ℕ) → cond (is_name unit other) (wants_in old unit ++ name ∷ []) (wants_in old other) ≡ wants_in old other ++ cond (is_name unit other) (name ∷ []) []
       by other = choice (is_name unit other) (wants_in old unit) (wants_in old other) (λ is. ap (wants_in old) (name_exact unit other is))
 
-  pub joins_line : (new : Found) (text : List Assignment) (files : UnitFiles) → Puts new files → files.file ≡ was.file → files.drop_ins ≡ was.drop_ins →
+  pub joins_line : (new : FoundUnits) (text : List Assignment) (files : UnitFiles) → Puts new files → files.file ≡ was.file → files.drop_ins ≡ was.drop_ins →
       files.line ≡ option_or was.line (Some text) → files.wants ≡ was.wants → Joins (λ other. cond (is_name unit other) (Some text) None) (λ other. []) old new
   joins_line new text files given file drops line wants = record {
     file = λ other. file_same new files given file other;
@@ -158,10 +158,10 @@ module _ (old : Found) (unit : List ℕ) (was nothing : UnitFiles) (is : was ≡
       by false x (Some y) same = refl
 
 -- a drop-in without content changes nothing
-pub takes_nothing : (unit name : List ℕ) (old : Found) → Takes (Some (DropIn unit name)) None old old
+pub takes_nothing : (unit name : List ℕ) (old : FoundUnits) → Takes (Some (DropIn unit name)) None old old
 takes_nothing unit name old = record { file = λ other. refl; drop_in = λ other other_name. refl; line = λ other. refl; wants = λ other. sym (append-nil (wants_in old other)) }
 
-pub takes_no_place : (part : Option Part) (old : Found) → Takes None part old old
+pub takes_no_place : (part : Option FilePart) (old : FoundUnits) → Takes None part old old
 takes_no_place part old = record { file = λ other. refl; drop_in = λ other other_name. refl; line = λ other. refl; wants = λ other. sym (append-nil (wants_in old other)) }
 
 -- ---- a drop-in is put where none of its name stands

@@ -16,10 +16,10 @@ use Rattle.host_trait.proofs.Places.{alike, found}
 use Rattle.unit_text.specs.declared.assignment.Assignment.{Assignment}
 use Rattle.fstab_mounts.specs.Fstab.{fstab_units}
 use Rattle.fstab_mounts.specs.declared.fs_unit.FsUnit.{FsUnit}
-use Rattle.unit_defs.specs.declared.reading.found.Found.{Found}
+use Rattle.unit_defs.specs.declared.reading.found.FoundUnits.{FoundUnits}
 use Rattle.unit_defs.specs.declared.reading.found.UnitFiles.{UnitFiles}
-use Rattle.unit_defs.specs.declared.part.Part.{Part}
-use Rattle.unit_defs.specs.declared.place.Place.TheVariants.{Want}
+use Rattle.unit_defs.specs.declared.part.FilePart.{FilePart}
+use Rattle.unit_defs.specs.declared.place.UnitPlace.TheVariants.{Want}
 use Rattle.unit_defs.specs.Files.{folder_wants}
 use Rattle.unit_defs.specs.Found.{AreFilesOf, Joins, JoinsLines, Takes, drop_in_in, drop_ins_in, files_in, line_in, wants_in}
 use Rattle.unit_defs.specs.Place.{named}
@@ -59,7 +59,7 @@ wanted_more xs ys unit = by (is_name (codes "local-fs.target") unit) (is_name (c
     by false false = refl
 
 -- no line adds anything
-pub joins_none : (kept : Found) → JoinsLines [] kept kept
+pub joins_none : (kept : FoundUnits) → JoinsLines [] kept kept
 joins_none kept = record {
   file = λ unit. refl;
   drop_in = λ unit name. refl;
@@ -67,7 +67,7 @@ joins_none kept = record {
   wants = λ unit. sym (append-nil (wants_in kept unit)) ∙ ap (λ names. wants_in kept unit ++ names) (sym (none_wanted unit));
 }
 
-joins_both : (line more : Name → Option (List Assignment)) (names others : Name → List Name) (old mid new : Found) → Joins line names old mid → Joins more others mid new →
+joins_both : (line more : Name → Option (List Assignment)) (names others : Name → List Name) (old mid new : FoundUnits) → Joins line names old mid → Joins more others mid new →
     Joins (λ unit. option_or (line unit) (more unit)) (λ unit. names unit ++ others unit) old new
 joins_both line more names others old mid new first second = record {
   file = λ unit. second.file unit ∙ first.file unit;
@@ -77,7 +77,7 @@ joins_both line more names others old mid new first second = record {
 }
 
 -- what is joined is told by what it says of each unit
-joins_as : (line other : Name → Option (List Assignment)) (names others : Name → List Name) (old new : Found) → ((unit : Name) → line unit ≡ other unit) → ((unit : Name) → names unit ≡ others unit) →
+joins_as : (line other : Name → Option (List Assignment)) (names others : Name → List Name) (old new : FoundUnits) → ((unit : Name) → line unit ≡ other unit) → ((unit : Name) → names unit ≡ others unit) →
     Joins line names old new → Joins other others old new
 joins_as line other names others old new same_line same_names joins = record {
   file = joins.file;
@@ -86,7 +86,7 @@ joins_as line other names others old new same_line same_names joins = record {
   wants = λ unit. joins.wants unit ∙ ap (λ w. wants_in old unit ++ w) (same_names unit);
 }
 
-pub joins_more : (lines : List FsUnit) (i : ℕ) (line : FsUnit) (old mid new : Found) → i < length lines → line ≡ get_or lines i line →
+pub joins_more : (lines : List FsUnit) (i : ℕ) (line : FsUnit) (old mid new : FoundUnits) → i < length lines → line ≡ get_or lines i line →
     JoinsLines (take i lines) old mid → JoinsLines (line ∷ []) mid new → JoinsLines (take (i + 1) lines) old new
 joins_more lines i line old mid new within is first second =
     subst (λ ls. JoinsLines ls old new) (sym (take_more lines i line within ∙ ap (λ l. take i lines ++ l ∷ []) (sym is)))
@@ -97,7 +97,7 @@ joins_more lines i line old mid new within is first second =
 -- ---- what one line says
 
 -- the text of a line, and then what it makes its target want
-pub joins_one : (line : FsUnit) (unit : Name) (text : List Assignment) (old mid new : Found) → unit ≡ line.unit → text ≡ line.text →
+pub joins_one : (line : FsUnit) (unit : Name) (text : List Assignment) (old mid new : FoundUnits) → unit ≡ line.unit → text ≡ line.text →
     Joins (λ other. cond (is_name unit other) (Some text) None) (λ other. []) old mid → Joins (λ other. None) (wanted_by_lines (line ∷ [])) mid new → JoinsLines (line ∷ []) old new
 joins_one line unit text old mid new is_unit is_text first second =
     joins_as _ (line_text (line ∷ [])) _ (wanted_by_lines (line ∷ [])) old new
@@ -165,7 +165,7 @@ module _ (line : FsUnit) (unit : Name) where
   wanted_one = wanted_by (kind_of line.unit) line.auto
 
 -- no target wants the unit of a line
-pub joins_unwanted : (line : FsUnit) (kept : Found) → None ≡ target_of line → Joins (λ unit. None) (wanted_by_lines (line ∷ [])) kept kept
+pub joins_unwanted : (line : FsUnit) (kept : FoundUnits) → None ≡ target_of line → Joins (λ unit. None) (wanted_by_lines (line ∷ [])) kept kept
 joins_unwanted line kept none = record {
   file = λ unit. refl;
   drop_in = λ unit name. refl;
@@ -174,7 +174,7 @@ joins_unwanted line kept none = record {
 }
 
 -- a target wants it
-pub joins_wanted : (line : FsUnit) (target name : Name) (old new : Found) → Some target ≡ target_of line → name ≡ line.unit → Takes (Some (Want target name)) None old new →
+pub joins_wanted : (line : FsUnit) (target name : Name) (old new : FoundUnits) → Some target ≡ target_of line → name ≡ line.unit → Takes (Some (Want target name)) None old new →
     Joins (λ unit. None) (wanted_by_lines (line ∷ [])) old new
 joins_wanted line target name old new is_target is_name takes = record {
   file = takes.file;
@@ -201,15 +201,15 @@ swap_target line is = swaps_named ∙ sym (ap (λ kind. target_by kind line.auto
 
 -- ---- what the folder and the lines say
 
-drop_ins_same : (old new : Found) (unit : Name) → ((name : Name) → drop_in_in new unit name ≡ drop_in_in old unit name) → drop_ins_in new unit ≡ drop_ins_in old unit
+drop_ins_same : (old new : FoundUnits) (unit : Name) → ((name : Name) → drop_in_in new unit name ≡ drop_in_in old unit name) → drop_ins_in new unit ≡ drop_ins_in old unit
 drop_ins_same old new unit same =
-    let of_new : List (Name × Part) = option_map_or (λ (files : UnitFiles). files.drop_ins.entries) (files_in new unit) [] in
-    let of_old : List (Name × Part) = option_map_or (λ (files : UnitFiles). files.drop_ins.entries) (files_in old unit) [] in
+    let of_new : List (Name × FilePart) = option_map_or (λ (files : UnitFiles). files.drop_ins.entries) (files_in new unit) [] in
+    let of_old : List (Name × FilePart) = option_map_or (λ (files : UnitFiles). files.drop_ins.entries) (files_in old unit) [] in
     ap finite.values (alike (from_entries {R = bytes_cmp} of_new) (from_entries {R = bytes_cmp} of_old)
     (λ name. found of_new name ∙ inner_at (files_in new unit) name ∙ same name ∙ sym (inner_at (files_in old unit) name) ∙ sym (found of_old name)))
 
 -- all that the folder says was found, and then what the lines say
-pub all_joined : (leaves : Leaves) (system : List ℕ) (lines : List FsUnit) (old new : Found) → AreFilesOf leaves system [] old → JoinsLines lines old new → AreFilesOf leaves system lines new
+pub all_joined : (leaves : Leaves) (system : List ℕ) (lines : List FsUnit) (old new : FoundUnits) → AreFilesOf leaves system [] old → JoinsLines lines old new → AreFilesOf leaves system lines new
 all_joined leaves system lines old new are joins = record {
   file = λ unit named. joins.file unit ∙ are.file unit named;
   drop_ins = λ unit named. drop_ins_same old new unit (joins.drop_in unit) ∙ are.drop_ins unit named;

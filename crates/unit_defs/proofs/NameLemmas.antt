@@ -11,7 +11,7 @@ use Rattle.std.proofs.lemmas.List.Folds.{list_any-append}
 use Rattle.host_trait.specs.World.{bytes_cmp}
 use Rattle.host_trait.proofs.NameOrder.{name_exact, above_lack}
 use Rattle.unit_text.specs.declared.assignment.Assignment.{Assignment}
-use Rattle.unit_defs.specs.declared.part.Part.{Part}
+use Rattle.unit_defs.specs.declared.part.FilePart.{FilePart}
 use Rattle.unit_defs.specs.declared.unit.Unit.{Unit}
 use Rattle.unit_defs.specs.declared.unit.Wants.{Wants}
 use Rattle.unit_defs.specs.Defs.{AreNamesOf, AreSorted, IsDefs, own_in, unit_in, wants_for}
@@ -182,7 +182,7 @@ part_of_choice : (own : Bool) (unit : Unit) (rest : Option Unit) →
     ≡ cond own (is_some unit.part) (is_some (option_map (λ one. one.text) (option_and_then (λ one. one.part) rest)))
 part_of_choice true unit rest = by unit.part
   where
-    by : (o : Option Part) → is_some (option_map (λ (one : Part). one.text) o) ≡ is_some o
+    by : (o : Option FilePart) → is_some (option_map (λ (one : FilePart). one.text) o) ≡ is_some o
     by None = refl
     by (Some part) = refl
 part_of_choice false unit rest = refl

@@ -6,9 +6,9 @@ use Rattle.std.proofs.lemmas.List.{append-nil}
 use Rattle.std.proofs.lemmas.List.Concat.{flat_map-append}
 use Rattle.switch_names.specs.UnitName.{template_of}
 use Rattle.switch_names.proofs.Outcomes.{option_or_assoc, option_or_none}
-use Rattle.unit_defs.specs.declared.reading.found.Found.{Found}
+use Rattle.unit_defs.specs.declared.reading.found.FoundUnits.{FoundUnits}
 use Rattle.unit_defs.specs.declared.reading.found.UnitFiles.{UnitFiles}
-use Rattle.unit_defs.specs.declared.part.Part.{Part}
+use Rattle.unit_defs.specs.declared.part.FilePart.{FilePart}
 use Rattle.unit_defs.specs.declared.unit.Unit.{Unit}
 use Rattle.unit_defs.specs.Files.{base_of}
 use Rattle.unit_defs.specs.Found.{drop_ins_in, file_in, files_in, in_name_order, own_part_in, unit_of}
@@ -16,33 +16,33 @@ use Rattle.unit_defs.specs.Part.{added, first_fault, line_part, merged}
 use Rattle.unit_defs.specs.UnitFiles.{base_from, ordered_drop_ins, part_from}
 use Rattle.unit_defs.proofs.DropInLemmas.{none_ordered}
 
-first_fault-append : (xs ys : List Part) → first_fault (xs ++ ys) ≡ option_or (first_fault xs) (first_fault ys)
+first_fault-append : (xs ys : List FilePart) → first_fault (xs ++ ys) ≡ option_or (first_fault xs) (first_fault ys)
 first_fault-append [] ys = refl
 first_fault-append (part ∷ xs) ys = ap (option_or part.fault) (first_fault-append xs ys) ∙ sym (option_or_assoc part.fault (first_fault xs) (first_fault ys))
 
-pub added_none : (part : Part) → added part [] ≡ part
+pub added_none : (part : FilePart) → added part [] ≡ part
 added_none part =
     let text = append-nil part.text in
     let fault = option_or_none part.fault in
     λ i. record { text = text i; fault = fault i }
 
 -- a part is applied before the others that are left
-pub added_first : (part one now : Part) (rest : List Part) → now.text ≡ part.text ++ one.text → now.fault ≡ option_or part.fault one.fault → added now rest ≡ added part (one ∷ rest)
+pub added_first : (part one now : FilePart) (rest : List FilePart) → now.text ≡ part.text ++ one.text → now.fault ≡ option_or part.fault one.fault → added now rest ≡ added part (one ∷ rest)
 added_first part one now rest is_text is_fault =
-    let text = ap (λ t. t ++ flat_map (λ (part : Part). part.text) rest) is_text ∙ append_assoc part.text one.text (flat_map (λ (part : Part). part.text) rest) in
+    let text = ap (λ t. t ++ flat_map (λ (part : FilePart). part.text) rest) is_text ∙ append_assoc part.text one.text (flat_map (λ (part : FilePart). part.text) rest) in
     let fault = ap (λ f. option_or f (first_fault rest)) is_fault ∙ option_or_assoc part.fault one.fault (first_fault rest) in
     λ i. record { text = text i; fault = fault i }
 
 -- a file with two lists of files applied after it
-pub added_twice : (base : Part) (xs ys : List Part) → added (added base xs) ys ≡ merged (base ∷ xs ++ ys)
+pub added_twice : (base : FilePart) (xs ys : List FilePart) → added (added base xs) ys ≡ merged (base ∷ xs ++ ys)
 added_twice base xs ys =
-    let text = append_assoc base.text (flat_map (λ (part : Part). part.text) xs) (flat_map (λ (part : Part). part.text) ys)
-    ∙ ap (λ t. base.text ++ t) (sym (flat_map-append (λ (part : Part). part.text) xs ys)) in
+    let text = append_assoc base.text (flat_map (λ (part : FilePart). part.text) xs) (flat_map (λ (part : FilePart). part.text) ys)
+    ∙ ap (λ t. base.text ++ t) (sym (flat_map-append (λ (part : FilePart). part.text) xs ys)) in
     let fault = option_or_assoc base.fault (first_fault xs) (first_fault ys) ∙ ap (option_or base.fault) (sym (first_fault-append xs ys)) in
     λ i. record { text = text i; fault = fault i }
 
 -- what a unit has of its own, by what was found of it, and by the drop-ins and the file of its template
-abbrev pub part_by : Option UnitFiles → List Part → Option Part → Option Part
+abbrev pub part_by : Option UnitFiles → List FilePart → Option FilePart → Option FilePart
 part_by files inherited template =
     option_or (option_map merged (option_map (λ file. file ∷ inherited ++ in_name_order (option_map_or (λ (f : UnitFiles). f.drop_ins.entries) files []))
     (base_of (option_and_then (λ (f : UnitFiles). f.file) files) (in_name_order (option_map_or (λ (f : UnitFiles). f.drop_ins.entries) files [])) template)))
@@ -50,7 +50,7 @@ part_by files inherited template =
 
 -- ---- the same by what was found of the template
 
-all_added : (base : Option Part) (xs ys : List Part) → option_map (λ file. added (added file xs) ys) base ≡ option_map merged (option_map (λ file. file ∷ xs ++ ys) base)
+all_added : (base : Option FilePart) (xs ys : List FilePart) → option_map (λ file. added (added file xs) ys) base ≡ option_map merged (option_map (λ file. file ∷ xs ++ ys) base)
 all_added None xs ys = refl
 all_added (Some base) xs ys = ap (λ p. Some p) (added_twice base xs ys)
 
@@ -58,7 +58,7 @@ part_from_both : (own : UnitFiles) (template : Option UnitFiles) →
     part_from own template ≡ part_by (Some own) (option_map_or ordered_drop_ins template []) (option_and_then (λ (f : UnitFiles). f.file) template)
 part_from_both own template = ap (λ p. option_or p (option_map line_part own.line)) (all_added (base_from own template) (option_map_or ordered_drop_ins template []) (ordered_drop_ins own))
 
-module _ (found : Found) where
+module _ (found : FoundUnits) where
   template_file : (template : Option (List ℕ)) → option_and_then (λ (f : UnitFiles). f.file) (option_and_then (files_in found) template) ≡ option_and_then (file_in found) template
   template_file None = refl
   template_file (Some template) = refl

@@ -13,8 +13,8 @@ use Rattle.switch_names.specs.Path.{slash, is_slash}
 use Rattle.switch_names.specs.UnitName.{IsUnitName, is_no_unit_byte, unit_fault, is_unit}
 use Rattle.switch_names.proofs.UnitNames.{IsShortName-from_name}
 use Rattle.switch_names.proofs.Cuts.{front_is, front_there}
-use Rattle.unit_defs.specs.declared.place.Place.{Place}
-use Rattle.unit_defs.specs.declared.place.Place.TheVariants.{File, DropIn, Want}
+use Rattle.unit_defs.specs.declared.place.UnitPlace.{UnitPlace}
+use Rattle.unit_defs.specs.declared.place.UnitPlace.TheVariants.{File, DropIn, Want}
 use Rattle.switch_names.specs.Texts.{after_front, before_end}
 use Rattle.unit_defs.specs.Place.{ArePlacesNamed, StandsAt, drop_in, drop_in_of, is_drop_in_name, path_of, place_below, place_in, place_of, unit_folder, want, want_of}
 
@@ -106,7 +106,7 @@ cut_at (x ∷ text) some = by (is_slash x) refl (cut_at text)
 
 -- ---- what stands in a folder of a unit
 
-abbrev Below : List ℕ → List ℕ → Place → Type 0
+abbrev Below : List ℕ → List ℕ → UnitPlace → Type 0
 Below folder name (File unit) = ⊥
 Below folder name (DropIn unit stem) = IsUnitName unit × (is_drop_in_name stem ≡ true) × (folder ≡ unit ++ codes ".d") × (name ≡ stem ++ codes ".conf")
 Below folder name (Want unit other) = IsUnitName unit × IsUnitName other × (name ≡ other) × ((folder ≡ unit ++ codes ".wants") ⊎ (folder ≡ unit ++ codes ".requires"))
@@ -125,7 +125,7 @@ or_cases : {X : Type 0} (a b : Option X) (x : X) → option_or a b ≡ Some x �
 or_cases None b x is = inr is
 or_cases (Some y) b x is = inl is
 
-drop_in_to : (folder name : List ℕ) (place : Place) → drop_in folder name ≡ Some place → Below folder name place
+drop_in_to : (folder name : List ℕ) (place : UnitPlace) → drop_in folder name ≡ Some place → Below folder name place
 drop_in_to folder name place is = by (before_end (codes ".d") folder) (before_end (codes ".conf") name) refl refl is
   where
     by : (unit stem : Option (List ℕ)) → before_end (codes ".d") folder ≡ unit → before_end (codes ".conf") name ≡ stem → drop_in_of unit stem ≡ Some place → Below folder name place
@@ -136,7 +136,7 @@ drop_in_to folder name place is = by (before_end (codes ".d") folder) (before_en
         let tests = and_parts (is_drop_in_name stem) (is_unit unit) parts.0 in
         subst (Below folder name) parts.1 (unit_from unit tests.1, tests.0, end_is (codes ".d") folder unit is_unit_end, end_is (codes ".conf") name stem is_stem)
 
-want_to : (end folder name : List ℕ) (place : Place) → want end folder name ≡ Some place →
+want_to : (end folder name : List ℕ) (place : UnitPlace) → want end folder name ≡ Some place →
     (unit : List ℕ) × (place ≡ Want unit name) × IsUnitName unit × IsUnitName name × (folder ≡ unit ++ end)
 want_to end folder name place is = by (before_end end folder) refl is
   where
@@ -147,7 +147,7 @@ want_to end folder name place is = by (before_end end folder) refl is
         let tests = and_parts (is_unit unit) (is_unit name) parts.0 in
         (unit, sym parts.1, unit_from unit tests.0, unit_from name tests.1, end_is end folder unit is_unit_end)
 
-below_to : (folder name : List ℕ) (place : Place) → place_below folder name ≡ Some place → Below folder name place
+below_to : (folder name : List ℕ) (place : UnitPlace) → place_below folder name ≡ Some place → Below folder name place
 below_to folder name place is = elim (or_cases (drop_in folder name) (option_or (want (codes ".wants") folder name) (want (codes ".requires") folder name)) place is) [
   | inl first ↦ drop_in_to folder name place first
   | inr then ↦ elim (or_cases (want (codes ".wants") folder name) (want (codes ".requires") folder name) place then) [
@@ -229,7 +229,7 @@ stands_there : (system : List ℕ) (folder name : List ℕ) (end : List ℕ) (un
 stands_there system folder name end unit is named none =
     place_there system (unit ++ (end ++ slash ∷ name)) ∙ ap place_in (sym (append_assoc unit end (slash ∷ name))) ∙ in_folder_there (unit ++ end) name (no_slash_end unit end named none)
 
-place_from : (system path : List ℕ) (place : Place) → StandsAt system path place → place_of system path ≡ Some place
+place_from : (system path : List ℕ) (place : UnitPlace) → StandsAt system path place → place_of system path ≡ Some place
 place_from system path (File unit) is =
     ap (place_of system) is.1 ∙ place_there system unit
     ∙ ap (λ b. cond b (Some (File unit)) (cond (list_any is_slash unit) (place_below (before_first is_slash unit) (after_first is_slash unit)) None)) (unit_to unit is.0)
@@ -243,7 +243,7 @@ place_from system path (Want unit name) is = elim is.2 [
 cut_path : (system path folder name unit end : List ℕ) → path ≡ path_of system (folder ++ slash ∷ name) → folder ≡ unit ++ end → path ≡ path_of system (unit ++ (end ++ slash ∷ name))
 cut_path system path folder name unit end is folder_is = is ∙ ap (λ f. path_of system (f ++ slash ∷ name)) folder_is ∙ ap (path_of system) (append_assoc unit end (slash ∷ name))
 
-below_stands : (system path folder name : List ℕ) (place : Place) → path ≡ path_of system (folder ++ slash ∷ name) → Below folder name place → StandsAt system path place
+below_stands : (system path folder name : List ℕ) (place : UnitPlace) → path ≡ path_of system (folder ++ slash ∷ name) → Below folder name place → StandsAt system path place
 below_stands system path folder name (File unit) is there = absurd there
 below_stands system path folder name (DropIn unit stem) is there =
     (there.0, there.1, cut_path system path folder name unit (codes ".d") is there.2 ∙ ap (λ n. path_of system (unit ++ (codes ".d" ++ slash ∷ n))) there.3)
@@ -256,10 +256,10 @@ below_stands system path folder name (Want unit other) is there = (
   ],
 )
 
-no_place : (place : Place) → None ≡ Some place → ⊥
+no_place : (place : UnitPlace) → None ≡ Some place → ⊥
 no_place place is = both_ways true (ap (λ o. is_none o) is) refl
 
-in_to : (system path rest : List ℕ) (place : Place) → path ≡ path_of system rest → place_in rest ≡ Some place → StandsAt system path place
+in_to : (system path rest : List ℕ) (place : UnitPlace) → path ≡ path_of system rest → place_in rest ≡ Some place → StandsAt system path place
 in_to system path rest place is stands = by (is_unit rest) (list_any is_slash rest) refl refl stands
   where
     by : (named slashed : Bool) → is_unit rest ≡ named → list_any is_slash rest ≡ slashed →
@@ -270,7 +270,7 @@ in_to system path rest place is stands = by (is_unit rest) (list_any is_slash re
         (below_to (before_first is_slash rest) (after_first is_slash rest) place stands)
     by false false named some stands = absurd (no_place place stands)
 
-place_to : (system path : List ℕ) (place : Place) → place_of system path ≡ Some place → StandsAt system path place
+place_to : (system path : List ℕ) (place : UnitPlace) → place_of system path ≡ Some place → StandsAt system path place
 place_to system path place is = by (after_front (path_of system []) path) refl is
   where
     by : (o : Option (List ℕ)) → after_front (path_of system []) path ≡ o → option_and_then place_in o ≡ Some place → StandsAt system path place

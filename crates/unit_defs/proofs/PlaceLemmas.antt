@@ -6,8 +6,8 @@ use Rattle.std.proofs.lemmas.Bool.{both_ways}
 use Rattle.std.proofs.lemmas.Bool.Decides.{Decides-eqb}
 use Rattle.std.proofs.lemmas.Slice.Eq.{starts_is}
 use Rattle.switch_names.specs.UnitName.{IsUnitName, is_unit}
-use Rattle.unit_defs.specs.declared.place.Place.{Place}
-use Rattle.unit_defs.specs.declared.place.Place.TheVariants.{File, DropIn, Want}
+use Rattle.unit_defs.specs.declared.place.UnitPlace.{UnitPlace}
+use Rattle.unit_defs.specs.declared.place.UnitPlace.TheVariants.{File, DropIn, Want}
 use Rattle.unit_defs.specs.Found.{is_file}
 use Rattle.switch_names.specs.Path.{is_slash}
 use Rattle.switch_names.specs.Texts.{before_end}
@@ -18,7 +18,7 @@ use Rattle.unit_defs.proofs.NameLemmas.{name_by, not_named}
 
 -- ---- what a path says, by the names in it
 
-file_by : (b : Bool) (rest unit : List ℕ) (other : Option Place) → Some unit ≡ cond b (Some rest) None → Some (File unit) ≡ cond b (Some (File rest)) other
+file_by : (b : Bool) (rest unit : List ℕ) (other : Option UnitPlace) → Some unit ≡ cond b (Some rest) None → Some (File unit) ≡ cond b (Some (File rest)) other
 file_by true rest unit other is = ap (λ u. Some (File u)) (name_by true rest unit is)
 file_by false rest unit other is = absurd (cc)
 
@@ -67,7 +67,7 @@ no_unit_wanted end folder name front is_front none =
     by false = refl
 
 module _ (rest : List ℕ) (none : None ≡ named rest) where
-  abbrev below : Option Place
+  abbrev below : Option UnitPlace
   below = place_below (before_first is_slash rest) (after_first is_slash rest)
 
   placed_by : (b : Bool) → list_any is_slash rest ≡ b → place_in rest ≡ cond b below None
@@ -76,7 +76,7 @@ module _ (rest : List ℕ) (none : None ≡ named rest) where
   pub placed_nowhere : list_any is_slash rest ≡ false → None ≡ place_in rest
   placed_nowhere lacks = sym (placed_by false lacks)
 
-  pub placed_below : (folder name : List ℕ) (place : Option Place) → list_any is_slash rest ≡ true → folder ≡ before_first is_slash rest → name ≡ after_first is_slash rest →
+  pub placed_below : (folder name : List ℕ) (place : Option UnitPlace) → list_any is_slash rest ≡ true → folder ≡ before_first is_slash rest → name ≡ after_first is_slash rest →
       place ≡ place_below folder name → place ≡ place_in rest
   placed_below folder name place has is_folder is_name is =
       is ∙ ap (λ f. place_below f name) is_folder ∙ ap (place_below (before_first is_slash rest)) is_name ∙ sym (placed_by true has)
@@ -100,7 +100,7 @@ want_no_file unit (Some folder) name = by (is_unit folder && is_unit name)
     by true = refl
     by false = refl
 
-either_no_file : (unit : List ℕ) (a b : Option Place) → is_file unit a ≡ false → is_file unit b ≡ false → is_file unit (option_or a b) ≡ false
+either_no_file : (unit : List ℕ) (a b : Option UnitPlace) → is_file unit a ≡ false → is_file unit b ≡ false → is_file unit (option_or a b) ≡ false
 either_no_file unit None b first second = second
 either_no_file unit (Some a) b first second = first
 

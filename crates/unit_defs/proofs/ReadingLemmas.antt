@@ -9,11 +9,11 @@ use Rattle.std.proofs.lemmas.List.{append-nil, take_more}
 use Rattle.std.proofs.lemmas.List.Concat.{flat_map-append}
 use Rattle.std.proofs.lemmas.List.Folds.{list_any-append}
 use Rattle.host_trait.specs.World.{Leaves, bytes_cmp, content_of}
-use Rattle.unit_defs.specs.declared.reading.found.Found.{Found}
+use Rattle.unit_defs.specs.declared.reading.found.FoundUnits.{FoundUnits}
 use Rattle.unit_defs.specs.declared.reading.found.UnitFiles.{UnitFiles}
-use Rattle.unit_defs.specs.declared.part.Part.{Part}
-use Rattle.unit_defs.specs.declared.place.Place.{Place}
-use Rattle.unit_defs.specs.declared.place.Place.TheVariants.{File, DropIn, Want}
+use Rattle.unit_defs.specs.declared.part.FilePart.{FilePart}
+use Rattle.unit_defs.specs.declared.place.UnitPlace.{UnitPlace}
+use Rattle.unit_defs.specs.declared.place.UnitPlace.TheVariants.{File, DropIn, Want}
 use Rattle.unit_defs.specs.Files.{drop_in_at, want_at}
 use Rattle.unit_defs.specs.Found.{AreFilesAt, Takes, TakesPath, part_at, drop_in_in, drop_in_with, file_in, file_with, is_file, wants_in}
 use Rattle.unit_defs.specs.Part.{part_of}
@@ -25,7 +25,7 @@ use Rattle.switch_names.proofs.Outcomes.{option_map_or_other, option_or_none}
 use Rattle.unit_defs.proofs.PlaceLemmas.{file_path}
 
 -- nothing is read yet
-pub files_none : (leaves : Leaves) (front : List ℕ) (found : Found) → found.units.entries ≡ [] → AreFilesAt leaves front [] found
+pub files_none : (leaves : Leaves) (front : List ℕ) (found : FoundUnits) → found.units.entries ≡ [] → AreFilesAt leaves front [] found
 files_none leaves front found none = record {
   line = λ unit. ap (λ es. option_and_then (λ (files : UnitFiles). files.line) (lookup (is_at (bytes_cmp unit)) es)) none;
   file = λ unit. ap (λ es. option_and_then (λ (files : UnitFiles). files.file) (lookup (is_at (bytes_cmp unit)) es)) none;
@@ -33,13 +33,13 @@ files_none leaves front found none = record {
   wants = λ unit. ap (λ es. option_map_or (λ (files : UnitFiles). files.wants) (lookup (is_at (bytes_cmp unit)) es) []) none;
 }
 
-file_chosen : (place : Option Place) (part : Option Part) (unit : List ℕ) (was : Option Part) → file_with place part unit was ≡ cond (is_file unit place) part was
+file_chosen : (place : Option UnitPlace) (part : Option FilePart) (unit : List ℕ) (was : Option FilePart) → file_with place part unit was ≡ cond (is_file unit place) part was
 file_chosen None part unit was = refl
 file_chosen (Some (File other)) part unit was = refl
 file_chosen (Some (DropIn other name)) part unit was = refl
 file_chosen (Some (Want other name)) part unit was = refl
 
-both_chosen : (a b : Bool) (part that : Option Part) → (b ≡ true → part ≡ that) → cond b part (cond a that None) ≡ cond (a || (b || false)) that None
+both_chosen : (a b : Bool) (part that : Option FilePart) → (b ≡ true → part ≡ that) → cond b part (cond a that None) ≡ cond (a || (b || false)) that None
 both_chosen true true part that same = same refl
 both_chosen false true part that same = same refl
 both_chosen true false part that same = refl
@@ -54,7 +54,7 @@ one_drop_in true name other_name content = ap (λ c. option_map part_of (cond c 
     by false = refl
 one_drop_in false name other_name content = refl
 
-drop_in_chosen : (place : Option Place) (content : Option (List ℕ)) (unit name : List ℕ) (was : Option Part) →
+drop_in_chosen : (place : Option UnitPlace) (content : Option (List ℕ)) (unit name : List ℕ) (was : Option FilePart) →
     drop_in_with place (option_map part_of content) unit name was ≡ option_or was (option_map part_of (find bytes_cmp name (drop_in_at unit place content)))
 drop_in_chosen None content unit name was = sym (option_or_none was)
 drop_in_chosen (Some (File other)) content unit name was = sym (option_or_none was)
@@ -63,26 +63,26 @@ drop_in_chosen (Some (DropIn other other_name)) None unit name was = sym (option
 drop_in_chosen (Some (DropIn other other_name)) (Some content) unit name was = ap (option_or was) (sym (one_drop_in (is_name other unit) name other_name content))
 
 -- nothing stands at a path
-pub none_taken : (leaves : Leaves) (front path : List ℕ) (found : Found) → None ≡ place_after front path → TakesPath leaves front path found found
+pub none_taken : (leaves : Leaves) (front path : List ℕ) (found : FoundUnits) → None ≡ place_after front path → TakesPath leaves front path found found
 none_taken leaves front path found none =
     subst (λ p. Takes p (option_map part_of (content_of leaves path)) found found) none
     (record { file = λ unit. refl; drop_in = λ unit name. refl; line = λ unit. refl; wants = λ unit. sym (append-nil (wants_in found unit)) })
 
 -- of a wanted unit any part may be put
-put_any : (place : Place) (part that : Option Part) (old new : Found) → part ≡ cond (is_want place) None that → Takes (Some place) part old new → Takes (Some place) that old new
+put_any : (place : UnitPlace) (part that : Option FilePart) (old new : FoundUnits) → part ≡ cond (is_want place) None that → Takes (Some place) part old new → Takes (Some place) that old new
 put_any (File unit) part that old new is takes = subst (λ p. Takes (Some (File unit)) p old new) is takes
 put_any (DropIn unit name) part that old new is takes = subst (λ p. Takes (Some (DropIn unit name)) p old new) is takes
 put_any (Want unit name) part that old new is takes = record { file = takes.file; drop_in = takes.drop_in; line = takes.line; wants = takes.wants }
 
 -- what was put at the place of a path is what stands at the path
-pub path_taken : (leaves : Leaves) (front path : List ℕ) (place : Place) (part : Option Part) (old new : Found) →
+pub path_taken : (leaves : Leaves) (front path : List ℕ) (place : UnitPlace) (part : Option FilePart) (old new : FoundUnits) →
     Some place ≡ place_after front path → part ≡ part_at leaves path place → Takes (Some place) part old new → TakesPath leaves front path old new
 path_taken leaves front path place part old new is_place is_part takes =
     subst (λ p. Takes p (option_map part_of (content_of leaves path)) old new) is_place (put_any place part (option_map part_of (content_of leaves path)) old new is_part takes)
 
 -- one path more is read
-module _ (leaves : Leaves) (front : List ℕ) (paths : List (List ℕ)) (path : List ℕ) (old new : Found) (read : AreFilesAt leaves front paths old) (takes : TakesPath leaves front path old new) where
-  abbrev place : Option Place
+module _ (leaves : Leaves) (front : List ℕ) (paths : List (List ℕ)) (path : List ℕ) (old new : FoundUnits) (read : AreFilesAt leaves front paths old) (takes : TakesPath leaves front path old new) where
+  abbrev place : Option UnitPlace
   place = place_after front path
 
   file_more : (unit : List ℕ) → file_in new unit
@@ -118,7 +118,7 @@ module _ (leaves : Leaves) (front : List ℕ) (paths : List (List ℕ)) (path : 
   files_and : AreFilesAt leaves front (paths ++ path ∷ []) new
   files_and = record { file = file_more; drop_in = drop_in_more; line = λ unit. takes.line unit ∙ read.line unit; wants = wants_more }
 
-pub files_more : (leaves : Leaves) (front : List ℕ) (paths : List (List ℕ)) (i : ℕ) (path : List ℕ) (old new : Found) → i < length paths → path ≡ get_or paths i path →
+pub files_more : (leaves : Leaves) (front : List ℕ) (paths : List (List ℕ)) (i : ℕ) (path : List ℕ) (old new : FoundUnits) → i < length paths → path ≡ get_or paths i path →
     AreFilesAt leaves front (take i paths) old → TakesPath leaves front path old new → AreFilesAt leaves front (take (i + 1) paths) new
 files_more leaves front paths i path old new within is read takes =
     subst (λ ps. AreFilesAt leaves front ps new) (sym (take_more paths i path within ∙ ap (λ p. take i paths ++ p ∷ []) (sym is)))

@@ -16,8 +16,8 @@ use Rattle.switch_names.proofs.Below.{below_both, below_front}
 use Rattle.switch_names.proofs.Cuts.{front_is}
 use Rattle.switch_names.proofs.Names.{name_turned}
 use Rattle.unit_text.specs.declared.assignment.Assignment.{Assignment}
-use Rattle.unit_defs.specs.declared.place.Place.{Place}
-use Rattle.unit_defs.specs.declared.place.Place.TheVariants.{File, DropIn, Want}
+use Rattle.unit_defs.specs.declared.place.UnitPlace.{UnitPlace}
+use Rattle.unit_defs.specs.declared.place.UnitPlace.TheVariants.{File, DropIn, Want}
 use Rattle.unit_defs.specs.declared.unit.Unit.{Unit}
 use Rattle.unit_defs.specs.Defs.{HaveFileTexts, own_in}
 use Rattle.unit_defs.specs.Files.{paths_of}
@@ -30,7 +30,7 @@ use Rattle.unit_defs.proofs.PathLemmas.{places_named}
 use Rattle.unit_defs.proofs.WorldLemmas.{is_among}
 
 -- what is taken is read
-pub taken_read : (own : Name → Option (List Assignment)) (place : Option Place) → takes_place own place ≡ true → is_read place ≡ true
+pub taken_read : (own : Name → Option (List Assignment)) (place : Option UnitPlace) → takes_place own place ≡ true → is_read place ≡ true
 taken_read own None is = absurd cc
 taken_read own (Some (File unit)) is = refl
 taken_read own (Some (DropIn unit name)) is = refl
@@ -83,7 +83,7 @@ same_taken :
     takes_place own (place_of system q) ≡ takes_place other (place_of system q)
 same_taken system q own other same = by (place_of system q) refl
   where
-    by : (place : Option Place) → place_of system q ≡ place → takes_place own place ≡ takes_place other place
+    by : (place : Option UnitPlace) → place_of system q ≡ place → takes_place own place ≡ takes_place other place
     by None is = refl
     by (Some (File unit)) is = refl
     by (Some (DropIn unit name)) is = same unit ((places_named system q (DropIn unit name)).0 is).0

@@ -14,9 +14,9 @@ use Rattle.switch_names.proofs.Faultless.{HasNone-from_sought}
 use Rattle.switch_names.proofs.UnitNames.{name_ending-of_kind, template_is_name}
 use Rattle.host_trait.specs.World.{Leaves, bytes_cmp}
 use Rattle.fstab_mounts.specs.declared.fs_unit.FsUnit.{FsUnit}
-use Rattle.unit_defs.specs.declared.reading.found.Found.{Found}
+use Rattle.unit_defs.specs.declared.reading.found.FoundUnits.{FoundUnits}
 use Rattle.unit_defs.specs.declared.reading.found.UnitFiles.{UnitFiles}
-use Rattle.unit_defs.specs.declared.part.Part.{Part}
+use Rattle.unit_defs.specs.declared.part.FilePart.{FilePart}
 use Rattle.unit_defs.specs.declared.unit.Unit.{Unit}
 use Rattle.unit_defs.specs.Defs.{AreSorted, AreUnitsOf, HaveFileTexts, names_in, part_in, unit_in}
 use Rattle.unit_defs.specs.Files.{base_of, drop_ins_of, file_of, folder_wants}
@@ -57,7 +57,7 @@ template_named name template named is =
 
 -- ---- the units that were found by their names
 
-module _ (found : Found) where
+module _ (found : FoundUnits) where
   named_unit : (name k : List ℕ) (h : Bool) → cond (is_name name k) (Some (unit_of found k)) (cond h (Some (unit_of found name)) None) ≡ cond (is_name name k || h) (Some (unit_of found name)) None
   named_unit name k h = by (is_name name k) (λ is. ap (unit_of found) (sym (name_exact name k is)))
     where
@@ -84,7 +84,7 @@ has_key (e ∷ es) name = ap (λ b. is_name name e.0 || b) (has_key es name) ∙
     by true o = refl
     by false o = refl
 
-part_only : (files : Option UnitFiles) (inherited : List Part) (template : Option Part) → cond (is_some files) (part_by files inherited template) None ≡ part_by files inherited template
+part_only : (files : Option UnitFiles) (inherited : List FilePart) (template : Option FilePart) → cond (is_some files) (part_by files inherited template) None ≡ part_by files inherited template
 part_only (Some files) inherited template = refl
 part_only None inherited template =
     ap (λ drops. option_or (option_map merged (option_map (λ file. file ∷ inherited ++ in_name_order []) (base_of None drops template))) None) none_ordered
@@ -114,20 +114,20 @@ merged_parts None inherited own = refl
 merged_parts (Some base) inherited own = ap (λ parts. Some (merged (part_of base ∷ parts))) (sym (map-append part_of inherited own))
 
 -- what the files of a unit say is by what is found of it and of its template
-abbrev made_of : (List ℕ → Option Part) → (List ℕ → List Part) → List ℕ → Option (List ℕ) → Option Part
+abbrev made_of : (List ℕ → Option FilePart) → (List ℕ → List FilePart) → List ℕ → Option (List ℕ) → Option FilePart
 made_of files drop_ins name template =
     option_map merged (option_map (λ file. file ∷ option_map_or drop_ins template [] ++ drop_ins name)
     (base_of (files name) (drop_ins name) (option_and_then files template)))
 
-abbrev world_of : (List ℕ → Option (List ℕ)) → (List ℕ → List (List ℕ)) → List ℕ → Option (List ℕ) → Option Part
+abbrev world_of : (List ℕ → Option (List ℕ)) → (List ℕ → List (List ℕ)) → List ℕ → Option (List ℕ) → Option FilePart
 world_of files drop_ins name template =
     option_map (λ all. merged (map part_of all)) (option_map (λ file. file ∷ option_map_or drop_ins template [] ++ drop_ins name)
     (base_of (files name) (drop_ins name) (option_and_then files template)))
 
-module _ (leaves : Leaves) (system : List ℕ) (lines : List FsUnit) (found : Found) (are : AreFilesOf leaves system lines found) where
+module _ (leaves : Leaves) (system : List ℕ) (lines : List FsUnit) (found : FoundUnits) (are : AreFilesOf leaves system lines found) where
   parts_same : (name : List ℕ) (drops : List (List ℕ)) (file : Option (List ℕ)) (inherited : List (List ℕ)) (template : Option (List ℕ)) →
       file_in found name ≡ option_map part_of file → drop_ins_in found name ≡ map part_of drops →
-      (inherited_in : List Part) → inherited_in ≡ map part_of inherited → (template_in : Option Part) → template_in ≡ option_map part_of template →
+      (inherited_in : List FilePart) → inherited_in ≡ map part_of inherited → (template_in : Option FilePart) → template_in ≡ option_map part_of template →
       option_map merged (option_map (λ base. base ∷ inherited_in ++ drop_ins_in found name) (base_of (file_in found name) (drop_ins_in found name) template_in))
       ≡ option_map (λ all. merged (map part_of all)) (option_map (λ base. base ∷ inherited ++ drops) (base_of file drops template))
   parts_same name drops file inherited template is_file are_drops inherited_in are_inherited template_in is_template =
@@ -173,7 +173,7 @@ module _ (leaves : Leaves) (system : List ℕ) (lines : List FsUnit) (found : Fo
       names_in units name ≡ folder_wants leaves system name ++ wanted_by_lines lines name
   units_names units is name named = ap (λ us. names_in us name) is ∙ names_at name ∙ are.wants name named
 
-module _ (leaves : Leaves) (system : List ℕ) (found : Found) (units : List Unit) (is : units ≡ map (unit_of found) (keys_of found.units.entries)) where
+module _ (leaves : Leaves) (system : List ℕ) (found : FoundUnits) (units : List Unit) (is : units ≡ map (unit_of found) (keys_of found.units.entries)) where
   -- the units that were found are those of the world
   pub units_all : AreFilesOf leaves system (fstab_of leaves system) found → AreUnitsOf leaves system units
   units_all are = record {
@@ -184,4 +184,4 @@ module _ (leaves : Leaves) (system : List ℕ) (found : Found) (units : List Uni
   -- where no line was joined, their texts are what their files say
   pub file_texts : AreFilesOf leaves system [] found → HaveFileTexts leaves system units
   file_texts are name named =
-      ap (option_map (λ (part : Part). part.text)) (units_part leaves system [] found are units is name named ∙ option_or_none (file_part leaves system name))
+      ap (option_map (λ (part : FilePart). part.text)) (units_part leaves system [] found are units is name named ∙ option_or_none (file_part leaves system name))

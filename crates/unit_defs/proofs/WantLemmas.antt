@@ -7,7 +7,7 @@ use Rattle.switch_names.specs.UnitName.{IsUnitName, template_of}
 use Rattle.unit_text.specs.UnitKey.{key_of}
 use Rattle.unit_text.specs.UnitText.{values_of}
 use Rattle.unit_text.specs.declared.assignment.Assignment.{Assignment}
-use Rattle.unit_defs.specs.declared.part.Part.{Part}
+use Rattle.unit_defs.specs.declared.part.FilePart.{FilePart}
 use Rattle.unit_defs.specs.declared.unit.Unit.{Unit}
 use Rattle.unit_defs.specs.declared.unit.Wants.{Wants}
 use Rattle.unit_defs.specs.Defs.{found_in, names_in, own_in, unit_in, wanted_in, wants_for}
@@ -57,15 +57,15 @@ module _ (units : List Unit) (wants : List Wants) (kept : wants ≡ map (wants_f
       ap (λ (w : Wants). w.whole) there.2 ∙ whole_of name there.0 there.1
 
 own_through : (units : List Unit) (o : Option (List ℕ)) →
-    option_and_then (own_in units) o ≡ option_map (λ (part : Part). part.text) (option_and_then (λ (unit : Unit). unit.part) (option_and_then (unit_in units) o))
+    option_and_then (own_in units) o ≡ option_map (λ (part : FilePart). part.text) (option_and_then (λ (unit : Unit). unit.part) (option_and_then (unit_in units) o))
 own_through units None = refl
 own_through units (Some name) = refl
 
 -- the text of a template by the unit that is found of it
 pub own_of_template : (units : List Unit) (o : Option (List ℕ)) (found : Option Unit) → option_and_then (unit_in units) o ≡ found →
-    option_map (λ (part : Part). part.text) (option_and_then (λ (unit : Unit). unit.part) found) ≡ option_and_then (own_in units) o
+    option_map (λ (part : FilePart). part.text) (option_and_then (λ (unit : Unit). unit.part) found) ≡ option_and_then (own_in units) o
 own_of_template units o found there =
-    ap (λ u. option_map (λ (part : Part). part.text) (option_and_then (λ (unit : Unit). unit.part) u)) (sym there) ∙ sym (own_through units o)
+    ap (λ u. option_map (λ (part : FilePart). part.text) (option_and_then (λ (unit : Unit). unit.part) u)) (sym there) ∙ sym (own_through units o)
 
 -- no text names a unit
 pub adds_nothing : (p : List ℕ → Bool) (text : Option (List Assignment)) (unit : List ℕ) (had : Bool) → text ≡ None → had ≡ (had || has (filter p (words_in text)) unit)
@@ -83,13 +83,13 @@ adds_both p whole text wants requires unit before now after is are_wants are_req
 
 -- a unit that the folder doesn't name wants what its template's text wants
 wanted_of_template : (units : List Unit) (name : List ℕ) (o : Option Unit) → IsUnitName name → unit_in units name ≡ None → option_and_then (unit_in units) (template_of name) ≡ o →
-    wanted (own_in units) [] (option_map (λ (part : Part). part.text) (option_and_then (λ (unit : Unit). unit.part) o)) ≡ wanted_in units name
+    wanted (own_in units) [] (option_map (λ (part : FilePart). part.text) (option_and_then (λ (unit : Unit). unit.part) o)) ≡ wanted_in units name
 wanted_of_template units name o named none is =
-    let text : found_in units name ≡ option_map (λ (part : Part). part.text) (option_and_then (λ (unit : Unit). unit.part) o) =
+    let text : found_in units name ≡ option_map (λ (part : FilePart). part.text) (option_and_then (λ (unit : Unit). unit.part) o) =
     found_unit (own_in units) name named
-    ∙ ap (λ u. option_or (option_map (λ (part : Part). part.text) (option_and_then (λ (unit : Unit). unit.part) u)) (option_and_then (own_in units) (template_of name))) none
+    ∙ ap (λ u. option_or (option_map (λ (part : FilePart). part.text) (option_and_then (λ (unit : Unit). unit.part) u)) (option_and_then (own_in units) (template_of name))) none
     ∙ own_through units (template_of name)
-    ∙ ap (λ u. option_map (λ (part : Part). part.text) (option_and_then (λ (unit : Unit). unit.part) u)) is in
+    ∙ ap (λ u. option_map (λ (part : FilePart). part.text) (option_and_then (λ (unit : Unit). unit.part) u)) is in
     ap (wanted (own_in units) []) (sym text)
     ∙ ap (λ u. wanted (own_in units) (option_map_or (λ (unit : Unit). unit.wants) u []) (found_in units name)) (sym none)
 

@@ -12,7 +12,7 @@ use Rattle.switch_names.specs.Path.{slash}
 use Rattle.switch_names.specs.UnitName.{IsUnitName}
 use Rattle.host_trait.specs.declared.leaf.LeafKind.{LeafKind}
 use Rattle.host_trait.specs.World.{Leaves, bytes_cmp, content_of, is_listed, leaf_content, stage}
-use Rattle.unit_defs.specs.declared.reading.found.Found.{Found}
+use Rattle.unit_defs.specs.declared.reading.found.FoundUnits.{FoundUnits}
 use Rattle.unit_defs.specs.declared.reading.found.UnitFiles.{UnitFiles}
 use Rattle.unit_defs.specs.Files.{drop_in_at, file_of, folder_wants, paths_of}
 use Rattle.unit_defs.specs.Found.{AreFilesAt, AreFilesOf, files_in, is_file}
@@ -85,7 +85,7 @@ none_wanted unit = by (is_name (codes "local-fs.target") unit) (is_name (codes "
     by false false = refl
 
 -- what is read at all listed paths is all
-pub files_all : (leaves : Leaves) (system front : List ℕ) (paths : List (List ℕ)) (found : Found) → front ≡ path_of system [] → paths ≡ paths_of leaves system →
+pub files_all : (leaves : Leaves) (system front : List ℕ) (paths : List (List ℕ)) (found : FoundUnits) → front ≡ path_of system [] → paths ≡ paths_of leaves system →
     AreFilesAt leaves front paths found → AreFilesOf leaves system [] found
 files_all leaves system front paths found is_front are_paths read =
     let all : AreFilesAt leaves (path_of system []) (paths_of leaves system) found =

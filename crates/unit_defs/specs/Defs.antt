@@ -6,9 +6,9 @@ use Rattle.std.specs.Option.{option_map_or, option_or}
 use Rattle.switch_names.specs.UnitName.{IsUnitName}
 use Rattle.host_trait.specs.World.{Leaves, bytes_cmp}
 use Rattle.unit_text.specs.declared.assignment.Assignment.{Assignment}
-use Rattle.unit_defs.specs.declared.part.Part.{Part}
-use Rattle.unit_defs.specs.declared.place.Place.{Place}
-use Rattle.unit_defs.specs.declared.place.Place.TheVariants.{File, DropIn, Want}
+use Rattle.unit_defs.specs.declared.part.FilePart.{FilePart}
+use Rattle.unit_defs.specs.declared.place.UnitPlace.{UnitPlace}
+use Rattle.unit_defs.specs.declared.place.UnitPlace.TheVariants.{File, DropIn, Want}
 use Rattle.unit_defs.specs.declared.unit.Unit.{Unit}
 use Rattle.unit_defs.specs.declared.unit.Wants.{Wants}
 use Rattle.switch_names.specs.Names.{Name, has, is_name}
@@ -19,7 +19,7 @@ abbrev pub unit_in : List Unit → List ℕ → Option Unit
 unit_in units name = find (λ unit. is_name name unit.name) units
 
 -- what a unit has of its own, by its files or the fstab
-abbrev pub part_in : List Unit → List ℕ → Option Part
+abbrev pub part_in : List Unit → List ℕ → Option FilePart
 part_in units name = option_and_then (λ unit. unit.part) (unit_in units name)
 
 -- the text that a unit has of its own
@@ -27,7 +27,7 @@ abbrev pub own_in : List Unit → List ℕ → Option (List Assignment)
 own_in units name = option_map (λ part. part.text) (part_in units name)
 
 -- the text that the unit whose file stands at a place has of its own
-abbrev pub own_at : List Unit → Place → Option (List Assignment)
+abbrev pub own_at : List Unit → UnitPlace → Option (List Assignment)
 own_at units (File unit) = own_in units unit
 own_at units (DropIn unit name) = None
 own_at units (Want unit name) = None

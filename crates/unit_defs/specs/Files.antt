@@ -6,8 +6,8 @@ use Rattle.std.specs.List.{flat_map}
 use Rattle.std.specs.Option.{option_map_or}
 use Rattle.switch_names.specs.UnitName.{template_of}
 use Rattle.host_trait.specs.World.{Leaves, bytes_cmp, content_of, listed}
-use Rattle.unit_defs.specs.declared.place.Place.{Place}
-use Rattle.unit_defs.specs.declared.place.Place.TheVariants.{DropIn, Want}
+use Rattle.unit_defs.specs.declared.place.UnitPlace.{UnitPlace}
+use Rattle.unit_defs.specs.declared.place.UnitPlace.TheVariants.{DropIn, Want}
 use Rattle.unit_defs.specs.Place.{path_of, place_of, unit_folder}
 use Rattle.switch_names.specs.Names.{is_name}
 
@@ -20,7 +20,7 @@ abbrev pub file_of : Leaves → List ℕ → List ℕ → Option (List ℕ)
 file_of leaves system unit = content_of leaves (path_of system unit)
 
 -- the name and the content of a leaf that is a drop-in of a unit
-abbrev pub drop_in_at : List ℕ → Option Place → Option (List ℕ) → List (List ℕ × List ℕ)
+abbrev pub drop_in_at : List ℕ → Option UnitPlace → Option (List ℕ) → List (List ℕ × List ℕ)
 drop_in_at unit (Some (DropIn other name)) (Some content) = if is_name other unit then (name, content) ∷ [] else []
 drop_in_at unit place content = []
 
@@ -34,7 +34,7 @@ abbrev pub drop_ins_of : Leaves → List ℕ → List ℕ → List (List ℕ)
 drop_ins_of leaves system unit = map.values (drop_in_map leaves system unit)
 
 -- the name of a leaf in a unit's folders of units that it wants
-abbrev pub want_at : List ℕ → Option Place → List (List ℕ)
+abbrev pub want_at : List ℕ → Option UnitPlace → List (List ℕ)
 want_at unit (Some (Want other name)) = if is_name other unit then name ∷ [] else []
 want_at unit place = []
 

@@ -7,7 +7,7 @@ use Rattle.unit_text.specs.declared.text_fault.TextFault.{TextFault}
 use Rattle.unit_text.specs.declared.text_fault.TextFault.TheVariants.{Section, Key, NoSection, Utf8, Memory}
 use Rattle.unit_text.specs.TextFault.{text_fault}
 use Rattle.unit_text.specs.UnitText.{assignments}
-use Rattle.unit_defs.specs.declared.part.Part.{Part}
+use Rattle.unit_defs.specs.declared.part.FilePart.{FilePart}
 
 -- the line that a fault names
 abbrev pub line_of : TextFault → ℕ
@@ -22,22 +22,22 @@ abbrev pub readable : List ℕ → List Assignment
 readable bytes = if is_none (text_fault bytes) then assignments bytes else []
 
 -- what a file says, and the line of its first fault
-abbrev pub part_of : List ℕ → Part
+abbrev pub part_of : List ℕ → FilePart
 part_of bytes = record { text = readable bytes; fault = option_map line_of (text_fault bytes) }
 
 -- what the text of a line of an fstab says: it has no fault
-abbrev pub line_part : List Assignment → Part
+abbrev pub line_part : List Assignment → FilePart
 line_part text = record { text = text; fault = None }
 
 -- the line of the first fault of several files
-abbrev pub first_fault : List Part → Option ℕ
+abbrev pub first_fault : List FilePart → Option ℕ
 first_fault [] = None
 first_fault (part ∷ parts) = option_or part.fault (first_fault parts)
 
 -- what several files say one after the other
-abbrev pub merged : List Part → Part
+abbrev pub merged : List FilePart → FilePart
 merged parts = record { text = flat_map (λ part. part.text) parts; fault = first_fault parts }
 
 -- what a part says with several files applied after it
-abbrev pub added : Part → List Part → Part
+abbrev pub added : FilePart → List FilePart → FilePart
 added part later = record { text = part.text ++ flat_map (λ one. one.text) later; fault = option_or part.fault (first_fault later) }

@@ -4,14 +4,14 @@ use Rattle.host_trait.specs.World.{Leaves}
 use Rattle.leaf_limits.specs.Limits.{is_long}
 use Rattle.switch_names.specs.Names.{Name, is_name}
 use Rattle.unit_text.specs.declared.assignment.Assignment.{Assignment}
-use Rattle.unit_defs.specs.declared.place.Place.{Place}
-use Rattle.unit_defs.specs.declared.place.Place.TheVariants.{File, DropIn, Want}
+use Rattle.unit_defs.specs.declared.place.UnitPlace.{UnitPlace}
+use Rattle.unit_defs.specs.declared.place.UnitPlace.TheVariants.{File, DropIn, Want}
 use Rattle.unit_defs.specs.Fstab.{fstab_path}
 use Rattle.unit_defs.specs.Place.{is_want, place_of}
 use Rattle.unit_defs.specs.Units.{file_text}
 
 -- whether what stands at a place is taken, by the texts that the files of units say: a unit's file, or a drop-in of a unit with such a text
-abbrev pub takes_place : (Name → Option (List Assignment)) → Option Place → Bool
+abbrev pub takes_place : (Name → Option (List Assignment)) → Option UnitPlace → Bool
 takes_place texts None = false
 takes_place texts (Some (File unit)) = true
 takes_place texts (Some (DropIn unit name)) = is_some (texts unit)
@@ -22,7 +22,7 @@ abbrev pub takes_units : Leaves → Name → Name → Bool
 takes_units leaves system q = is_name q (fstab_path system) || takes_place (file_text leaves system) (place_of system q)
 
 -- whether the content is read of what stands at a place
-abbrev pub is_read : Option Place → Bool
+abbrev pub is_read : Option UnitPlace → Bool
 is_read None = false
 is_read (Some place) = not (is_want place)
 

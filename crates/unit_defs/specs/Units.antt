@@ -10,9 +10,9 @@ use Rattle.host_trait.specs.World.{Leaves, bytes_cmp}
 use Rattle.unit_text.specs.declared.assignment.Assignment.{Assignment}
 use Rattle.unit_text.specs.UnitKey.{key_of}
 use Rattle.unit_text.specs.UnitText.{values_of}
-use Rattle.unit_defs.specs.declared.part.Part.{Part}
-use Rattle.unit_defs.specs.declared.place.Place.{Place}
-use Rattle.unit_defs.specs.declared.place.Place.TheVariants.{File, DropIn, Want}
+use Rattle.unit_defs.specs.declared.part.FilePart.{FilePart}
+use Rattle.unit_defs.specs.declared.place.UnitPlace.{UnitPlace}
+use Rattle.unit_defs.specs.declared.place.UnitPlace.TheVariants.{File, DropIn, Want}
 use Rattle.unit_defs.specs.Files.{drop_ins_of, file_of, folder_wants, own_files, paths_of}
 use Rattle.unit_defs.specs.Fstab.{fstab_of, line_text, wanted_by_lines}
 use Rattle.unit_defs.specs.Part.{line_part, merged, part_of}
@@ -49,11 +49,11 @@ abbrev pub wanted : (List ℕ → Option (List Assignment)) → List (List ℕ) 
 wanted own names text = in_order (filter (can_be_wanted own) (names ++ words_in text))
 
 -- what the files of a unit say, where one is its base
-abbrev pub file_part : Leaves → List ℕ → List ℕ → Option Part
+abbrev pub file_part : Leaves → List ℕ → List ℕ → Option FilePart
 file_part leaves system unit = option_map (λ files. merged (map part_of files)) (own_files (file_of leaves system) (drop_ins_of leaves system) unit)
 
 -- what a unit has of its own: what its files say, or else what its line in the fstab says
-abbrev pub own_part : Leaves → List ℕ → List ℕ → Option Part
+abbrev pub own_part : Leaves → List ℕ → List ℕ → Option FilePart
 own_part leaves system unit = option_or (file_part leaves system unit) (option_map line_part (line_text (fstab_of leaves system) unit))
 
 -- the text that a unit of a system has of its own
@@ -81,7 +81,7 @@ abbrev pub wanted_of : Leaves → List ℕ → List ℕ → List (List ℕ)
 wanted_of leaves system unit = wanted (own_text leaves system) (wants_of leaves system unit) (text_of leaves system unit)
 
 -- the unit to which a file or a drop-in belongs
-abbrev pub unit_at : Option Place → List Name
+abbrev pub unit_at : Option UnitPlace → List Name
 unit_at None = []
 unit_at (Some (File unit)) = unit ∷ []
 unit_at (Some (DropIn unit name)) = unit ∷ []

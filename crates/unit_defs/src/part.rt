@@ -8,7 +8,7 @@ use switch_names::Bytes;
 use unit_text::{TextFault, UnitText, parse_beside};
 
 /// What one file says, or several one after the other.
-pub struct Part {
+pub struct FilePart {
     /// The assignments, without those of files that can't be read.
     pub text: UnitText,
     /// The line of the first fault.
@@ -16,9 +16,9 @@ pub struct Part {
 }
 
 /// One call: a derived drop is proved anew in each function that lets one go.
-impl Drop for Part {
+impl Drop for FilePart {
     fn drop(self) {
-        let Part { text: _, fault: _ } = self;
+        let FilePart { text: _, fault: _ } = self;
     }
 }
 
@@ -35,22 +35,22 @@ fn line_of(fault: TextFault) -> u32
     }
 }
 
-impl Part {
+impl FilePart {
     /// Reads a file, where it has content, beside a text that may begin with the same file.
     pub fn read(
         alloc: Global,
         content: Option<&Bytes>,
         beside: Option<&UnitText>,
-    ) -> Result<Option<Part>, AllocError>
+    ) -> Result<Option<FilePart>, AllocError>
         ensures { IfOk result (λ part. part ≡ option_map part_of (option_copied content.entry)) }
     {
         let Some(bytes) = content else {
             return Ok(None);
         };
         match parse_beside(alloc, bytes.as_slice(), beside) {
-            Ok(text) => Ok(Some(Part { text, fault: None })),
+            Ok(text) => Ok(Some(FilePart { text, fault: None })),
             Err(TextFault::Memory) => Err(AllocError),
-            Err(fault) => Ok(Some(Part {
+            Err(fault) => Ok(Some(FilePart {
                 text: UnitText::empty(alloc),
                 fault: Some(line_of(fault)),
             })),
@@ -58,17 +58,17 @@ impl Part {
     }
 
     /// An equal part.
-    pub fn copy(&self, alloc: Global) -> Result<Part, AllocError>
+    pub fn copy(&self, alloc: Global) -> Result<FilePart, AllocError>
         ensures { IfOk result (λ copied. copied ≡ self.now) }
     {
-        Ok(Part {
+        Ok(FilePart {
             text: self.text.copy(alloc)?,
             fault: self.fault,
         })
     }
 
     /// Applies a later part.
-    pub fn add(&mut self, alloc: Global, later: &Part) -> Result<(), AllocError>
+    pub fn add(&mut self, alloc: Global, later: &FilePart) -> Result<(), AllocError>
         ensures text { OnOk result (self.new.text ≡ self.old.text ++ later.now.text) }
         ensures fault { OnOk result (self.new.fault ≡ option_or self.old.fault later.now.fault) }
     {

@@ -7,13 +7,13 @@ ghost use Rattle.switch_names.specs.Path.{is_slash};
 ghost use Rattle.switch_names.specs.Texts.{after_front, before_end};
 ghost use Rattle.unit_defs.specs.Place.{drop_in, is_drop_in_name, is_want, named, place_below, place_after, place_in, want};
 
-use crate::part::Part;
-use crate::reading::found::Found;
+use crate::part::FilePart;
+use crate::reading::found::FoundUnits;
 use std::alloc::{AllocError, Global};
 use switch_names::{NameFault, Path, Text, UnitName};
 
 /// What a leaf in the folder of units is.
-pub enum Place {
+pub enum UnitPlace {
     /// The file of a unit.
     File(UnitName),
     /// A drop-in of a unit, and its name before `.conf`.
@@ -23,32 +23,37 @@ pub enum Place {
 }
 
 /// One call: a derived drop is proved anew in each function that lets one go.
-impl Drop for Place {
+impl Drop for UnitPlace {
     fn drop(self) {
         match self {
-            Place::File(_) => {}
-            Place::DropIn(_, _) => {}
-            Place::Want(_, _) => {}
+            UnitPlace::File(_) => {}
+            UnitPlace::DropIn(_, _) => {}
+            UnitPlace::Want(_, _) => {}
         }
     }
 }
 
-impl Place {
+impl UnitPlace {
     /// Whether a unit stands here that another one wants.
     pub fn is_want(&self) -> bool
         ensures { result ≡ is_want self.now }
     {
-        matches!(self, Place::Want(_, _))
+        matches!(self, UnitPlace::Want(_, _))
     }
 
     /// Puts what stands here, with what its leaf says, to what is found.
-    pub fn put(self, alloc: Global, part: Option<Part>, found: &mut Found) -> Result<(), AllocError>
+    pub fn put(
+        self,
+        alloc: Global,
+        part: Option<FilePart>,
+        found: &mut FoundUnits,
+    ) -> Result<(), AllocError>
         ensures { OnOk result (Takes (Some self) part found.old found.new) }
     {
         match self {
-            Place::File(unit) => found.add_file(alloc, unit, part),
-            Place::DropIn(unit, name) => found.add_drop_in(alloc, unit, name, part),
-            Place::Want(unit, name) => found.add_want(alloc, unit, name),
+            UnitPlace::File(unit) => found.add_file(alloc, unit, part),
+            UnitPlace::DropIn(unit, name) => found.add_drop_in(alloc, unit, name, part),
+            UnitPlace::Want(unit, name) => found.add_want(alloc, unit, name),
         }
     }
 }
@@ -100,7 +105,7 @@ fn is_drop_in_name(name: &str) -> bool
 }
 
 /// A drop-in of the unit whose folder this is.
-fn drop_in(alloc: Global, folder: &str, name: &str) -> Result<Option<Place>, AllocError>
+fn drop_in(alloc: Global, folder: &str, name: &str) -> Result<Option<UnitPlace>, AllocError>
     ensures { IfOk result (λ place. place ≡ drop_in folder.now name.now) }
 {
     let Some(unit) = before_end(folder, ".d") else {
@@ -115,11 +120,11 @@ fn drop_in(alloc: Global, folder: &str, name: &str) -> Result<Option<Place>, All
     let Some(unit) = named(alloc, unit)? else {
         return Ok(None);
     };
-    Ok(Some(Place::DropIn(unit, Text::from_str(alloc, stem)?)))
+    Ok(Some(UnitPlace::DropIn(unit, Text::from_str(alloc, stem)?)))
 }
 
 /// A unit that is wanted by the unit whose folder this is.
-fn want(alloc: Global, folder: &str, end: &str, name: &str) -> Result<Option<Place>, AllocError>
+fn want(alloc: Global, folder: &str, end: &str, name: &str) -> Result<Option<UnitPlace>, AllocError>
     ensures { IfOk result (λ place. place ≡ want end.now folder.now name.now) }
 {
     let Some(unit) = before_end(folder, end) else {
@@ -131,11 +136,11 @@ fn want(alloc: Global, folder: &str, end: &str, name: &str) -> Result<Option<Pla
     let Some(name) = named(alloc, name)? else {
         return Ok(None);
     };
-    Ok(Some(Place::Want(unit, name)))
+    Ok(Some(UnitPlace::Want(unit, name)))
 }
 
 /// What a leaf of this name in a folder of this name is.
-fn place_below(alloc: Global, folder: &str, name: &str) -> Result<Option<Place>, AllocError>
+fn place_below(alloc: Global, folder: &str, name: &str) -> Result<Option<UnitPlace>, AllocError>
     ensures { IfOk result (λ place. place ≡ place_below folder.now name.now) }
 {
     if let Some(place) = drop_in(alloc, folder, name)? {
@@ -148,11 +153,11 @@ fn place_below(alloc: Global, folder: &str, name: &str) -> Result<Option<Place>,
 }
 
 /// What a leaf in the folder of units is.
-fn place_in(alloc: Global, rest: &str) -> Result<Option<Place>, AllocError>
+fn place_in(alloc: Global, rest: &str) -> Result<Option<UnitPlace>, AllocError>
     ensures { IfOk result (λ place. place ≡ place_in rest.now) }
 {
     if let Some(unit) = named(alloc, rest)? {
-        return Ok(Some(Place::File(unit)));
+        return Ok(Some(UnitPlace::File(unit)));
     }
     match split_at_slash(rest) {
         None => Ok(None),
@@ -161,7 +166,7 @@ fn place_in(alloc: Global, rest: &str) -> Result<Option<Place>, AllocError>
 }
 
 /// What the leaf at a path is, where the folder of units and a slash are its front.
-pub fn place_after(alloc: Global, front: &str, path: &Path) -> Result<Option<Place>, AllocError>
+pub fn place_after(alloc: Global, front: &str, path: &Path) -> Result<Option<UnitPlace>, AllocError>
     ensures { IfOk result (λ place. place ≡ place_after front.now path.now) }
 {
     match after_front(path.as_str(), front) {

@@ -15,13 +15,13 @@ pub mod fstab;
 mod noting;
 mod units;
 
-use self::found::Found;
+use self::found::FoundUnits;
 use self::fstab::read_fstab;
 use self::noting::content_measured;
 use self::units::units_of;
 use crate::defs::Defs;
-use crate::part::Part;
-use crate::place::{Place, place_after};
+use crate::part::FilePart;
+use crate::place::{UnitPlace, place_after};
 use crate::unit::Unit;
 use host_trait::{HostFault, Tree};
 use std::alloc::{AllocError, Global};
@@ -29,13 +29,13 @@ use switch_names::{Listed, NameFault, Path, SystemName, Text};
 use unit_text::UnitText;
 
 /// The text that another system has for the unit whose file this place is.
-fn text_beside<'a>(place: &Place, beside: &'a Defs) -> Option<&'a UnitText>
+fn text_beside<'a>(place: &UnitPlace, beside: &'a Defs) -> Option<&'a UnitText>
     ensures { option_copied result ≡ own_at beside.now place.now }
 {
     match place {
-        Place::File(unit) => beside.own_text(unit),
-        Place::DropIn(_, _) => None,
-        Place::Want(_, _) => None,
+        UnitPlace::File(unit) => beside.own_text(unit),
+        UnitPlace::DropIn(_, _) => None,
+        UnitPlace::Want(_, _) => None,
     }
 }
 
@@ -44,10 +44,10 @@ fn read_part<T: Tree>(
     alloc: Global,
     host: &mut T,
     path: &Path,
-    place: &Place,
+    place: &UnitPlace,
     beside: &Defs,
     long: &mut bool,
-) -> Result<Option<Part>, HostFault>
+) -> Result<Option<FilePart>, HostFault>
     ensures part { IfOk result (λ part. Told (T.host host.old) (λ w. part ≡ part_at w.leaves path.now place.now)) }
     ensures short { OnOk result (Told (T.host host.old) (λ w. NotesLong long.old long.new (λ q. is_name q path.now && not (is_want place.now)) w.leaves)) }
     ensures reads { IsReading (T.host host.old) (T.host host.new) result }
@@ -56,7 +56,7 @@ fn read_part<T: Tree>(
         return Ok(None);
     }
     let bytes = content_measured(alloc, host, path, long)?;
-    Ok(Part::read(alloc, bytes.as_ref(), text_beside(place, beside))?)
+    Ok(FilePart::read(alloc, bytes.as_ref(), text_beside(place, beside))?)
 }
 
 /// Reads what stands at a path, where the folder of units and a slash are its front.
@@ -66,7 +66,7 @@ fn read_path<T: Tree>(
     front: &str,
     path: &Path,
     beside: &Defs,
-    found: &mut Found,
+    found: &mut FoundUnits,
     long: &mut bool,
 ) -> Result<(), HostFault>
     ensures found { OnOk result (Told (T.host host.old) (λ w. TakesPath w.leaves front.now path.now found.old found.new)) }
@@ -88,12 +88,12 @@ fn read_paths<T: Tree>(
     paths: &[Path],
     beside: &Defs,
     long: &mut bool,
-) -> Result<Found, HostFault>
+) -> Result<FoundUnits, HostFault>
     ensures found { IfOk result (λ found. Told (T.host host.old) (λ w. AreFilesAt w.leaves front.now paths.now found)) }
     ensures short { OnOk result (Told (T.host host.old) (λ w. NotesLong long.old long.new (λ q. has paths.now q && is_read (place_after front.now q)) w.leaves)) }
     ensures reads { IsReading (T.host host.old) (T.host host.new) result }
 {
-    let mut found = Found::new(alloc);
+    let mut found = FoundUnits::new(alloc);
     for path in paths {
         read_path(alloc, host, front, path, beside, &mut found, long)?;
     }
@@ -127,7 +127,7 @@ fn read_folder<T: Tree>(
     system: &SystemName,
     beside: &Defs,
     long: &mut bool,
-) -> Result<Found, HostFault>
+) -> Result<FoundUnits, HostFault>
     ensures found { IfOk result (λ found. Told (T.host host.old) (λ w. AreFilesOf w.leaves system.now [] found)) }
     ensures short { OnOk result (Told (T.host host.old) (λ w. NotesLong long.old long.new (λ q. is_read (place_of system.now q)) w.leaves)) }
     ensures reads { IsReading (T.host host.old) (T.host host.new) result }

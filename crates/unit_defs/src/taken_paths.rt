@@ -12,7 +12,7 @@ ghost use Rattle.unit_defs.specs.Place.{place_after};
 ghost use Rattle.unit_defs.specs.Taken.{takes_place, takes_units};
 
 use crate::answering::wanting::own_text;
-use crate::place::{Place, place_after};
+use crate::place::{UnitPlace, place_after};
 use crate::reading::fstab::fstab_path;
 use crate::reading::{read_file_units, unit_folder, with_slash};
 use crate::unit::Unit;
@@ -22,14 +22,14 @@ use std::collections::BTreeSet;
 use switch_names::{Listed, Path, SystemName};
 
 /// Whether what stands at a place is taken, by the units of its system.
-fn is_taken(place: Option<&Place>, units: &[Unit]) -> bool
+fn is_taken(place: Option<&UnitPlace>, units: &[Unit]) -> bool
     requires { AreSorted units.now }
     ensures { result ≡ takes_place (own_in units.now) (option_copied place.entry) }
 {
     match place {
-        Some(Place::File(_)) => true,
-        Some(Place::DropIn(unit, _)) => own_text(units, unit).is_some(),
-        Some(Place::Want(_, _)) => false,
+        Some(UnitPlace::File(_)) => true,
+        Some(UnitPlace::DropIn(unit, _)) => own_text(units, unit).is_some(),
+        Some(UnitPlace::Want(_, _)) => false,
         None => false,
     }
 }

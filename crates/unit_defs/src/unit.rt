@@ -2,7 +2,7 @@
 ghost use Rattle.std.specs.Prelude.{◌≡◌, IfOk, option_map};
 ghost use Rattle.std.specs.Option.{option_copied};
 
-use crate::part::Part;
+use crate::part::FilePart;
 use std::alloc::{AllocError, Global};
 use switch_names::{Listed, UnitName};
 use unit_text::UnitText;
@@ -11,7 +11,7 @@ use unit_text::UnitText;
 pub struct Unit {
     pub name: UnitName,
     /// What its files say, or else its line in the fstab, where it has a text of its own.
-    pub part: Option<Part>,
+    pub part: Option<FilePart>,
     /// The names in its folders of units that it wants, and those that the fstab makes it want.
     pub wants: Listed<UnitName>,
 }

@@ -12,13 +12,13 @@ use Rattle.owed_log.specs.Lengths.{AreOwedShort}
 use Rattle.owed_log.specs.Standing.{AreListsAt}
 use Rattle.owed_plan.specs.declared.owed.Owed.{Owed}
 use Rattle.owed_plan.specs.FinalStates.{final_state}
-use Rattle.owed_plan.specs.Owed.{IsOwed}
+use Rattle.owed_plan.specs.Owed.{IsOwed, IsOwedAct}
 use Rattle.owed_plan.specs.Steady.{IsSteady}
 use Rattle.owed_plan.specs.Systems.{Systems, systems_at}
 use Rattle.switch_names.specs.Names.{Name, has}
 use Rattle.unit_stage.specs.End.{state_after}
 use Rattle.unit_stage.specs.Laws.{AreSameBeside}
-use Rattle.unit_stage.specs.Owes.{IsOwedAct, IsSteadyWorld, Owes, OwesUnit}
+use Rattle.unit_stage.specs.Owes.{IsSteadyWorld, Owes, OwesUnit}
 use Rattle.unit_stage.specs.Plan.{IsOwedBy, IsOwedIn}
 use Rattle.unit_stage.specs.System.{IsSystem, current_place, current_system, definitions_of}
 use Rattle.unit_stage.specs.Units.{AreUnitsFree, AreUnitsUnderway}
@@ -76,37 +76,37 @@ module _ (start_up : Bool) (system : Name) (is_system : IsSystem system) (w m : 
         subst (λ (x : ManagerState). P after (state_of x.states)) (sym manager)
         (subst (λ (s : Systems). P s (state_of w.manager.states)) (sym systems) holds)
 
-  owes_before : (act : Act) (unit : Name) → Owes start_up m system act unit → Owes start_up w system act unit
+  owes_before : (act : Act) (unit : Name) → Owes start_up system m act unit → Owes start_up system w act unit
   owes_before act unit (lists, listed, owing) = (lists, listed_before lists listed, holds_before (λ (s : Systems) (states : Name → State). IsOwedAct s states lists act unit) owing)
 
-  owes_after : (act : Act) (unit : Name) → Owes start_up w system act unit → Owes start_up m system act unit
+  owes_after : (act : Act) (unit : Name) → Owes start_up system w act unit → Owes start_up system m act unit
   owes_after act unit (lists, listed, owing) = (lists, listed_after lists listed, holds_after (λ (s : Systems) (states : Name → State). IsOwedAct s states lists act unit) owing)
 
-  unit_before : (unit : Name) → OwesUnit start_up m system unit → OwesUnit start_up w system unit
+  unit_before : (unit : Name) → OwesUnit start_up system m unit → OwesUnit start_up system w unit
   unit_before unit (act, owes) = (act, owes_before act unit owes)
 
-  owed_before : (owed : Owed) → IsOwedBy start_up m system owed → IsOwedBy start_up w system owed
+  owed_before : (owed : Owed) → IsOwedBy start_up system m owed → IsOwedBy start_up system w owed
   owed_before owed (lists, is) =
       (lists, record { listed = listed_before lists is.listed; is_owed = holds_before (λ (s : Systems) (states : Name → State). IsOwed s states lists owed) is.is_owed })
 
-  pub owed_after : (owed : Owed) → IsOwedBy start_up w system owed → IsOwedBy start_up m system owed
+  pub owed_after : (owed : Owed) → IsOwedBy start_up system w owed → IsOwedBy start_up system m owed
   owed_after owed (lists, is) =
       (lists, record { listed = listed_after lists is.listed; is_owed = holds_after (λ (s : Systems) (states : Name → State). IsOwed s states lists owed) is.is_owed })
 
-  is_steady : IsSteadyWorld start_up w system → IsSteadyWorld start_up m system
+  is_steady : IsSteadyWorld start_up system w → IsSteadyWorld start_up system m
   is_steady steady = record {
     marks = λ lists listed. holds_after (λ (s : Systems) (states : Name → State). IsSteady s states lists) (steady.marks lists (listed_before lists listed));
     room = still_room start_up system w m unit_before steady;
   }
 
-  module _ (lists : Lists) (owed : Owed) (owes : IsOwedIn start_up w system lists owed) where
-    end_before : (next : Owed) → IsOwedBy start_up m system next → (unit : Name) → state_after system next m unit ≡ state_after system owed w unit
+  module _ (lists : Lists) (owed : Owed) (owes : IsOwedIn start_up system w lists owed) where
+    end_before : (next : Owed) → IsOwedBy start_up system m next → (unit : Name) → state_after system next m unit ≡ state_after system owed w unit
     end_before next is unit =
         ap (λ (x : ManagerState). final_state next (definitions_of system) x.bad (state_of x.states) unit) manager
         ∙ one_end start_up system lists owed w owes next (owed_before next is) unit
 
   -- a switch of the units is underway where it hasn't begun
-  pub begun_underway : AreUnitsFree system m.leaves → (AreOwedShort w.leaves → AreOwedShort m.leaves) → IsSteadyWorld start_up w system → AreUnitsUnderway start_up system w m
+  pub begun_underway : AreUnitsFree system m.leaves → (AreOwedShort w.leaves → AreOwedShort m.leaves) → IsSteadyWorld start_up system w → AreUnitsUnderway start_up system w m
   begun_underway free short steady =
       let owed = owed_in start_up system w in
       record {

@@ -1,9 +1,10 @@
 -- The moments of the calls after the link: what they make of the units.
-use Rattle.std.proofs.Common.{◌≡◌, ◌&&◌, ◌||◌, ◌++◌, ◌∷◌, Bool, true, false, not, IsTrue, List, [], map, if◌then◌else◌, refl, sym, ap, subst, ◌∙◌, inl, inr}
+use Rattle.std.proofs.Common.{◌≡◌, ◌≢◌, ◌⊎◌, ◌&&◌, ◌||◌, ◌++◌, ◌∷◌, Bool, true, false, not, IsTrue, List, [], map, if◌then◌else◌, refl, sym, ap, subst, ◌∙◌, inl, inr}
 use Rattle.std.proofs.lemmas.Bool.{both_ways, or_left, or_right}
 use Rattle.std.proofs.lemmas.List.Folds.{list_any-append}
-use Rattle.std.proofs.lemmas.List.{append-nil, append_assoc}
-use Rattle.std.specs.List.{AllByRecursion, list_any}
+use Rattle.std.proofs.lemmas.List.{append_assoc}
+use Rattle.std.proofs.lemmas.List.Concat.{flat_map-append}
+use Rattle.std.specs.List.{AllByRecursion, flat_map, list_any}
 use Rattle.host_trait.specs.declared.entry.Act.{Act}
 use Rattle.host_trait.specs.declared.entry.Act.TheVariants.{Stop, Reload, Restart, Start}
 use Rattle.host_trait.specs.declared.manager_state.ManagerState.{ManagerState}
@@ -12,10 +13,13 @@ use Rattle.host_trait.specs.declared.unit_state.State.TheVariants.{Active, Inact
 use Rattle.host_trait.specs.Manager.{acted, halted, is_active, state_after}
 use Rattle.host_trait.specs.States.{state_of}
 use Rattle.log_text.specs.declared.lists.Lists.{Lists}
+use Rattle.log_text.specs.declared.lists.Which.{Which}
+use Rattle.log_text.specs.declared.lists.Which.TheVariants.{Starts, Restarts, Reloads}
+use Rattle.log_text.specs.Lists.{list_names, with_list}
 use Rattle.owed_plan.specs.declared.duty.Duty.{Duty}
 use Rattle.owed_plan.specs.declared.owed.Owed.{Owed}
-use Rattle.owed_plan.specs.Calls.{duty, reload_act, reload_calls, restart_calls, start_calls}
-use Rattle.owed_plan.specs.Law.{stopped}
+use Rattle.owed_plan.specs.Calls.{duty, listed_calls, reload_act, restart_calls}
+use Rattle.owed_plan.specs.Law.{lists_of, stopped}
 use Rattle.unit_stage.specs.Acts.{performed}
 use Rattle.unit_stage.specs.Order.{ArrangesStarts}
 use Rattle.owed_plan.specs.FinalStates.{brought_by, is_brought}
@@ -24,7 +28,8 @@ use Rattle.unit_stage.proofs.CallLemmas.{performed-append, same_bad, same_loaded
 use Rattle.switch_names.specs.Names.{Name, has, is_name}
 use Rattle.host_trait.proofs.NameOrder.{name_exact, name_itself}
 use Rattle.host_trait.proofs.StateMaps.{active_from_test}
-use Rattle.owed_plan.specs.Called.{AreCalled, IsCalled, IsGiven, IsLeftOf}
+use Rattle.owed_plan.specs.Called.{AreCalled, IsCalled, IsDone, IsGiven, IsLeftOf}
+use Rattle.owed_plan.proofs.KindLemmas.{of_lists}
 
 -- the lists that still stand
 abbrev pub lists_left : List Name → List Name → List Name → Lists
@@ -34,18 +39,51 @@ lists_left starts restarts reloads = record { starts = starts; restarts = restar
 abbrev pub is_called : List Duty → Name → Bool
 is_called calls unit = list_any (λ call. is_name unit call.unit) calls
 
--- these calls have been made since the definitions were loaded, the manager has come to this, and these lists stand
+-- the lists once these are cleared
+abbrev pub lists_without : Lists → List Which → Lists
+lists_without lists [] = lists
+lists_without lists (which ∷ done) = lists_without (with_list lists which []) done
+
+-- These calls have been made since the definitions were loaded, the manager has come to this, and these lists stand: the calls of
+-- some lists, which are cleared, and some of those of another; a restart may be half way through.
 pub data IsCalling (owed : Owed) (order : List Name) (states : Name → State) (ready : ManagerState) (made : List Duty) (m : ManagerState) (kept : Lists) : Type 0 where
-  Reloading : (rest : List Duty) → reload_calls owed states ≡ made ++ rest → m ≡ performed made ready →
-      kept ≡ lists_left owed.starts owed.restarts owed.reloads → IsCalling owed order states ready made m kept
-  Restarting : (part rest : List Duty) → restart_calls owed ≡ part ++ rest → made ≡ reload_calls owed states ++ part → m ≡ performed made ready →
-      kept ≡ lists_left owed.starts owed.restarts [] → IsCalling owed order states ready made m kept
-  Halfway : (part rest : List Duty) (unit : Name) → restart_calls owed ≡ part ++ duty Restart unit ∷ rest → made ≡ reload_calls owed states ++ part → m ≡ halted unit (performed made ready) →
-      kept ≡ lists_left owed.starts owed.restarts [] → IsCalling owed order states ready made m kept
-  Starting : (part rest : List Duty) → start_calls order ≡ part ++ rest → made ≡ (reload_calls owed states ++ restart_calls owed) ++ part → m ≡ performed made ready →
-      kept ≡ lists_left owed.starts [] [] → IsCalling owed order states ready made m kept
-  Done : made ≡ (reload_calls owed states ++ restart_calls owed) ++ start_calls order → m ≡ performed made ready →
-      kept ≡ lists_left [] [] [] → IsCalling owed order states ready made m kept
+  Calling : (done : List Which) (which : Which) (part rest : List Duty) → listed_calls owed order states which ≡ part ++ rest → made ≡ flat_map (listed_calls owed order states) done ++ part →
+      m ≡ performed made ready → kept ≡ lists_without (lists_of owed) done → IsCalling owed order states ready made m kept
+  Halfway : (done : List Which) (part rest : List Duty) (unit : Name) → AllByRecursion (λ one. one ≢ Restarts) done → restart_calls owed ≡ part ++ duty Restart unit ∷ rest →
+      made ≡ flat_map (listed_calls owed order states) done ++ part → m ≡ halted unit (performed made ready) → kept ≡ lists_without (lists_of owed) done → IsCalling owed order states ready made m kept
+
+-- ---- lists that are cleared
+
+-- a list is as it was, or it is the one that is cleared
+cleared_list : (lists : Lists) (which one : Which) → (list_names (with_list lists which []) one ≡ list_names lists one) ⊎ ((list_names (with_list lists which []) one ≡ []) × (which ≡ one))
+cleared_list lists Starts Starts = inr (refl, refl)
+cleared_list lists Restarts Restarts = inr (refl, refl)
+cleared_list lists Reloads Reloads = inr (refl, refl)
+cleared_list lists which one = inl refl
+
+-- a list is empty, and among those that are cleared
+pub record IsCleared (lists : Lists) (done : List Which) (one : Which) : Type 0 where
+  pub empty : list_names lists one ≡ []
+  pub first : List Which
+  pub last : List Which
+  pub among : done ≡ first ++ one ∷ last
+
+-- a list is as it was, or among those that are cleared
+kept_or_cleared : (done : List Which) (lists : Lists) (one : Which) → (list_names (lists_without lists done) one ≡ list_names lists one) ⊎ IsCleared (lists_without lists done) done one
+kept_or_cleared [] lists one = inl refl
+kept_or_cleared (which ∷ done) lists one = by (kept_or_cleared done (with_list lists which []) one) (cleared_list lists which one)
+  where
+    by : (list_names (lists_without lists (which ∷ done)) one ≡ list_names (with_list lists which []) one) ⊎ IsCleared (lists_without lists (which ∷ done)) done one →
+        (list_names (with_list lists which []) one ≡ list_names lists one) ⊎ ((list_names (with_list lists which []) one ≡ []) × (which ≡ one)) →
+        (list_names (lists_without lists (which ∷ done)) one ≡ list_names lists one) ⊎ IsCleared (lists_without lists (which ∷ done)) (which ∷ done) one
+    by (inr cleared) either = inr (record { empty = cleared.empty; first = which ∷ cleared.first; last = cleared.last; among = ap (λ ws. which ∷ ws) cleared.among })
+    by (inl same) (inl kept) = inl (same ∙ kept)
+    by (inl same) (inr cleared) = inr (record { empty = same ∙ cleared.0; first = []; last = done; among = ap (λ w. w ∷ done) cleared.1 })
+
+-- what holds for each of some lists holds for one of them
+one_of : (P : Which → Type 0) (first : List Which) (one : Which) (last : List Which) → AllByRecursion P (first ++ one ∷ last) → P one
+one_of P [] one last all = all.0
+one_of P (which ∷ first) one last all = one_of P first one last all.1
 
 -- ---- one unit
 
@@ -188,18 +226,21 @@ module _ (owed : Owed) (order : List Name) (arranges : ArrangesStarts owed order
   reload_call unit found true true active stops = or_right (has owed.starts unit) (has owed.reloads unit) found
   reload_call unit found false stops active is = or_right (has owed.starts unit) (has owed.reloads unit) found
 
-  reloads_owed : Owe (reload_calls owed states)
-  reloads_owed = all_of owed before (reload_act states owed.stops) owed.reloads (λ unit found. reload_call unit found (is_active (states unit)) (has owed.stops unit) refl refl)
+  abbrev listed : Which → List Duty
+  listed = listed_calls owed order states
 
-  restarts_owed : Owe (restart_calls owed)
-  restarts_owed = all_of owed before (λ unit. Restart) owed.restarts (λ unit found. found)
-
-  starts_owed : Owe (start_calls order)
-  starts_owed = all_of owed before (λ unit. Start) order (λ unit found. or_left (has owed.starts unit) (has owed.reloads unit) (sym (arranges unit) ∙ found))
+  calls_owed : (which : Which) → Owe (listed which)
+  calls_owed Reloads = all_of owed before (reload_act states owed.stops) owed.reloads (λ unit found. reload_call unit found (is_active (states unit)) (has owed.stops unit) refl refl)
+  calls_owed Restarts = all_of owed before (λ unit. Restart) owed.restarts (λ unit found. found)
+  calls_owed Starts = all_of owed before (λ unit. Start) order (λ unit found. or_left (has owed.starts unit) (has owed.reloads unit) (sym (arranges unit) ∙ found))
 
   owe_append : (calls more : List Duty) → Owe calls → Owe more → Owe (calls ++ more)
   owe_append [] more all rest = rest
   owe_append (call ∷ calls) more all rest = (all.0, owe_append calls more all.1 rest)
+
+  owe_all : (done : List Which) → Owe (flat_map listed done)
+  owe_all [] = tt
+  owe_all (which ∷ done) = owe_append (listed which) (flat_map listed done) (calls_owed which) (owe_all done)
 
   owe_part : (all part rest : List Duty) → Owe all → all ≡ part ++ rest → Owe part × Owe rest
   owe_part all part rest owe is = all_append owed before part rest (subst Owe is owe)
@@ -260,43 +301,36 @@ module _ (owed : Owed) (order : List Name) (arranges : ArrangesStarts owed order
   abbrev at : List Duty → Name → State
   at made = state_of (performed made ready).states
 
-  abbrev Given : List Duty → Name → Type 0
-  Given made unit = IsGiven owed unit (brings unit) (before unit) (at made unit) × IsTrue (is_called made unit)
+  abbrev Done : Which → List Duty → Name → Type 0
+  Done which made unit = IsDone which owed unit (brings unit) (before unit) (at made unit) × IsTrue (is_called made unit)
 
   -- a list is done with after its calls
-  reloads_done : (more : List Duty) → Owe more → (unit : Name) → has owed.reloads unit ≡ true → Given (reload_calls owed states ++ more) unit
-  reloads_done more owe unit found =
+  list_done : (which : Which) (first more : List Duty) → Owe first → Owe more → (unit : Name) → has (list_names (lists_of owed) which) unit ≡ true → Done which ((first ++ listed which) ++ more) unit
+  list_done Reloads first more owe_first owe_more unit found =
       let act = reload_act states owed.stops in (
-        list_given act owed.reloads [] more tt owe unit found
+        list_given act owed.reloads first more owe_first owe_more unit found
             (act_given (act unit) unit (reload_call unit found (is_active (states unit)) (has owed.stops unit) refl refl)),
-        paid act owed.reloads [] more tt owe unit found,
+        paid act owed.reloads first more owe_first owe_more unit found,
       )
-
-  restarts_done : (more : List Duty) → Owe more → (unit : Name) → has owed.restarts unit ≡ true →
-      (at ((reload_calls owed states ++ restart_calls owed) ++ more) unit ≡ brings unit) × IsTrue (is_called ((reload_calls owed states ++ restart_calls owed) ++ more) unit)
-  restarts_done more owe unit found = (
-    list_brought (λ u. Restart) owed.restarts (reload_calls owed states) more reloads_owed owe unit found (λ state is. refl),
-    paid (λ u. Restart) owed.restarts (reload_calls owed states) more reloads_owed owe unit found,
+  list_done Restarts first more owe_first owe_more unit found = (
+    list_brought (λ u. Restart) owed.restarts first more owe_first owe_more unit found (λ state is. refl),
+    paid (λ u. Restart) owed.restarts first more owe_first owe_more unit found,
+  )
+  list_done Starts first more owe_first owe_more unit found = (
+    list_given (λ u. Start) order first more owe_first owe_more unit (arranges unit ∙ found)
+        (act_given Start unit (or_left (has owed.starts unit) (has owed.reloads unit) found)),
+    paid (λ u. Start) order first more owe_first owe_more unit (arranges unit ∙ found),
   )
 
-  abbrev first_two : List Duty
-  first_two = reload_calls owed states ++ restart_calls owed
-
-  two_owed : Owe first_two
-  two_owed = owe_append (reload_calls owed states) (restart_calls owed) reloads_owed restarts_owed
-
-  starts_done : (unit : Name) → has owed.starts unit ≡ true → Given (first_two ++ start_calls order) unit
-  starts_done unit found =
-      subst (λ made. Given made unit) (append-nil (first_two ++ start_calls order)) (
-        list_given (λ u. Start) order first_two [] two_owed tt unit (arranges unit ∙ found)
-            (act_given Start unit (or_left (has owed.starts unit) (has owed.reloads unit) found)),
-        paid (λ u. Start) order first_two [] two_owed tt unit (arranges unit ∙ found),
-      )
-
-  reloads_done_then : (more : List Duty) → Owe more → (unit : Name) → has owed.reloads unit ≡ true → Given (first_two ++ more) unit
-  reloads_done_then more owe unit found =
-      subst (λ made. Given made unit) (sym (append_assoc (reload_calls owed states) (restart_calls owed) more))
-      (reloads_done (restart_calls owed ++ more) (owe_append (restart_calls owed) more restarts_owed owe) unit found)
+  -- so is each of these lists after the calls of all of them
+  among_done : (done : List Which) (part : List Duty) → Owe part → (lists : Lists) (which : Which) → IsCleared lists done which → (unit : Name) → has (list_names (lists_of owed) which) unit ≡ true →
+      Done which (flat_map listed done ++ part) unit
+  among_done done part owe lists which cleared unit found =
+      let first = flat_map listed cleared.first in let last = flat_map listed cleared.last in
+      let split : flat_map listed done ++ part ≡ (first ++ listed which) ++ (last ++ part) =
+      ap (λ calls. calls ++ part) (ap (flat_map listed) cleared.among ∙ flat_map-append listed cleared.first (which ∷ cleared.last) ∙ sym (append_assoc first (listed which) last)) ∙ append_assoc (first ++ listed which) last part in
+      subst (λ made. Done which made unit) (sym split)
+      (list_done which first (last ++ part) (owe_all cleared.first) (owe_append last part (owe_all cleared.last) owe) unit found)
 
   -- half way through a restart
   module _ (made : List Duty) (name : Name) (listed : has owed.restarts name ≡ true) (unit : Name) where
@@ -317,62 +351,52 @@ module _ (owed : Owed) (order : List Name) (arranges : ArrangesStarts owed order
     half_given : IsGiven owed unit (brings unit) (before unit) (at made unit) → IsGiven owed unit (brings unit) (before unit) half
     half_given is = halves (IsGiven owed unit (brings unit) (before unit)) (λ restarts. inl restarts) is
 
+    half_done : (which : Which) → which ≢ Restarts → IsDone which owed unit (brings unit) (before unit) (at made unit) → IsDone which owed unit (brings unit) (before unit) half
+    half_done Restarts other is = absurd (other refl)
+    half_done which other is = half_given is
+
   abbrev Called : List Duty → (Name → State) → Lists → Type 0
   Called made now kept = AreCalled owed brings before now kept (is_called made)
 
+  -- a list stands as it was recorded, or it is cleared and done with
+  abbrev Left : (Name → State) → List Duty → Lists → Which → Type 0
+  Left now made kept which = IsLeftOf (list_names (lists_of owed) which) (list_names kept which) (λ unit. IsDone which owed unit (brings unit) (before unit) (now unit) × IsTrue (is_called made unit))
+
+  module _ (done : List Which) (now : Name → State) (made : List Duty) where
+    abbrev left_lists : Lists
+    left_lists = lists_without (lists_of owed) done
+
+    left_of : (which : Which) → (IsCleared left_lists done which → (unit : Name) → has (list_names (lists_of owed) which) unit ≡ true →
+        IsDone which owed unit (brings unit) (before unit) (now unit) × IsTrue (is_called made unit)) → Left now made left_lists which
+    left_of which is_done = elim (kept_or_cleared done (lists_of owed) which) [
+      | inl same ↦ IsLeftOf.Stands same
+      | inr cleared ↦ IsLeftOf.Removed (λ unit found. nothing_left (list_names (lists_of owed) which) unit (sym (ap (λ names. has names unit) cleared.empty) ∙ found)) (is_done cleared)
+    ]
+
+    called_so : ((unit : Name) → IsCalled owed unit (brings unit) (before unit) (now unit)) → ((which : Which) → Left now made left_lists which) → Called made now left_lists
+    called_so units left = record { units = units; kept_lists = of_lists _ (left Starts) (left Restarts) (left Reloads) }
+
   moment : (made : List Duty) (m : ManagerState) (kept : Lists) → IsCalling owed order states ready made m kept → Called made (state_of m.states) kept
-  moment made m kept (IsCalling.Reloading rest prefix is stand) =
-      let owe = (owe_part (reload_calls owed states) made rest reloads_owed prefix).0 in
-      subst (λ (n : ManagerState). Called made (state_of n.states) kept) (sym is)
-      (subst (Called made (at made)) (sym stand) (record {
-        units = units_of made owe;
-        reloads = IsLeftOf.Stands refl;
-        restarts = IsLeftOf.Stands refl;
-        starts = IsLeftOf.Stands refl;
-      }))
-  moment made m kept (IsCalling.Restarting part rest prefix all is stand) =
-      let owe = (owe_part (restart_calls owed) part rest restarts_owed prefix).0 in
-      let done = reload_calls owed states ++ part in
+  moment made m kept (IsCalling.Calling done which part rest prefix all is stand) =
+      let owe = (owe_part (listed which) part rest (calls_owed which) prefix).0 in
+      let calls = flat_map listed done ++ part in
       subst (λ (n : ManagerState). Called made (state_of n.states) kept) (sym is)
       (subst (λ calls. Called calls (at calls) kept) (sym all)
-      (subst (Called done (at done)) (sym stand) (record {
-        units = units_of done (owe_append (reload_calls owed states) part reloads_owed owe);
-        reloads = IsLeftOf.Removed (nothing_left owed.reloads) (reloads_done part owe);
-        restarts = IsLeftOf.Stands refl;
-        starts = IsLeftOf.Stands refl;
-      })))
-  moment made m kept (IsCalling.Halfway part rest name prefix all is stand) =
-      let owes = owe_part (restart_calls owed) part (duty Restart name ∷ rest) restarts_owed prefix in
-      let done = reload_calls owed states ++ part in
+      (subst (Called calls (at calls)) (sym stand)
+      (called_so done (at calls) calls (units_of calls (owe_append (flat_map listed done) part (owe_all done) owe))
+      (λ one. left_of done (at calls) calls one (among_done done part owe (lists_without (lists_of owed) done) one)))))
+  moment made m kept (IsCalling.Halfway done part rest name others prefix all is stand) =
+      let owes = owe_part (restart_calls owed) part (duty Restart name ∷ rest) (calls_owed Restarts) prefix in
+      let calls = flat_map listed done ++ part in
+      let now = state_of (halted name (performed calls ready)).states in
       subst (λ (n : ManagerState). Called made (state_of n.states) kept) (sym is)
       (subst (λ calls. Called calls (state_of (halted name (performed calls ready)).states) kept) (sym all)
-      (subst (Called done (state_of (halted name (performed done ready)).states)) (sym stand) (record {
-        units = λ unit. half_units done name owes.1.0 unit (owe_append (reload_calls owed states) part reloads_owed owes.0);
-        reloads = IsLeftOf.Removed (nothing_left owed.reloads) (λ unit found. let given = reloads_done part owes.0 unit found in (half_given done name owes.1.0 unit given.0, given.1));
-        restarts = IsLeftOf.Stands refl;
-        starts = IsLeftOf.Stands refl;
-      })))
-  moment made m kept (IsCalling.Starting part rest prefix all is stand) =
-      let owe = (owe_part (start_calls order) part rest starts_owed prefix).0 in
-      let done = first_two ++ part in
-      subst (λ (n : ManagerState). Called made (state_of n.states) kept) (sym is)
-      (subst (λ calls. Called calls (at calls) kept) (sym all)
-      (subst (Called done (at done)) (sym stand) (record {
-        units = units_of done (owe_append first_two part two_owed owe);
-        reloads = IsLeftOf.Removed (nothing_left owed.reloads) (reloads_done_then part owe);
-        restarts = IsLeftOf.Removed (nothing_left owed.restarts) (restarts_done part owe);
-        starts = IsLeftOf.Stands refl;
-      })))
-  moment made m kept (IsCalling.Done all is stand) =
-      let done = first_two ++ start_calls order in
-      subst (λ (n : ManagerState). Called made (state_of n.states) kept) (sym is)
-      (subst (λ calls. Called calls (at calls) kept) (sym all)
-      (subst (Called done (at done)) (sym stand) (record {
-        units = units_of done (owe_append first_two (start_calls order) two_owed starts_owed);
-        reloads = IsLeftOf.Removed (nothing_left owed.reloads) (reloads_done_then (start_calls order) starts_owed);
-        restarts = IsLeftOf.Removed (nothing_left owed.restarts) (restarts_done (start_calls order) starts_owed);
-        starts = IsLeftOf.Removed (nothing_left owed.starts) starts_done;
-      })))
+      (subst (Called calls now) (sym stand)
+      (called_so done now calls (λ unit. half_units calls name owes.1.0 unit (owe_append (flat_map listed done) part (owe_all done) owes.0))
+      (λ one. left_of done now calls one (λ cleared unit found.
+      let given = among_done done part owes.0 (lists_without (lists_of owed) done) one cleared unit found in
+      let other = one_of (λ one. one ≢ Restarts) cleared.first one cleared.last (subst (AllByRecursion (λ one. one ≢ Restarts)) cleared.among others) in
+      (half_done calls name owes.1.0 unit one other given.0, given.1))))))
 
 -- at each of these moments the units are in the states to which the calls bring them, and each list outlives its calls
 pub calling_law : (owed : Owed) (order : List Name) → ArrangesStarts owed order → (states : Name → State) (ready m : ManagerState) (made : List Duty) (kept : Lists) →

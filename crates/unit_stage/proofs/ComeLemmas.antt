@@ -1,9 +1,10 @@
 -- How far a switch of the units has come, by what stands and what was called.
-use Rattle.std.proofs.Common.{◌≡◌, ◌⊎◌, ◌&&◌, ◌++◌, ◌∷◌, ℕ, zero, suc, Bool, true, false, not, List, [], Option, None, Some, map, take, drop, length, if◌then◌else◌, refl, sym, ap, subst, ◌∙◌, inl, inr}
-use Rattle.std.proofs.lemmas.List.{append-nil, append_assoc, take-append-drop}
+use Rattle.std.proofs.Common.{◌≡◌, ◌≢◌, ◌⊎◌, ◌&&◌, ◌++◌, ◌∷◌, ℕ, zero, suc, Bool, true, false, not, List, [], Option, None, Some, map, take, drop, length, if◌then◌else◌, arith, refl, sym, ap, subst, ◌∙◌, inl, inr}
+use Rattle.std.proofs.lemmas.List.{append-nil, append_assoc, take-append-drop, take_all}
+use Rattle.std.proofs.lemmas.List.Concat.{flat_map-append}
 use Rattle.std.proofs.Math.Seq.{take-length}
 use Rattle.std.specs.FinMap.{get}
-use Rattle.std.specs.List.{AllByRecursion, slice_get}
+use Rattle.std.specs.List.{AllByRecursion, flat_map, slice_get}
 use Rattle.host_trait.specs.declared.entry.Act.{Act}
 use Rattle.host_trait.specs.declared.entry.Act.TheVariants.{Stop, Reload, Restart, Start}
 use Rattle.host_trait.specs.declared.leaf.LeafKind.{LeafKind}
@@ -15,18 +16,18 @@ use Rattle.host_trait.specs.World.{IsFileAt, Leaves, WorldState, with_manager}
 use Rattle.log_text.specs.declared.lists.Lists.{Lists}
 use Rattle.log_text.specs.declared.lists.Which.TheVariants.{Starts, Restarts, Reloads}
 use Rattle.log_text.specs.declared.lists.Which.{Which}
-use Rattle.log_text.specs.Lists.{AreCounted, AreInOrder, AreLists, no_lists}
+use Rattle.log_text.specs.Lists.{AreCounted, AreInOrder, AreLists, blocks_of, list_names, lists_after, no_lists, with_list}
 use Rattle.owed_log.specs.declared.log_write.LogWrite.{LogWrite}
-use Rattle.owed_log.specs.Laws.{AreAlone}
+use Rattle.owed_log.specs.Laws.{AreAlone, CanClear}
 use Rattle.owed_log.specs.Places.{log_place}
 use Rattle.owed_log.specs.Standing.{AreListsAt}
 use Rattle.owed_log.specs.Writing.{IsRecordMoment, IsWriteFor, clearing, recorded}
 use Rattle.owed_log.proofs.BesideLemmas.{clearing_manager, record_manager, recorded_manager}
 use Rattle.owed_log.proofs.ListLemmas.{one_lists, some_lists}
-use Rattle.owed_log.proofs.MomentLemmas.{file_law, record_law, recorded_law}
+use Rattle.owed_log.proofs.MomentLemmas.{record_law, recorded_law}
 use Rattle.owed_plan.specs.declared.duty.Duty.{Duty}
 use Rattle.owed_plan.specs.declared.owed.Owed.{Owed}
-use Rattle.owed_plan.specs.Calls.{duty, reload_act, reload_calls, restart_calls, start_calls, stop_calls}
+use Rattle.owed_plan.specs.Calls.{duty, listed_calls, reload_act, stop_calls}
 use Rattle.owed_plan.specs.Law.{lists_of}
 use Rattle.owed_plan.specs.Owed.{sockets_first}
 use Rattle.switch_names.specs.Names.{Name, has}
@@ -34,16 +35,16 @@ use Rattle.unit_decide.specs.Facts.{unit_kind}
 use Rattle.owed_plan.specs.Store.{AreSameInStore}
 use Rattle.unit_stage.specs.Acts.{IsPerforming, performed, with_calls}
 use Rattle.unit_stage.specs.Laws.{AreSameBeside}
-use Rattle.unit_stage.specs.Steps.{AreSameUnits, IsBringStep, IsClearingMoment, IsGiveMoment, IsListMoment, IsStopStep, IsUnitMoment, with_current, with_given, with_loaded, with_stops}
+use Rattle.unit_stage.specs.Steps.{AreSameUnits, HasLogFor, IsBringStep, IsGiveMoment, IsListMoment, IsStopStep, IsUnitMoment, give_order, with_all_given, with_current, with_loaded, with_stops}
 use Rattle.unit_stage.specs.System.{current_place, definitions_of, system_leaf}
 use Rattle.unit_stage.proofs.CallLemmas.{performed-append}
-use Rattle.unit_stage.proofs.CallingLemmas.{IsCalling, lists_left}
+use Rattle.unit_stage.proofs.CallingLemmas.{IsCalling, lists_left, lists_without}
 use Rattle.unit_stage.proofs.ElsewhereLemmas.{bring_elsewhere, lists_elsewhere, own_current, stop_elsewhere}
-use Rattle.unit_stage.proofs.GivenLemmas.{no_names}
+use Rattle.unit_stage.proofs.GivenLemmas.{alone_at, alone_end, given_after, given_before, log_at, log_for, no_listed, turn_split, world_at}
 use Rattle.unit_stage.proofs.ListsLemmas.{AreListLeaves, leaves_same, lists_same}
 use Rattle.unit_stage.proofs.OwnedLemmas.{not_owns_store, reads_store}
 use Rattle.unit_stage.proofs.RecordLemmas.{IsClearing, clears, record_leaves}
-use Rattle.unit_stage.proofs.StandLemmas.{Stand, alone_stands, cleared_current, current_alone, current_here, given_alone, given_current, given_manager, record_current, recorded_current, same_lists_of, same_stands, stored_not_stage}
+use Rattle.unit_stage.proofs.StandLemmas.{Stand, all_given_current, all_given_manager, alone_stands, cleared_current, current_alone, current_here, record_current, recorded_current, same_lists_of, same_stands, stored_not_stage}
 
 -- ---- calls, split at one of them
 
@@ -69,19 +70,14 @@ all_of P act (name ∷ names) each = (each name, all_of P act names each)
 none_within : (calls : List Duty) (count : ℕ) (unit : Name) → AllByRecursion (λ call. is_restart call.act ≡ false) calls → slice_get calls count ≡ Some (duty Restart unit) → ⊥
 none_within calls count unit all is = let none : true ≡ false = one_of_all (λ call. is_restart call.act ≡ false) calls count (duty Restart unit) all is in cc none
 
--- of names without calls there are none
-none_called : (act : Name → Act) (names : List Name) (call : Duty) (rest : List Duty) → map (λ unit. duty (act unit) unit) names ≡ call ∷ rest → names ≡ [] → ⊥
-none_called act names call rest is none = let no : call ∷ rest ≡ [] = sym is ∙ ap (map (λ unit. duty (act unit) unit)) none in cc no
-
--- the moments of a list's calls, and of its clearing where it has calls
-data IsListStep (which : Which) (calls : List Duty) (x u : WorldState) : Type 0 where
-  Calling : IsPerforming calls x u → IsListStep which calls x u
-  Clearing : (call : Duty) (rest : List Duty) → calls ≡ call ∷ rest → IsMoment (clearing which) (with_calls calls x) u → IsListStep which calls x u
-
-list_step : (which : Which) (calls : List Duty) (x u : WorldState) → IsListMoment which calls x u → IsListStep which calls x u
-list_step which [] x u is = IsListStep.Calling (IsPerforming.After 0 is)
-list_step which (call ∷ rest) x u (inl part) = IsListStep.Calling part
-list_step which (call ∷ rest) x u (inr moment) = IsListStep.Clearing call rest refl moment
+-- a list's calls are being made, or they are and it is being cleared: the log is a file, unless it goes with the starts
+list_step : (which : Which) (calls : List Duty) (x u : WorldState) → HasLogFor which calls x.leaves → IsListMoment which calls x u →
+    IsPerforming calls x u ⊎ (IsMoment (clearing which) (with_calls calls x) u × (which ≢ Starts → IsFileAt x.leaves log_place))
+list_step Starts calls x u log (inl part) = inl part
+list_step Starts calls x u log (inr moment) = inr (moment, λ other. absurd (other refl))
+list_step which [] x u log is = inl (IsPerforming.After 0 is)
+list_step which (call ∷ rest) x u log (inl part) = inl part
+list_step which (call ∷ rest) x u log (inr moment) = inr (moment, λ other. log)
 
 -- ---- how far
 
@@ -106,11 +102,10 @@ pub data HasCome (system : Name) (owed : Owed) (order : List Name) (w m : WorldS
       HasCome system owed order w m
   Stopping : (count : ℕ) (old : Lists) (to_restart to_reload : List Name) → AreListsAt w.leaves old → IsOldOrOwed old.restarts owed.restarts to_restart → IsOldOrOwed old.reloads owed.reloads to_reload →
       Stand w.leaves m.leaves (get w.leaves current_place) (lists_left owed.starts to_restart to_reload) → m.manager ≡ performed (take count (stop_calls owed)) w.manager → HasCome system owed order w m
-  Bringing : (made rest : List Duty) (to_start to_restart to_reload : List Name) (like : ManagerState) →
-      (reload_calls owed (state_of w.manager.states) ++ restart_calls owed) ++ start_calls order ≡ made ++ rest →
-      IsCalling owed order (state_of w.manager.states) (ready system owed w) made like (lists_left to_start to_restart to_reload) →
+  Bringing : (made rest : List Duty) (kept : Lists) (like : ManagerState) → flat_map (listed_calls owed order (state_of w.manager.states)) give_order ≡ made ++ rest →
+      IsCalling owed order (state_of w.manager.states) (ready system owed w) made like kept →
       like.bad ≡ (performed made (ready system owed w)).bad → like.journal ≡ (performed made (ready system owed w)).journal → IsLike like m.manager →
-      Stand w.leaves m.leaves (Some (system_leaf system)) (lists_left to_start to_restart to_reload) → HasCome system owed order w m
+      Stand w.leaves m.leaves (Some (system_leaf system)) kept → HasCome system owed order w m
 
 module _ (system : Name) (owed : Owed) (order : List Name) (w : WorldState) where
   -- what stands where the units and the store are the same
@@ -120,8 +115,8 @@ module _ (system : Name) (owed : Owed) (order : List Name) (w : WorldState) wher
       HasCome.Begun (same.leaves current_place own_current ∙ current) (leaves_same w.leaves u.leaves m.leaves lists leaves) (λ l are. lists_same u.leaves m.leaves store lists l (forth l are)) (same.manager ∙ manager)
   come_same u m (HasCome.Stopping count old restart reload before old_restarts old_reloads stand manager) same store =
       HasCome.Stopping count old restart reload before old_restarts old_reloads (same_stands w.leaves u m same store _ _ stand) (same.manager ∙ manager)
-  come_same u m (HasCome.Bringing made rest start restart reload like prefix calling bad journal is stand) same store =
-      HasCome.Bringing made rest start restart reload like prefix calling bad journal
+  come_same u m (HasCome.Bringing made rest kept like prefix calling bad journal is stand) same store =
+      HasCome.Bringing made rest kept like prefix calling bad journal
       (record {
         states = ap (λ (x : ManagerState). x.states) same.manager ∙ is.states;
         bad = ap (λ (x : ManagerState). x.bad) same.manager ∙ is.bad;
@@ -136,14 +131,8 @@ module _ (system : Name) (owed : Owed) (order : List Name) (w : WorldState) (wri
   abbrev stops : List Duty
   stops = stop_calls owed
 
-  abbrev reloads : List Duty
-  reloads = reload_calls owed (state_of w.manager.states)
-
-  abbrev restarts : List Duty
-  restarts = restart_calls owed
-
-  abbrev starts : List Duty
-  starts = start_calls order
+  abbrev listed : Which → List Duty
+  listed = listed_calls owed order (state_of w.manager.states)
 
   abbrev then_ready : ManagerState
   then_ready = ready system owed w
@@ -153,24 +142,26 @@ module _ (system : Name) (owed : Owed) (order : List Name) (w : WorldState) (wri
 
   -- ---- up to the last stop
 
-  in_order : (u : WorldState) (old now : Lists) → AreListsAt w.leaves old → AreListsAt u.leaves now → AreInOrder old lists now → IsRecordMoment write w u → HasCome system owed order w u
-  in_order u old now before after (AreInOrder.AsBefore is) moment =
-      HasCome.Begun (record_current write w u moment) (record_leaves lists w write is_write.prepared u moment) (λ l at. subst (AreListsAt u.leaves) (is ∙ one_lists w.leaves old l before at) after)
-      (record_manager write w u moment)
-  in_order u old now before after (AreInOrder.First is) moment =
-      HasCome.Stopping 0 old old.restarts old.reloads before (inl refl) (inl refl)
-      (record { current = record_current write w u moment; listed = subst (AreListsAt u.leaves) is after; written = record_leaves lists w write is_write.prepared u moment }) (record_manager write w u moment)
-  in_order u old now before after (AreInOrder.Second is) moment =
-      HasCome.Stopping 0 old owed.restarts old.reloads before (inr refl) (inl refl)
-      (record { current = record_current write w u moment; listed = subst (AreListsAt u.leaves) is after; written = record_leaves lists w write is_write.prepared u moment }) (record_manager write w u moment)
-  in_order u old now before after (AreInOrder.Recorded is) moment =
-      HasCome.Stopping 0 old owed.restarts owed.reloads before (inr refl) (inr refl)
-      (record { current = record_current write w u moment; listed = subst (AreListsAt u.leaves) is after; written = record_leaves lists w write is_write.prepared u moment }) (record_manager write w u moment)
+  module _ (u : WorldState) (old now : Lists) (before : AreListsAt w.leaves old) (after : AreListsAt u.leaves now) (moment : IsRecordMoment write w u) where
+    -- the units to start are recorded, and these are on the other lists
+    recorded_so : (restart reload : List Name) → IsOldOrOwed old.restarts owed.restarts restart → IsOldOrOwed old.reloads owed.reloads reload → now ≡ lists_left owed.starts restart reload → HasCome system owed order w u
+    recorded_so restart reload restarts reloads is =
+        HasCome.Stopping 0 old restart reload before restarts reloads
+        (record { current = record_current write w u moment; listed = subst (AreListsAt u.leaves) is after; written = record_leaves lists w write is_write.prepared u moment })
+        (record_manager write w u moment)
+
+    in_order : AreInOrder old lists now → HasCome system owed order w u
+    in_order (zero, is) =
+        HasCome.Begun (record_current write w u moment) (record_leaves lists w write is_write.prepared u moment) (λ l at. subst (AreListsAt u.leaves) (is ∙ one_lists w.leaves old l before at) after)
+        (record_manager write w u moment)
+    in_order (suc zero, is) = recorded_so old.restarts old.reloads (inl refl) (inl refl) is
+    in_order (suc (suc zero), is) = recorded_so owed.restarts old.reloads (inr refl) (inl refl) is
+    in_order (suc (suc (suc count)), is) = recorded_so owed.restarts owed.reloads (inr refl) (inr refl) (is ∙ ap (lists_after old) (take_all (suc (suc (suc count))) (blocks_of lists) (omega arith)))
 
   recording : (u : WorldState) → IsRecordMoment write w u → HasCome system owed order w u
   recording u moment =
       let old = some_lists w.leaves in let now = some_lists u.leaves in
-      in_order u old.0 now.0 old.1 now.1 (record_law lists write w u old.0 now.0 are is_write.prepared moment old.1 now.1) moment
+      in_order u old.0 now.0 old.1 now.1 moment (record_law lists write w u old.0 now.0 are is_write.prepared moment old.1 now.1)
 
   pub recorded_alone : AreAlone (recorded write w).leaves lists
   recorded_alone = recorded_law lists write w (recorded write w) are is_write.prepared refl
@@ -204,20 +195,8 @@ module _ (system : Name) (owed : Owed) (order : List Name) (w : WorldState) (wri
   abbrev x : WorldState
   x = with_loaded system v
 
-  abbrev given_one : WorldState
-  given_one = with_given Reloads reloads x
-
-  abbrev given_two : WorldState
-  given_two = with_given Restarts restarts given_one
-
   abbrev StandsLinked : Leaves → Lists → Type 0
   StandsLinked leaves kept = Stand w.leaves leaves (Some (system_leaf system)) kept
-
-  abbrev left_one : Lists
-  left_one = lists_left owed.starts owed.restarts []
-
-  abbrev left_two : Lists
-  left_two = lists_left owed.starts [] []
 
   current_x : get x.leaves current_place ≡ Some (system_leaf system)
   current_x = current_here system v
@@ -225,100 +204,76 @@ module _ (system : Name) (owed : Owed) (order : List Name) (w : WorldState) (wri
   alone_x : AreAlone x.leaves lists
   alone_x = current_alone system v lists recorded_alone
 
-  -- where there are calls the log is a file
-  reload_file : (call : Duty) (rest : List Duty) → reloads ≡ call ∷ rest → IsFileAt x.leaves log_place
-  reload_file call rest is =
-      file_law x.leaves lists alone_x (λ none. none_called (reload_act (state_of w.manager.states) owed.stops) owed.reloads call rest is (ap (λ (l : Lists). l.reloads) none))
-
-  none_to_reload : reloads ≡ [] → left_one ≡ lists
-  none_to_reload is = ap (lists_left owed.starts owed.restarts) (sym (no_names (reload_act (state_of w.manager.states) owed.stops) owed.reloads is))
-
-  alone_one : AreAlone given_one.leaves left_one
-  alone_one = given_alone Reloads x lists alone_x reloads none_to_reload reload_file
-
-  current_one : get given_one.leaves current_place ≡ Some (system_leaf system)
-  current_one = given_current Reloads reloads x ∙ current_x
-
-  restart_file : (call : Duty) (rest : List Duty) → restarts ≡ call ∷ rest → IsFileAt given_one.leaves log_place
-  restart_file call rest is = file_law given_one.leaves left_one alone_one (λ none. none_called (λ unit. Restart) owed.restarts call rest is (ap (λ (l : Lists). l.restarts) none))
-
-  none_to_restart : restarts ≡ [] → left_two ≡ left_one
-  none_to_restart is = ap (λ names. lists_left owed.starts names []) (sym (no_names (λ unit. Restart) owed.restarts is))
-
-  alone_two : AreAlone given_two.leaves left_two
-  alone_two = given_alone Restarts given_one left_one alone_one restarts none_to_restart restart_file
-
-  current_two : get given_two.leaves current_place ≡ Some (system_leaf system)
-  current_two = given_current Restarts restarts given_one ∙ current_one
-
   manager_v : v.manager ≡ performed stops w.manager
   manager_v = ap (performed stops) (recorded_manager write w)
 
   manager_x : x.manager ≡ then_ready
   manager_x = ap (loading (definitions_of system)) manager_v
 
-  manager_one : given_one.manager ≡ performed reloads then_ready
-  manager_one = given_manager Reloads reloads x ∙ ap (performed reloads) manager_x
+  -- where a list is to be cleared the log is a file, and without calls it has no names
+  has_log : (which : Which) → HasLogFor which (listed which) x.leaves
+  has_log which = log_for owed order (state_of w.manager.states) x.leaves alone_x which
 
-  manager_two : given_two.manager ≡ performed (reloads ++ restarts) then_ready
-  manager_two = given_manager Restarts restarts given_one ∙ ap (performed restarts) manager_one ∙ sym (performed-append reloads restarts then_ready)
+  no_calls : (which : Which) → which ≢ Starts → listed which ≡ [] → list_names lists which ≡ []
+  no_calls = no_listed owed order (state_of w.manager.states)
 
-  first_prefix : (part rest : List Duty) → reloads ≡ part ++ rest → (reloads ++ restarts) ++ starts ≡ part ++ (rest ++ (restarts ++ starts))
-  first_prefix part rest is = append_assoc reloads restarts starts ∙ ap (λ cs. cs ++ (restarts ++ starts)) is ∙ append_assoc part rest (restarts ++ starts)
+  -- ---- when a list has its turn
 
-  second_prefix : (part rest : List Duty) → restarts ≡ part ++ rest → (reloads ++ restarts) ++ starts ≡ (reloads ++ part) ++ (rest ++ starts)
-  second_prefix part rest is =
-      ap (λ cs. (reloads ++ cs) ++ starts) is ∙ ap (λ cs. cs ++ starts) (sym (append_assoc reloads part rest)) ∙ append_assoc (reloads ++ part) rest starts
+  abbrev turn : Which → WorldState
+  turn which = world_at listed x which
 
-  third_prefix : (part rest : List Duty) → starts ≡ part ++ rest → (reloads ++ restarts) ++ starts ≡ ((reloads ++ restarts) ++ part) ++ rest
-  third_prefix part rest is = ap (λ cs. (reloads ++ restarts) ++ cs) is ∙ sym (append_assoc (reloads ++ restarts) part rest)
+  abbrev left : Which → Lists
+  left which = lists_without lists (given_before which)
 
-  no_restart_in_reloads : AllByRecursion (λ call. is_restart call.act ≡ false) reloads
-  no_restart_in_reloads =
-      all_of (λ call. is_restart call.act ≡ false) (reload_act (state_of w.manager.states) owed.stops) owed.reloads (λ unit. either (is_active (state_of w.manager.states unit) && not (has owed.stops unit)))
-    where
-      either : (b : Bool) → is_restart (if b then Reload else Start) ≡ false
-      either true = refl
-      either false = refl
+  abbrev before : Which → List Duty
+  before which = flat_map listed (given_before which)
 
-  no_restart_in_starts : AllByRecursion (λ call. is_restart call.act ≡ false) starts
-  no_restart_in_starts = all_of (λ call. is_restart call.act ≡ false) (λ u. Start) order (λ unit. refl)
+  abbrev after : Which → List Duty
+  after which = flat_map listed (given_after which)
+
+  alone_turn : (which : Which) → AreAlone (turn which).leaves (left which)
+  alone_turn = alone_at listed x lists alone_x no_calls has_log
+
+  current_turn : (which : Which) → get (turn which).leaves current_place ≡ Some (system_leaf system)
+  current_turn which = all_given_current listed (given_before which) x ∙ current_x
+
+  manager_turn : (which : Which) (part : List Duty) → performed part (turn which).manager ≡ performed (before which ++ part) then_ready
+  manager_turn which part =
+      ap (performed part) (all_given_manager listed (given_before which) x ∙ ap (performed (before which)) manager_x) ∙ sym (performed-append (before which) part then_ready)
+
+  -- it can be cleared, and then no other lists stand than those that follow
+  can_clear : (which : Which) → (which ≢ Starts → IsFileAt (turn which).leaves log_place) → CanClear which (turn which).leaves (left which)
+  can_clear Starts file = refl
+  can_clear Restarts file = file (λ same. cc same)
+  can_clear Reloads file = file (λ same. cc same)
+
+  next_left : (which : Which) → with_list (left which) which [] ≡ lists_without lists (given_before which ++ which ∷ [])
+  next_left Starts = refl
+  next_left Restarts = refl
+  next_left Reloads = refl
+
+  next_made : (which : Which) → before which ++ listed which ≡ flat_map listed (given_before which ++ which ∷ []) ++ []
+  next_made which =
+      sym (append-nil (flat_map listed (given_before which ++ which ∷ [])) ∙ flat_map-append listed (given_before which) (which ∷ []) ∙ ap (λ cs. before which ++ cs) (append-nil (listed which)))
 
   itself : (manager : ManagerState) → IsLike manager manager
   itself manager = record { states = refl; bad = refl; journal = refl }
 
   -- ---- a moment by its calls and what stands
 
-  by_calls : (u : WorldState) (made rest : List Duty) (start restart reload : List Name) → (reloads ++ restarts) ++ starts ≡ made ++ rest →
-      IsCalling owed order (state_of w.manager.states) then_ready made u.manager (lists_left start restart reload) → u.manager.bad ≡ (performed made then_ready).bad → u.manager.journal ≡ (performed made then_ready).journal →
-      StandsLinked u.leaves (lists_left start restart reload) → HasCome system owed order w u
-  by_calls u made rest start restart reload prefix calling bad journal stand = HasCome.Bringing made rest start restart reload u.manager prefix calling bad journal (itself u.manager) stand
+  at_calls : (u : WorldState) (made more : List Duty) (done : List Which) (which : Which) (part rest : List Duty) → listed which ≡ part ++ rest → made ≡ flat_map listed done ++ part →
+      flat_map listed give_order ≡ made ++ more → u.manager ≡ performed made then_ready → StandsLinked u.leaves (lists_without lists done) → HasCome system owed order w u
+  at_calls u made more done which part rest split are prefix manager stand =
+      HasCome.Bringing made more (lists_without lists done) u.manager prefix (IsCalling.Calling done which part rest split are manager refl) (ap (λ (y : ManagerState). y.bad) manager)
+      (ap (λ (y : ManagerState). y.journal) manager) (itself u.manager) stand
 
-  at_reloads : (u : WorldState) (part rest : List Duty) → reloads ≡ part ++ rest → u.manager ≡ performed part then_ready → StandsLinked u.leaves lists → HasCome system owed order w u
-  at_reloads u part rest split made stand =
-      by_calls u part (rest ++ (restarts ++ starts)) owed.starts owed.restarts owed.reloads (first_prefix part rest split) (IsCalling.Reloading rest split made refl)
-      (ap (λ (y : ManagerState). y.bad) made) (ap (λ (y : ManagerState). y.journal) made) stand
-
-  at_restarts : (u : WorldState) (part rest : List Duty) → restarts ≡ part ++ rest → u.manager ≡ performed (reloads ++ part) then_ready → StandsLinked u.leaves left_one → HasCome system owed order w u
-  at_restarts u part rest split made stand =
-      by_calls u (reloads ++ part) (rest ++ starts) owed.starts owed.restarts [] (second_prefix part rest split) (IsCalling.Restarting part rest split refl made refl)
-      (ap (λ (y : ManagerState). y.bad) made) (ap (λ (y : ManagerState). y.journal) made) stand
-
-  at_half : (u : WorldState) (part rest : List Duty) (unit : Name) → restarts ≡ part ++ duty Restart unit ∷ rest → u.manager ≡ halted unit (performed (reloads ++ part) then_ready) → StandsLinked u.leaves left_one →
-      HasCome system owed order w u
-  at_half u part rest unit split made stand =
-      by_calls u (reloads ++ part) ((duty Restart unit ∷ rest) ++ starts) owed.starts owed.restarts [] (second_prefix part (duty Restart unit ∷ rest) split) (IsCalling.Halfway part rest unit split refl made refl)
-      (ap (λ (y : ManagerState). y.bad) made) (ap (λ (y : ManagerState). y.journal) made) stand
-
-  at_starts : (u : WorldState) (part rest : List Duty) → starts ≡ part ++ rest → u.manager ≡ performed ((reloads ++ restarts) ++ part) then_ready → StandsLinked u.leaves left_two → HasCome system owed order w u
-  at_starts u part rest split made stand =
-      by_calls u ((reloads ++ restarts) ++ part) rest owed.starts [] [] (third_prefix part rest split) (IsCalling.Starting part rest split refl made refl)
-      (ap (λ (y : ManagerState). y.bad) made) (ap (λ (y : ManagerState). y.journal) made) stand
-
-  at_end : (u : WorldState) → u.manager ≡ performed ((reloads ++ restarts) ++ starts) then_ready → StandsLinked u.leaves no_lists → HasCome system owed order w u
-  at_end u made stand =
-      let all = (reloads ++ restarts) ++ starts in
-      by_calls u all [] [] [] [] (sym (append-nil all)) (IsCalling.Done refl made refl) (ap (λ (y : ManagerState). y.bad) made) (ap (λ (y : ManagerState). y.journal) made) stand
+  at_half : (u : WorldState) (part rest : List Duty) (unit : Name) → listed Restarts ≡ part ++ duty Restart unit ∷ rest → u.manager ≡ halted unit (performed (before Restarts ++ part) then_ready) →
+      StandsLinked u.leaves (left Restarts) → HasCome system owed order w u
+  at_half u part rest unit split manager stand =
+      let made = before Restarts ++ part in
+      HasCome.Bringing made ((duty Restart unit ∷ rest) ++ after Restarts) (left Restarts) u.manager (turn_split listed Restarts part (duty Restart unit ∷ rest) split)
+      (IsCalling.Halfway (given_before Restarts) part rest unit (λ same. cc same, tt) split refl manager refl) (ap (λ (y : ManagerState). y.bad) manager) (ap (λ (y : ManagerState). y.journal) manager)
+      (itself u.manager) stand
 
   -- what stands in a world with the same leaves
   stands_as : (u y : WorldState) (kept : Lists) → u ≡ y → get y.leaves current_place ≡ Some (system_leaf system) → AreAlone y.leaves kept → StandsLinked u.leaves kept
@@ -332,68 +287,73 @@ module _ (system : Name) (owed : Owed) (order : List Name) (w : WorldState) (wri
 
   -- ---- the moments
 
-  in_reloads : (u : WorldState) → IsListStep Reloads reloads x u → HasCome system owed order w u
-  in_reloads u (IsListStep.Calling (IsPerforming.After count is)) =
-      let part = take count reloads in
-      at_reloads u part (drop count reloads) (sym (take-append-drop count reloads)) (ap (λ (y : WorldState). y.manager) is ∙ ap (performed part) manager_x) (stands_as u (with_calls part x) lists is current_x alone_x)
-  in_reloads u (IsListStep.Calling (IsPerforming.Within count unit there is)) = absurd (none_within reloads count unit no_restart_in_reloads there)
-  in_reloads u (IsListStep.Clearing call rest some moment) =
-      let y = with_calls reloads x in
-      let c = clears lists w.leaves y u alone_x Reloads (reload_file call rest some) moment in
-      let made : u.manager ≡ performed reloads then_ready = clearing_manager Reloads y u moment ∙ ap (performed reloads) manager_x in
+  -- there is no restart among the calls of another list
+  no_restart : (which : Which) → which ≢ Restarts → AllByRecursion (λ call. is_restart call.act ≡ false) (listed which)
+  no_restart Restarts other = absurd (other refl)
+  no_restart Starts other = all_of (λ call. is_restart call.act ≡ false) (λ u. Start) order (λ unit. refl)
+  no_restart Reloads other =
+      all_of (λ call. is_restart call.act ≡ false) (reload_act (state_of w.manager.states) owed.stops) owed.reloads (λ unit. either (is_active (state_of w.manager.states unit) && not (has owed.stops unit)))
+    where
+      either : (b : Bool) → is_restart (if b then Reload else Start) ≡ false
+      either true = refl
+      either false = refl
+
+  within : (which : Which) (u : WorldState) (count : ℕ) (unit : Name) → slice_get (listed which) count ≡ Some (duty Restart unit) →
+      u ≡ with_manager (halted unit (performed (take count (listed which)) (turn which).manager)) (turn which) → HasCome system owed order w u
+  within Starts u count unit there is = absurd (none_within (listed Starts) count unit (no_restart Starts (λ same. cc same)) there)
+  within Reloads u count unit there is = absurd (none_within (listed Reloads) count unit (no_restart Reloads (λ same. cc same)) there)
+  within Restarts u count unit there is =
+      let part = take count (listed Restarts) in
+      at_half u part (drop (suc count) (listed Restarts)) unit (split_one (listed Restarts) count (duty Restart unit) there)
+      (ap (λ (y : WorldState). y.manager) is ∙ ap (halted unit) (manager_turn Restarts part))
+      (stands_as u (with_manager (halted unit (performed part (turn Restarts).manager)) (turn Restarts)) (left Restarts) is (current_turn Restarts) (alone_turn Restarts))
+
+  calling : (which : Which) (u : WorldState) → IsPerforming (listed which) (turn which) u → HasCome system owed order w u
+  calling which u (IsPerforming.Within count unit there is) = within which u count unit there is
+  calling which u (IsPerforming.After count is) =
+      let part = take count (listed which) in let rest = drop count (listed which) in
+      let split = sym (take-append-drop count (listed which)) in
+      at_calls u (before which ++ part) (rest ++ after which) (given_before which) which part rest split refl (turn_split listed which part rest split)
+      (ap (λ (y : WorldState). y.manager) is ∙ manager_turn which part) (stands_as u (with_calls part (turn which)) (left which) is (current_turn which) (alone_turn which))
+
+  in_clearing : (which : Which) (u : WorldState) → IsMoment (clearing which) (with_calls (listed which) (turn which)) u → (which ≢ Starts → IsFileAt (turn which).leaves log_place) → HasCome system owed order w u
+  in_clearing which u moment file =
+      let y = with_calls (listed which) (turn which) in
+      let made = before which ++ listed which in
+      let c = clears (left which) w.leaves y u (alone_turn which) which (can_clear which file) moment in
+      let manager : u.manager ≡ performed made then_ready = clearing_manager which y u moment ∙ manager_turn which (listed which) in
+      let prefix = turn_split listed which (listed which) [] (sym (append-nil (listed which))) in
       elim c.either [
-        | inl same ↦ at_reloads u reloads [] (sym (append-nil reloads)) made (stands_clear Reloads y u lists lists current_x moment c same)
-        | inr cleared ↦ at_restarts u [] restarts refl (made ∙ ap (λ cs. performed cs then_ready) (sym (append-nil reloads))) (stands_clear Reloads y u lists left_one current_x moment c cleared)
+        | inl same ↦ at_calls u made (after which) (given_before which) which (listed which) [] (sym (append-nil (listed which))) refl prefix manager
+            (stands_clear which y u (left which) (left which) (current_turn which) moment c same)
+        | inr cleared ↦ at_calls u made (after which) (given_before which ++ which ∷ []) which [] (listed which) refl (next_made which) prefix manager
+            (stands_clear which y u (left which) (lists_without lists (given_before which ++ which ∷ [])) (current_turn which) moment c (cleared ∙ next_left which))
       ]
 
-  in_restarts : (u : WorldState) → IsListStep Restarts restarts given_one u → HasCome system owed order w u
-  in_restarts u (IsListStep.Calling (IsPerforming.After count is)) =
-      let part = take count restarts in
-      at_restarts u part (drop count restarts) (sym (take-append-drop count restarts))
-      (ap (λ (y : WorldState). y.manager) is ∙ ap (performed part) manager_one ∙ sym (performed-append reloads part then_ready)) (stands_as u (with_calls part given_one) left_one is current_one alone_one)
-  in_restarts u (IsListStep.Calling (IsPerforming.Within count unit there is)) =
-      let part = take count restarts in
-      at_half u part (drop (suc count) restarts) unit (split_one restarts count (duty Restart unit) there)
-      (ap (λ (y : WorldState). y.manager) is ∙ ap (λ (y : ManagerState). halted unit (performed part y)) manager_one ∙ ap (halted unit) (sym (performed-append reloads part then_ready)))
-      (stands_as u (with_manager (halted unit (performed part given_one.manager)) given_one) left_one is current_one alone_one)
-  in_restarts u (IsListStep.Clearing call rest some moment) =
-      let y = with_calls restarts given_one in
-      let c = clears left_one w.leaves y u alone_one Restarts (restart_file call rest some) moment in
-      let made : u.manager ≡ performed (reloads ++ restarts) then_ready =
-      clearing_manager Restarts y u moment ∙ ap (performed restarts) manager_one ∙ sym (performed-append reloads restarts then_ready) in
-      elim c.either [
-        | inl same ↦ at_restarts u restarts [] (sym (append-nil restarts)) made (stands_clear Restarts y u left_one left_one current_one moment c same)
-        | inr cleared ↦ at_starts u [] starts refl (made ∙ ap (λ cs. performed cs then_ready) (sym (append-nil (reloads ++ restarts)))) (stands_clear Restarts y u left_one left_two current_one moment c cleared)
-      ]
+  in_list : (which : Which) (u : WorldState) → IsListMoment which (listed which) (turn which) u → HasCome system owed order w u
+  in_list which u moment = elim (list_step which (listed which) (turn which) u (log_at listed x lists alone_x no_calls has_log which) moment) [
+    | inl part ↦ calling which u part
+    | inr (cut, file) ↦ in_clearing which u cut file
+  ]
 
-  in_starts : (u : WorldState) → IsClearingMoment Starts starts given_two u → HasCome system owed order w u
-  in_starts u (inl (IsPerforming.After count is)) =
-      let part = take count starts in
-      at_starts u part (drop count starts) (sym (take-append-drop count starts))
-      (ap (λ (y : WorldState). y.manager) is ∙ ap (performed part) manager_two ∙ sym (performed-append (reloads ++ restarts) part then_ready)) (stands_as u (with_calls part given_two) left_two is current_two alone_two)
-  in_starts u (inl (IsPerforming.Within count unit there is)) = absurd (none_within starts count unit no_restart_in_starts there)
-  in_starts u (inr moment) =
-      let y = with_calls starts given_two in
-      let c = clears left_two w.leaves y u alone_two Starts refl moment in
-      let made : u.manager ≡ performed ((reloads ++ restarts) ++ starts) then_ready =
-      clearing_manager Starts y u moment ∙ ap (performed starts) manager_two ∙ sym (performed-append (reloads ++ restarts) starts then_ready) in
-      elim c.either [
-        | inl same ↦ at_starts u starts [] (sym (append-nil starts)) made (stands_clear Starts y u left_two left_two current_two moment c same)
-        | inr cleared ↦ at_end u made (stands_clear Starts y u left_two no_lists current_two moment c cleared)
-      ]
+  giving : (u : WorldState) → IsGiveMoment listed give_order x u → HasCome system owed order w u
+  giving u (inl moment) = in_list Reloads u moment
+  giving u (inr (inl moment)) = in_list Restarts u moment
+  giving u (inr (inr (inl moment))) = in_list Starts u moment
+  giving u (inr (inr (inr is))) =
+      let all = flat_map listed give_order in
+      let end = with_all_given listed give_order x in
+      at_calls u all [] give_order Starts [] (listed Starts) refl (sym (append-nil all)) (sym (append-nil all))
+      (ap (λ (y : WorldState). y.manager) is ∙ all_given_manager listed give_order x ∙ ap (performed all) manager_x)
+      (stands_as u end no_lists is (all_given_current listed give_order x ∙ current_x) (alone_end listed x lists alone_x no_calls has_log))
 
-  giving : (u : WorldState) → IsGiveMoment reloads restarts starts x u → HasCome system owed order w u
-  giving u (IsGiveMoment.Reloading moment) = in_reloads u (list_step Reloads reloads x u moment)
-  giving u (IsGiveMoment.Restarting moment) = in_restarts u (list_step Restarts restarts given_one u moment)
-  giving u (IsGiveMoment.Starting moment) = in_starts u moment
-
-  bring_step : (u : WorldState) → IsBringStep system reloads restarts starts v u → HasCome system owed order w u
+  bring_step : (u : WorldState) → IsBringStep system listed v u → HasCome system owed order w u
   bring_step u (IsBringStep.Waiting is) =
       stopped_come (length stops) u (ap (λ (y : WorldState). y.leaves) is) (ap (λ (y : WorldState). y.manager) is ∙ manager_v ∙ ap (λ cs. performed cs w.manager) (sym (take-length stops)))
   bring_step u (IsBringStep.Linked is) =
       let manager : u.manager ≡ performed stops w.manager = ap (λ (y : WorldState). y.manager) is ∙ manager_v in
-      HasCome.Bringing [] ((reloads ++ restarts) ++ starts) owed.starts owed.restarts owed.reloads then_ready refl
-      (IsCalling.Reloading reloads refl refl refl) refl refl
+      HasCome.Bringing [] (flat_map listed give_order) lists then_ready refl
+      (IsCalling.Calling [] Reloads [] (listed Reloads) refl refl refl refl) refl refl
       (record {
         states = ap (λ (y : ManagerState). y.states) manager;
         bad = ap (λ (y : ManagerState). y.bad) manager;
@@ -412,5 +372,5 @@ has_come system owed order w m named beside (IsUnitMoment.Bringing write is u st
     come_same system owed order w u m (bring_step system owed order w write is (named is.counted) u step) same
     (λ q inside.
     beside q (reads_store q inside) (not_owns_store q inside)
-    ∙ sym (bring_elsewhere q (not_owns_store q inside) (reload_calls owed (state_of w.manager.states)) (restart_calls owed) (start_calls order) system (with_stops write (stop_calls owed) w) u step
+    ∙ sym (bring_elsewhere q (not_owns_store q inside) (listed_calls owed order (state_of w.manager.states)) system (with_stops write (stop_calls owed) w) u step
     ∙ lists_elsewhere write w q (not_owns_store q inside) (stored_not_stage q inside)))

@@ -18,7 +18,7 @@ use Rattle.owed_plan.specs.declared.duty.Duty.{Duty}
 use Rattle.switch_names.specs.Names.{Name, is_name}
 use Rattle.unit_stage.specs.Acts.{IsPerforming, with_calls}
 use Rattle.unit_stage.specs.Owned.{owns_units}
-use Rattle.unit_stage.specs.Steps.{IsBringStep, IsClearingMoment, IsGiveMoment, IsListMoment, IsStopStep, with_cleared, with_current, with_given, with_loaded}
+use Rattle.unit_stage.specs.Steps.{IsBringStep, IsClearingMoment, IsGiveMoment, IsListMoment, IsStopStep, give_order, with_cleared, with_current, with_given, with_loaded}
 use Rattle.unit_stage.specs.System.{current_place, system_leaf}
 
 -- ---- the places
@@ -85,6 +85,7 @@ module _ (q : Name) (none : owns_units q ≡ false) where
   clearing_elsewhere which calls w u (inr moment) = clearing_beside which (with_calls calls w) u q beside_log moment
 
   list_elsewhere : (which : Which) (calls : List Duty) (w u : WorldState) → IsListMoment which calls w u → get u.leaves q ≡ get w.leaves q
+  list_elsewhere Starts calls w u moment = clearing_elsewhere Starts calls w u moment
   list_elsewhere which [] w u is = ap (λ (x : WorldState). get x.leaves q) is
   list_elsewhere which (call ∷ calls) w u moment = clearing_elsewhere which (call ∷ calls) w u moment
 
@@ -92,21 +93,20 @@ module _ (q : Name) (none : owns_units q ≡ false) where
   cleared_elsewhere which calls w = clearing_beside which (with_calls calls w) (with_cleared which calls w) q beside_log (inr (inl refl))
 
   given_elsewhere : (which : Which) (calls : List Duty) (w : WorldState) → get (with_given which calls w).leaves q ≡ get w.leaves q
+  given_elsewhere Starts calls w = cleared_elsewhere Starts calls w
   given_elsewhere which [] w = refl
   given_elsewhere which (call ∷ calls) w = cleared_elsewhere which (call ∷ calls) w
 
   loaded_elsewhere : (system : Name) (w : WorldState) → get (with_loaded system w).leaves q ≡ get w.leaves q
   loaded_elsewhere system w = get_other w.leaves current_place q (system_leaf system) (other_of q current_place (other_place current_place q own_current none))
 
-  module _ (reloads restarts starts : List Duty) where
-    give_elsewhere : (w u : WorldState) → IsGiveMoment reloads restarts starts w u → get u.leaves q ≡ get w.leaves q
-    give_elsewhere w u (IsGiveMoment.Reloading moment) = list_elsewhere Reloads reloads w u moment
-    give_elsewhere w u (IsGiveMoment.Restarting moment) = list_elsewhere Restarts restarts (with_given Reloads reloads w) u moment ∙ given_elsewhere Reloads reloads w
-    give_elsewhere w u (IsGiveMoment.Starting moment) =
-        clearing_elsewhere Starts starts (with_given Restarts restarts (with_given Reloads reloads w)) u moment
-        ∙ given_elsewhere Restarts restarts (with_given Reloads reloads w) ∙ given_elsewhere Reloads reloads w
+  module _ (calls : Which → List Duty) where
+    give_elsewhere : (order : List Which) (w u : WorldState) → IsGiveMoment calls order w u → get u.leaves q ≡ get w.leaves q
+    give_elsewhere [] w u is = ap (λ (x : WorldState). get x.leaves q) is
+    give_elsewhere (which ∷ order) w u (inl moment) = list_elsewhere which (calls which) w u moment
+    give_elsewhere (which ∷ order) w u (inr later) = give_elsewhere order (with_given which (calls which) w) u later ∙ given_elsewhere which (calls which) w
 
-    pub bring_elsewhere : (system : Name) (w u : WorldState) → IsBringStep system reloads restarts starts w u → get u.leaves q ≡ get w.leaves q
+    pub bring_elsewhere : (system : Name) (w u : WorldState) → IsBringStep system calls w u → get u.leaves q ≡ get w.leaves q
     bring_elsewhere system w u (IsBringStep.Waiting is) = ap (λ (x : WorldState). get x.leaves q) is
     bring_elsewhere system w u (IsBringStep.Linked is) = ap (λ (x : WorldState). get x.leaves q) is ∙ loaded_elsewhere system w
-    bring_elsewhere system w u (IsBringStep.Giving part) = give_elsewhere (with_loaded system w) u part ∙ loaded_elsewhere system w
+    bring_elsewhere system w u (IsBringStep.Giving part) = give_elsewhere give_order (with_loaded system w) u part ∙ loaded_elsewhere system w

@@ -6,6 +6,7 @@ use Rattle.std.specs.List.{AllByRecursion, find}
 use Rattle.host_trait.specs.declared.leaf.LeafKind.{LeafKind}
 use Rattle.host_trait.specs.declared.leaf.LeafKind.TheVariants.{File, Link}
 use Rattle.host_trait.specs.World.{Leaves, WorldState, file_bytes, is_in_line, leaf_content, stage}
+use Rattle.log_text.specs.declared.lists.Which.TheVariants.{Starts, Restarts, Reloads}
 use Rattle.owed_lists.specs.Lists.{reloads_place, restarts_place, starts_place}
 use Rattle.owed_log.specs.Places.{log_place}
 use Rattle.leaf_limits.specs.Counts.{past, units_max}
@@ -111,10 +112,10 @@ module _ (system : Name) (w m : WorldState) (same : AreSameBeside w m) where
             (
               list_free log_place log_written are.log was.1.1.0,
               (
-                list_free reloads_place reloads_written are.reloads was.1.1.1.0,
+                list_free reloads_place reloads_written (are.old Reloads) was.1.1.1.0,
                 (
-                  list_free restarts_place restarts_written are.restarts was.1.1.1.1.0,
-                  (list_free starts_place starts_written are.starts was.1.1.1.1.1.0, tt),
+                  list_free restarts_place restarts_written (are.old Restarts) was.1.1.1.1.0,
+                  (list_free starts_place starts_written (are.old Starts) was.1.1.1.1.1.0, tt),
                 ),
               ),
             ),

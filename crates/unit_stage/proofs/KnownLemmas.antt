@@ -7,7 +7,7 @@ use Rattle.host_trait.specs.World.{WorldState}
 use Rattle.log_text.specs.declared.lists.Lists.{Lists}
 use Rattle.owed_plan.specs.Calls.{calls_of}
 use Rattle.owed_plan.specs.declared.owed.Owed.{Owed}
-use Rattle.owed_plan.specs.Owed.{IsOwed, IsPlan}
+use Rattle.owed_plan.specs.Owed.{IsOwed, IsOwedAct, IsPlan}
 use Rattle.owed_plan.specs.Steady.{IsSteady}
 use Rattle.owed_plan.specs.Systems.{Systems, systems_at, systems_in}
 use Rattle.owed_plan.proofs.SystemLemmas.{systems_same}
@@ -18,7 +18,7 @@ use Rattle.unit_stage.specs.declared.known.Known.{Known}
 use Rattle.unit_stage.specs.declared.unit_plan.UnitPlan.{UnitPlan}
 use Rattle.switch_parts.specs.declared.plan_fault.PlanFault.{PlanFault}
 use Rattle.unit_stage.specs.Known.{IsKnownOf, IsKnownSteady, IsPlanBy, OwesKnown}
-use Rattle.unit_stage.specs.Owes.{FitThrice, IsOwedAct, IsSteadyWorld, OwesUnit}
+use Rattle.unit_stage.specs.Owes.{FitThrice, IsSteadyWorld, OwesUnit}
 use Rattle.unit_stage.specs.Plan.{IsUnitPlanOf, owed_of}
 use Rattle.unit_stage.specs.Room.{is_owed}
 use Rattle.unit_stage.specs.System.{current_system}
@@ -108,10 +108,10 @@ module _ (start_up : Bool) (system : List ℕ) (w : WorldState) (known : Known) 
     to_known : P (systems_at w.leaves (current_system w.leaves) system) (state_of w.manager.states) known.units.lists → P (systems_in known.old.defs known.new) (state_of known.units.states) known.units.lists
     to_known holds = subst by_states (sym is.units.states) (subst by_systems (sym same_systems) holds)
 
-  owes_there : (unit : Name) → OwesKnown known unit → OwesUnit start_up w system unit
+  owes_there : (unit : Name) → OwesKnown known unit → OwesUnit start_up system w unit
   owes_there unit (act, owing) = (act, (known.units.lists, is.units.lists, to_world (λ (s : Systems) (states : Name → State) (l : Lists). IsOwedAct s states l act unit) owing))
 
-  owes_by : (unit : Name) → OwesUnit start_up w system unit → OwesKnown known unit
+  owes_by : (unit : Name) → OwesUnit start_up system w unit → OwesKnown known unit
   owes_by unit (act, (others, listed, owing)) = (
     act,
     to_known (λ (s : Systems) (states : Name → State) (l : Lists). IsOwedAct s states l act unit)
@@ -119,7 +119,7 @@ module _ (start_up : Bool) (system : List ℕ) (w : WorldState) (known : Known) 
         (same_waiting start_up w.leaves system others known.units.lists listed is.units.lists) owing),
   )
 
-  known_steady : IsKnownSteady known → IsSteadyWorld start_up w system
+  known_steady : IsKnownSteady known → IsSteadyWorld start_up system w
   known_steady steady = record {
     marks = λ lists listed.
         subst (λ (l : Lists). IsSteady (systems_at w.leaves (current_system w.leaves) system) (state_of w.manager.states) l)
@@ -128,7 +128,7 @@ module _ (start_up : Bool) (system : List ℕ) (w : WorldState) (known : Known) 
         steady.room names (record { sorted = are.sorted; exact = λ unit. (λ found. owes_by unit ((are.exact unit).0 found), λ owing. (are.exact unit).1 (owes_there unit owing)) });
   }
 
-  world_steady : IsSteadyWorld start_up w system → IsKnownSteady known
+  world_steady : IsSteadyWorld start_up system w → IsKnownSteady known
   world_steady steady = record {
     marks = to_known IsSteady (steady.marks known.units.lists is.units.lists);
     room = λ names are.
@@ -136,5 +136,5 @@ module _ (start_up : Bool) (system : List ℕ) (w : WorldState) (known : Known) 
   }
 
   -- the plan by what is known of a world tells whether that is steady
-  pub steady_is : (plan : UnitPlan) → IsPlanBy known plan → IsTrue plan.steady ↔ IsSteadyWorld start_up w system
+  pub steady_is : (plan : UnitPlan) → IsPlanBy known plan → IsTrue plan.steady ↔ IsSteadyWorld start_up system w
   steady_is plan by = (λ told. known_steady (by.steady.0 told), λ steady. by.steady.1 (world_steady steady))

@@ -13,7 +13,7 @@ use Rattle.switch_names.proofs.Outcomes.{none_mapped, option_or_parts}
 use Rattle.switch_parts.specs.declared.refusal.Refusal.TheVariants.{TooMany}
 use Rattle.switch_parts.specs.declared.refusal.What.TheVariants.{LeafBytes}
 use Rattle.switch_parts.specs.Limits.{too_many}
-use Rattle.unit_defs.specs.declared.part.Part.{Part}
+use Rattle.unit_defs.specs.declared.part.FilePart.{FilePart}
 use Rattle.unit_defs.specs.Taken.{AreShort, NotesLong, takes_units}
 use Rattle.unit_defs.proofs.NotingLemmas.{both_noted}
 use Rattle.unit_defs.proofs.TakenLemmas.{taken_below, taken_by_files}
@@ -55,7 +55,7 @@ switched_noted leaves system old middle new =
 module _ (leaves other : Leaves) (same : AreSameInStore leaves other) where
   new_taken : (system : Name) → IsInStore system → (q : Name) → takes_units leaves system q ≡ true → (takes_units other system q ≡ true) × IsInStore q
   new_taken system inside q taken = (
-    sym (taken_by_files leaves other system (λ unit. ap (option_map (λ (part : Part). part.text)) (files_same leaves other same system inside unit)) q) ∙ taken,
+    sym (taken_by_files leaves other system (λ unit. ap (option_map (λ (part : FilePart). part.text)) (files_same leaves other same system inside unit)) q) ∙ taken,
     below_both q system (codes "nix/store") (taken_below leaves system q taken) inside,
   )
 

@@ -19,7 +19,6 @@ pub mod OrderLemmas
 pub mod OwnedLemmas
 pub mod PartLemmas
 pub mod PayLemmas
-pub mod PullLemmas
 pub mod RecordLemmas
 pub mod RoomLemmas
 pub mod SameLemmas

@@ -1,10 +1,12 @@
 -- The log and the lists in worlds that have the same there.
-use Rattle.std.proofs.Common.{◌≡◌, true, ℕ, List, [], Option, None, Some, is_some, refl, sym, ap, subst, ◌∙◌, inl, inr}
+use Rattle.std.proofs.Common.{◌≡◌, true, ℕ, List, Option, None, Some, is_some, sym, ap, subst, ◌∙◌, inl, inr}
 use Rattle.std.specs.FinMap.{get}
 use Rattle.host_trait.specs.declared.leaf.LeafKind.{LeafKind}
 use Rattle.host_trait.specs.World.{Leaves, content_of, file_bytes, leaf_content}
 use Rattle.log_text.specs.declared.lists.Lists.{Lists}
-use Rattle.owed_lists.specs.Lists.{IsListOf, reloads_place, restarts_place, starts_place}
+use Rattle.log_text.specs.declared.lists.Which.{Which}
+use Rattle.log_text.specs.Lists.{list_names}
+use Rattle.owed_lists.specs.Lists.{IsListOf, place_of}
 use Rattle.owed_log.specs.declared.log_write.LogWrite.{LogWrite}
 use Rattle.owed_log.specs.declared.log_write.LogWrite.TheVariants.{Nothing, Append, Put}
 use Rattle.owed_log.specs.Laws.{AreAlone, IsTidy, NoneOld}
@@ -46,9 +48,7 @@ write_same w m log lists write is = record { prepared = by write is.prepared; co
 -- two trees have the same leaves of the log and of the lists
 pub record AreSameLists (w m : Leaves) : Type 0 where
   pub log : get m log_place ≡ get w log_place
-  pub starts : get m starts_place ≡ get w starts_place
-  pub restarts : get m restarts_place ≡ get w restarts_place
-  pub reloads : get m reloads_place ≡ get w reloads_place
+  pub old : (which : Which) → get m (place_of which) ≡ get w (place_of which)
 
 module _ (w m : Leaves) (store : AreSameInStore m w) (same : AreSameLists w m) where
   content : (at : Name) → get m at ≡ get w at → content_of m at ≡ content_of w at
@@ -59,14 +59,10 @@ module _ (w m : Leaves) (store : AreSameInStore m w) (same : AreSameLists w m) w
     where
       by : (o : Option (List ℕ)) → AreListsBy o w lists → AreListsBy o m lists
       by (Some text) gives = gives
-      by None are = record {
-        starts = subst (λ (o : Option (List ℕ)). IsListOf o lists.starts) (sym (content starts_place same.starts)) are.starts;
-        restarts = subst (λ (o : Option (List ℕ)). IsListOf o lists.restarts) (sym (content restarts_place same.restarts)) are.restarts;
-        reloads = subst (λ (o : Option (List ℕ)). IsListOf o lists.reloads) (sym (content reloads_place same.reloads)) are.reloads;
-      }
+      by None are = λ which. subst (λ (o : Option (List ℕ)). IsListOf o (list_names lists which)) (sym (content (place_of which) (same.old which))) (are which)
 
   none_same : NoneOld w → NoneOld m
-  none_same none = record { starts = same.starts ∙ none.starts; restarts = same.restarts ∙ none.restarts; reloads = same.reloads ∙ none.reloads }
+  none_same none which = same.old which ∙ none which
 
   pub alone_same : (lists : Lists) → AreAlone w lists → AreAlone m lists
   alone_same lists alone = record { are = lists_same lists alone.are; tidy = tidy_same w m same.log alone.tidy; none_old = none_same alone.none_old }
@@ -86,9 +82,7 @@ pub data IsListLeaf (leaves : Leaves) (at : Name) (leaf : Option LeafKind) : Typ
 -- so it is at the places of the log and of the lists
 pub record AreListLeaves (first leaves : Leaves) : Type 0 where
   pub log : IsListLeaf first log_place (get leaves log_place)
-  pub starts : IsListLeaf first starts_place (get leaves starts_place)
-  pub restarts : IsListLeaf first restarts_place (get leaves restarts_place)
-  pub reloads : IsListLeaf first reloads_place (get leaves reloads_place)
+  pub old : (which : Which) → IsListLeaf first (place_of which) (get leaves (place_of which))
 
 leaf_there : (first : Leaves) (at : Name) (one other : Option LeafKind) → other ≡ one → IsListLeaf first at one → IsListLeaf first at other
 leaf_there first at one other same is = subst (IsListLeaf first at) (sym same) is
@@ -96,21 +90,17 @@ leaf_there first at one other same is = subst (IsListLeaf first at) (sym same) i
 pub leaves_same : (first w m : Leaves) → AreSameLists w m → AreListLeaves first w → AreListLeaves first m
 leaves_same first w m same are = record {
   log = leaf_there first log_place (get w log_place) (get m log_place) same.log are.log;
-  starts = leaf_there first starts_place (get w starts_place) (get m starts_place) same.starts are.starts;
-  restarts = leaf_there first restarts_place (get w restarts_place) (get m restarts_place) same.restarts are.restarts;
-  reloads = leaf_there first reloads_place (get w reloads_place) (get m reloads_place) same.reloads are.reloads;
+  old = λ which. leaf_there first (place_of which) (get w (place_of which)) (get m (place_of which)) (same.old which) (are.old which);
 }
 
 pub old_leaves : (first m : Leaves) → AreSameLists first m → AreListLeaves first m
-old_leaves first m same = record { log = IsListLeaf.Old same.log; starts = IsListLeaf.Old same.starts; restarts = IsListLeaf.Old same.restarts; reloads = IsListLeaf.Old same.reloads }
+old_leaves first m same = record { log = IsListLeaf.Old same.log; old = λ which. IsListLeaf.Old (same.old which) }
 
 -- lists that stand alone have a file, or nothing
 pub alone_leaves : (first leaves : Leaves) (lists : Lists) → AreAlone leaves lists → AreListLeaves first leaves
 alone_leaves first leaves lists alone = record {
   log = by alone.tidy;
-  starts = IsListLeaf.Gone alone.none_old.starts;
-  restarts = IsListLeaf.Gone alone.none_old.restarts;
-  reloads = IsListLeaf.Gone alone.none_old.reloads;
+  old = λ which. IsListLeaf.Gone (alone.none_old which);
 }
   where
     by : IsTidy leaves → IsListLeaf first log_place (get leaves log_place)

@@ -1,49 +1,31 @@
 -- How long the log is in which a switch records what it owes.
-use Rattle.std.proofs.Common.{◌≡◌, Option, None, Some, cond, option_map, sym, ap, subst, ◌∙◌, refl, Bool}
+use Rattle.std.proofs.Common.{◌≡◌, Option, None, Some, cond, option_map, sym, ap, ◌∙◌, refl, Bool}
 use Rattle.std.proofs.lemmas.Bool.{le-ltb}
-use Rattle.host_trait.specs.declared.unit_state.State.{State}
-use Rattle.host_trait.specs.States.{state_of}
+use Rattle.host_trait.specs.declared.entry.Act.TheVariants.{Reload, Restart, Start}
 use Rattle.host_trait.specs.World.{Leaves, WorldState}
 use Rattle.leaf_limits.specs.Limits.{leaf_max}
 use Rattle.leaf_limits.specs.declared.too_long.TooLong.{TooLong}
 use Rattle.log_text.specs.declared.lists.Lists.{Lists}
-use Rattle.owed_lists.proofs.ListLemmas.{one_list}
 use Rattle.owed_log.specs.Lengths.{log_length, long_log}
 use Rattle.owed_log.specs.Places.{log_place}
 use Rattle.owed_log.specs.Writing.{IsPrepared}
 use Rattle.owed_plan.specs.declared.owed.Owed.{Owed}
 use Rattle.owed_plan.specs.Law.{lists_of}
-use Rattle.owed_plan.specs.Owed.{IsOwed, Reloads, Restarts, Starts}
-use Rattle.owed_plan.specs.Systems.{Systems, systems_at}
 use Rattle.switch_names.specs.Names.{Name}
 use Rattle.unit_stage.specs.Laws.{OneLogLaw, SomeLogLaw, SteadyLogLaw}
 use Rattle.unit_stage.specs.declared.unit_plan.UnitPlan.{UnitPlan}
-use Rattle.unit_stage.specs.Plan.{IsLongLog, IsOwedIn, IsUnitPlanOf, owed_of}
-use Rattle.unit_stage.specs.System.{current_system}
-use Rattle.unit_stage.proofs.EndLemmas.{owed_in}
+use Rattle.unit_stage.specs.Plan.{IsLongLog, IsOwedBy, IsUnitPlanOf, owed_of}
+use Rattle.unit_stage.proofs.EndLemmas.{owed_in, same_names}
 use Rattle.unit_stage.proofs.RoomLemmas.{log_fits}
-use Rattle.unit_stage.proofs.WaitingLemmas.{same_waiting}
 
 -- a world has one set of lists to record
-module _ (start_up : Bool) (w : WorldState) (system : Name) (lists others : Lists) (one other : Owed) (is : IsOwedIn start_up w system lists one) (also : IsOwedIn start_up w system others other) where
-  abbrev systems : Systems
-  systems = systems_at w.leaves (current_system w.leaves) system
-
-  abbrev states : Name → State
-  states = state_of w.manager.states
-
-  same_recorded : lists_of one ≡ lists_of other
-  same_recorded =
-      let then : IsOwed systems states lists other = subst (λ (l : Lists). IsOwed systems states l other) (same_waiting start_up w.leaves system others lists also.listed is.listed) also.is_owed in
-      λ i. record {
-        starts = one_list one.starts other.starts (Starts systems states lists) is.is_owed.starts then.starts i;
-        restarts = one_list one.restarts other.restarts (Restarts systems states lists) is.is_owed.restarts then.restarts i;
-        reloads = one_list one.reloads other.reloads (Reloads systems states lists) is.is_owed.reloads then.reloads i;
-      }
+same_recorded : (start_up : Bool) (w : WorldState) (system : Name) (one other : Owed) → IsOwedBy start_up system w one → IsOwedBy start_up system w other → lists_of one ≡ lists_of other
+same_recorded start_up w system one other is (others, also) =
+    let same = same_names start_up system others other w also one is in
+    λ i. record { starts = same Start i; restarts = same Restart i; reloads = same Reload i }
 
 pub one_log_law : OneLogLaw
-one_log_law start_up w system one other (owed, (lists, is), long) (next, (others, also), same) =
-    long ∙ ap long_log (same_recorded start_up w system lists others owed next is also) ∙ sym same
+one_log_law start_up w system one other (owed, is, long) (next, also, same) = long ∙ ap long_log (same_recorded start_up w system owed next is also) ∙ sym same
 
 pub some_log_law : SomeLogLaw
 some_log_law start_up w system = let owed = owed_in start_up system w in (long_log (lists_of owed.0), (owed.0, owed.1, refl))
@@ -59,6 +41,6 @@ steady_log_law start_up w system steady =
 
 -- what a plan records tells how long the log is
 pub planned_log : (start_up : Bool) (w : WorldState) (system : Name) (plan : UnitPlan) (long : Option TooLong) → IsUnitPlanOf start_up system w plan →
-    ((leaves : Leaves) (lists : Lists) → IsPrepared leaves lists plan.write → long ≡ long_log lists) → IsLongLog start_up w system long
+    ((leaves : Leaves) (lists : Lists) → IsPrepared leaves lists plan.write → long ≡ long_log lists) → IsLongLog start_up system w long
 planned_log start_up w system plan long is told =
     (owed_of plan, (is.lists, record { listed = is.planned.listed; is_owed = is.planned.planned.is_owed }), told w.leaves plan.recorded is.write.prepared)

@@ -2,26 +2,30 @@
 use Rattle.std.proofs.Common.{◌≡◌, ◌⊎◌, ◌++◌, ℕ, true, false, List, Option, None, Some, is_some, map, take, refl, sym, ap, subst, ◌∙◌, Bool, inl, inr}
 use Rattle.std.proofs.lemmas.List.{append_assoc, take-map}
 use Rattle.std.specs.FinMap.{get}
-use Rattle.std.specs.List.{AllByRecursion}
-use Rattle.host_trait.specs.declared.entry.Act.TheVariants.{Stop}
+use Rattle.std.specs.List.{AllByRecursion, flat_map}
+use Rattle.host_trait.specs.declared.entry.Act.TheVariants.{Stop, Reload, Restart, Start}
 use Rattle.host_trait.specs.declared.manager_state.ManagerState.{ManagerState}
 use Rattle.host_trait.specs.declared.unit_state.State.{State}
 use Rattle.host_trait.specs.States.{UnitStates, state_of}
 use Rattle.host_trait.specs.World.{WorldState}
 use Rattle.log_text.specs.declared.lists.Lists.{Lists}
-use Rattle.log_text.specs.Lists.{AreCounted, AreLists}
+use Rattle.log_text.specs.declared.lists.Which.{Which}
+use Rattle.log_text.specs.declared.lists.Which.TheVariants.{Starts, Restarts, Reloads}
+use Rattle.log_text.specs.Lists.{AreCounted, AreLists, list_names, with_list}
 use Rattle.owed_log.specs.Lengths.{AreOwedShort}
 use Rattle.owed_log.specs.Standing.{AreListsAt}
 use Rattle.owed_log.proofs.ListLemmas.{one_lists}
 use Rattle.owed_plan.specs.Called.{AreCalled}
 use Rattle.owed_plan.specs.declared.duty.Duty.{Duty}
 use Rattle.owed_plan.specs.declared.owed.Owed.{Owed}
-use Rattle.owed_plan.specs.Calls.{duty, reload_calls, restart_calls, start_calls, stop_calls}
+use Rattle.owed_plan.specs.Calls.{duty, listed_calls, stop_calls}
 use Rattle.owed_plan.specs.FinalStates.{brought_by}
 use Rattle.owed_plan.specs.Law.{lists_of, stopped}
+use Rattle.owed_plan.specs.Lists.{act_of, owed_names}
 use Rattle.owed_plan.specs.Owed.{sockets_first}
 use Rattle.owed_plan.specs.Systems.{IsDefined, Systems, systems_at}
-use Rattle.owed_plan.proofs.CoreLemmas.{reloads_defined, restarts_defined, starts_defined}
+use Rattle.owed_plan.proofs.CoreLemmas.{owed_defined}
+use Rattle.owed_plan.proofs.KindLemmas.{of_lists}
 use Rattle.owed_plan.proofs.SystemLemmas.{sound_at}
 use Rattle.switch_names.specs.declared.name_fault.NameFault.{NameFault}
 use Rattle.switch_names.specs.Names.{Name, has}
@@ -35,6 +39,7 @@ use Rattle.unit_stage.specs.Laws.{AreSameBeside, FreeLaw, UnderwayLaw}
 use Rattle.unit_stage.specs.Order.{ArrangesStarts}
 use Rattle.unit_stage.specs.Owes.{IsSteadyWorld}
 use Rattle.unit_stage.specs.Plan.{IsOwedIn}
+use Rattle.unit_stage.specs.Steps.{give_order}
 use Rattle.unit_stage.specs.System.{IsSystem, current_place, current_system, definitions_of, system_leaf}
 use Rattle.unit_stage.specs.Units.{AreUnitsFree, AreUnitsUnderway}
 use Rattle.unit_stage.specs.Waiting.{waits_besides}
@@ -58,7 +63,7 @@ use Rattle.unit_stage.proofs.WaitingLemmas.{besides_owed, besides_same, joined, 
 come_free : (system : Name) (owed : Owed) (order : List Name) (w m : WorldState) → IsSystem system → AreSameBeside w m → HasCome system owed order w m → AreUnitsFree system w.leaves → AreUnitsFree system m.leaves
 come_free system owed order w m is_system same (HasCome.Begun current leaves forth manager) = stays_free system w m same leaves is_system (inl current)
 come_free system owed order w m is_system same (HasCome.Stopping count old restart reload before old_restarts old_reloads stand manager) = stays_free system w m same stand.written is_system (inl stand.current)
-come_free system owed order w m is_system same (HasCome.Bringing made rest start restart reload like prefix calling bad journal is stand) = stays_free system w m same stand.written is_system (inr stand.current)
+come_free system owed order w m is_system same (HasCome.Bringing made rest kept like prefix calling bad journal is stand) = stays_free system w m same stand.written is_system (inr stand.current)
 
 -- ---- the names that are owed are names of units
 
@@ -70,37 +75,29 @@ defined_named own unit defined = by (unit_fault unit) refl
     by None is = is
     by (Some fault) is = absurd (let none : is_some (find_text own unit) ≡ false = rw is in cc (sym none ∙ defined))
 
-module _ (start_up : Bool) (system : Name) (lists : Lists) (owed : Owed) (w : WorldState) (owes : IsOwedIn start_up w system lists owed) where
+module _ (start_up : Bool) (system : Name) (lists : Lists) (owed : Owed) (w : WorldState) (owes : IsOwedIn start_up system w lists owed) where
   abbrev both : Systems
   both = systems_at w.leaves (current_system w.leaves) system
 
   named : (unit : Name) → IsDefined both unit → IsUnitName unit
   named unit defined = defined_named (own_text w.leaves system) unit defined
 
-  starts_named : AllByRecursion IsUnitName owed.starts
-  starts_named = all_named IsUnitName owed.starts (λ unit found.
-      named unit (starts_defined both (state_of w.manager.states) lists (sound_at w.leaves (current_system w.leaves) system) unit ((owes.is_owed.starts.exact unit).0 found)))
-
-  restarts_named : AllByRecursion IsUnitName owed.restarts
-  restarts_named = all_named IsUnitName owed.restarts (λ unit found. named unit (restarts_defined both (state_of w.manager.states) lists unit ((owes.is_owed.restarts.exact unit).0 found)))
-
-  reloads_named : AllByRecursion IsUnitName owed.reloads
-  reloads_named = all_named IsUnitName owed.reloads (λ unit found. named unit (reloads_defined both (state_of w.manager.states) lists unit ((owes.is_owed.reloads.exact unit).0 found)))
+  listed_named : (which : Which) → AllByRecursion IsUnitName (owed_names owed (act_of which))
+  listed_named which = all_named IsUnitName (owed_names owed (act_of which)) (λ unit found.
+      named unit (owed_defined both (state_of w.manager.states) lists (sound_at w.leaves (current_system w.leaves) system) which unit (((owes.is_owed (act_of which)).exact unit).0 found)))
 
   -- what is owed can be written, where it can be counted
   pub are_named : AreCounted (lists_of owed) → AreLists (lists_of owed)
-  are_named counted = record {
-    starts = record { names = starts_named; sorted = owes.is_owed.starts.sorted; counted = counted.starts };
-    restarts = record { names = restarts_named; sorted = owes.is_owed.restarts.sorted; counted = counted.restarts };
-    reloads = record { names = reloads_named; sorted = owes.is_owed.reloads.sorted; counted = counted.reloads };
-  }
+  are_named counted Starts = record { names = listed_named Starts; sorted = (owes.is_owed Start).sorted; counted = counted Starts }
+  are_named counted Restarts = record { names = listed_named Restarts; sorted = (owes.is_owed Restart).sorted; counted = counted Restarts }
+  are_named counted Reloads = record { names = listed_named Reloads; sorted = (owes.is_owed Reload).sorted; counted = counted Reloads }
 
 pub free_law : FreeLaw
 free_law start_up system owed order w m is_system (lists, owes) moment same free =
     come_free system owed order w m is_system same (has_come system owed order w m (are_named start_up system lists owed w owes) same moment) free
 
 module _ (start_up : Bool) (system : Name) (lists : Lists) (owed : Owed) (order : List Name) (arranges : ArrangesStarts owed order) (w m : WorldState) (is_system : IsSystem system)
-    (owes : IsOwedIn start_up w system lists owed) (same : AreSameBeside w m) where
+    (owes : IsOwedIn start_up system w lists owed) (same : AreSameBeside w m) where
   abbrev states : Name → State
   states = state_of w.manager.states
 
@@ -126,15 +123,11 @@ module _ (start_up : Bool) (system : Name) (lists : Lists) (owed : Owed) (order 
       listed = record {
         stored = lists_left owed.starts restart reload;
         standing = stand.listed;
-        starts = recorded_list start_up m.leaves system owed.starts (besides_then (current_system w.leaves) systems) owes.is_owed.starts.sorted;
+        starts = recorded_list start_up m.leaves system owed.starts (besides_then (current_system w.leaves) systems) (owes.is_owed Start).sorted;
         restarts = refl;
         reloads = refl;
       };
-      recorded = record {
-        starts = refl;
-        restarts = as_listed restart old.restarts owed.restarts (ap (λ (l : Lists). l.restarts) was ∙ sym owes.listed.restarts) old_restarts;
-        reloads = as_listed reload old.reloads owed.reloads (ap (λ (l : Lists). l.reloads) was ∙ sym owes.listed.reloads) old_reloads;
-      };
+      recorded = record { starts = refl; others = others };
       stopped = λ unit. ap (λ (x : ManagerState). state_of x.states unit) made ∙ after_stops taken w.manager unit;
       journal = ap (λ (x : ManagerState). x.journal) made ∙ entered (map (duty Stop) taken) w.manager;
       bad = ap (λ (x : ManagerState). x.bad) made ∙ same_bad (map (duty Stop) taken) w.manager;
@@ -151,14 +144,18 @@ module _ (start_up : Bool) (system : Name) (lists : Lists) (owed : Owed) (order 
         as_listed now old owed same (inl is) = inl (is ∙ same)
         as_listed now old owed same (inr is) = inr is
 
+        others : (which : Which) → (list_names (lists_left owed.starts restart reload) which ≡ list_names lists which) ⊎ (list_names (lists_left owed.starts restart reload) which ≡ owed_names owed (act_of which))
+        others Starts = inr refl
+        others Restarts = as_listed restart old.restarts owed.restarts (ap (λ (l : Lists). l.restarts) was ∙ sym owes.listed.restarts) old_restarts
+        others Reloads = as_listed reload old.reloads owed.reloads (ap (λ (l : Lists). l.reloads) was ∙ sym owes.listed.reloads) old_reloads
+
   -- ---- the calls after them
 
-  after_moment : (made rest : List Duty) (start restart reload : List Name) (like : ManagerState) →
-      (reload_calls owed states ++ restart_calls owed) ++ start_calls order ≡ made ++ rest →
-      IsCalling owed order states (ready system owed w) made like (lists_left start restart reload) →
+  after_moment : (made rest : List Duty) (kept : Lists) (like : ManagerState) → flat_map (listed_calls owed order states) give_order ≡ made ++ rest →
+      IsCalling owed order states (ready system owed w) made like kept →
       like.bad ≡ (performed made (ready system owed w)).bad → like.journal ≡ (performed made (ready system owed w)).journal → IsLike like m.manager →
-      Stand w.leaves m.leaves (Some (system_leaf system)) (lists_left start restart reload) → IsMomentAfterLink start_up system owed order w m
-  after_moment made rest start restart reload like prefix calling bad journal is stand =
+      Stand w.leaves m.leaves (Some (system_leaf system)) kept → IsMomentAfterLink start_up system owed order w m
+  after_moment made rest kept like prefix calling bad journal is stand =
       let then_ready = ready system owed w in
       record {
         made = made;
@@ -166,19 +163,19 @@ module _ (start_up : Bool) (system : Name) (lists : Lists) (owed : Owed) (order 
         prefix = prefix;
         journal = is.journal ∙ journal ∙ entered made then_ready ∙ ap (λ entries. entries ++ map (entry_of (definitions_of system)) made) (entered (stop_calls owed) w.manager)
             ∙ append_assoc w.manager.journal (map (entry_of w.manager.loaded) (stop_calls owed)) (map (entry_of (definitions_of system)) made);
-        kept = lists_left (joined start_up m.leaves system start) restart reload;
+        kept = with_list kept Starts (joined start_up m.leaves system kept.starts);
         listed = record {
-          stored = lists_left start restart reload;
+          stored = kept;
           standing = stand.listed;
-          starts = joined_list start_up m.leaves system start;
+          starts = joined_list start_up m.leaves system kept.starts;
           restarts = refl;
           reloads = refl;
         };
         called = record {
           units = called.units;
-          reloads = called.reloads;
-          restarts = called.restarts;
-          starts = left_joined start_up m.leaves system owed.starts (besides_then (Some system) systems) start _ owes.is_owed.starts.sorted called.starts;
+          kept_lists = of_lists _
+              (left_joined start_up m.leaves system owed.starts (besides_then (Some system) systems) kept.starts _ (owes.is_owed Start).sorted (called.kept_lists Starts))
+              (called.kept_lists Restarts) (called.kept_lists Reloads);
         };
         bad = is.bad ∙ bad ∙ same_bad made then_ready ∙ same_bad (stop_calls owed) w.manager;
         systems = systems;
@@ -187,20 +184,20 @@ module _ (start_up : Bool) (system : Name) (lists : Lists) (owed : Owed) (order 
       systems : systems_at m.leaves (current_system m.leaves) system ≡ systems_at w.leaves (Some system) system
       systems = systems_after system is_system w m same stand.current
 
-      called : AreCalled owed (brought_by (definitions_of system) w.manager.bad) (stopped owed.stops states) (state_of m.manager.states) (lists_left start restart reload) (is_called made)
+      called : AreCalled owed (brought_by (definitions_of system) w.manager.bad) (stopped owed.stops states) (state_of m.manager.states) kept (is_called made)
       called =
           let then_ready = ready system owed w in
-          subst (λ (x : UnitStates). AreCalled owed (brought_by (definitions_of system) w.manager.bad) (stopped owed.stops states) (state_of x) (lists_left start restart reload) (is_called made)) (sym is.states)
-          (subst (λ bad. AreCalled owed (brought_by (definitions_of system) bad) (stopped owed.stops states) (state_of like.states) (lists_left start restart reload) (is_called made)) (same_bad (stop_calls owed) w.manager)
-          (calling_law owed order arranges states then_ready like made (lists_left start restart reload) (λ unit. after_all_stops owed w.manager unit) calling))
+          subst (λ (x : UnitStates). AreCalled owed (brought_by (definitions_of system) w.manager.bad) (stopped owed.stops states) (state_of x) kept (is_called made)) (sym is.states)
+          (subst (λ bad. AreCalled owed (brought_by (definitions_of system) bad) (stopped owed.stops states) (state_of like.states) kept (is_called made)) (same_bad (stop_calls owed) w.manager)
+          (calling_law owed order arranges states then_ready like made kept (λ unit. after_all_stops owed w.manager unit) calling))
 
-  module _ (steady : IsSteadyWorld start_up w system) (free : AreUnitsFree system m.leaves) (short : AreOwedShort w.leaves → AreOwedShort m.leaves) where
+  module _ (steady : IsSteadyWorld start_up system w) (free : AreUnitsFree system m.leaves) (short : AreOwedShort w.leaves → AreOwedShort m.leaves) where
     underway : HasCome system owed order w m → AreUnitsUnderway start_up system w m
     underway (HasCome.Begun current leaves forth manager) = begun_underway start_up system is_system w m same current forth manager free short steady
     underway (HasCome.Stopping count old restart reload before old_restarts old_reloads stand manager) =
         stops_underway start_up system lists owed w m owes steady (stops_moment count manager old restart reload before old_restarts old_reloads stand) free short
-    underway (HasCome.Bringing made rest start restart reload like prefix calling bad journal is stand) =
-        after_link_underway start_up system lists owed order arranges w m owes steady (after_moment made rest start restart reload like prefix calling bad journal is stand) free short
+    underway (HasCome.Bringing made rest kept like prefix calling bad journal is stand) =
+        after_link_underway start_up system lists owed order arranges w m owes steady (after_moment made rest kept like prefix calling bad journal is stand) free short
 
 pub underway_law : UnderwayLaw
 underway_law start_up system owed order w m is_system (lists, owes) arranges free steady moment same =

@@ -1,17 +1,20 @@
--- The calls of a plan, cut into the four kinds.
+-- The calls of a plan, cut into the stops and those of each list.
 use Rattle.std.proofs.Common.{◌≡◌, ℕ, List, ◌++◌, take, drop, length, not, filter, refl, sym, ◌∙◌}
 use Rattle.std.proofs.lemmas.List.{append_assoc, length-append, length-map}
 use Rattle.std.proofs.lemmas.List.Filters.{length-filter_both}
 use Rattle.std.proofs.Math.Seq.{drop-append_seam, take-append_seam}
 use Rattle.host_trait.specs.declared.entry.Act.TheVariants.{Stop, Restart}
 use Rattle.host_trait.specs.declared.unit_state.State.{State}
+use Rattle.log_text.specs.declared.lists.Which.{Which}
+use Rattle.log_text.specs.declared.lists.Which.TheVariants.{Starts, Restarts, Reloads}
 use Rattle.owed_plan.specs.declared.duty.Duty.{Duty}
 use Rattle.owed_plan.specs.declared.owed.Owed.{Owed}
-use Rattle.owed_plan.specs.Calls.{calls_of, duty, reload_act, reload_calls, restart_calls, start_calls, stop_calls}
+use Rattle.owed_plan.specs.Calls.{calls_of, duty, listed_calls, reload_act, reload_calls, restart_calls, start_calls, stop_calls}
 use Rattle.owed_plan.specs.Owed.{sockets_first}
 use Rattle.switch_names.specs.declared.unit_kind.UnitKind.TheVariants.{Socket}
 use Rattle.switch_names.specs.Names.{Name}
-use Rattle.unit_stage.specs.Steps.{AreCallsOf}
+use Rattle.unit_stage.specs.declared.plan_calls.PlanCalls.{PlanCalls}
+use Rattle.unit_stage.specs.PlanCalls.{AreCallsOf, calls_in}
 use Rattle.unit_decide.specs.Facts.{unit_kind}
 use Rattle.unit_decide.specs.Kinds.{is_kind}
 
@@ -35,21 +38,28 @@ module _ (owed : Owed) (order : List Name) (states : Name → State) where
       ∙ append_assoc (stop_calls owed) (reload_calls owed states) (restart_calls owed ++ start_calls order)
 
   -- cut after as many calls as there are units to stop, to reload and to restart
-  pub are_parts : (calls others later stops reloads restarts starts : List Duty) → calls ≡ calls_of owed order states →
-      stops ≡ take (length owed.stops) calls → others ≡ drop (length owed.stops) calls →
-      reloads ≡ take (length owed.reloads) others → later ≡ drop (length owed.reloads) others →
-      restarts ≡ take (length owed.restarts) later → starts ≡ drop (length owed.restarts) later →
-      AreCallsOf owed order states stops reloads restarts starts
-  are_parts calls others later stops reloads restarts starts are stopped first reloaded second restarted started =
+  pub are_parts : (all others later stops : List Duty) (calls : PlanCalls) → all ≡ calls_of owed order states →
+      stops ≡ take (length owed.stops) all → others ≡ drop (length owed.stops) all →
+      calls_in calls Reloads ≡ take (length owed.reloads) others → later ≡ drop (length owed.reloads) others →
+      calls_in calls Restarts ≡ take (length owed.restarts) later → calls_in calls Starts ≡ drop (length owed.restarts) later →
+      AreCallsOf owed order states stops (calls_in calls)
+  are_parts all others later stops calls are stopped first reloaded second restarted started =
       let reload = reload_calls owed states in let restart = restart_calls owed in let start = start_calls order in
-      let all : calls ≡ stop_calls owed ++ (reload ++ (restart ++ start)) = are ∙ all_calls in
-      let rest : others ≡ reload ++ (restart ++ start) = after (length owed.stops) (stop_calls owed) (reload ++ (restart ++ start)) calls others (stops_length owed) all first in
+      let whole : all ≡ stop_calls owed ++ (reload ++ (restart ++ start)) = are ∙ all_calls in
+      let rest : others ≡ reload ++ (restart ++ start) = after (length owed.stops) (stop_calls owed) (reload ++ (restart ++ start)) all others (stops_length owed) whole first in
       let reloads_length = length-map owed.reloads (λ unit. duty (reload_act states owed.stops unit) unit) in
       let last : later ≡ restart ++ start = after (length owed.reloads) reload (restart ++ start) others later reloads_length rest second in
       let restarts_length = length-map owed.restarts (duty Restart) in
       record {
-        are_stops = front (length owed.stops) (stop_calls owed) (reload ++ (restart ++ start)) calls stops (stops_length owed) all stopped;
-        are_reloads = front (length owed.reloads) reload (restart ++ start) others reloads reloads_length rest reloaded;
-        are_restarts = front (length owed.restarts) restart start later restarts restarts_length last restarted;
-        are_starts = after (length owed.restarts) restart start later starts restarts_length last started;
+        are_stops = front (length owed.stops) (stop_calls owed) (reload ++ (restart ++ start)) all stops (stops_length owed) whole stopped;
+        are_listed = by
+            (front (length owed.reloads) reload (restart ++ start) others (calls_in calls Reloads) reloads_length rest reloaded)
+            (front (length owed.restarts) restart start later (calls_in calls Restarts) restarts_length last restarted)
+            (after (length owed.restarts) restart start later (calls_in calls Starts) restarts_length last started);
       }
+    where
+      by : calls_in calls Reloads ≡ reload_calls owed states → calls_in calls Restarts ≡ restart_calls owed → calls_in calls Starts ≡ start_calls order →
+          (which : Which) → calls_in calls which ≡ listed_calls owed order states which
+      by reloads restarts starts Reloads = reloads
+      by reloads restarts starts Restarts = restarts
+      by reloads restarts starts Starts = starts

@@ -1,37 +1,19 @@
--- What pays what is owed the units, and acts that are owed.
-use Rattle.std.proofs.Common.{◌≡◌, ◌&&◌, ◌||◌, ◌++◌, ◌∷◌, ℕ, Bool, true, false, not, List, [], map, refl, ap, ◌∙◌, inl, inr}
+-- What pays what is owed the units.
+use Rattle.std.proofs.Common.{◌≡◌, ◌&&◌, ◌++◌, ◌∷◌, ℕ, Bool, true, false, not, List, [], map, ap, ◌∙◌, inl, inr}
 use Rattle.std.proofs.lemmas.Bool.{and_from, or_cases, or_left, or_right}
-use Rattle.std.specs.List.{AllByRecursion, list_any}
+use Rattle.std.specs.List.{AllByRecursion, flat_map, list_any}
 use Rattle.host_trait.specs.declared.entry.Act.{Act}
 use Rattle.host_trait.specs.declared.entry.Act.TheVariants.{Stop, Reload, Restart, Start}
 use Rattle.host_trait.specs.declared.entry.Entry.{Entry}
-use Rattle.host_trait.specs.declared.unit_state.State.{State}
-use Rattle.log_text.specs.declared.lists.Lists.{Lists}
-use Rattle.owed_plan.specs.Called.{OwesUnit}
+use Rattle.log_text.specs.declared.lists.Which.{Which}
 use Rattle.owed_plan.specs.declared.duty.Duty.{Duty}
 use Rattle.owed_plan.specs.Calls.{duty}
-use Rattle.owed_plan.specs.Systems.{Systems}
 use Rattle.switch_names.specs.Names.{Name, has, is_name}
 use Rattle.host_trait.proofs.NameOrder.{name_itself}
 use Rattle.unit_stage.specs.Acts.{entry_of}
-use Rattle.unit_stage.specs.Owes.{IsOwedAct, is_stop, pays}
+use Rattle.unit_stage.specs.Owes.{is_stop, pays}
 use Rattle.unit_stage.specs.System.{definitions_of}
 use Rattle.unit_stage.proofs.CallingLemmas.{is_called, called_on}
-
--- ---- acts that are owed
-
-module _ (systems : Systems) (states : Name → State) (lists : Lists) (unit : Name) where
-  pub unit_from : (act : Act) → IsOwedAct systems states lists act unit → OwesUnit systems states lists unit
-  unit_from Stop owes = OwesUnit.OfStops owes
-  unit_from Reload owes = OwesUnit.OfReloads owes
-  unit_from Restart owes = OwesUnit.OfRestarts owes
-  unit_from Start owes = OwesUnit.OfStarts owes
-
-  pub act_from : OwesUnit systems states lists unit → (act : Act) × IsOwedAct systems states lists act unit
-  act_from (OwesUnit.OfStops owes) = (Stop, owes)
-  act_from (OwesUnit.OfReloads owes) = (Reload, owes)
-  act_from (OwesUnit.OfRestarts owes) = (Restart, owes)
-  act_from (OwesUnit.OfStarts owes) = (Start, owes)
 
 -- ---- calls and entries
 
@@ -52,6 +34,10 @@ all_of P act (name ∷ names) each =
 pub all_append : (P : Duty → Type 0) (calls more : List Duty) → AllByRecursion P calls → AllByRecursion P more → AllByRecursion P (calls ++ more)
 all_append P [] more all rest = rest
 all_append P (call ∷ calls) more all rest = (all.0, all_append P calls more all.1 rest)
+
+pub all_listed : (P : Duty → Type 0) (calls : Which → List Duty) → ((which : Which) → AllByRecursion P (calls which)) → (order : List Which) → AllByRecursion P (flat_map calls order)
+all_listed P calls each [] = tt
+all_listed P calls each (which ∷ order) = all_append P (calls which) (flat_map calls order) (each which) (all_listed P calls each order)
 
 pub all_first : (P : Duty → Type 0) (calls more : List Duty) → AllByRecursion P (calls ++ more) → AllByRecursion P calls
 all_first P [] more all = tt

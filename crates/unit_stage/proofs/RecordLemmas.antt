@@ -1,36 +1,34 @@
 -- The lists, and what stands at their places, where what is owed is recorded and where a list is cleared.
-use Rattle.std.proofs.Common.{◌≡◌, ◌≢◌, ◌⊎◌, true, false, cond, ℕ, List, [], length, take, Option, None, Some, is_some, refl, sym, ap, subst, ◌∙◌, Bool, inl, inr}
-use Rattle.std.proofs.lemmas.Bool.{both_ways, cases_Bool}
+use Rattle.std.proofs.Common.{◌≡◌, ◌≢◌, ◌⊎◌, true, false, cond, ℕ, List, [], take, Option, None, Some, is_some, refl, sym, ap, subst, ◌∙◌, Bool, inl, inr}
+use Rattle.std.proofs.lemmas.Bool.{both_ways}
 use Rattle.std.specs.FinMap.{get}
 use Rattle.std.specs.List.{list_any}
-use Rattle.host_trait.specs.Change.{Change, IsMoment, finished}
-use Rattle.host_trait.specs.declared.leaf.LeafKind.{LeafKind}
-use Rattle.host_trait.specs.World.{IsFileAt, Leaves, WorldState, file_bytes, seen, stage, with_leaf, with_more}
+use Rattle.host_trait.specs.Change.{IsMoment, finished}
+use Rattle.host_trait.specs.World.{IsFileAt, Leaves, WorldState, file_bytes, stage, with_leaf, with_more}
 use Rattle.host_trait.proofs.Places.{at_same}
-use Rattle.host_trait.proofs.Seen.{other_of, seen_at}
-use Rattle.host_trait.proofs.Sound.{get_other}
+use Rattle.host_trait.proofs.Seen.{seen_at}
 use Rattle.log_text.specs.declared.lists.Lists.{Lists}
 use Rattle.log_text.specs.declared.lists.Which.{Which}
 use Rattle.log_text.specs.declared.lists.Which.TheVariants.{Starts, Restarts, Reloads}
 use Rattle.log_text.specs.Lists.{block_of, with_list}
 use Rattle.log_text.specs.Log.{block_text}
-use Rattle.owed_lists.specs.Lists.{place_of, reloads_place, restarts_place, starts_place}
+use Rattle.owed_lists.specs.Lists.{place_of}
 use Rattle.owed_log.specs.declared.log_write.LogWrite.{LogWrite}
 use Rattle.owed_log.specs.declared.log_write.LogWrite.TheVariants.{Nothing, Append, Put}
 use Rattle.owed_log.specs.Laws.{AreAlone, CanClear}
 use Rattle.owed_log.specs.Places.{log_place, old_places}
 use Rattle.owed_log.specs.Standing.{AreListsAt}
-use Rattle.owed_log.specs.Writing.{CanWrite, IsPrepared, IsRecordMoment, IsWriting, clearing, log_leaf, with_write}
-use Rattle.owed_log.proofs.ContentLemmas.{file_longer, log_not_old, log_other, more_elsewhere, old_not_log}
+use Rattle.owed_log.specs.Writing.{IsPrepared, IsRecordMoment, IsWriting, clearing, log_leaf, with_write}
+use Rattle.owed_log.proofs.ContentLemmas.{file_longer, log_other, more_elsewhere, old_not_log}
 use Rattle.owed_log.proofs.ListLemmas.{some_lists}
-use Rattle.owed_log.proofs.MomentLemmas.{clear_law_of, cleared_law, filed, prepared_law}
+use Rattle.owed_log.proofs.MomentLemmas.{clear_law_of, cleared_law, prepared_law}
 use Rattle.switch_names.specs.Names.{Name, is_name}
 use Rattle.tree_put.specs.Sequence.{without_places}
 use Rattle.tree_put.proofs.LeftLemmas.{gone_at}
 use Rattle.owed_lists.proofs.PlaceLemmas.{place_apart}
 use Rattle.tree_put.proofs.PutLemmas.{apart_ne}
 use Rattle.owed_log.proofs.BesideLemmas.{write_beside, writing_beside}
-use Rattle.unit_stage.proofs.ListsLemmas.{AreListLeaves, IsListLeaf, alone_leaves, old_leaves}
+use Rattle.unit_stage.proofs.ListsLemmas.{AreListLeaves, IsListLeaf, alone_leaves}
 
 -- ---- a file stays a file
 
@@ -44,9 +42,6 @@ more_file leaves at more is = by (file_bytes (get leaves at)) refl
 -- ---- what stands at the places while it is recorded
 
 module _ (first : Leaves) where
-  leaves_of : (m : WorldState) → IsListLeaf first log_place (get m.leaves log_place) → ((which : Which) → IsListLeaf first (place_of which) (get m.leaves (place_of which))) → AreListLeaves first m.leaves
-  leaves_of m log lists = record { log = log; starts = lists Starts; restarts = lists Restarts; reloads = lists Reloads }
-
   -- a leaf that is removed, or stays
   gone_leaf : (at : Name) (count : ℕ) (u : WorldState) → IsListLeaf first at (get u.leaves at) → IsListLeaf first at (get (without_places (take count old_places) u).leaves at)
   gone_leaf at count u is = subst (IsListLeaf first at) (sym (gone_at (take count old_places) u at)) (either (list_any (is_name at) (take count old_places)))
@@ -79,14 +74,15 @@ module _ (lists : Lists) (w : WorldState) where
 
   pub record_leaves : (write : LogWrite) → IsPrepared w.leaves lists write → (m : WorldState) → IsRecordMoment write w m → AreListLeaves w.leaves m.leaves
   record_leaves write is m (IsRecordMoment.Writing cut) =
-      leaves_of w.leaves m (writing_log write is m cut) (λ which. IsListLeaf.Old (writing_beside (place_of which) (list_other which) (old_not_log which) write w m cut))
+      record { log = writing_log write is m cut; old = λ which. IsListLeaf.Old (writing_beside (place_of which) (list_other which) (old_not_log which) write w m cut) }
   record_leaves write is m (IsRecordMoment.Removing u came removing) =
       let count = removing.count in
       subst (λ (x : WorldState). AreListLeaves w.leaves x.leaves) (sym removing.world)
-      (leaves_of w.leaves (without_places (take count old_places) u)
-      (gone_leaf w.leaves log_place count u (subst (IsListLeaf w.leaves log_place) (sym (seen_at u (with_write write w) came log_place log_other)) (write_log write is)))
-      (λ which. gone_leaf w.leaves (place_of which) count u
-      (IsListLeaf.Old (seen_at u (with_write write w) came (place_of which) (list_other which) ∙ write_beside (place_of which) (list_other which) (old_not_log which) write w))))
+      record {
+        log = gone_leaf w.leaves log_place count u (subst (IsListLeaf w.leaves log_place) (sym (seen_at u (with_write write w) came log_place log_other)) (write_log write is));
+        old = λ which. gone_leaf w.leaves (place_of which) count u
+            (IsListLeaf.Old (seen_at u (with_write write w) came (place_of which) (list_other which) ∙ write_beside (place_of which) (list_other which) (old_not_log which) write w));
+      }
 
 -- ---- where a list is cleared
 
@@ -107,13 +103,10 @@ module _ (lists : Lists) (first : Leaves) (y u : WorldState) (alone : AreAlone y
     longer count is =
         let part = take count empty in
         subst (λ (x : WorldState). AreListLeaves first x.leaves) (sym is)
-        (leaves_of first (record y { leaves = with_more y.leaves log_place part }) (IsListLeaf.Written (more_file y.leaves log_place part file))
-        (λ which. IsListLeaf.Gone (more_elsewhere y.leaves log_place part (place_of which) (old_not_log which) ∙ none which)))
-      where
-        none : (which : Which) → get y.leaves (place_of which) ≡ None
-        none Starts = alone.none_old.starts
-        none Restarts = alone.none_old.restarts
-        none Reloads = alone.none_old.reloads
+        record {
+          log = IsListLeaf.Written (more_file y.leaves log_place part file);
+          old = λ which. IsListLeaf.Gone (more_elsewhere y.leaves log_place part (place_of which) (old_not_log which) ∙ alone.none_old which);
+        }
 
   clearing_leaves : (which : Which) → CanClear which y.leaves lists → IsMoment (clearing which) y u → AreListLeaves first u.leaves
   clearing_leaves which can (inl same) = subst (λ (x : WorldState). AreListLeaves first x.leaves) (sym same) (alone_leaves first y.leaves lists alone)

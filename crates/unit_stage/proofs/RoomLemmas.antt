@@ -24,11 +24,11 @@ use Rattle.owed_lists.proofs.OrderLemmas.{has_ordered, ordered, ordered_sorted}
 use Rattle.owed_log.specs.Lengths.{log_length}
 use Rattle.owed_plan.specs.declared.owed.Owed.{Owed}
 use Rattle.owed_plan.specs.Law.{lists_of}
-use Rattle.owed_plan.specs.Owed.{IsOwed}
+use Rattle.owed_plan.specs.Owed.{IsOwed, IsOwedAct}
 use Rattle.owed_plan.specs.Systems.{Systems, systems_at}
 use Rattle.switch_names.specs.Names.{IsListOf, Name, has, is_name}
 use Rattle.switch_names.proofs.Names.{name_turned}
-use Rattle.unit_stage.specs.Owes.{FitThrice, IsOwedAct, IsSteadyWorld, OwesUnit}
+use Rattle.unit_stage.specs.Owes.{FitThrice, IsSteadyWorld, OwesUnit}
 use Rattle.unit_stage.specs.Plan.{IsOwedIn}
 use Rattle.unit_stage.specs.Room.{is_owed}
 use Rattle.unit_stage.specs.System.{current_system}
@@ -135,47 +135,47 @@ module _ (owed : Owed) (unit : Name) where
 
 module _ (systems : Systems) (states : Name → State) (lists : Lists) (owed : Owed) (owes : IsOwed systems states lists owed) (unit : Name) where
   pub is_owed_act : (act : Act) → IsOwedAct systems states lists act unit → is_owed owed unit ≡ true
-  is_owed_act Stop owing = stop_among owed unit ((owes.stops.exact unit).1 owing)
-  is_owed_act Reload owing = reload_among owed unit ((owes.reloads.exact unit).1 owing)
-  is_owed_act Restart owing = restart_among owed unit ((owes.restarts.exact unit).1 owing)
-  is_owed_act Start owing = start_among owed unit ((owes.starts.exact unit).1 owing)
+  is_owed_act Stop owing = stop_among owed unit (((owes Stop).exact unit).1 owing)
+  is_owed_act Reload owing = reload_among owed unit (((owes Reload).exact unit).1 owing)
+  is_owed_act Restart owing = restart_among owed unit (((owes Restart).exact unit).1 owing)
+  is_owed_act Start owing = start_among owed unit (((owes Start).exact unit).1 owing)
 
   pub act_owed : is_owed owed unit ≡ true → (act : Act) × IsOwedAct systems states lists act unit
   act_owed is = elim (or_cases (has owed.stops unit || has owed.reloads unit || has owed.restarts unit) (has owed.starts unit) is) [
     | inl three ↦ elim (or_cases (has owed.stops unit || has owed.reloads unit) (has owed.restarts unit) three) [
       | inl two ↦ elim (or_cases (has owed.stops unit) (has owed.reloads unit) two) [
-        | inl stop ↦ (Stop, (owes.stops.exact unit).0 stop)
-        | inr reload ↦ (Reload, (owes.reloads.exact unit).0 reload)
+        | inl stop ↦ (Stop, ((owes Stop).exact unit).0 stop)
+        | inr reload ↦ (Reload, ((owes Reload).exact unit).0 reload)
       ]
-      | inr restart ↦ (Restart, (owes.restarts.exact unit).0 restart)
+      | inr restart ↦ (Restart, ((owes Restart).exact unit).0 restart)
     ]
-    | inr start ↦ (Start, (owes.starts.exact unit).0 start)
+    | inr start ↦ (Start, ((owes Start).exact unit).0 start)
   ]
 
-module _ (start_up : Bool) (system : Name) (lists : Lists) (owed : Owed) (w : WorldState) (owes : IsOwedIn start_up w system lists owed) where
+module _ (start_up : Bool) (system : Name) (lists : Lists) (owed : Owed) (w : WorldState) (owes : IsOwedIn start_up system w lists owed) where
   abbrev systems : Systems
   systems = systems_at w.leaves (current_system w.leaves) system
 
   abbrev states : Name → State
   states = state_of w.manager.states
 
-  unit_among : (unit : Name) → OwesUnit start_up w system unit → is_owed owed unit ≡ true
+  unit_among : (unit : Name) → OwesUnit start_up system w unit → is_owed owed unit ≡ true
   unit_among unit (act, (others, listed, owing)) =
       is_owed_act systems states lists owed owes.is_owed unit act
       (subst (λ (l : Lists). IsOwedAct systems states l act unit) (same_waiting start_up w.leaves system others lists listed owes.listed) owing)
 
-  owed_unit : (unit : Name) → is_owed owed unit ≡ true → OwesUnit start_up w system unit
+  owed_unit : (unit : Name) → is_owed owed unit ≡ true → OwesUnit start_up system w unit
   owed_unit unit is = let one = act_owed systems states lists owed owes.is_owed unit is in (one.0, (lists, owes.listed, one.1))
 
-  union_here : IsListOf (union_of owed) (OwesUnit start_up w system)
+  union_here : IsListOf (union_of owed) (OwesUnit start_up system w)
   union_here = record {
     sorted = (union_list owed).sorted;
     exact = λ unit. (λ found. owed_unit unit (sym (has_union owed unit) ∙ found), λ owing. has_union owed unit ∙ unit_among unit owing);
   }
 
 -- where no other units are owed something than in a world with room, there is room
-pub still_room : (start_up : Bool) (system : Name) (w m : WorldState) → ((unit : Name) → OwesUnit start_up m system unit → OwesUnit start_up w system unit) → IsSteadyWorld start_up w system →
-    (names : List Name) → IsListOf names (OwesUnit start_up m system) → FitThrice names
+pub still_room : (start_up : Bool) (system : Name) (w m : WorldState) → ((unit : Name) → OwesUnit start_up system m unit → OwesUnit start_up system w unit) → IsSteadyWorld start_up system w →
+    (names : List Name) → IsListOf names (OwesUnit start_up system m) → FitThrice names
 still_room start_up system w m fewer steady names are =
     let owed = owed_in start_up system w in
     let union = union_here start_up system owed.1.0 owed.0 w owed.1.1 in
@@ -265,7 +265,7 @@ lists_length lists most small starts restarts reloads =
     starts restarts reloads
 
 -- in a steady world the log that records what is owed can be read again
-module _ (start_up : Bool) (system : Name) (lists : Lists) (owed : Owed) (w : WorldState) (owes : IsOwedIn start_up w system lists owed) (steady : IsSteadyWorld start_up w system) where
+module _ (start_up : Bool) (system : Name) (lists : Lists) (owed : Owed) (w : WorldState) (owes : IsOwedIn start_up system w lists owed) (steady : IsSteadyWorld start_up system w) where
   abbrev union : List Name
   union = union_of owed
 
@@ -275,7 +275,7 @@ module _ (start_up : Bool) (system : Name) (lists : Lists) (owed : Owed) (w : Wo
   pub log_fits : log_length (lists_of owed) ≤ leaf_max
   log_fits =
       let room = steady.room union (union_here start_up system lists owed w owes) in
-      let starts = among owed.starts owes.is_owed.starts.sorted (start_among owed) in
-      let restarts = among owed.restarts owes.is_owed.restarts.sorted (restart_among owed) in
-      let reloads = among owed.reloads owes.is_owed.reloads.sorted (reload_among owed) in
+      let starts = among owed.starts (owes.is_owed Start).sorted (start_among owed) in
+      let restarts = among owed.restarts (owes.is_owed Restart).sorted (restart_among owed) in
+      let reloads = among owed.reloads (owes.is_owed Reload).sorted (reload_among owed) in
       omega (arith, room, lists_length (lists_of owed) (length (list_text union)) (omega (arith, room)) starts restarts reloads)

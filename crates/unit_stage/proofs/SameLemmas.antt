@@ -19,7 +19,7 @@ use Rattle.owed_plan.specs.declared.duty.Duty.{Duty}
 use Rattle.switch_names.specs.Names.{Name}
 use Rattle.unit_stage.specs.Acts.{IsPerforming, performed, with_calls}
 use Rattle.unit_stage.specs.Owned.{owns_units}
-use Rattle.unit_stage.specs.Steps.{AreSameUnits, IsBringStep, IsClearingMoment, IsGiveMoment, IsListMoment, with_current, with_given, with_loaded}
+use Rattle.unit_stage.specs.Steps.{AreSameUnits, IsBringStep, IsClearingMoment, IsGiveMoment, IsListMoment, give_order, with_cleared, with_current, with_given, with_loaded}
 use Rattle.unit_stage.specs.System.{current_place, definitions_of, system_leaf}
 use Rattle.unit_stage.proofs.ElsewhereLemmas.{own_log}
 use Rattle.unit_stage.proofs.OwnedLemmas.{owned_not_stage}
@@ -114,33 +114,33 @@ module _ (w v : WorldState) (same : AreSameUnits w v) where
         },
       )
 
-module _ (which : Which) (w v : WorldState) (same : AreSameUnits w v) where
-  same_clearing : (calls : List Duty) (m : WorldState) → IsClearingMoment which calls v m → (u : WorldState) × IsClearingMoment which calls w u × AreSameUnits u m
-  same_clearing calls m (inl part) = let there = same_performing w v same calls m part in (there.0, inl there.1, there.2)
-  same_clearing calls m (inr moment) =
+module _ (w v : WorldState) (same : AreSameUnits w v) where
+  same_clearing : (which : Which) (calls : List Duty) (m : WorldState) → IsClearingMoment which calls v m → (u : WorldState) × IsClearingMoment which calls w u × AreSameUnits u m
+  same_clearing which calls m (inl part) = let there = same_performing w v same calls m part in (there.0, inl there.1, there.2)
+  same_clearing which calls m (inr moment) =
       let there = same_moment (with_calls calls w) (with_calls calls v) (same_calls w v same calls) which m moment in (there.0, inr there.1, there.2)
 
-  same_listing : (calls : List Duty) (m : WorldState) → IsListMoment which calls v m → (u : WorldState) × IsListMoment which calls w u × AreSameUnits u m
-  same_listing [] m is = (w, refl, units_then w v m same (units_as v m is))
-  same_listing (call ∷ calls) m moment = same_clearing (call ∷ calls) m moment
+  same_listing : (which : Which) (calls : List Duty) (m : WorldState) → IsListMoment which calls v m → (u : WorldState) × IsListMoment which calls w u × AreSameUnits u m
+  same_listing Starts calls m moment = same_clearing Starts calls m moment
+  same_listing which [] m is = (w, refl, units_then w v m same (units_as v m is))
+  same_listing which (call ∷ calls) m moment = same_clearing which (call ∷ calls) m moment
 
-  same_given : (calls : List Duty) → AreSameUnits (with_given which calls w) (with_given which calls v)
-  same_given [] = same
-  same_given (call ∷ calls) = same_finished (with_calls (call ∷ calls) w) (with_calls (call ∷ calls) v) (same_calls w v same (call ∷ calls)) which
+  same_cleared : (which : Which) (calls : List Duty) → AreSameUnits (with_cleared which calls w) (with_cleared which calls v)
+  same_cleared which calls = same_finished (with_calls calls w) (with_calls calls v) (same_calls w v same calls) which
 
-module _ (reloads restarts starts : List Duty) where
-  pub same_giving : (w v m : WorldState) → AreSameUnits w v → IsGiveMoment reloads restarts starts v m → (u : WorldState) × IsGiveMoment reloads restarts starts w u × AreSameUnits u m
-  same_giving w v m same (IsGiveMoment.Reloading part) =
-      let there = same_listing Reloads w v same reloads m part in (there.0, IsGiveMoment.Reloading there.1, there.2)
-  same_giving w v m same (IsGiveMoment.Restarting part) =
-      let there = same_listing Restarts (with_given Reloads reloads w) (with_given Reloads reloads v) (same_given Reloads w v same reloads) restarts m part in
-      (there.0, IsGiveMoment.Restarting there.1, there.2)
-  same_giving w v m same (IsGiveMoment.Starting part) =
-      let there = same_clearing Starts (with_given Restarts restarts (with_given Reloads reloads w)) (with_given Restarts restarts (with_given Reloads reloads v))
-      (same_given Restarts (with_given Reloads reloads w) (with_given Reloads reloads v) (same_given Reloads w v same reloads) restarts) starts m part in
-      (there.0, IsGiveMoment.Starting there.1, there.2)
+  same_given : (which : Which) (calls : List Duty) → AreSameUnits (with_given which calls w) (with_given which calls v)
+  same_given Starts calls = same_cleared Starts calls
+  same_given which [] = same
+  same_given which (call ∷ calls) = same_cleared which (call ∷ calls)
 
-  pub same_bringing : (system : Name) (w v m : WorldState) → AreSameUnits w v → IsBringStep system reloads restarts starts v m → (u : WorldState) × IsBringStep system reloads restarts starts w u × AreSameUnits u m
+module _ (calls : Which → List Duty) where
+  same_giving : (order : List Which) (w v m : WorldState) → AreSameUnits w v → IsGiveMoment calls order v m → (u : WorldState) × IsGiveMoment calls order w u × AreSameUnits u m
+  same_giving [] w v m same is = (w, refl, units_then w v m same (units_as v m is))
+  same_giving (which ∷ order) w v m same (inl moment) = let there = same_listing w v same which (calls which) m moment in (there.0, inl there.1, there.2)
+  same_giving (which ∷ order) w v m same (inr later) =
+      let there = same_giving order (with_given which (calls which) w) (with_given which (calls which) v) m (same_given w v same which (calls which)) later in (there.0, inr there.1, there.2)
+
+  pub same_bringing : (system : Name) (w v m : WorldState) → AreSameUnits w v → IsBringStep system calls v m → (u : WorldState) × IsBringStep system calls w u × AreSameUnits u m
   same_bringing system w v m same (IsBringStep.Waiting is) =
       (w, IsBringStep.Waiting refl, units_then w v m same (record { leaves = λ q own. ap (λ (x : WorldState). get x.leaves q) is; manager = ap (λ (x : WorldState). x.manager) is }))
   same_bringing system w v m same (IsBringStep.Linked is) = (
@@ -150,4 +150,4 @@ module _ (reloads restarts starts : List Duty) where
         (record { leaves = λ q own. ap (λ (x : WorldState). get x.leaves q) is; manager = ap (λ (x : WorldState). x.manager) is }),
   )
   same_bringing system w v m same (IsBringStep.Giving part) =
-      let there = same_giving (with_loaded system w) (with_loaded system v) m (same_loaded w v same system) part in (there.0, IsBringStep.Giving there.1, there.2)
+      let there = same_giving give_order (with_loaded system w) (with_loaded system v) m (same_loaded w v same system) part in (there.0, IsBringStep.Giving there.1, there.2)

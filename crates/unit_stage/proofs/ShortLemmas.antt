@@ -1,5 +1,5 @@
 -- At each moment of a switch of the units the log and the lists of an older program are short enough to be read again, where they were.
-use Rattle.std.proofs.Common.{◌≡◌, ◌+◌, ◌≤◌, ◌∷◌, ℕ, true, false, List, [], refl, sym, ap, subst, ◌∙◌, inl, inr, arith}
+use Rattle.std.proofs.Common.{◌≡◌, ◌+◌, ◌≤◌, ◌∷◌, ℕ, true, List, [], refl, sym, ap, subst, ◌∙◌, inl, inr, arith}
 use Rattle.std.proofs.lemmas.Bool.{or_cases, or_left}
 use Rattle.std.specs.FinMap.{get}
 use Rattle.host_trait.specs.World.{Leaves, WorldState, leaf_content}
@@ -9,22 +9,22 @@ use Rattle.leaf_limits.specs.Limits.{leaf_max, length_at, length_of}
 use Rattle.log_text.specs.declared.lists.Lists.{Lists}
 use Rattle.log_text.specs.declared.lists.Which.{Which}
 use Rattle.log_text.specs.declared.lists.Which.TheVariants.{Starts, Restarts, Reloads}
-use Rattle.owed_lists.specs.Lists.{place_of, reloads_place, restarts_place, starts_place}
+use Rattle.owed_lists.specs.Lists.{place_of}
 use Rattle.owed_log.specs.declared.log_write.LogWrite.{LogWrite}
 use Rattle.owed_log.specs.Lengths.{AreOwedShort, HaveRoom, log_length}
 use Rattle.owed_log.specs.Places.{log_place, old_places}
 use Rattle.owed_log.specs.Writing.{IsPrepared, recorded}
-use Rattle.owed_log.proofs.LengthLemmas.{roomy_clear_law, roomy_record_law, short_record_law}
+use Rattle.owed_log.proofs.LengthLemmas.{old_is, roomy_clear_law, roomy_record_law, short_record_law}
 use Rattle.owed_plan.specs.declared.duty.Duty.{Duty}
 use Rattle.owed_plan.specs.declared.owed.Owed.{Owed}
-use Rattle.owed_plan.specs.Calls.{reload_calls, restart_calls, start_calls, stop_calls}
+use Rattle.owed_plan.specs.Calls.{listed_calls, stop_calls}
 use Rattle.owed_plan.specs.Law.{lists_of}
 use Rattle.owed_plan.specs.Store.{AreSameInStore}
 use Rattle.owed_plan.proofs.StoreLemmas.{leaf_same}
 use Rattle.switch_names.specs.Names.{Name, has, is_name}
 use Rattle.unit_stage.specs.Acts.{with_calls}
 use Rattle.unit_stage.specs.Laws.{AreSameBeside}
-use Rattle.unit_stage.specs.Steps.{IsBringStep, IsClearingMoment, IsGiveMoment, IsListMoment, IsStopStep, IsUnitMoment, with_cleared, with_current, with_given, with_loaded, with_stops}
+use Rattle.unit_stage.specs.Steps.{IsBringStep, IsClearingMoment, IsGiveMoment, IsListMoment, IsStopStep, IsUnitMoment, give_order, with_cleared, with_current, with_given, with_loaded, with_stops}
 use Rattle.unit_stage.proofs.ElsewhereLemmas.{bring_elsewhere, leaves_performing, lists_elsewhere, stop_elsewhere}
 use Rattle.unit_stage.proofs.ListsLemmas.{AreSameLists}
 use Rattle.unit_stage.proofs.OwnedLemmas.{not_owns_store, reads_store}
@@ -34,16 +34,7 @@ use Rattle.unit_stage.proofs.StandLemmas.{lists_beside, same_lists_of, store_bes
 
 -- what holds at the log's place and at those of the lists holds at each of them
 old_place : (P : Name → Type 0) → ((which : Which) → P (place_of which)) → (q : Name) → has old_places q ≡ true → P q
-old_place P lists q there = elim (or_cases (is_name q starts_place) (has (restarts_place ∷ reloads_place ∷ []) q) there) [
-  | inl starts ↦ subst P (sym (name_exact q starts_place starts)) (lists Starts)
-  | inr rest ↦ elim (or_cases (is_name q restarts_place) (has (reloads_place ∷ []) q) rest) [
-    | inl restarts ↦ subst P (sym (name_exact q restarts_place restarts)) (lists Restarts)
-    | inr last ↦ elim (or_cases (is_name q reloads_place) false last) [
-      | inl reloads ↦ subst P (sym (name_exact q reloads_place reloads)) (lists Reloads)
-      | inr none ↦ absurd cc
-    ]
-  ]
-]
+old_place P lists q there = let old = old_is q there in subst P (sym old.1) (lists old.0)
 
 -- what has room is short
 room_short : (more : ℕ) (leaves : Leaves) → HaveRoom more leaves → AreOwedShort leaves
@@ -63,9 +54,7 @@ module _ (w m : Leaves) (store : AreSameInStore m w) (same : AreSameLists w m) w
   same_length q there = ap length_of (ap (leaf_content m) there ∙ leaf_same m w store (get w q))
 
   list_length : (which : Which) → length_at m (place_of which) ≡ length_at w (place_of which)
-  list_length Starts = same_length starts_place same.starts
-  list_length Restarts = same_length restarts_place same.restarts
-  list_length Reloads = same_length reloads_place same.reloads
+  list_length which = same_length (place_of which) (same.old which)
 
   within_old : (q : Name) → has old_places q ≡ true → length_at w q ≤ leaf_max → length_at m q ≤ leaf_max
   within_old = old_place (λ q. length_at w q ≤ leaf_max → length_at m q ≤ leaf_max) (λ which short. subst (λ n. n ≤ leaf_max) (sym (list_length which)) short)
@@ -96,35 +85,41 @@ module _ (lists : Lists) (write : LogWrite) (w : WorldState) (prepared : IsPrepa
       subst AreOwedShort (sym (leaves_performing stops (recorded write w) u part)) (room_short 64 (recorded write w).leaves recorded_room)
 
 -- some of the calls of a list, and its clearing
-module _ (which : Which) (more : ℕ) (x : WorldState) (room : HaveRoom (more + 16) x.leaves) where
-  clearing_room : (calls : List Duty) (u : WorldState) → IsClearingMoment which calls x u → HaveRoom more u.leaves
-  clearing_room calls u (inl part) = subst (HaveRoom more) (sym (leaves_performing calls x u part)) (room_less more x.leaves room)
-  clearing_room calls u (inr moment) = roomy_clear_law which more (with_calls calls x) u room moment
+module _ (more : ℕ) (x : WorldState) (room : HaveRoom (more + 16) x.leaves) where
+  clearing_room : (which : Which) (calls : List Duty) (u : WorldState) → IsClearingMoment which calls x u → HaveRoom more u.leaves
+  clearing_room which calls u (inl part) = subst (HaveRoom more) (sym (leaves_performing calls x u part)) (room_less more x.leaves room)
+  clearing_room which calls u (inr moment) = roomy_clear_law which more (with_calls calls x) u room moment
 
-  list_room : (calls : List Duty) (u : WorldState) → IsListMoment which calls x u → HaveRoom more u.leaves
-  list_room [] u is = subst (λ (y : WorldState). HaveRoom more y.leaves) (sym is) (room_less more x.leaves room)
-  list_room (call ∷ calls) u moment = clearing_room (call ∷ calls) u moment
+  list_room : (which : Which) (calls : List Duty) (u : WorldState) → IsListMoment which calls x u → HaveRoom more u.leaves
+  list_room Starts calls u moment = clearing_room Starts calls u moment
+  list_room which [] u is = subst (λ (y : WorldState). HaveRoom more y.leaves) (sym is) (room_less more x.leaves room)
+  list_room which (call ∷ calls) u moment = clearing_room which (call ∷ calls) u moment
 
-  given_room : (calls : List Duty) → HaveRoom more (with_given which calls x).leaves
-  given_room [] = room_less more x.leaves room
-  given_room (call ∷ calls) = roomy_clear_law which more (with_calls (call ∷ calls) x) (with_cleared which (call ∷ calls) x) room (inr (inl refl))
+  cleared_room : (which : Which) (calls : List Duty) → HaveRoom more (with_cleared which calls x).leaves
+  cleared_room which calls = roomy_clear_law which more (with_calls calls x) (with_cleared which calls x) room (inr (inl refl))
 
-module _ (reloads restarts starts : List Duty) where
-  give_short : (x u : WorldState) → HaveRoom 64 x.leaves → IsGiveMoment reloads restarts starts x u → AreOwedShort u.leaves
-  give_short x u room (IsGiveMoment.Reloading moment) = room_short 48 u.leaves (list_room Reloads 48 x room reloads u moment)
-  give_short x u room (IsGiveMoment.Restarting moment) =
-      room_short 32 u.leaves (list_room Restarts 32 (with_given Reloads reloads x) (given_room Reloads 48 x room reloads) restarts u moment)
-  give_short x u room (IsGiveMoment.Starting moment) =
-      let one = with_given Reloads reloads x in
-      room_short 16 u.leaves
-      (clearing_room Starts 16 (with_given Restarts restarts one) (given_room Restarts 32 one (given_room Reloads 48 x room reloads) restarts) starts u moment)
+  given_room : (which : Which) (calls : List Duty) → HaveRoom more (with_given which calls x).leaves
+  given_room Starts calls = cleared_room Starts calls
+  given_room which [] = room_less more x.leaves room
+  given_room which (call ∷ calls) = cleared_room which (call ∷ calls)
 
-  bring_short : (system : Name) (v u : WorldState) → HaveRoom 64 v.leaves → IsBringStep system reloads restarts starts v u → AreOwedShort u.leaves
+-- the room that the clearing of these lists takes
+abbrev room_of : List Which → ℕ
+room_of [] = 0
+room_of (which ∷ order) = room_of order + 16
+
+module _ (calls : Which → List Duty) where
+  give_short : (order : List Which) (x u : WorldState) → HaveRoom (room_of order) x.leaves → IsGiveMoment calls order x u → AreOwedShort u.leaves
+  give_short [] x u room is = subst (λ (y : WorldState). AreOwedShort y.leaves) (sym is) (room_short 0 x.leaves room)
+  give_short (which ∷ order) x u room (inl moment) = room_short (room_of order) u.leaves (list_room (room_of order) x room which (calls which) u moment)
+  give_short (which ∷ order) x u room (inr later) = give_short order (with_given which (calls which) x) u (given_room (room_of order) x room which (calls which)) later
+
+  bring_short : (system : Name) (v u : WorldState) → HaveRoom 64 v.leaves → IsBringStep system calls v u → AreOwedShort u.leaves
   bring_short system v u room (IsBringStep.Waiting is) = subst (λ (y : WorldState). AreOwedShort y.leaves) (sym is) (room_short 64 v.leaves room)
   bring_short system v u room (IsBringStep.Linked is) =
       subst (λ (y : WorldState). AreOwedShort y.leaves) (sym is) (short_same v.leaves (with_current system v).leaves (store_beside system v) (lists_beside system v) (room_short 64 v.leaves room))
   bring_short system v u room (IsBringStep.Giving moment) =
-      give_short (with_loaded system v) u (room_same v.leaves (with_current system v).leaves (store_beside system v) (lists_beside system v) 64 room) moment
+      give_short give_order (with_loaded system v) u (room_less 48 (with_current system v).leaves (room_same v.leaves (with_current system v).leaves (store_beside system v) (lists_beside system v) 64 room)) moment
 
 -- ---- each moment
 
@@ -134,10 +129,10 @@ unit_short system owed order w m fits beside (IsUnitMoment.Stopping write is u s
     (λ q inside. beside q (reads_store q inside) (not_owns_store q inside) ∙ sym (stop_elsewhere write (stop_calls owed) w u q (not_owns_store q inside) (stored_not_stage q inside) step))
     (same_lists_of u m same) (stop_short (lists_of owed) write w is.prepared fits short (stop_calls owed) u step)
 unit_short system owed order w m fits beside (IsUnitMoment.Bringing write is u step same) short =
-    let reloads = reload_calls owed (state_of w.manager.states) in
+    let calls = listed_calls owed order (state_of w.manager.states) in
     let v = with_stops write (stop_calls owed) w in
     short_same u.leaves m.leaves
     (λ q inside.
     beside q (reads_store q inside) (not_owns_store q inside)
-    ∙ sym (bring_elsewhere q (not_owns_store q inside) reloads (restart_calls owed) (start_calls order) system v u step ∙ lists_elsewhere write w q (not_owns_store q inside) (stored_not_stage q inside)))
-    (same_lists_of u m same) (bring_short reloads (restart_calls owed) (start_calls order) system v u (recorded_room (lists_of owed) write w is.prepared fits short) step)
+    ∙ sym (bring_elsewhere q (not_owns_store q inside) calls system v u step ∙ lists_elsewhere write w q (not_owns_store q inside) (stored_not_stage q inside)))
+    (same_lists_of u m same) (bring_short calls system v u (recorded_room (lists_of owed) write w is.prepared fits short) step)

@@ -1,8 +1,8 @@
 -- What stands at the places of the units' part, step by step.
-use Rattle.std.proofs.Common.{◌≡◌, ◌≢◌, ◌∷◌, ℕ, true, false, List, [], take, Option, Some, codes, refl, sym, subst, ◌∙◌, inl, inr}
+use Rattle.std.proofs.Common.{◌≡◌, ◌≢◌, ◌∷◌, ℕ, true, false, List, [], take, Option, Some, codes, refl, sym, ap, subst, ◌∙◌, inl, inr}
 use Rattle.std.proofs.lemmas.Bool.{both_ways}
 use Rattle.std.specs.FinMap.{get}
-use Rattle.std.specs.List.{list_any}
+use Rattle.std.specs.List.{flat_map, list_any}
 use Rattle.std.specs.Ordering.{eq_by_cmp}
 use Rattle.host_trait.specs.Change.{IsMoment}
 use Rattle.host_trait.specs.declared.leaf.LeafKind.{LeafKind}
@@ -14,10 +14,10 @@ use Rattle.host_trait.proofs.Sound.{get_other}
 use Rattle.log_text.specs.declared.lists.Lists.{Lists}
 use Rattle.log_text.specs.declared.lists.Which.{Which}
 use Rattle.log_text.specs.declared.lists.Which.TheVariants.{Starts, Restarts, Reloads}
-use Rattle.log_text.specs.Lists.{with_list}
+use Rattle.log_text.specs.Lists.{no_lists, with_list}
 use Rattle.owed_lists.specs.Lists.{place_of, reloads_place, restarts_place, starts_place}
 use Rattle.owed_log.specs.declared.log_write.LogWrite.{LogWrite}
-use Rattle.owed_log.specs.Laws.{AreAlone, CanClear}
+use Rattle.owed_log.specs.Laws.{AreAlone}
 use Rattle.owed_log.specs.Places.{log_place, old_places}
 use Rattle.owed_log.specs.Standing.{AreListsAt}
 use Rattle.owed_log.specs.Writing.{IsRecordMoment, clearing, recorded}
@@ -29,8 +29,9 @@ use Rattle.owed_plan.specs.Store.{AreSameInStore, IsInStore}
 use Rattle.switch_names.specs.Names.{Name, is_name}
 use Rattle.switch_names.specs.Path.{is_below}
 use Rattle.unit_stage.specs.Acts.{performed, with_calls}
-use Rattle.unit_stage.specs.Steps.{AreSameUnits, with_cleared, with_current, with_given, with_loaded}
+use Rattle.unit_stage.specs.Steps.{AreSameUnits, HasLogFor, with_all_given, with_cleared, with_current, with_given, with_loaded}
 use Rattle.unit_stage.specs.System.{current_place, system_leaf}
+use Rattle.unit_stage.proofs.CallLemmas.{performed-append}
 use Rattle.unit_stage.proofs.ElsewhereLemmas.{own_current, own_list, own_log}
 use Rattle.unit_stage.proofs.ListsLemmas.{AreListLeaves, AreSameLists, alone_leaves, alone_same, leaves_same, lists_same}
 use Rattle.unit_stage.proofs.OwnedLemmas.{owned_not_stage}
@@ -102,9 +103,7 @@ module _ (system : Name) (v : WorldState) where
   pub lists_beside : AreSameLists v.leaves (with_current system v).leaves
   lists_beside = record {
     log = get_other v.leaves current_place log_place (system_leaf system) log_current;
-    starts = get_other v.leaves current_place starts_place (system_leaf system) (list_current Starts);
-    restarts = get_other v.leaves current_place restarts_place (system_leaf system) (list_current Restarts);
-    reloads = get_other v.leaves current_place reloads_place (system_leaf system) (list_current Reloads);
+    old = λ which. get_other v.leaves current_place (place_of which) (system_leaf system) (list_current which);
   }
 
   not_current : (q : Name) → IsInStore q → eq_by_cmp bytes_cmp q current_place ≡ false
@@ -122,29 +121,48 @@ module _ (system : Name) (v : WorldState) where
 
 -- ---- a list is cleared
 
-module _ (which : Which) (x : WorldState) (lists : Lists) (alone : AreAlone x.leaves lists) where
-  -- where it has calls, or its names are none
-  pub given_alone : (calls : List Duty) → (calls ≡ [] → with_list lists which [] ≡ lists) → ((call : Duty) (rest : List Duty) → calls ≡ call ∷ rest → CanClear which x.leaves lists) →
-      AreAlone (with_given which calls x).leaves (with_list lists which [])
-  given_alone [] none can = subst (AreAlone x.leaves) (sym (none refl)) alone
-  given_alone (call ∷ rest) none can = cleared_law which (with_calls (call ∷ rest) x) lists alone (can call rest refl)
+-- where it has calls, or its names are none; the list of the starts where it is the last one
+pub given_alone : (which : Which) (calls : List Duty) (x : WorldState) (lists : Lists) → AreAlone x.leaves lists → (which ≢ Starts → calls ≡ [] → with_list lists which [] ≡ lists) →
+    (which ≡ Starts → with_list lists which [] ≡ no_lists) → HasLogFor which calls x.leaves → AreAlone (with_given which calls x).leaves (with_list lists which [])
+given_alone Starts calls x lists alone none last log = cleared_law Starts (with_calls calls x) lists alone (last refl)
+given_alone which [] x lists alone none last log = subst (AreAlone x.leaves) (sym (none (λ same. cc same) refl)) alone
+given_alone Restarts (call ∷ rest) x lists alone none last log = cleared_law Restarts (with_calls (call ∷ rest) x) lists alone log
+given_alone Reloads (call ∷ rest) x lists alone none last log = cleared_law Reloads (with_calls (call ∷ rest) x) lists alone log
+
+cleared_manager : (which : Which) (calls : List Duty) (x : WorldState) → (with_cleared which calls x).manager ≡ performed calls x.manager
+cleared_manager which calls x = clearing_manager which (with_calls calls x) (with_cleared which calls x) (inr (inl refl))
 
 pub given_manager : (which : Which) (calls : List Duty) (x : WorldState) → (with_given which calls x).manager ≡ performed calls x.manager
+given_manager Starts calls x = cleared_manager Starts calls x
 given_manager which [] x = refl
-given_manager which (call ∷ rest) x = clearing_manager which (with_calls (call ∷ rest) x) (with_cleared which (call ∷ rest) x) (inr (inl refl))
+given_manager which (call ∷ rest) x = cleared_manager which (call ∷ rest) x
 
-pub given_current : (which : Which) (calls : List Duty) (x : WorldState) → get (with_given which calls x).leaves current_place ≡ get x.leaves current_place
+cleared_link : (which : Which) (calls : List Duty) (x : WorldState) → get (with_cleared which calls x).leaves current_place ≡ get x.leaves current_place
+cleared_link which calls x = cleared_current which (with_calls calls x) (with_cleared which calls x) (inr (inl refl))
+
+given_current : (which : Which) (calls : List Duty) (x : WorldState) → get (with_given which calls x).leaves current_place ≡ get x.leaves current_place
+given_current Starts calls x = cleared_link Starts calls x
 given_current which [] x = refl
-given_current which (call ∷ rest) x = cleared_current which (with_calls (call ∷ rest) x) (with_cleared which (call ∷ rest) x) (inr (inl refl))
+given_current which (call ∷ rest) x = cleared_link which (call ∷ rest) x
+
+-- and so of several lists
+module _ (calls : Which → List Duty) where
+  pub all_given_manager : (order : List Which) (x : WorldState) → (with_all_given calls order x).manager ≡ performed (flat_map calls order) x.manager
+  all_given_manager [] x = refl
+  all_given_manager (which ∷ order) x =
+      all_given_manager order (with_given which (calls which) x) ∙ ap (performed (flat_map calls order)) (given_manager which (calls which) x)
+      ∙ sym (performed-append (calls which) (flat_map calls order) x.manager)
+
+  pub all_given_current : (order : List Which) (x : WorldState) → get (with_all_given calls order x).leaves current_place ≡ get x.leaves current_place
+  all_given_current [] x = refl
+  all_given_current (which ∷ order) x = all_given_current order (with_given which (calls which) x) ∙ given_current which (calls which) x
 
 -- ---- worlds with the same units
 
 pub same_lists_of : (u m : WorldState) → AreSameUnits u m → AreSameLists u.leaves m.leaves
 same_lists_of u m same = record {
   log = same.leaves log_place own_log;
-  starts = same.leaves starts_place (own_list Starts);
-  restarts = same.leaves restarts_place (own_list Restarts);
-  reloads = same.leaves reloads_place (own_list Reloads);
+  old = λ which. same.leaves (place_of which) (own_list which);
 }
 
 module _ (first : Leaves) (u m : WorldState) (same : AreSameUnits u m) (store : AreSameInStore m.leaves u.leaves) where

@@ -22,7 +22,7 @@ use Rattle.switch_names.specs.Names.{Name}
 use Rattle.tree_put.specs.Put.{AreApart, IsOldOrNew}
 use Rattle.tree_put.proofs.PutLemmas.{apart_ne}
 use Rattle.unit_stage.specs.Acts.{CanPerform, IsPerforming, performed, with_calls}
-use Rattle.unit_stage.specs.Steps.{CanLoad, HasLogFor, IsBringMoment, IsBringStep, IsClearingMoment, IsGiveMoment, IsListMoment, IsLoadMoment, IsStopMoment, IsStopStep, with_all_given, with_brought, with_cleared, with_current, with_given, with_loaded, with_stops}
+use Rattle.unit_stage.specs.Steps.{CanLoad, HasLogFor, IsBringMoment, IsBringStep, IsClearingMoment, IsGiveMoment, IsListMoment, IsLoadMoment, IsStopMoment, IsStopStep, give_order, with_all_given, with_brought, with_cleared, with_current, with_given, with_loaded, with_stops}
 use Rattle.unit_stage.specs.System.{current_place, definitions_of, system_leaf}
 use Rattle.unit_stage.proofs.RecordLemmas.{more_file}
 
@@ -51,6 +51,7 @@ pub seen_with_cleared : (which : Which) (calls : List Duty) (v w : WorldState) �
 seen_with_cleared which calls v w is = cleared_seen (with_calls calls v) (with_calls calls w) (seen_with_calls calls v w is) which
 
 pub seen_with_given : (which : Which) (calls : List Duty) (v w : WorldState) → seen v ≡ seen w → seen (with_given which calls v) ≡ seen (with_given which calls w)
+seen_with_given Starts calls v w is = seen_with_cleared Starts calls v w is
 seen_with_given which [] v w is = is
 seen_with_given which (call ∷ calls) v w is = seen_with_cleared which (call ∷ calls) v w is
 
@@ -70,6 +71,7 @@ clearing_as which calls v w m same (inr moment) =
     let there = clearing_seen (with_calls calls v) (with_calls calls w) (seen_with_calls calls v w same) which m moment in (there.0, inr there.1, there.2)
 
 listing_as : (which : Which) (calls : List Duty) (v w m : WorldState) → seen v ≡ seen w → IsListMoment which calls v m → (u : WorldState) × IsListMoment which calls w u × (seen m ≡ seen u)
+listing_as Starts calls v w m same moment = clearing_as Starts calls v w m same moment
 listing_as which [] v w m same is = (w, refl, ap seen is ∙ same)
 listing_as which (call ∷ calls) v w m same moment = clearing_as which (call ∷ calls) v w m same moment
 
@@ -88,52 +90,80 @@ clearing_after which calls w v m made moment = inr (subst (λ x. IsMoment (clear
 
 -- before its calls a list is as it was
 none_given : (which : Which) (calls : List Duty) (w : WorldState) → IsListMoment which calls w w
+none_given Starts calls w = inl (IsPerforming.After 0 refl)
 none_given which [] w = refl
 none_given which (call ∷ calls) w = inl (IsPerforming.After 0 refl)
 
--- what has calls is given by them
-pub some_given : (which : Which) (calls : List Duty) (w : WorldState) → (length calls == 0) ≡ false → with_cleared which calls w ≡ with_given which calls w
-some_given which [] w some = absurd cc
+-- what has calls is given by them, and so are the starts
+pub some_given : (which : Which) (calls : List Duty) (w : WorldState) → (which ≢ Starts → (length calls == 0) ≡ false) → with_cleared which calls w ≡ with_given which calls w
+some_given Starts calls w some = refl
+some_given which [] w some = absurd (let no : true ≡ false = some (λ same. cc same) in cc no)
 some_given which (call ∷ calls) w some = refl
 
-pub some_listed : (which : Which) (calls : List Duty) (w m : WorldState) → (length calls == 0) ≡ false → IsClearingMoment which calls w m → IsListMoment which calls w m
-some_listed which [] w m some moment = absurd cc
+pub some_listed : (which : Which) (calls : List Duty) (w m : WorldState) → (which ≢ Starts → (length calls == 0) ≡ false) → IsClearingMoment which calls w m → IsListMoment which calls w m
+some_listed Starts calls w m some moment = moment
+some_listed which [] w m some moment = absurd (let no : true ≡ false = some (λ same. cc same) in cc no)
 some_listed which (call ∷ calls) w m some moment = moment
 
-pub some_logged : (calls : List Duty) (leaves : Leaves) → (length calls == 0) ≡ false → HasLogFor calls leaves → IsFileAt leaves log_place
-some_logged [] leaves some log = absurd cc
-some_logged (call ∷ calls) leaves some log = log
+pub some_logged : (which : Which) (calls : List Duty) (leaves : Leaves) → (length calls == 0) ≡ false → which ≢ Starts → HasLogFor which calls leaves → IsFileAt leaves log_place
+some_logged Starts calls leaves some other log = absurd (other refl)
+some_logged which [] leaves some other log = absurd cc
+some_logged which (call ∷ calls) leaves some other log = log
 
--- and what has none changes nothing
-pub same_given : (which : Which) (calls : List Duty) (w : WorldState) → (length calls == 0) ≡ true → w ≡ with_given which calls w
-same_given which [] w none = refl
-same_given which (call ∷ calls) w none = absurd (let n : false ≡ true = grind arith in cc)
+-- and another list that has none changes nothing
+pub same_given : (which : Which) (calls : List Duty) (w : WorldState) → which ≢ Starts → (length calls == 0) ≡ true → w ≡ with_given which calls w
+same_given Starts calls w other none = absurd (other refl)
+same_given which [] w other none = refl
+same_given which (call ∷ calls) w other none = absurd (let n : false ≡ true = grind arith in cc)
 
-pub same_listed : (which : Which) (calls : List Duty) (w : WorldState) → (length calls == 0) ≡ true → IsListMoment which calls w w
-same_listed which [] w none = refl
-same_listed which (call ∷ calls) w none = absurd (let n : false ≡ true = grind arith in cc)
+pub same_listed : (which : Which) (calls : List Duty) (w : WorldState) → which ≢ Starts → (length calls == 0) ≡ true → IsListMoment which calls w w
+same_listed which calls w other none = none_given which calls w
 
 -- the log is a file still
-pub given_file : (which : Which) (calls : List Duty) (w : WorldState) → (which ≡ Starts → ⊥) → IsFileAt w.leaves log_place → IsFileAt (with_given which calls w).leaves log_place
+pub given_file : (which : Which) (calls : List Duty) (w : WorldState) → which ≢ Starts → IsFileAt w.leaves log_place → IsFileAt (with_given which calls w).leaves log_place
+given_file Starts calls w other file = absurd (other refl)
 given_file which [] w other file = file
-given_file Starts (call ∷ calls) w other file = absurd (other refl)
 given_file Restarts (call ∷ calls) w other file = more_file w.leaves log_place (block_text (block_of Restarts [])) file
 given_file Reloads (call ∷ calls) w other file = more_file w.leaves log_place (block_text (block_of Reloads [])) file
 
-pub given_log : (which : Which) (calls more : List Duty) (w : WorldState) → (which ≡ Starts → ⊥) → HasLogFor more w.leaves → HasLogFor more (with_given which calls w).leaves
-given_log which calls [] w other log = tt
-given_log which calls (call ∷ more) w other log = given_file which calls w other log
+pub given_log : (which later : Which) (calls more : List Duty) (w : WorldState) → which ≢ Starts → HasLogFor later more w.leaves → HasLogFor later more (with_given which calls w).leaves
+given_log which Starts calls more w other log = tt
+given_log which later calls [] w other log = tt
+given_log which later calls (call ∷ more) w other log = given_file which calls w other log
 
-pub log_as : (calls : List Duty) (v w : Leaves) → get v log_place ≡ get w log_place → HasLogFor calls w → HasLogFor calls v
-log_as [] v w same log = tt
-log_as (call ∷ calls) v w same log = ap (λ o. is_some (file_bytes o)) same ∙ log
+pub log_as : (which : Which) (calls : List Duty) (v w : Leaves) → get v log_place ≡ get w log_place → HasLogFor which calls w → HasLogFor which calls v
+log_as Starts calls v w same log = tt
+log_as which [] v w same log = tt
+log_as which (call ∷ calls) v w same log = ap (λ o. is_some (file_bytes o)) same ∙ log
 
-module _ (reloads restarts starts : List Duty) where
-  pub second_given : (w v m : WorldState) → v ≡ with_given Reloads reloads w → IsListMoment Restarts restarts v m → IsGiveMoment reloads restarts starts w m
-  second_given w v m made moment = IsGiveMoment.Restarting (subst (λ x. IsListMoment Restarts restarts x m) made moment)
+-- ---- the calls of several lists
 
-  pub third_given : (w v m : WorldState) → v ≡ with_given Restarts restarts (with_given Reloads reloads w) → IsClearingMoment Starts starts v m → IsGiveMoment reloads restarts starts w m
-  third_given w v m made moment = IsGiveMoment.Starting (subst (λ x. IsClearingMoment Starts starts x m) made moment)
+module _ (calls : Which → List Duty) where
+  -- before the calls nothing is given
+  pub nothing_given : (order : List Which) (w : WorldState) → IsGiveMoment calls order w w
+  nothing_given [] w = refl
+  nothing_given (which ∷ order) w = inl (none_given which (calls which) w)
+
+  -- after some lists, a moment of those that follow
+  pub given_then : (done left : List Which) (w m : WorldState) → IsGiveMoment calls left (with_all_given calls done w) m → IsGiveMoment calls (done ++ left) w m
+  given_then [] left w m moment = moment
+  given_then (which ∷ done) left w m moment = inr (given_then done left (with_given which (calls which) w) m moment)
+
+  -- and one more
+  pub one_more_given : (done : List Which) (which : Which) (w : WorldState) → with_given which (calls which) (with_all_given calls done w) ≡ with_all_given calls (done ++ which ∷ []) w
+  one_more_given [] which w = refl
+  one_more_given (one ∷ done) which w = one_more_given done which (with_given one (calls one) w)
+
+  -- in worlds that are equal but for the stage
+  pub seen_all_given : (order : List Which) (v x : WorldState) → seen v ≡ seen x → seen (with_all_given calls order v) ≡ seen (with_all_given calls order x)
+  seen_all_given [] v x same = same
+  seen_all_given (which ∷ order) v x same = seen_all_given order (with_given which (calls which) v) (with_given which (calls which) x) (seen_with_given which (calls which) v x same)
+
+  giving_seen : (order : List Which) (v x m : WorldState) → seen v ≡ seen x → IsGiveMoment calls order v m → (u : WorldState) × IsGiveMoment calls order x u × (seen m ≡ seen u)
+  giving_seen [] v x m same is = (x, refl, ap seen is ∙ same)
+  giving_seen (which ∷ order) v x m same (inl moment) = let there = listing_as which (calls which) v x m same moment in (there.0, inl there.1, there.2)
+  giving_seen (which ∷ order) v x m same (inr later) =
+      let there = giving_seen order (with_given which (calls which) v) (with_given which (calls which) x) m (seen_with_given which (calls which) v x same) later in (there.0, inr there.1, there.2)
 
 -- ---- the link, and what is loaded
 
@@ -172,33 +202,16 @@ module _ (system : Name) (w : WorldState) (can : CanLoad system w) where
 
 -- ---- all after the stops
 
-module _ (system : Name) (reloads restarts starts : List Duty) (w : WorldState) where
-  pub loading_brings : (m : WorldState) → IsLoadMoment system w m → IsBringMoment system reloads restarts starts w m
+module _ (system : Name) (calls : Which → List Duty) (w : WorldState) where
+  pub loading_brings : (m : WorldState) → IsLoadMoment system w m → IsBringMoment system calls w m
   loading_brings m moment = ⊎_elim
       (λ same. (w, IsBringStep.Waiting refl, same))
       (λ later. ⊎_elim
       (λ linked. (with_current system w, IsBringStep.Linked refl, linked))
-      (λ loaded. (with_loaded system w, IsBringStep.Giving (IsGiveMoment.Reloading (none_given Reloads reloads (with_loaded system w))), loaded)) later) moment
+      (λ loaded. (with_loaded system w, IsBringStep.Giving (nothing_given calls give_order (with_loaded system w)), loaded)) later) moment
 
-  pub seen_all_given : (v x : WorldState) → seen v ≡ seen x → seen (with_all_given reloads restarts starts v) ≡ seen (with_all_given reloads restarts starts x)
-  seen_all_given v x same =
-      seen_with_cleared Starts starts (with_given Restarts restarts (with_given Reloads reloads v)) (with_given Restarts restarts (with_given Reloads reloads x))
-      (seen_with_given Restarts restarts (with_given Reloads reloads v) (with_given Reloads reloads x) (seen_with_given Reloads reloads v x same))
+  pub giving_brings : (v m : WorldState) → seen v ≡ seen (with_loaded system w) → IsGiveMoment calls give_order v m → IsBringMoment system calls w m
+  giving_brings v m came moment = let there = giving_seen calls give_order v (with_loaded system w) m came moment in (there.0, IsBringStep.Giving there.1, there.2)
 
-  -- what is given in worlds that are equal but for the stage
-  pub giving_seen : (v x m : WorldState) → seen v ≡ seen x → IsGiveMoment reloads restarts starts v m → (u : WorldState) × IsGiveMoment reloads restarts starts x u × (seen m ≡ seen u)
-  giving_seen v x m same (IsGiveMoment.Reloading part) =
-      let there = listing_as Reloads reloads v x m same part in (there.0, IsGiveMoment.Reloading there.1, there.2)
-  giving_seen v x m same (IsGiveMoment.Restarting part) =
-      let there = listing_as Restarts restarts (with_given Reloads reloads v) (with_given Reloads reloads x) m (seen_with_given Reloads reloads v x same) part in
-      (there.0, IsGiveMoment.Restarting there.1, there.2)
-  giving_seen v x m same (IsGiveMoment.Starting part) =
-      let there = clearing_as Starts starts (with_given Restarts restarts (with_given Reloads reloads v)) (with_given Restarts restarts (with_given Reloads reloads x)) m
-      (seen_with_given Restarts restarts (with_given Reloads reloads v) (with_given Reloads reloads x) (seen_with_given Reloads reloads v x same)) part in
-      (there.0, IsGiveMoment.Starting there.1, there.2)
-
-  pub giving_brings : (v m : WorldState) → seen v ≡ seen (with_loaded system w) → IsGiveMoment reloads restarts starts v m → IsBringMoment system reloads restarts starts w m
-  giving_brings v m came moment = let there = giving_seen v (with_loaded system w) m came moment in (there.0, IsBringStep.Giving there.1, there.2)
-
-  pub brought_world : (v u : WorldState) → seen v ≡ seen (with_loaded system w) → u ≡ with_all_given reloads restarts starts v → seen u ≡ seen (with_brought system reloads restarts starts w)
-  brought_world v u came made = ap seen made ∙ seen_all_given v (with_loaded system w) came
+  pub brought_world : (v u : WorldState) → seen v ≡ seen (with_loaded system w) → u ≡ with_all_given calls give_order v → seen u ≡ seen (with_brought system calls w)
+  brought_world v u came made = ap seen made ∙ seen_all_given calls give_order v (with_loaded system w) came

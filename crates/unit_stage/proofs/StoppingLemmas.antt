@@ -10,13 +10,14 @@ use Rattle.host_trait.specs.declared.unit_state.State.TheVariants.{Inactive}
 use Rattle.host_trait.specs.States.{state_of}
 use Rattle.host_trait.specs.World.{WorldState}
 use Rattle.log_text.specs.declared.lists.Lists.{Lists}
+use Rattle.log_text.specs.declared.lists.Which.TheVariants.{Starts, Restarts, Reloads}
 use Rattle.owed_log.specs.Lengths.{AreOwedShort}
 use Rattle.owed_plan.specs.Called as kinds
 use Rattle.owed_plan.specs.declared.owed.Owed.{Owed}
 use Rattle.owed_plan.specs.Calls.{duty}
 use Rattle.owed_plan.specs.FinalStates.{final_state}
 use Rattle.owed_plan.specs.Law.{AreStopped, IsRecorded, SameOwed}
-use Rattle.owed_plan.specs.Owed.{IsOwed, Stops, stop_order}
+use Rattle.owed_plan.specs.Owed.{IsOwed, IsOwedAct, Stops, stop_order}
 use Rattle.owed_plan.specs.Steady.{IsSteady}
 use Rattle.owed_plan.specs.Systems.{Systems, systems_at}
 use Rattle.owed_plan.proofs.CoreLemmas.{stops_active}
@@ -28,13 +29,13 @@ use Rattle.owed_plan.proofs.SystemLemmas.{sound_at}
 use Rattle.switch_names.specs.Names.{Name, has}
 use Rattle.unit_stage.specs.Acts.{entry_of}
 use Rattle.unit_stage.specs.End.{state_after}
-use Rattle.unit_stage.specs.Owes.{IsOwedAct, IsPaid, IsSteadyWorld, Owes, OwesUnit}
+use Rattle.unit_stage.specs.Owes.{IsPaid, IsSteadyWorld, Owes, OwesUnit}
 use Rattle.unit_stage.specs.Plan.{IsOwedBy, IsOwedIn}
 use Rattle.unit_stage.specs.System.{current_system, definitions_of}
 use Rattle.unit_stage.specs.Units.{AreUnitsFree, AreUnitsUnderway}
 use Rattle.unit_stage.specs.Waiting.{AreListsFor}
 use Rattle.unit_stage.proofs.EndLemmas.{ends_same}
-use Rattle.unit_stage.proofs.PayLemmas.{act_from, all_entries, all_of, stop_paid}
+use Rattle.unit_stage.proofs.PayLemmas.{all_entries, all_of, stop_paid}
 use Rattle.unit_stage.proofs.RoomLemmas.{still_room}
 use Rattle.unit_stage.proofs.WaitingLemmas.{same_waiting}
 
@@ -53,7 +54,7 @@ pub record IsMomentOfStops (start_up : Bool) (system : Name) (lists : Lists) (ow
   pub bad : m.manager.bad ≡ w.manager.bad
   pub systems : systems_of_world system m ≡ systems_of_world system w
 
-module _ (start_up : Bool) (system : Name) (lists : Lists) (owed : Owed) (w m : WorldState) (owes : IsOwedIn start_up w system lists owed) (steady : IsSteadyWorld start_up w system) (moment : IsMomentOfStops start_up system lists owed w m) where
+module _ (start_up : Bool) (system : Name) (lists : Lists) (owed : Owed) (w m : WorldState) (owes : IsOwedIn start_up system w lists owed) (steady : IsSteadyWorld start_up system w) (moment : IsMomentOfStops start_up system lists owed w m) where
   abbrev both : Systems
   both = systems_of_world system w
 
@@ -71,7 +72,7 @@ module _ (start_up : Bool) (system : Name) (lists : Lists) (owed : Owed) (w m : 
 
   taken_owed : (unit : Name) → has taken unit ≡ true → Stops both states lists unit
   taken_owed unit found =
-      (owes.is_owed.stops.exact unit).0 (sym (has-sockets_first (λ u. (both.facts u).kind) owed.stops unit) ∙ has-take moment.count (stop_order both owed.stops) unit found)
+      ((owes.is_owed Stop).exact unit).0 (sym (has-sockets_first (λ u. (both.facts u).kind) owed.stops unit) ∙ has-take moment.count (stop_order both owed.stops) unit found)
 
   untaken : (unit : Name) → has taken unit ≡ false → now unit ≡ states unit
   untaken unit other = moment.stopped unit ∙ ap (λ b. if b then Inactive else states unit) other
@@ -82,10 +83,10 @@ module _ (start_up : Bool) (system : Name) (lists : Lists) (owed : Owed) (w m : 
   by_kept : (P : Lists → Type 0) (others : Lists) → AreListsFor start_up m.leaves system others → P others → P moment.kept
   by_kept P others listed holds = subst P (same_waiting start_up m.leaves system others moment.kept listed moment.listed) holds
 
-  owes_then : (unit : Name) → kinds.OwesUnit both states lists unit → OwesUnit start_up w system unit
-  owes_then unit owing = let one = act_from both states lists unit owing in (one.0, (lists, owes.listed, one.1))
+  owes_then : (unit : Name) → kinds.OwesUnit both states lists unit → OwesUnit start_up system w unit
+  owes_then unit (act, owing) = (act, (lists, owes.listed, owing))
 
-  end_now : (next : Owed) → IsOwedBy start_up m system next → (unit : Name) → state_after system next m unit ≡ state_after system owed w unit
+  end_now : (next : Owed) → IsOwedBy start_up system m next → (unit : Name) → state_after system next m unit ≡ state_after system owed w unit
   end_now next (others, is) unit =
       let planned = by_kept (λ (l : Lists). IsOwed (systems_of_world system m) now l next) others is.listed is.is_owed in
       let next_owed = subst (λ (systems : Systems). IsOwed systems now moment.kept next) moment.systems planned in
@@ -95,40 +96,40 @@ module _ (start_up : Bool) (system : Name) (lists : Lists) (owed : Owed) (w m : 
   abbrev entered : List Entry
   entered = map (entry_of w.manager.loaded) (map (duty Stop) taken)
 
-  entered_owed : AllByRecursion (λ (entry : Entry). OwesUnit start_up w system entry.unit) entered
+  entered_owed : AllByRecursion (λ (entry : Entry). OwesUnit start_up system w entry.unit) entered
   entered_owed =
-      all_entries (OwesUnit start_up w system) w.manager.loaded (map (duty Stop) taken)
-      (all_of (λ call. OwesUnit start_up w system call.unit) (λ u. Stop) taken (λ unit found. owes_then unit (kinds.OwesUnit.OfStops (taken_owed unit found))))
+      all_entries (OwesUnit start_up system w) w.manager.loaded (map (duty Stop) taken)
+      (all_of (λ call. OwesUnit start_up system w call.unit) (λ u. Stop) taken (λ unit found. owes_then unit (Stop, taken_owed unit found)))
 
-  owes_still : (act : Act) (unit : Name) → IsOwedAct both now moment.kept act unit → Owes start_up m system act unit
+  owes_still : (act : Act) (unit : Name) → IsOwedAct both now moment.kept act unit → Owes start_up system m act unit
   owes_still act unit owing = (moment.kept, moment.listed, subst (λ (systems : Systems). IsOwedAct systems now moment.kept act unit) (sym moment.systems) owing)
 
-  paid_or_owed_act : (act : Act) (unit : Name) → IsOwedAct both states lists act unit → IsPaid system act unit entered ⊎ Owes start_up m system act unit
+  paid_or_owed_act : (act : Act) (unit : Name) → IsOwedAct both states lists act unit → IsPaid system act unit entered ⊎ Owes start_up system m act unit
   paid_or_owed_act Stop unit owing =
       elim (cases_Bool (has taken unit)) [
         | inl found ↦ inl (stop_paid system w.manager.loaded unit taken found)
         | inr other ↦ inr (owes_still Stop unit ((same.stops unit).1 (owing, untaken unit other ∙ stops_active both states lists unit owing)))
       ]
-  paid_or_owed_act Reload unit owing = inr (owes_still Reload unit ((same.reloads unit).1 owing))
-  paid_or_owed_act Restart unit owing = inr (owes_still Restart unit ((same.restarts unit).1 owing))
-  paid_or_owed_act Start unit owing = inr (owes_still Start unit ((same.starts unit).1 owing))
+  paid_or_owed_act Reload unit owing = inr (owes_still Reload unit ((same.others Reloads unit).1 owing))
+  paid_or_owed_act Restart unit owing = inr (owes_still Restart unit ((same.others Restarts unit).1 owing))
+  paid_or_owed_act Start unit owing = inr (owes_still Start unit ((same.others Starts unit).1 owing))
 
-  paid_or_owed : (act : Act) (unit : Name) → Owes start_up w system act unit → IsPaid system act unit entered ⊎ Owes start_up m system act unit
+  paid_or_owed : (act : Act) (unit : Name) → Owes start_up system w act unit → IsPaid system act unit entered ⊎ Owes start_up system m act unit
   paid_or_owed act unit (others, listed, owing) = paid_or_owed_act act unit (by_first (λ (l : Lists). IsOwedAct both states l act unit) others listed owing)
 
   owed_before : (act : Act) (unit : Name) → IsOwedAct both now moment.kept act unit → IsOwedAct both states lists act unit
   owed_before Stop unit owing = ((same.stops unit).0 owing).0
-  owed_before Reload unit owing = (same.reloads unit).0 owing
-  owed_before Restart unit owing = (same.restarts unit).0 owing
-  owed_before Start unit owing = (same.starts unit).0 owing
+  owed_before Reload unit owing = (same.others Reloads unit).0 owing
+  owed_before Restart unit owing = (same.others Restarts unit).0 owing
+  owed_before Start unit owing = (same.others Starts unit).0 owing
 
-  no_more_owed : (unit : Name) → OwesUnit start_up m system unit → OwesUnit start_up w system unit
+  no_more_owed : (unit : Name) → OwesUnit start_up system m unit → OwesUnit start_up system w unit
   no_more_owed unit (act, (others, listed, owing)) =
       let kept = by_kept (λ (l : Lists). IsOwedAct (systems_of_world system m) now l act unit) others listed owing in
       (act, (lists, owes.listed, owed_before act unit (subst (λ (systems : Systems). IsOwedAct systems now moment.kept act unit) moment.systems kept)))
 
-  others_kept : (unit : Name) → ¬ OwesUnit start_up w system unit → now unit ≡ states unit
-  others_kept unit none = untaken unit (false_from_ne_true (has taken unit) (λ found. none (owes_then unit (kinds.OwesUnit.OfStops (taken_owed unit found)))))
+  others_kept : (unit : Name) → ¬ OwesUnit start_up system w unit → now unit ≡ states unit
+  others_kept unit none = untaken unit (false_from_ne_true (has taken unit) (λ found. none (owes_then unit (Stop, taken_owed unit found))))
 
   are_marks : (others : Lists) → AreListsFor start_up m.leaves system others → IsSteady (systems_of_world system m) now others
   are_marks others listed =

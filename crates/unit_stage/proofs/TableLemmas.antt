@@ -1,6 +1,7 @@
 -- The states and the journal after all that is owed.
-use Rattle.std.proofs.Common.{◌≡◌, ◌&&◌, ◌||◌, Bool, true, false, not, ℕ, List, ◌++◌, map, if◌then◌else◌, refl, sym, ap, ◌∙◌}
+use Rattle.std.proofs.Common.{◌≡◌, ◌&&◌, ◌||◌, Bool, true, false, not, ℕ, List, [], ◌++◌, map, if◌then◌else◌, refl, sym, ap, ◌∙◌}
 use Rattle.std.proofs.lemmas.List.{append_assoc}
+use Rattle.std.specs.List.{flat_map}
 use Rattle.host_trait.specs.declared.entry.Act.{Act}
 use Rattle.host_trait.specs.declared.entry.Act.TheVariants.{Reload, Restart, Start}
 use Rattle.host_trait.specs.declared.entry.Bad.{Bad}
@@ -9,14 +10,16 @@ use Rattle.host_trait.specs.declared.unit_state.State.{State}
 use Rattle.host_trait.specs.declared.unit_state.State.TheVariants.{Active, Inactive, Failed}
 use Rattle.host_trait.specs.Manager.{is_active, is_bad, loading}
 use Rattle.host_trait.specs.States.{state_of}
+use Rattle.owed_plan.specs.declared.duty.Duty.{Duty}
 use Rattle.owed_plan.specs.declared.owed.Owed.{Owed}
-use Rattle.owed_plan.specs.Calls.{reload_act, reload_calls, restart_calls, start_calls, stop_calls}
+use Rattle.owed_plan.specs.Calls.{listed_calls, reload_act, reload_calls, restart_calls, start_calls, stop_calls}
 use Rattle.owed_plan.specs.FinalStates.{brought_by, final_state}
 use Rattle.owed_plan.specs.Owed.{sockets_first}
 use Rattle.owed_plan.proofs.NameLemmas.{has-sockets_first}
 use Rattle.switch_names.specs.Names.{Name, has}
 use Rattle.unit_stage.specs.Acts.{CanPerform, entry_of, performed}
 use Rattle.unit_stage.specs.Order.{ArrangesStarts}
+use Rattle.unit_stage.specs.Steps.{give_order}
 use Rattle.unit_stage.proofs.ActLemmas.{after_stops, brought_from, brought_to, can_act, can_restart, can_start, can_stop}
 use Rattle.unit_stage.proofs.CallLemmas.{can-append, entered, performed-append, same_bad, same_loaded}
 use Rattle.unit_decide.specs.Facts.{unit_kind}
@@ -114,7 +117,7 @@ module _ (owed : Owed) (manager : ManagerState) where
         ∙ ap (λ state. if has owed.reloads unit then state else after_stop (has owed.stops unit) (states unit))
         (reloaded (has owed.stops unit) (brought_by manager.loaded manager.bad unit) (states unit) manager.loaded manager.bad unit refl)
 
--- a manager after all that is owed, in four steps with the definitions loaded after the first
+-- a manager after all that is owed: the stops, and, with the definitions loaded, the calls of each list
 module _ (owed : Owed) (text : List ℕ) (before : ManagerState) where
   abbrev states : Name → State
   states = state_of before.states
@@ -122,18 +125,30 @@ module _ (owed : Owed) (text : List ℕ) (before : ManagerState) where
   abbrev pub ready : ManagerState
   ready = loading text (performed (stop_calls owed) before)
 
-  abbrev pub reloaded_all : ManagerState
+  abbrev reloaded_all : ManagerState
   reloaded_all = performed (reload_calls owed states) ready
 
-  abbrev pub restarted_all : ManagerState
+  abbrev restarted_all : ManagerState
   restarted_all = performed (restart_calls owed) reloaded_all
 
   module _ (order : List Name) where
-    abbrev pub started_all : ManagerState
+    abbrev pub calls : List Duty
+    calls = flat_map (listed_calls owed order states) give_order
+
+    abbrev pub given_all : ManagerState
+    given_all = performed calls ready
+
+    abbrev started_all : ManagerState
     started_all = performed (start_calls order) restarted_all
 
+    -- one list after the other
+    in_order : given_all ≡ started_all
+    in_order =
+        performed-append (reload_calls owed states) (restart_calls owed ++ (start_calls order ++ [])) ready ∙ performed-append (restart_calls owed) (start_calls order ++ []) reloaded_all
+        ∙ performed-append (start_calls order) [] restarted_all
+
     -- each unit is in the state of the table
-    pub final_states : ArrangesStarts owed order → (unit : Name) → state_of started_all.states unit ≡ final_state owed text before.bad states unit
+    pub final_states : ArrangesStarts owed order → (unit : Name) → state_of given_all.states unit ≡ final_state owed text before.bad states unit
     final_states arranges unit =
         let stops = has owed.stops unit in
         let to = brought_by text before.bad unit in
@@ -147,29 +162,19 @@ module _ (owed : Owed) (text : List ℕ) (before : ManagerState) where
         ∙ ap (λ bad. after_reload (has owed.reloads unit) stops (brought_by text bad unit) (states unit)) bad_ready in
         let restarts = brought_to (λ u. Restart) owed.restarts reloaded_all text before.bad unit (after_reload (has owed.reloads unit) stops to (states unit)) loaded_reloaded bad_reloaded reloads in
         let before_starts = if has owed.restarts unit then to else after_reload (has owed.reloads unit) stops to (states unit) in
-        brought_to (λ u. Start) order restarted_all text before.bad unit before_starts loaded_restarted bad_restarted restarts
+        ap (λ (m : ManagerState). state_of m.states unit) in_order ∙ brought_to (λ u. Start) order restarted_all text before.bad unit before_starts loaded_restarted bad_restarted restarts
         ∙ ap (λ b. after_start b to before_starts) (arranges unit)
         ∙ table (has owed.restarts unit) (has owed.reloads unit) (has owed.starts unit) stops (is_bad before.bad text unit) (states unit)
 
-    -- the calls after the stops, one after the other
-    pub in_one : started_all ≡ performed (reload_calls owed states ++ restart_calls owed ++ start_calls order) ready
-    in_one =
-        sym (performed-append (reload_calls owed states ++ restart_calls owed) (start_calls order) ready
-        ∙ ap (performed (start_calls order)) (performed-append (reload_calls owed states) (restart_calls owed) ready))
-
     -- each stop is entered with what was loaded before, and each other call with what is loaded now
-    pub all_entered : started_all.journal
-        ≡ before.journal ++ (map (entry_of before.loaded) (stop_calls owed) ++ map (entry_of text) (reload_calls owed states ++ restart_calls owed ++ start_calls order))
+    pub all_entered : given_all.journal ≡ before.journal ++ (map (entry_of before.loaded) (stop_calls owed) ++ map (entry_of text) calls)
     all_entered =
-        ap (λ (m : ManagerState). m.journal) in_one
-        ∙ entered (reload_calls owed states ++ restart_calls owed ++ start_calls order) ready
-        ∙ ap (λ entries. entries ++ map (entry_of text) (reload_calls owed states ++ restart_calls owed ++ start_calls order)) (entered (stop_calls owed) before)
-        ∙ append_assoc before.journal (map (entry_of before.loaded) (stop_calls owed)) (map (entry_of text) (reload_calls owed states ++ restart_calls owed ++ start_calls order))
+        entered calls ready ∙ ap (λ entries. entries ++ map (entry_of text) calls) (entered (stop_calls owed) before)
+        ∙ append_assoc before.journal (map (entry_of before.loaded) (stop_calls owed)) (map (entry_of text) calls)
 
     -- the calls after the stops can be made
-    pub can_rest : CanPerform (reload_calls owed states ++ restart_calls owed ++ start_calls order) ready
+    pub can_rest : CanPerform calls ready
     can_rest =
-        can-append (reload_calls owed states ++ restart_calls owed) (start_calls order) ready
-        (can-append (reload_calls owed states) (restart_calls owed) ready
-        (can_reloads owed ready states (λ unit. after_all_stops owed before unit)) (can_restarts owed (performed (reload_calls owed states) ready)))
-        (can_start order (performed (reload_calls owed states ++ restart_calls owed) ready))
+        can-append (reload_calls owed states) (restart_calls owed ++ (start_calls order ++ [])) ready (can_reloads owed ready states (λ unit. after_all_stops owed before unit))
+        (can-append (restart_calls owed) (start_calls order ++ []) reloaded_all (can_restarts owed reloaded_all)
+        (can-append (start_calls order) [] restarted_all (can_start order restarted_all) tt))

@@ -8,9 +8,8 @@ use Rattle.std.specs.List.{list_any}
 use Rattle.host_trait.specs.declared.entry.Act.{Act}
 use Rattle.host_trait.specs.declared.entry.Entry.{Entry}
 use Rattle.host_trait.specs.World.{WorldState}
-use Rattle.log_text.specs.declared.lists.Which.TheVariants.{Starts, Restarts, Reloads}
 use Rattle.log_text.specs.declared.lists.Lists.{Lists}
-use Rattle.owed_lists.specs.Lists.{reloads_place, restarts_place, starts_place}
+use Rattle.owed_lists.specs.Lists.{place_of}
 use Rattle.owed_log.specs.declared.log_write.LogWrite.{LogWrite}
 use Rattle.owed_log.specs.Lengths.{AreOwedShort}
 use Rattle.owed_log.specs.Places.{log_place}
@@ -51,7 +50,7 @@ module _ (start_up : Bool) (system : Name) (w v m : WorldState) (one : AreUnitsU
       list_any-append (pays system act unit) one.entered then.entered
       ∙ or_right (list_any (pays system act unit) one.entered) (list_any (pays system act unit) then.entered) paid
 
-  paid_or_owed : (act : Act) (unit : Name) → Owes start_up w system act unit → IsPaid system act unit (one.entered ++ then.entered) ⊎ Owes start_up m system act unit
+  paid_or_owed : (act : Act) (unit : Name) → Owes start_up system w act unit → IsPaid system act unit (one.entered ++ then.entered) ⊎ Owes start_up system m act unit
   paid_or_owed act unit owes = elim (one.paid_or_owed act unit owes) [
     | inl paid ↦ inl (paid_first act unit paid)
     | inr still ↦ elim (then.paid_or_owed act unit still) [
@@ -71,8 +70,8 @@ module _ (start_up : Bool) (system : Name) (w v m : WorldState) (one : AreUnitsU
     entered = one.entered ++ then.entered;
     journal = then.journal ∙ ap (λ entries. entries ++ then.entered) one.journal ∙ append_assoc w.manager.journal one.entered then.entered;
     owed_alone =
-        all_joined (λ entry. OwesUnit start_up w system entry.unit) one.entered then.entered one.owed_alone
-        (all_implied (λ (entry : Entry). OwesUnit start_up v system entry.unit) (λ entry. OwesUnit start_up w system entry.unit) (λ entry owes. one.no_more_owed entry.unit owes) then.entered then.owed_alone);
+        all_joined (λ entry. OwesUnit start_up system w entry.unit) one.entered then.entered one.owed_alone
+        (all_implied (λ (entry : Entry). OwesUnit start_up system v entry.unit) (λ entry. OwesUnit start_up system w entry.unit) (λ entry owes. one.no_more_owed entry.unit owes) then.entered then.owed_alone);
     paid_or_owed = paid_or_owed;
     no_more_owed = λ unit owes. one.no_more_owed unit (then.no_more_owed unit owes);
     others = λ unit none. then.others unit (λ owes. none (one.no_more_owed unit owes)) ∙ one.others unit none;
@@ -105,9 +104,7 @@ module _ (start_up : Bool) (system : Name) (w m : WorldState) (is_system : IsSys
   lists_there : AreSameLists w.leaves m.leaves
   lists_there = record {
     log = same_log;
-    starts = same.leaves starts_place (reads_own starts_place (own_list Starts));
-    restarts = same.leaves restarts_place (reads_own restarts_place (own_list Restarts));
-    reloads = same.leaves reloads_place (reads_own reloads_place (own_list Reloads));
+    old = λ which. same.leaves (place_of which) (reads_own (place_of which) (own_list which));
   }
 
   listed_there : (lists : Lists) → AreListsAt w.leaves lists → AreListsAt m.leaves lists
@@ -126,7 +123,7 @@ module _ (start_up : Bool) (system : Name) (w m : WorldState) (is_system : IsSys
   }
 
   -- the same is owed
-  pub owed_same : (owed : Owed) → IsOwedBy start_up w system owed → IsOwedBy start_up m system owed
+  pub owed_same : (owed : Owed) → IsOwedBy start_up system w owed → IsOwedBy start_up system m owed
   owed_same = owed_after start_up system is_system w m same_beside same_current listed_there (same.manager refl)
 
   -- and the same has to be written to record it

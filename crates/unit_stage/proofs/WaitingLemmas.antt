@@ -2,6 +2,7 @@
 use Rattle.std.proofs.Common.{◌≡◌, ◌&&◌, ◌||◌, ◌∷◌, Bool, true, false, cond, IsTrue, List, Option, is_some, refl, sym, ap, subst, ◌∙◌, inl, inr, ⊎_elim}
 use Rattle.std.proofs.lemmas.Bool.{and_parts, both_ways, cases_Bool, or_cases, or_left, or_right}
 use Rattle.std.specs.List.Sorted.{IsStrictlySortedBy}
+use Rattle.host_trait.specs.declared.entry.Act.TheVariants.{Start}
 use Rattle.host_trait.specs.World.{Leaves, WorldState, bytes_cmp}
 use Rattle.host_trait.proofs.NameOrder.{name_exact}
 use Rattle.log_text.specs.declared.lists.Lists.{Lists}
@@ -96,10 +97,10 @@ besides_parts : (start_up : Bool) (leaves : Leaves) (system unit : Name) → wai
 besides_parts start_up leaves system unit is =
     (and_parts (is_name unit start_up_target) (is_some (text_of leaves system unit)) (and_parts start_up (is_name unit start_up_target && is_some (text_of leaves system unit)) is).1).1
 
-module _ (start_up : Bool) (system : Name) (lists : Lists) (owed : Owed) (w : WorldState) (owes : IsOwedIn start_up w system lists owed) where
+module _ (start_up : Bool) (system : Name) (lists : Lists) (owed : Owed) (w : WorldState) (owes : IsOwedIn start_up system w lists owed) where
   pub besides_owed : (unit : Name) → waits_besides start_up w.leaves system unit ≡ true → has owed.starts unit ≡ true
   besides_owed unit is =
-      (owes.is_owed.starts.exact unit).1
+      ((owes.is_owed Start).exact unit).1
       (kinds.Starts.ByStartList
       (owes.listed.starts.exact unit ∙ or_left (waits_besides start_up w.leaves system unit) (has owes.listed.stored.starts unit) is)
       (besides_parts start_up w.leaves system unit is))

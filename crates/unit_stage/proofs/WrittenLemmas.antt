@@ -52,14 +52,15 @@ cleared_written Restarts calls w = writes_one owns_units log_place w (with_clear
 cleared_written Reloads calls w = writes_one owns_units log_place w (with_cleared Reloads calls w) own_log refl
 
 given_written : (which : Which) (calls : List Duty) (w : WorldState) → WritesOnly owns_units w (with_given which calls w)
+given_written Starts calls w = cleared_written Starts calls w
 given_written which [] w = writes_none owns_units w w refl
 given_written which (call ∷ calls) w = cleared_written which (call ∷ calls) w
 
-pub then_given : (reloads restarts starts : List Duty) (w v u : WorldState) → WritesOnly owns_units w v → u ≡ with_all_given reloads restarts starts v → WritesOnly owns_units w u
-then_given reloads restarts starts w v u writes made =
-    let reloaded = with_given Reloads reloads v in let restarted = with_given Restarts restarts reloaded in
-    writes_then owns_units w v u writes
-    (subst (WritesOnly owns_units v) (sym made)
-    (writes_then owns_units v restarted (with_cleared Starts starts restarted)
-    (writes_then owns_units v reloaded restarted (given_written Reloads reloads v) (given_written Restarts restarts reloaded))
-    (cleared_written Starts starts restarted)))
+all_written : (calls : Which → List Duty) (order : List Which) (w : WorldState) → WritesOnly owns_units w (with_all_given calls order w)
+all_written calls [] w = writes_none owns_units w w refl
+all_written calls (which ∷ order) w =
+    let given = with_given which (calls which) w in
+    writes_then owns_units w given (with_all_given calls order given) (given_written which (calls which) w) (all_written calls order given)
+
+pub then_given : (calls : Which → List Duty) (order : List Which) (w v u : WorldState) → WritesOnly owns_units w v → u ≡ with_all_given calls order v → WritesOnly owns_units w u
+then_given calls order w v u writes made = writes_then owns_units w v u writes (subst (WritesOnly owns_units v) (sym made) (all_written calls order v))

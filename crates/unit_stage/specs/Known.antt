@@ -9,7 +9,7 @@ use Rattle.owed_log.specs.Standing.{IsLogState}
 use Rattle.owed_log.specs.Writing.{IsWriteFor}
 use Rattle.owed_plan.specs.Calls.{calls_of}
 use Rattle.owed_plan.specs.Collected.{IsListBy}
-use Rattle.owed_plan.specs.Owed.{IsPlan}
+use Rattle.owed_plan.specs.Owed.{IsOwedAct, IsPlan}
 use Rattle.owed_plan.specs.Steady.{IsSteady}
 use Rattle.owed_plan.specs.Systems.{AreOldDefs, systems_in}
 use Rattle.switch_names.specs.Names.{IsListOf, Name, has, is_name}
@@ -21,7 +21,7 @@ use Rattle.unit_stage.specs.declared.known.UnitStates.{UnitStates}
 use Rattle.unit_stage.specs.declared.unit_plan.UnitPlan.{UnitPlan}
 use Rattle.unit_stage.specs.declared.planning.OwedCalls.{OwedCalls}
 use Rattle.unit_stage.specs.Order.{AreInOrder}
-use Rattle.unit_stage.specs.Owes.{FitThrice, IsOwedAct}
+use Rattle.unit_stage.specs.Owes.{FitThrice}
 use Rattle.unit_stage.specs.Plan.{owed_of}
 use Rattle.unit_stage.specs.System.{current_system}
 use Rattle.unit_stage.specs.Waiting.{AreListsFor, start_up_target}

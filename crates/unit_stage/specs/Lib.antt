@@ -6,6 +6,7 @@ pub mod Order
 pub mod Owes
 pub mod Owned
 pub mod Plan
+pub mod PlanCalls
 pub mod Room
 pub mod Steps
 pub mod System

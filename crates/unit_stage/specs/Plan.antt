@@ -20,20 +20,20 @@ use Rattle.unit_stage.specs.System.{current_system}
 use Rattle.unit_stage.specs.Waiting.{AreListsFor}
 
 -- what a switch to a system owes the units of a world, given the lists that stand there
-pub record IsOwedIn (start_up : Bool) (w : WorldState) (system : List ℕ) (lists : Lists) (owed : Owed) : Type 0 where
+pub record IsOwedIn (start_up : Bool) (system : List ℕ) (w : WorldState) (lists : Lists) (owed : Owed) : Type 0 where
   pub listed : AreListsFor start_up w.leaves system lists
   pub is_owed : IsOwed (systems_at w.leaves (current_system w.leaves) system) (state_of w.manager.states) lists owed
 
 -- what a switch to a system owes the units of a world
-abbrev pub IsOwedBy : Bool → WorldState → List ℕ → Owed → Type 0
-IsOwedBy start_up w system owed = (lists : Lists) × IsOwedIn start_up w system lists owed
+abbrev pub IsOwedBy : Bool → List ℕ → WorldState → Owed → Type 0
+IsOwedBy start_up system w owed = (lists : Lists) × IsOwedIn start_up system w lists owed
 
 -- the log in which a switch to a system records what it owes the units of a world, where it would be too long
-abbrev pub IsLongLog : Bool → WorldState → List ℕ → Option TooLong → Type 0
-IsLongLog start_up w system long = (owed : Owed) × IsOwedBy start_up w system owed × (long ≡ long_log (lists_of owed))
+abbrev pub IsLongLog : Bool → List ℕ → WorldState → Option TooLong → Type 0
+IsLongLog start_up system w long = (owed : Owed) × IsOwedBy start_up system w owed × (long ≡ long_log (lists_of owed))
 
 -- what a switch to a system owes the units of a world, and the changed units that it leaves
-pub record IsPlannedIn (start_up : Bool) (w : WorldState) (system : List ℕ) (lists : Lists) (owed : Owed) : Type 0 where
+pub record IsPlannedIn (start_up : Bool) (system : List ℕ) (w : WorldState) (lists : Lists) (owed : Owed) : Type 0 where
   pub listed : AreListsFor start_up w.leaves system lists
   pub planned : IsPlan (systems_at w.leaves (current_system w.leaves) system) (state_of w.manager.states) lists owed
 
@@ -46,7 +46,7 @@ pub record IsUnitPlanOf (start_up : Bool) (system : List ℕ) (w : WorldState) (
   pub from : plan.from ≡ current_system w.leaves
   pub defs : AreDefsOf w.leaves system plan.defs
   pub lists : Lists
-  pub planned : IsPlannedIn start_up w system lists (owed_of plan)
+  pub planned : IsPlannedIn start_up system w lists (owed_of plan)
   pub write : IsWriteFor w.leaves plan.recorded plan.write
   pub in_order : AreOrderedAt w.leaves system (owed_of plan) plan.ordered
   pub duties : plan.duties ≡ calls_of (owed_of plan) plan.ordered.units (state_of w.manager.states)

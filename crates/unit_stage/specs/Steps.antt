@@ -1,6 +1,7 @@
 -- The steps that a switch takes with the units: NixOS manual, "What happens during a system switch?".
-use Rattle.std.specs.Prelude.{◌≡◌, ◌⊎◌, ◌++◌, ◌∷◌, true, List, [], Some}
+use Rattle.std.specs.Prelude.{◌≡◌, ◌⊎◌, ◌∷◌, true, List, [], Some}
 use Rattle.std.specs.FinMap.{get}
+use Rattle.std.specs.List.{flat_map}
 use Rattle.host_trait.specs.declared.leaf.LeafKind.TheVariants.{Link}
 use Rattle.host_trait.specs.declared.unit_state.State.{State}
 use Rattle.host_trait.specs.Change.{IsMoment, definitions_place, finished}
@@ -15,18 +16,15 @@ use Rattle.owed_log.specs.Writing.{IsRecordMoment, IsWriteFor, clearing, recorde
 use Rattle.owed_plan.specs.declared.duty.Duty.{Duty}
 use Rattle.owed_plan.specs.declared.owed.Owed.{Owed}
 use Rattle.owed_plan.specs.Law.{lists_of}
-use Rattle.owed_plan.specs.Calls.{reload_calls, restart_calls, start_calls, stop_calls}
+use Rattle.owed_plan.specs.Calls.{listed_calls, stop_calls}
 use Rattle.switch_names.specs.Names.{Name}
 use Rattle.unit_stage.specs.Acts.{CanPerform, IsPerforming, with_calls}
 use Rattle.unit_stage.specs.Owned.{owns_units}
 use Rattle.unit_stage.specs.System.{current_place, definitions_of, system_leaf}
 
--- these are the calls of a plan, each kind by itself
-pub record AreCallsOf (owed : Owed) (order : List Name) (states : Name → State) (stops reloads restarts starts : List Duty) : Type 0 where
-  pub are_stops : stops ≡ stop_calls owed
-  pub are_reloads : reloads ≡ reload_calls owed states
-  pub are_restarts : restarts ≡ restart_calls owed
-  pub are_starts : starts ≡ start_calls order
+-- the lists in the order in which what they have is given
+abbrev pub give_order : List Which
+give_order = Reloads ∷ Restarts ∷ Starts ∷ []
 
 -- the world in which what is owed is recorded, after the stops
 abbrev pub with_stops : LogWrite → List Duty → WorldState → WorldState
@@ -48,53 +46,57 @@ with_cleared which calls w = finished (clearing which) (with_calls calls w)
 abbrev pub IsClearingMoment : Which → List Duty → WorldState → WorldState → Type 0
 IsClearingMoment which calls w m = IsPerforming calls w m ⊎ IsMoment (clearing which) (with_calls calls w) m
 
--- the world after calls, with their list cleared: without calls nothing is done, as nothing of the kind was recorded
+-- the world after the calls of a list, with it cleared: the log goes with the starts; without calls of another list nothing is
+-- done, as nothing of the kind was recorded
 abbrev pub with_given : Which → List Duty → WorldState → WorldState
+with_given Starts calls w = with_cleared Starts calls w
 with_given which [] w = w
 with_given which (call ∷ calls) w = with_cleared which (call ∷ calls) w
 
--- a moment of these calls, where there are some, and of the clearing of their list
+-- a moment of the calls of a list and of its clearing: without calls of another list than the starts there is none but the beginning
 abbrev pub IsListMoment : Which → List Duty → WorldState → WorldState → Type 0
+IsListMoment Starts calls w m = IsClearingMoment Starts calls w m
 IsListMoment which [] w m = m ≡ w
 IsListMoment which (call ∷ calls) w m = IsClearingMoment which (call ∷ calls) w m
 
--- the log is a file where there are calls whose list is to be cleared
-abbrev pub HasLogFor : List Duty → Leaves → Type 0
-HasLogFor [] leaves = Unit {0}
-HasLogFor (call ∷ calls) leaves = IsFileAt leaves log_place
+-- the log is a file where a list other than the starts has calls, and so is to be cleared
+abbrev pub HasLogFor : Which → List Duty → Leaves → Type 0
+HasLogFor Starts calls leaves = Unit {0}
+HasLogFor which [] leaves = Unit {0}
+HasLogFor which (call ∷ calls) leaves = IsFileAt leaves log_place
 
--- the world after reloads, restarts and starts, with their lists cleared: the log goes with the units to start
-abbrev pub with_all_given : List Duty → List Duty → List Duty → WorldState → WorldState
-with_all_given reloads restarts starts w = with_cleared Starts starts (with_given Restarts restarts (with_given Reloads reloads w))
+-- the world after the calls of these lists, in their order
+abbrev pub with_all_given : (Which → List Duty) → List Which → WorldState → WorldState
+with_all_given calls [] w = w
+with_all_given calls (which ∷ order) w = with_all_given calls order (with_given which (calls which) w)
 
--- the world in which a system is in use, after reloads, restarts and starts, with their lists cleared
-abbrev pub with_brought : Name → List Duty → List Duty → List Duty → WorldState → WorldState
-with_brought system reloads restarts starts w = with_all_given reloads restarts starts (with_loaded system w)
+-- the world in which a system is in use, after the calls of all lists
+abbrev pub with_brought : Name → (Which → List Duty) → WorldState → WorldState
+with_brought system calls w = with_all_given calls give_order (with_loaded system w)
 
 -- up to the last stop: what is owed is being recorded, or it is and some of the stops are made
 pub data IsStopStep (write : LogWrite) (stops : List Duty) (w m : WorldState) : Type 0 where
   Recording : IsRecordMoment write w m → IsStopStep write stops w m
   Stopping : IsPerforming stops (recorded write w) m → IsStopStep write stops w m
 
--- some of these calls have been made, in their order, and each list is cleared after the last of its calls
-pub data IsGiveMoment (reloads restarts starts : List Duty) (w m : WorldState) : Type 0 where
-  Reloading : IsListMoment Reloads reloads w m → IsGiveMoment reloads restarts starts w m
-  Restarting : IsListMoment Restarts restarts (with_given Reloads reloads w) m → IsGiveMoment reloads restarts starts w m
-  Starting : IsClearingMoment Starts starts (with_given Restarts restarts (with_given Reloads reloads w)) m → IsGiveMoment reloads restarts starts w m
+-- a moment of these calls: one of the first list's, or, once that is given, of the others'
+abbrev pub IsGiveMoment : (Which → List Duty) → List Which → WorldState → WorldState → Type 0
+IsGiveMoment calls [] w m = m ≡ w
+IsGiveMoment calls (which ∷ order) w m = IsListMoment which (calls which) w m ⊎ IsGiveMoment calls order (with_given which (calls which) w) m
 
 -- after the stops: the system comes into use, its definitions are loaded, and what is owed is given
-pub data IsBringStep (system : Name) (reloads restarts starts : List Duty) (w m : WorldState) : Type 0 where
-  Waiting : m ≡ w → IsBringStep system reloads restarts starts w m
-  Linked : m ≡ with_current system w → IsBringStep system reloads restarts starts w m
-  Giving : IsGiveMoment reloads restarts starts (with_loaded system w) m → IsBringStep system reloads restarts starts w m
+pub data IsBringStep (system : Name) (calls : Which → List Duty) (w m : WorldState) : Type 0 where
+  Waiting : m ≡ w → IsBringStep system calls w m
+  Linked : m ≡ with_current system w → IsBringStep system calls w m
+  Giving : IsGiveMoment calls give_order (with_loaded system w) m → IsBringStep system calls w m
 
 -- but for the stage, a moment is one of the steps up to the last stop
 abbrev pub IsStopMoment : LogWrite → List Duty → WorldState → WorldState → Type 0
 IsStopMoment write stops w m = (u : WorldState) × IsStopStep write stops w u × (seen m ≡ seen u)
 
 -- but for the stage, a moment is one of the steps after the stops
-abbrev pub IsBringMoment : Name → List Duty → List Duty → List Duty → WorldState → WorldState → Type 0
-IsBringMoment system reloads restarts starts w m = (u : WorldState) × IsBringStep system reloads restarts starts w u × (seen m ≡ seen u)
+abbrev pub IsBringMoment : Name → (Which → List Duty) → WorldState → WorldState → Type 0
+IsBringMoment system calls w m = (u : WorldState) × IsBringStep system calls w u × (seen m ≡ seen u)
 
 -- two worlds have the same manager, the same log and lists, and the same system in use
 pub record AreSameUnits (w m : WorldState) : Type 0 where
@@ -105,7 +107,7 @@ pub record AreSameUnits (w m : WorldState) : Type 0 where
 pub data IsUnitMoment (system : Name) (owed : Owed) (order : List Name) (w m : WorldState) : Type 0 where
   Stopping : (write : LogWrite) → IsWriteFor w.leaves (lists_of owed) write → (u : WorldState) → IsStopStep write (stop_calls owed) w u → AreSameUnits u m → IsUnitMoment system owed order w m
   Bringing : (write : LogWrite) → IsWriteFor w.leaves (lists_of owed) write → (u : WorldState) →
-      IsBringStep system (reload_calls owed (state_of w.manager.states)) (restart_calls owed) (start_calls order) (with_stops write (stop_calls owed) w) u → AreSameUnits u m → IsUnitMoment system owed order w m
+      IsBringStep system (listed_calls owed order (state_of w.manager.states)) (with_stops write (stop_calls owed) w) u → AreSameUnits u m → IsUnitMoment system owed order w m
 
 -- a system can be brought into use, and its definitions are what will be loaded
 pub record CanLoad (system : Name) (w : WorldState) : Type 0 where
@@ -113,12 +115,11 @@ pub record CanLoad (system : Name) (w : WorldState) : Type 0 where
   pub current : IsClear w.leaves current_place
   pub defined : get w.leaves definitions_place ≡ Some (Link (definitions_of system))
 
--- and then these calls can be made
-pub record CanBring (system : Name) (reloads restarts starts : List Duty) (w : WorldState) : Type 0 where
+-- and then these calls can be made, and their lists cleared
+pub record CanBring (system : Name) (calls : Which → List Duty) (w : WorldState) : Type 0 where
   pub load : CanLoad system w
-  pub reload_log : HasLogFor reloads w.leaves
-  pub restart_log : HasLogFor restarts w.leaves
-  pub calls : CanPerform (reloads ++ restarts ++ starts) (loading (definitions_of system) w.manager)
+  pub log : (which : Which) → HasLogFor which (calls which) w.leaves
+  pub can_call : CanPerform (flat_map calls give_order) (loading (definitions_of system) w.manager)
 
 -- but for the stage, the system isn't in use yet, or it is, or its definitions are loaded too
 abbrev pub IsLoadMoment : Name → WorldState → WorldState → Type 0

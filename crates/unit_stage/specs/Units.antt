@@ -29,18 +29,18 @@ pub record AreUnitsUnderway (start_up : Bool) (system : Name) (first w : WorldSt
   pub same_bad : w.manager.bad ≡ first.manager.bad
   pub entered : List Entry
   pub journal : w.manager.journal ≡ first.manager.journal ++ entered
-  pub owed_alone : AllByRecursion (λ entry. OwesUnit start_up first system entry.unit) entered
-  pub paid_or_owed : (act : Act) (unit : Name) → Owes start_up first system act unit → IsPaid system act unit entered ⊎ Owes start_up w system act unit
-  pub no_more_owed : (unit : Name) → OwesUnit start_up w system unit → OwesUnit start_up first system unit
-  pub others : (unit : Name) → ¬ OwesUnit start_up first system unit → state_of w.manager.states unit ≡ state_of first.manager.states unit
+  pub owed_alone : AllByRecursion (λ entry. OwesUnit start_up system first entry.unit) entered
+  pub paid_or_owed : (act : Act) (unit : Name) → Owes start_up system first act unit → IsPaid system act unit entered ⊎ Owes start_up system w act unit
+  pub no_more_owed : (unit : Name) → OwesUnit start_up system w unit → OwesUnit start_up system first unit
+  pub others : (unit : Name) → ¬ OwesUnit start_up system first unit → state_of w.manager.states unit ≡ state_of first.manager.states unit
   pub free : AreUnitsFree system w.leaves
   pub short : AreOwedShort first.leaves → AreOwedShort w.leaves
-  pub steady : IsSteadyWorld start_up w system
+  pub steady : IsSteadyWorld start_up system w
 
 -- each moment of a switch of the units keeps this: nothing gets in the way, and from a steady world the switch is underway
 pub record AreUnitsKept (start_up : Bool) (system : Name) (w m : WorldState) : Type 0 where
   pub free : AreUnitsFree system w.leaves → AreUnitsFree system m.leaves
-  pub underway : AreUnitsFree system w.leaves → IsSteadyWorld start_up w system → AreUnitsUnderway start_up system w m
+  pub underway : AreUnitsFree system w.leaves → IsSteadyWorld start_up system w → AreUnitsUnderway start_up system w m
 
 -- the link names the system, and neither the log nor a list is left
 abbrev pub units_end : Name → Leaves → Name → Option LeafKind

@@ -1,14 +1,17 @@
 //! Gives the units what they are owed.
-ghost use Rattle.std.specs.Prelude.{◌≡◌, ◌≢◌, ◌++◌, OnOk};
+ghost use Rattle.std.specs.Prelude.{◌≡◌, ◌≢◌, ◌↔◌, IsTrue, OnOk};
+ghost use Rattle.std.specs.List.{flat_map};
 ghost use Rattle.host_trait.specs.Host.{Told, Leads, Becomes, Comes, Passes, HasCause};
 ghost use Rattle.host_trait.specs.World.{IsFileAt};
+ghost use Rattle.log_text.specs.declared.lists.Which.{Which};
 ghost use Rattle.log_text.specs.declared.lists.Which.TheVariants.{Starts};
 ghost use Rattle.owed_log.specs.Places.{is_owed_place, log_place};
 ghost use Rattle.owed_log.specs.Writing.{CanWrite, IsFilled, IsRecordMoment, recorded};
 ghost use Rattle.tree_put.specs.Written.{WritesOnly};
 ghost use Rattle.unit_stage.specs.Acts.{CanPerform, IsPerforming, with_calls};
 ghost use Rattle.unit_stage.specs.Owned.{owns_units};
-ghost use Rattle.unit_stage.specs.Steps.{CanBring, HasLogFor, IsBringMoment, IsClearingMoment, IsGiveMoment, IsListMoment, IsStopMoment, with_all_given, with_brought, with_cleared, with_given, with_stops};
+ghost use Rattle.unit_stage.specs.PlanCalls.{calls_in};
+ghost use Rattle.unit_stage.specs.Steps.{CanBring, HasLogFor, IsBringMoment, IsClearingMoment, IsGiveMoment, IsListMoment, IsStopMoment, give_order, with_all_given, with_brought, with_cleared, with_given, with_stops};
 ghost use Rattle.unit_stage.specs.System.{system_leaf};
 
 use crate::acting::call_units;
@@ -88,43 +91,47 @@ fn call_listed<H: Manager>(
     Ok(())
 }
 
-/// Makes the calls of a list that isn't the last, and clears it. Where there are none, no name was recorded, and nothing is done.
+/// Whether the log goes with a list, as it does with that of the starts.
+fn takes_log(which: Which) -> bool
+    ensures { IsTrue result ↔ (which ≡ Starts) }
+{
+    match which {
+        Which::Starts => true,
+        Which::Restarts | Which::Reloads => false,
+    }
+}
+
+/// Makes the calls of a list, and clears it; the log goes with the starts. Where another list has no calls, no name was recorded, and nothing is done.
 fn give<H: Manager>(
     alloc: Global,
     host: &mut H,
+    calls: PlanCalls<'_>,
     which: Which,
-    calls: &[Duty],
 ) -> Result<(), HostFault>
-    requires calls { Told (H.host host.old) (λ w. CanPerform calls.now w.manager) }
-    requires log { Told (H.host host.old) (λ w. HasLogFor calls.now w.leaves) }
-    ensures ok { OnOk result (Becomes (H.host host.old) (H.host host.new) (with_given which calls.now)) }
-    ensures moments { Passes (H.host host.old) (H.host host.new) (IsListMoment which calls.now) }
+    requires calls { Told (H.host host.old) (λ w. CanPerform (calls_in calls which) w.manager) }
+    requires log { Told (H.host host.old) (λ w. HasLogFor which (calls_in calls which) w.leaves) }
+    ensures ok { OnOk result (Becomes (H.host host.old) (H.host host.new) (with_given which (calls_in calls.entry which))) }
+    ensures moments { Passes (H.host host.old) (H.host host.new) (IsListMoment which (calls_in calls.entry which)) }
     ensures cause { HasCause (H.host host.old) (H.host host.new) result }
 {
-    if calls.is_empty() {
+    let listed = calls.of(which);
+    if !takes_log(which) && listed.is_empty() {
         return Ok(());
     }
-    call_listed(alloc, host, which, calls)
+    call_listed(alloc, host, which, listed)
 }
 
-/// Reloads units, then restarts units, and then starts units. Each list is cleared after the last of its calls.
-fn give_all<H: Manager>(
-    alloc: Global,
-    host: &mut H,
-    reloads: &[Duty],
-    restarts: &[Duty],
-    starts: &[Duty],
-) -> Result<(), HostFault>
-    requires calls { Told (H.host host.old) (λ w. CanPerform (reloads.now ++ restarts.now ++ starts.now) w.manager) }
-    requires reload_log { Told (H.host host.old) (λ w. HasLogFor reloads.now w.leaves) }
-    requires restart_log { Told (H.host host.old) (λ w. HasLogFor restarts.now w.leaves) }
-    ensures ok { OnOk result (Becomes (H.host host.old) (H.host host.new) (with_all_given reloads.now restarts.now starts.now)) }
-    ensures moments { Passes (H.host host.old) (H.host host.new) (IsGiveMoment reloads.now restarts.now starts.now) }
+/// Makes the calls of each list, in the order of the lists, and clears each list after the last of its calls.
+fn give_all<H: Manager>(alloc: Global, host: &mut H, calls: PlanCalls<'_>) -> Result<(), HostFault>
+    requires calls { Told (H.host host.old) (λ w. CanPerform (flat_map (calls_in calls) give_order) w.manager) }
+    requires log { Told (H.host host.old) (λ w. (which : Which) → HasLogFor which (calls_in calls which) w.leaves) }
+    ensures ok { OnOk result (Becomes (H.host host.old) (H.host host.new) (with_all_given (calls_in calls.entry) give_order)) }
+    ensures moments { Passes (H.host host.old) (H.host host.new) (IsGiveMoment (calls_in calls.entry) give_order) }
     ensures cause { HasCause (H.host host.old) (H.host host.new) result }
 {
-    give(alloc, host, Which::Reloads, reloads)?;
-    give(alloc, host, Which::Restarts, restarts)?;
-    call_listed(alloc, host, Which::Starts, starts)?;
+    give(alloc, host, calls, Which::Reloads)?;
+    give(alloc, host, calls, Which::Restarts)?;
+    give(alloc, host, calls, Which::Starts)?;
     Ok(())
 }
 
@@ -139,14 +146,14 @@ pub fn bring_units<H: Manager>(
     current: &Leaf,
     calls: PlanCalls<'_>,
 ) -> Result<(), HostFault>
-    requires can { Told (H.host host.old) (CanBring system.now calls.reloads.now calls.restarts.now calls.starts.now) }
+    requires can { Told (H.host host.old) (CanBring system.now (calls_in calls)) }
     requires current { current.now ≡ system_leaf system.now }
-    ensures ok { OnOk result (Comes (H.host host.old) (H.host host.new) (with_brought system.now calls.entry.reloads.now calls.entry.restarts.now calls.entry.starts.now)) }
+    ensures ok { OnOk result (Comes (H.host host.old) (H.host host.new) (with_brought system.now (calls_in calls.entry))) }
     ensures written { OnOk result (Leads (H.host host.old) (H.host host.new) (WritesOnly owns_units)) }
-    ensures moments { Passes (H.host host.old) (H.host host.new) (IsBringMoment system.now calls.entry.reloads.now calls.entry.restarts.now calls.entry.starts.now) }
+    ensures moments { Passes (H.host host.old) (H.host host.new) (IsBringMoment system.now (calls_in calls.entry)) }
     ensures cause { HasCause (H.host host.old) (H.host host.new) result }
 {
     load_system(alloc, host, system, current)?;
-    give_all(alloc, host, calls.reloads, calls.restarts, calls.starts)?;
+    give_all(alloc, host, calls)?;
     Ok(())
 }

@@ -1,21 +1,35 @@
-//! The calls of a plan, each kind by itself.
+//! The calls of a plan: the stops, and those of each list.
 ghost use Rattle.std.specs.Prelude.{◌≡◌, take, drop};
 ghost use Rattle.host_trait.specs.declared.unit_state.State.{State};
 ghost use Rattle.owed_plan.specs.Calls.{calls_of};
 ghost use Rattle.unit_stage.specs.Plan.{owed_of};
-ghost use Rattle.unit_stage.specs.Steps.{AreCallsOf};
+ghost use Rattle.unit_stage.specs.PlanCalls.{AreCallsOf, calls_in};
 ghost use Rattle.switch_names.specs.Names.{Name};
 
 use crate::unit_plan::UnitPlan;
+use log_text::Which;
 use owed_plan::Duty;
 
-/// The calls of a plan, each kind by itself.
+/// The calls of a plan: the stops, and those of each list.
 #[derive(Clone, Copy)]
 pub struct PlanCalls<'a> {
     pub stops: &'a [Duty],
-    pub reloads: &'a [Duty],
-    pub restarts: &'a [Duty],
-    pub starts: &'a [Duty],
+    reloads: &'a [Duty],
+    restarts: &'a [Duty],
+    starts: &'a [Duty],
+}
+
+impl<'a> PlanCalls<'a> {
+    /// The calls of a list.
+    pub fn of(self, which: Which) -> &'a [Duty]
+        ensures { result.now ≡ calls_in self.entry which }
+    {
+        match which {
+            Which::Reloads => self.reloads,
+            Which::Restarts => self.restarts,
+            Which::Starts => self.starts,
+        }
+    }
 }
 
 /// The first so many calls.
@@ -32,10 +46,10 @@ fn calls_after(calls: &[Duty], count: usize) -> &[Duty]
     &calls[count.min(calls.len())..]
 }
 
-/// The calls of a plan, each kind by itself.
+/// The calls of a plan.
 pub fn calls_of(plan: &UnitPlan) -> PlanCalls<'_>
     ensures { (states : Name → State) → plan.now.duties ≡ calls_of (owed_of plan.now) plan.now.ordered.units states
-        → AreCallsOf (owed_of plan.now) plan.now.ordered.units states result.stops.now result.reloads.now result.restarts.now result.starts.now }
+        → AreCallsOf (owed_of plan.now) plan.now.ordered.units states result.stops.now (calls_in result) }
 {
     let lists = plan.recorded();
     let calls = plan.duties().as_slice();

@@ -25,7 +25,7 @@ use crate::known::{Known, read_known};
 use crate::room::have_room;
 use crate::unit_plan::UnitPlan;
 use host_trait::Manager;
-use owed_plan::{Duty, Owed, calls, is_steady, order_edges, plan};
+use owed_plan::{Duty, Owed, calls, is_steady, order_edges, plan, pull, roots};
 use start_order::{Ordered, order};
 use std::alloc::{AllocError, Global};
 use std::collections::BTreeMap;
@@ -33,7 +33,6 @@ use switch_names::{Listed, Path, SystemName, UnitName};
 use switch_parts::PlanFault;
 use tree_put::Found;
 use unit_defs::Defs;
-use unit_pull::{pull, roots};
 
 /// What is owed, with its starts in order and its calls, and whether the world is steady.
 #[derive(Drop)]
@@ -142,7 +141,7 @@ pub fn plan_units<H: Manager>(
     requires found { Told (H.host host.old) (λ w. AreFound w.leaves findings.old) }
     ensures plan { IfOk result (λ plan. Told (H.host host.old) (λ w. IsUnitPlanOf start_up system.now w plan)) }
     ensures filled { IfOk result (λ plan. IsFilled plan.write) }
-    ensures steady { IfOk result (λ plan. Told (H.host host.old) (λ w. IsTrue plan.steady ↔ IsSteadyWorld start_up w system.now)) }
+    ensures steady { IfOk result (λ plan. Told (H.host host.old) (λ w. IsTrue plan.steady ↔ IsSteadyWorld start_up system.now w)) }
     ensures not_refused { OnOk result (Told (H.host host.old) (λ w. unit_refusal w.leaves system.now ≡ None)) }
     ensures refused { (why : Refusal) → IsErrOf result (Refused why) → Told (H.host host.old) (λ w. unit_refusal w.leaves system.now ≡ Some why) }
     ensures others { OnOk result (Told (H.host host.old) (λ w. AreFound w.leaves findings.new)) }

@@ -138,7 +138,7 @@ impl UnitPlan {
 
     /// The log in which this is recorded, where it would be longer than can be read again.
     pub fn long_log(&self, alloc: Global) -> Result<Option<TooLong>, AllocError>
-        ensures { IfOk result (λ long. (start_up : Bool) (w : WorldState) (system : Name) → IsUnitPlanOf start_up system w self.now → IsLongLog start_up w system long) }
+        ensures { IfOk result (λ long. (start_up : Bool) (w : WorldState) (system : Name) → IsUnitPlanOf start_up system w self.now → IsLongLog start_up system w long) }
     {
         long_log(alloc, &self.write)
     }

@@ -4,7 +4,7 @@ use Rattle.std.specs.Option.{option_or, option_map}
 use Rattle.std.specs.Str.{IsUtf8, is_utf8}
 use Rattle.std.proofs.lemmas.Bool.{lt-leb, le-leb}
 use Rattle.std.proofs.lemmas.Str.{IsUtf8-from_is_utf8}
-use Rattle.unit_text.specs.declared.reader.Part.{Part}
+use Rattle.unit_text.specs.declared.reader.ReadPart.{ReadPart}
 use Rattle.unit_text.specs.declared.reader.Reader.{Reader}
 use Rattle.unit_text.specs.declared.text_fault.TextFault.{TextFault}
 use Rattle.unit_text.specs.Lines.{Joined, is_comment, is_continued, with_space, continued, joined, first_bad}
@@ -38,7 +38,7 @@ same_fault section (Some b) line number lines h = refl
 same_fault section None line number lines h =
     ap (λ b. cond b (option_map utf8_fault (first_bad number lines)) (statement_fault section line.first (trimmed line.text))) (not_reached number lines line.last h)
 
-last_is : (part : Option Part) (number : ℕ) (line : List ℕ) → (ended part number line).last ≡ number
+last_is : (part : Option ReadPart) (number : ℕ) (line : List ℕ) → (ended part number line).last ≡ number
 last_is None number line = refl
 last_is (Some part) number line = refl
 
@@ -57,7 +57,7 @@ module _ (line : List ℕ) (number : ℕ) (rest : List (List ℕ)) where
       → joined number (line ∷ rest) ≡ record { first = number; last = number; text = line } ∷ joined (number + 1) rest
   joined_ended c k = rw (c, k) refl
 
-with_ended : (part : Option Part) (number : ℕ) (line : List ℕ) (rest : List Joined)
+with_ended : (part : Option ReadPart) (number : ℕ) (line : List ℕ) (rest : List Joined)
     → with_part part (record { first = number; last = number; text = line } ∷ rest) ≡ ended part number line ∷ rest
 with_ended None number line rest = refl
 with_ended (Some part) number line rest = refl
@@ -99,7 +99,7 @@ reaches_any number (line ∷ rest) = by (is_comment line) refl (reaches_any (num
     by true c h = subst (ReachesIfAny number) (sym (joined_comment line number rest c)) (earlier number _ h)
     by false c h = if_any number _ (line_reaches number line rest h c)
 
-part_reaches : (number : ℕ) (part : Option Part) (js : List Joined) → Reaches number js → Reaches number (with_part part js)
+part_reaches : (number : ℕ) (part : Option ReadPart) (js : List Joined) → Reaches number js → Reaches number (with_part part js)
 part_reaches number None js h = h
 part_reaches number (Some part) [] h = absurd h
 part_reaches number (Some part) (line ∷ rest) h = h
@@ -207,12 +207,12 @@ module _ (old new : Reader) (number : ℕ) (line : List ℕ) (before : IsBelow o
 -- ---- the end of a joined line, and of the file
 
 -- the part that was kept is none of what a joined line is taken by
-pub completes_as : (old : Reader) (part : Option Part) (new : Reader) {line whole : Joined} → line ≡ whole
+pub completes_as : (old : Reader) (part : Option ReadPart) (new : Reader) {line whole : Joined} → line ≡ whole
     → Completes (record { bad = old.bad; part = part; body = old.body }) new line → Completes old new whole
 completes_as old part new same done = subst (Completes old new) same (record { unreached = done.unreached; body = done.body; bad = done.bad })
 
 -- a part at the end of the file is a joined line
-pub refuses_end : (reader : Reader) (part : Part) (fault : TextFault) → reader.part ≡ Some part
+pub refuses_end : (reader : Reader) (part : ReadPart) (fault : TextFault) → reader.part ≡ Some part
     → joined_fault reader.body.section reader.bad (joined_part part) ≡ Some fault → fault_left reader 1 [] ≡ Some fault
 refuses_end reader part fault kept is =
     (λ i. first_fault reader.body.section (option_or_none reader.bad i) (with_part (kept i) []))
@@ -223,7 +223,7 @@ pub record Finishes (old new : Reader) : Type 0 where
   pub fault : fault_left old 1 [] ≡ option_map utf8_fault new.bad
   pub all : new.body.assignments.items ≡ assignments_left old 1 []
 
-pub finishes_part : (old new : Reader) (part : Part) → old.part ≡ Some part → Completes old new (joined_part part) → Finishes old new
+pub finishes_part : (old new : Reader) (part : ReadPart) → old.part ≡ Some part → Completes old new (joined_part part) → Finishes old new
 finishes_part old new part kept done =
     let whole = joined_part part in
     record {

@@ -5,18 +5,18 @@ use Rattle.std.specs.String.{string_bytes}
 use Rattle.unit_text.specs.declared.assignment.Assignment.{Assignment}
 use Rattle.unit_text.specs.declared.text_fault.TextFault.{TextFault}
 use Rattle.unit_text.specs.declared.reader.Body.{Body}
-use Rattle.unit_text.specs.declared.reader.Part.{Part}
+use Rattle.unit_text.specs.declared.reader.ReadPart.{ReadPart}
 use Rattle.unit_text.specs.declared.reader.Reader.{Reader}
 use Rattle.unit_text.specs.Lines.{Joined, continued, joined, first_bad}
 use Rattle.unit_text.specs.Statement.{trimmed, statement_fault, section_after, assigned}
 use Rattle.unit_text.specs.TextFault.{is_reached, first_fault}
 use Rattle.unit_text.specs.UnitText.{assignments_in}
 
-abbrev pub joined_part : Part → Joined
+abbrev pub joined_part : ReadPart → Joined
 joined_part part = record { first = part.first; last = part.last; text = string_bytes part.text }
 
 -- the joined lines that are to come, the first of which may have begun already
-abbrev pub with_part : Option Part → List Joined → List Joined
+abbrev pub with_part : Option ReadPart → List Joined → List Joined
 with_part None lines = lines
 with_part (Some part) lines = continued (joined_part part) lines
 
@@ -37,7 +37,7 @@ pub record Takes (old new : Body) (number : ℕ) (text : List ℕ) : Type 0 wher
   pub assignments : new.assignments.items ≡ old.assignments.items ++ assigned old.section text
 
 -- the joined line that ends with this line
-abbrev pub ended : Option Part → ℕ → List ℕ → Joined
+abbrev pub ended : Option ReadPart → ℕ → List ℕ → Joined
 ended None number line = record { first = number; last = number; text = line }
 ended (Some part) number line = record { first = part.first; last = number; text = string_bytes part.text ++ line }
 

@@ -91,16 +91,16 @@ impl Body {
 }
 
 /// What was read of a joined line that goes on.
-pub struct Part {
+pub struct ReadPart {
     first: u64,
     last: u64,
     text: String,
 }
 
 /// One call: a derived drop is proved anew in each function that lets one go.
-impl Drop for Part {
+impl Drop for ReadPart {
     fn drop(self) {
-        let Part {
+        let ReadPart {
             first: _,
             last: _,
             text: _,
@@ -112,7 +112,7 @@ impl Drop for Part {
 pub struct Reader {
     /// The first line that isn't UTF-8.
     bad: Option<u64>,
-    part: Option<Part>,
+    part: Option<ReadPart>,
     body: Body,
 }
 
@@ -172,7 +172,7 @@ impl Reader {
     {
         let mut part = match self.part.take() {
             Some(part) => part,
-            None => Part {
+            None => ReadPart {
                 first: number,
                 last: number,
                 text: String::new(alloc),

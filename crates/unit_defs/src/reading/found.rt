@@ -3,14 +3,14 @@ ghost use Rattle.std.specs.Prelude.{◌≡◌, ◌==◌, not, length, [], List, 
 ghost use Rattle.std.specs.BTreeMap.{get};
 ghost use Rattle.std.specs.Option.{option_copied, option_or};
 ghost use Rattle.host_trait.specs.World.{bytes_cmp};
-ghost use Rattle.unit_defs.specs.declared.place.Place.TheVariants.{File, DropIn, Want};
+ghost use Rattle.unit_defs.specs.declared.place.UnitPlace.TheVariants.{File, DropIn, Want};
 ghost use Rattle.unit_defs.specs.Found.{Joins, Takes, files_in};
 ghost use Rattle.unit_defs.specs.Part.{added};
 ghost use Rattle.unit_defs.specs.UnitFiles.{ordered_drop_ins};
 ghost use Rattle.switch_names.specs.Names.{is_name};
-ghost use Rattle.unit_defs.specs.declared.part.Part.{Part};
+ghost use Rattle.unit_defs.specs.declared.part.FilePart.{FilePart};
 
-use crate::part::Part;
+use crate::part::FilePart;
 use std::alloc::{AllocError, Global};
 use std::collections::BTreeMap;
 use switch_names::{Listed, Text, UnitName};
@@ -19,9 +19,9 @@ use unit_text::UnitText;
 /// What is found of one unit.
 pub struct UnitFiles {
     /// Its file. A leaf without content is none.
-    pub file: Option<Part>,
+    pub file: Option<FilePart>,
     /// Its drop-ins by their names before `.conf`.
-    pub drop_ins: BTreeMap<Text, Part>,
+    pub drop_ins: BTreeMap<Text, FilePart>,
     /// The text of its line in the fstab.
     pub line: Option<UnitText>,
     /// The names in its folders of units that it wants, and those that the fstab makes it want.
@@ -64,7 +64,7 @@ impl UnitFiles {
     }
 
     /// Applies the drop-ins in the order of their names.
-    pub fn add_drop_ins(&self, alloc: Global, part: &mut Part) -> Result<(), AllocError>
+    pub fn add_drop_ins(&self, alloc: Global, part: &mut FilePart) -> Result<(), AllocError>
         ensures { OnOk result (part.new ≡ added part.old (ordered_drop_ins self.now)) }
     {
         for drop_in in self.drop_ins.values() {
@@ -75,23 +75,23 @@ impl UnitFiles {
 }
 
 /// What is found of units by their names.
-pub struct Found {
+pub struct FoundUnits {
     pub units: BTreeMap<UnitName, UnitFiles>,
 }
 
 /// One call: a derived drop is proved anew in each function that lets one go.
-impl Drop for Found {
+impl Drop for FoundUnits {
     fn drop(self) {
-        let Found { units: _ } = self;
+        let FoundUnits { units: _ } = self;
     }
 }
 
-impl Found {
+impl FoundUnits {
     /// Nothing is found.
-    pub fn new(alloc: Global) -> Found
+    pub fn new(alloc: Global) -> FoundUnits
         ensures { result.units.entries ≡ [] }
     {
-        Found {
+        FoundUnits {
             units: BTreeMap::new(alloc),
         }
     }
@@ -101,7 +101,7 @@ impl Found {
         &mut self,
         alloc: Global,
         unit: UnitName,
-        part: Option<Part>,
+        part: Option<FilePart>,
     ) -> Result<(), AllocError>
         ensures { OnOk result (Takes (Some (File unit)) part self.old self.new) }
     {
@@ -116,7 +116,7 @@ impl Found {
         alloc: Global,
         unit: UnitName,
         name: Text,
-        part: Option<Part>,
+        part: Option<FilePart>,
     ) -> Result<(), AllocError>
         ensures { OnOk result (Takes (Some (DropIn unit name)) part self.old self.new) }
     {
@@ -134,7 +134,7 @@ impl Found {
         unit: UnitName,
         name: UnitName,
     ) -> Result<(), AllocError>
-        ensures { OnOk result ((part : Option Part) → Takes (Some (Want unit name)) part self.old self.new) }
+        ensures { OnOk result ((part : Option FilePart) → Takes (Some (Want unit name)) part self.old self.new) }
     {
         let files = self.units.entry(unit)?.or_insert(UnitFiles::new(alloc));
         files.wants.push(name)
@@ -164,7 +164,11 @@ impl Found {
 }
 
 /// Puts a drop-in, where none of that name stands.
-fn insert_new(drop_ins: &mut BTreeMap<Text, Part>, name: Text, part: Part) -> Result<(), AllocError>
+fn insert_new(
+    drop_ins: &mut BTreeMap<Text, FilePart>,
+    name: Text,
+    part: FilePart,
+) -> Result<(), AllocError>
     ensures { OnOk result ((other : List ℕ) → get bytes_cmp drop_ins.new other ≡ option_or (get bytes_cmp drop_ins.old other) (if is_name name other then Some part else None)) }
 {
     drop_ins.entry(name)?.or_insert(part);

@@ -9,7 +9,7 @@ ghost use Rattle.unit_defs.specs.Taken.{NotesLong};
 ghost use Rattle.fstab_mounts.specs.Fstab.{fstab_units};
 ghost use Rattle.switch_names.specs.Names.{is_name};
 
-use super::found::Found;
+use super::found::FoundUnits;
 use super::noting::content_measured;
 use crate::place::named;
 use fstab_mounts::{FsUnit, parse};
@@ -66,7 +66,7 @@ fn target_of(alloc: Global, line: &FsUnit) -> Result<Option<UnitName>, AllocErro
 }
 
 /// Adds the unit of a line to those that its target wants.
-fn add_wanted(alloc: Global, line: &FsUnit, found: &mut Found) -> Result<(), AllocError>
+fn add_wanted(alloc: Global, line: &FsUnit, found: &mut FoundUnits) -> Result<(), AllocError>
     ensures { OnOk result (Joins (λ unit. None) (wanted_by_lines (line.now ∷ [])) found.old found.new) }
 {
     let Some(target) = target_of(alloc, line)? else {
@@ -76,7 +76,7 @@ fn add_wanted(alloc: Global, line: &FsUnit, found: &mut Found) -> Result<(), All
 }
 
 /// Adds what a line says.
-fn add_line(alloc: Global, line: &FsUnit, found: &mut Found) -> Result<(), AllocError>
+fn add_line(alloc: Global, line: &FsUnit, found: &mut FoundUnits) -> Result<(), AllocError>
     ensures { OnOk result (JoinsLines (line.now ∷ []) found.old found.new) }
 {
     found.add_line(alloc, line.unit.copy(alloc)?, line.text.copy(alloc)?)?;
@@ -84,7 +84,7 @@ fn add_line(alloc: Global, line: &FsUnit, found: &mut Found) -> Result<(), Alloc
 }
 
 /// Adds what these lines say.
-fn add_lines(alloc: Global, lines: &[FsUnit], found: &mut Found) -> Result<(), AllocError>
+fn add_lines(alloc: Global, lines: &[FsUnit], found: &mut FoundUnits) -> Result<(), AllocError>
     ensures { OnOk result (JoinsLines lines.now found.old found.new) }
 {
     for line in lines {
@@ -98,7 +98,7 @@ pub fn read_fstab<T: Tree>(
     alloc: Global,
     host: &mut T,
     system: &SystemName,
-    found: &mut Found,
+    found: &mut FoundUnits,
     long: &mut bool,
 ) -> Result<(), HostFault>
     ensures found { OnOk result (Told (T.host host.old) (λ w. JoinsLines (fstab_of w.leaves system.now) found.old found.new)) }

@@ -9,14 +9,14 @@ ghost use Rattle.unit_defs.specs.Found.{files_in, unit_of};
 ghost use Rattle.unit_defs.specs.Part.{line_part};
 ghost use Rattle.unit_defs.specs.UnitFiles.{base_from, part_from, with_drop_ins};
 
-use super::found::{Found, UnitFiles};
-use crate::part::Part;
+use super::found::{FoundUnits, UnitFiles};
+use crate::part::FilePart;
 use crate::unit::{Unit, copies};
 use std::alloc::{AllocError, Global};
 use switch_names::{Listed, UnitName};
 
 /// The file on which the text of a unit is based.
-fn base<'a>(own: &'a UnitFiles, template: Option<&'a UnitFiles>) -> Option<&'a Part>
+fn base<'a>(own: &'a UnitFiles, template: Option<&'a UnitFiles>) -> Option<&'a FilePart>
     ensures { option_copied result ≡ base_from own.now (option_copied template.entry) }
 {
     if let Some(file) = &own.file {
@@ -33,7 +33,7 @@ fn add_both(
     alloc: Global,
     own: &UnitFiles,
     template: Option<&UnitFiles>,
-    part: &mut Part,
+    part: &mut FilePart,
 ) -> Result<(), AllocError>
     ensures { OnOk result (part.new ≡ with_drop_ins own.now (option_copied template.entry) part.old) }
 {
@@ -48,7 +48,7 @@ fn file_part(
     alloc: Global,
     own: &UnitFiles,
     template: Option<&UnitFiles>,
-) -> Result<Option<Part>, AllocError>
+) -> Result<Option<FilePart>, AllocError>
     ensures { IfOk result (λ part. part ≡ option_map (with_drop_ins own.now (option_copied template.entry)) (base_from own.now (option_copied template.entry))) }
 {
     let Some(base) = base(own, template) else {
@@ -60,11 +60,11 @@ fn file_part(
 }
 
 /// What the line of a unit in the fstab says.
-fn line_part(alloc: Global, own: &UnitFiles) -> Result<Option<Part>, AllocError>
+fn line_part(alloc: Global, own: &UnitFiles) -> Result<Option<FilePart>, AllocError>
     ensures { IfOk result (λ part. part ≡ option_map line_part own.now.line) }
 {
     match &own.line {
-        Some(line) => Ok(Some(Part {
+        Some(line) => Ok(Some(FilePart {
             text: line.copy(alloc)?,
             fault: None,
         })),
@@ -77,7 +77,7 @@ fn own_part(
     alloc: Global,
     own: &UnitFiles,
     template: Option<&UnitFiles>,
-) -> Result<Option<Part>, AllocError>
+) -> Result<Option<FilePart>, AllocError>
     ensures { IfOk result (λ part. part ≡ part_from own.now (option_copied template.entry)) }
 {
     if let Some(part) = file_part(alloc, own, template)? {
@@ -89,7 +89,7 @@ fn own_part(
 /// What was found of the template of a unit.
 fn template_files<'a>(
     alloc: Global,
-    found: &'a Found,
+    found: &'a FoundUnits,
     name: &UnitName,
 ) -> Result<Option<&'a UnitFiles>, AllocError>
     ensures { IfOk result (λ files. option_copied files ≡ option_and_then (files_in found.now) (template_of name.now)) }
@@ -103,7 +103,7 @@ fn template_files<'a>(
 /// A unit, of which this was found.
 fn unit_of(
     alloc: Global,
-    found: &Found,
+    found: &FoundUnits,
     name: &UnitName,
     own: &UnitFiles,
 ) -> Result<Unit, AllocError>
@@ -119,7 +119,7 @@ fn unit_of(
 }
 
 /// The units that were found, in byte order.
-pub fn units_of(alloc: Global, found: &Found) -> Result<Listed<Unit>, AllocError>
+pub fn units_of(alloc: Global, found: &FoundUnits) -> Result<Listed<Unit>, AllocError>
     ensures units { IfOk result (λ units. units ≡ map (unit_of found.now) (keys found.now.units)) }
     ensures ordered { IsStrictlySortedBy bytes_cmp (keys found.now.units) }
 {

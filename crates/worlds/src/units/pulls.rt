@@ -1,10 +1,10 @@
 //! What is pulled from the targets of a system.
 use crate::writing::show_names;
 use host_trait::States;
+use owed_plan::{pull, roots};
 use std::alloc::{AllocError, Global};
 use switch_names::{Listed, UnitName};
 use unit_defs::Defs;
-use unit_pull::{pull, roots};
 use world_text::Lines;
 
 /// Shows what units pull, and the roots and their pull where these units are to be started.

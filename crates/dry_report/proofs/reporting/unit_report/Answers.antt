@@ -1,12 +1,13 @@
 use Rattle.std.proofs.Common.{◌≡◌, ◌++◌, append_assoc, ap, ◌∙◌}
 use Rattle.std.specs.List.{flat_map}
 use Rattle.start_order.specs.declared.ordered.Ordered.{Ordered}
+use Rattle.switch_engine.specs.Plan.{units_of}
 use Rattle.dry_report.specs.Report.{cycle_line, number_of, other_lines, report_front}
 use Rattle.dry_report.proofs.reporting.unit_report.Goals as goal
 
 pub returns : goal.returns
 returns c leaves planned some is =
-    let units = c.args.plan.now.units in
+    let units = units_of c.args.plan.now in
     let system = c.args.plan.now.row.system in
     let front = report_front units.from system (number_of c.args.plan.now) units.duties units.left in
     let told = c.in_ok-write_activated.ensures system leaves planned (c.activation.ensures ∙ some) is in

@@ -2,7 +2,7 @@ use Rattle.std.proofs.Common.{List, ℕ, subst}
 use Rattle.std.proofs.lemmas.List.{take_all}
 use Rattle.host_trait.proofs.Moments.{told_as}
 use Rattle.host_trait.proofs.Readings.{nothing_read_ok, read_handed, read_ok, read_then, told_read}
-use Rattle.etc_clean.specs.Found.{AreFound}
+use Rattle.etc_clean.specs.Found.{AreFoundLeaves}
 use Rattle.etc_clean.specs.Names.{names_below}
 use Rattle.etc_clean.proofs.FoundLemmas.{found_next, none_found}
 use Rattle.etc_clean.proofs.found.find.Goals as goal
@@ -27,8 +27,8 @@ loop-path-preserved g c =
 
 pub returns-clause-found : goal.returns-clause-found
 returns-clause-found g c =
-    told_as c.loop-path.invariant.found (λ w. AreFound c.args.items.now c.args.clean.now w.leaves (names_below c.args.paths.now) c.loop-path.found)
-    (λ w is read. subst (λ (paths : List (List ℕ)). AreFound c.args.items.now c.args.clean.now w.leaves (names_below paths) c.loop-path.found) (take_all c.loop-path.path-index c.args.paths.now c.loop-path-test.false) read)
+    told_as c.loop-path.invariant.found (λ w. AreFoundLeaves c.args.items.now c.args.clean.now w.leaves (names_below c.args.paths.now) c.loop-path.found)
+    (λ w is read. subst (λ (paths : List (List ℕ)). AreFoundLeaves c.args.items.now c.args.clean.now w.leaves (names_below paths) c.loop-path.found) (take_all c.loop-path.path-index c.args.paths.now c.loop-path-test.false) read)
 
 pub returns-in_err-take_path-clause-reads : goal.returns-in_err-take_path-clause-reads
 returns-in_err-take_path-clause-reads g c = read_handed (read_then c.loop-path.invariant.reads c.in_err-take_path.ensures.reads) _ c.from_residual.ensures.1

@@ -1,7 +1,7 @@
 use Rattle.std.proofs.Common.{Ok, take}
 use Rattle.host_trait.specs.Host.{Told}
 use Rattle.host_trait.specs.Reading.{IsReading}
-use Rattle.etc_clean.specs.Found.{AreFound}
+use Rattle.etc_clean.specs.Found.{AreFoundLeaves}
 use Rattle.etc_clean.specs.Names.{names_below}
 use Rattle.etc_clean.proofs.found.find.Given as goal
 
@@ -12,5 +12,5 @@ invariant-loop-path g l =
     let now = g.T.Tree.host l.host in
     record {
       reads : IsReading {T = Unit {0}} start now (Ok tt);
-      found : Told start (λ w. AreFound l.items l.clean w.leaves (names_below (take l.path-index l.paths)) l.found);
+      found : Told start (λ w. AreFoundLeaves l.items l.clean w.leaves (names_below (take l.path-index l.paths)) l.found);
     }

@@ -8,7 +8,7 @@ use Rattle.leaf_limits.specs.Limits.{content_past}
 use Rattle.etc_manifest.specs.declared.item.Item.{Item}
 use Rattle.etc_manifest.specs.Manifest.{places}
 use Rattle.etc_clean.specs.CleanList.{names_in}
-use Rattle.etc_clean.specs.Found.{AreFound}
+use Rattle.etc_clean.specs.Found.{AreFoundLeaves}
 use Rattle.etc_clean.specs.Names.{etc_names}
 use Rattle.etc_clean.proofs.FoundLemmas.{sorted_all}
 use Rattle.etc_clean.proofs.sorting.obsolete.Goals as goal
@@ -34,8 +34,8 @@ returns-clause-sorted g c =
           let standing_list = c.in_ok-content.ensures.content.has w is in
           sorted_all c.args.manifest.now w.leaves c.in_ok-clean.clean c.in_ok-found.found _ c.in_ok-blocked.blocked _ _ c.items.ensures.is_manifest.sorted
           (subst (λ content. IsListOf c.in_ok-clean.clean (λ q. has (names_in content) q ≡ true)) standing_list c.in_ok-clean.ensures.clean)
-          (subst (λ (list : List Item). AreFound list c.in_ok-clean.clean w.leaves (etc_names w.leaves) c.in_ok-found.found) items
-          (subst (λ (names : List Name). AreFound c.as_slice-items.result.now names w.leaves (etc_names w.leaves) c.in_ok-found.found) c.as_slice.ensures (told.has w is)))
+          (subst (λ (list : List Item). AreFoundLeaves list c.in_ok-clean.clean w.leaves (etc_names w.leaves) c.in_ok-found.found) items
+          (subst (λ (names : List Name). AreFoundLeaves c.as_slice-items.result.now names w.leaves (etc_names w.leaves) c.in_ok-found.found) c.as_slice.ensures (told.has w is)))
           c.into_names-gone.ensures.gone c.into_names-gone.ensures.standing
           (subst (λ (list : List Item). IsStrictlySortedBy bytes_cmp c.in_ok-found.found.foreign → c.in_ok-blocked.blocked ≡ filter (λ q. list_any (λ p. is_in_line p q) c.in_ok-found.found.foreign) (places list)) items
           (subst (λ (names : List Name). IsStrictlySortedBy bytes_cmp names → c.in_ok-blocked.blocked ≡ filter (λ q. list_any (λ p. is_in_line p q) names) (places c.as_slice-items.result.now)) c.as_slice-2.ensures c.in_ok-blocked.ensures))

@@ -1,6 +1,6 @@
 use Rattle.std.proofs.lemmas.Result.{on_ok_weaker}
 use Rattle.host_trait.proofs.Moments.{leads_as, passes_as, told_as}
-use Rattle.switch_parts.specs.Part.{IsAtEnd, IsMomentOf, final_leaf}
+use Rattle.switch_parts.specs.Part.{IsAtEnd, IsPartMoment, final_leaf}
 use Rattle.switch_parts.specs.Quiet.{IsQuiet}
 use Rattle.std.proofs.Common.{sym, ap, subst, List}
 use Rattle.etc_manifest.specs.declared.item.Item.{Item}
@@ -26,7 +26,7 @@ returns-clause-ok g c =
 
 pub returns-clause-moments : goal.returns-clause-moments
 returns-clause-moments g c =
-    passes_as c.apply_prepared.ensures.steps (IsMomentOf (etc_part c.args.system.now c.args.plan.now.owners))
+    passes_as c.apply_prepared.ensures.steps (IsPartMoment (etc_part c.args.system.now c.args.plan.now.owners))
     (λ w m is step. making_as c.args.system.now c.args.plan.now w (c.requires.has w is) c.path-path.ensures.names m step)
 
 pub returns-clause-cause : goal.returns-clause-cause

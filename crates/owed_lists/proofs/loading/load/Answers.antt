@@ -1,5 +1,6 @@
 use Rattle.host_trait.proofs.Readings.{read_handed, read_ok, read_then, told_read}
 use Rattle.tree_put.proofs.FoundLemmas.{told_still}
+use Rattle.owed_lists.proofs.ListLemmas.{lists_are}
 use Rattle.owed_lists.proofs.loading.load.Goals as goal
 
 pub read_list-requires-2 : goal.read_list-requires-2
@@ -22,7 +23,7 @@ pub returns-clause-lists : goal.returns-clause-lists
 returns-clause-lists g c =
     let restarts = told_read c.read_list.ensures.reads c.in_ok-restarts.ensures.list in
     let reloads = told_read c.read_list.ensures.reads (told_read c.read_list-2.ensures.reads c.in_ok-reloads.ensures.list) in
-    record { has = λ w is. record { starts = c.in_ok-starts.ensures.list.has w is; restarts = restarts.has w is; reloads = reloads.has w is } }
+    record { has = λ w is. lists_are w.leaves _ (c.in_ok-starts.ensures.list.has w is) (restarts.has w is) (reloads.has w is) }
 
 pub returns-clause-others : goal.returns-clause-others
 returns-clause-others g c = told_read c.read_list.ensures.reads (told_read c.read_list-2.ensures.reads c.in_ok-reloads.ensures.others)

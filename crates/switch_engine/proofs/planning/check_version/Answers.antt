@@ -1,5 +1,6 @@
 use Rattle.std.proofs.Common.{◌≡◌, false, cond, Some, is_none, ap, sym, ◌∙◌, arith}
 use Rattle.std.proofs.lemmas.Result.{err_from_is_err_and, on_ok_weaker}
+use Rattle.boot_entries.specs.Entries.{version_path}
 use Rattle.host_trait.specs.World.{content_of}
 use Rattle.host_trait.proofs.Moments.{told_as}
 use Rattle.host_trait.proofs.Readings.{read_of, reads_of, reads_then, told_read}
@@ -7,7 +8,6 @@ use Rattle.leaf_limits.specs.Limits.{is_long}
 use Rattle.leaf_limits.proofs.PastLemmas.{long_not}
 use Rattle.switch_engine.specs.Lengths.{too_long_by}
 use Rattle.switch_engine.specs.Rows.{gens_to, version_refusal}
-use Rattle.switch_engine.specs.System.{version_path}
 use Rattle.switch_engine.proofs.ShortLemmas.{version_short}
 use Rattle.switch_engine.proofs.SourceLemmas.{no_length, some_length}
 use Rattle.switch_parts.specs.declared.refusal.Refusal.{Refusal}

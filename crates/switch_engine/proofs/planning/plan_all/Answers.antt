@@ -9,13 +9,14 @@ use Rattle.switch_engine.specs.declared.command.Command.{Command}
 use Rattle.switch_engine.specs.declared.row.Row.{Row}
 use Rattle.switch_engine.specs.Commands.{row, switched_by}
 use Rattle.switch_engine.specs.Owing.{IsSteadyFor, IsSteadyTo, Refuses}
-use Rattle.switch_engine.specs.Plan.{ArePlanned, IsPlanOf}
+use Rattle.switch_engine.specs.Plan.{ArePlanned, IsPlanOf, units_of}
 use Rattle.switch_engine.specs.Resolved.{IsGoalPast}
-use Rattle.switch_engine.proofs.PlanLemmas.{lacks_refuses, row_refuses, told_still, version_refuses}
+use Rattle.switch_engine.proofs.PlanLemmas.{lacks_refuses, row_refuses, version_refuses}
 use Rattle.switch_names.specs.SystemName.{IsSystemPath}
 use Rattle.switch_parts.specs.declared.plan_fault.PlanFault.TheVariants.{Host, Refused}
 use Rattle.switch_parts.proofs.Faults.{handed, no_err}
 use Rattle.unit_stage.proofs.KnownLemmas.{same_fault}
+use Rattle.tree_put.proofs.FoundLemmas.{told_still}
 use Rattle.switch_engine.proofs.planning.plan_all.Goals as goal
 
 pub plan_row-requires-clause-known : goal.plan_row-requires-clause-known
@@ -83,8 +84,8 @@ returns-clause-plan g c =
 pub returns-clause-steady : goal.returns-clause-steady
 returns-clause-steady g c =
     let plan = c.in_ok-plan.plan in
-    told_as (told_before c.resolve.ensures.reads.moments (told_before c.check_version.ensures.reads.moments c.in_ok-plan.ensures.steady)) (λ w. IsTrue plan.units.steady ↔ IsSteadyFor c.args.command.now w)
-    (λ w is told. subst (λ (r : Row). IsTrue plan.units.steady ↔ IsSteadyTo r.start_up (switched_by r) w) (c.in_ok-resolved.ensures.resolved.has w is).row told)
+    told_as (told_before c.resolve.ensures.reads.moments (told_before c.check_version.ensures.reads.moments c.in_ok-plan.ensures.steady)) (λ w. IsTrue (units_of plan).steady ↔ IsSteadyFor c.args.command.now w)
+    (λ w is told. subst (λ (r : Row). IsTrue (units_of plan).steady ↔ IsSteadyTo r.start_up (switched_by r) w) (c.in_ok-resolved.ensures.resolved.has w is).row told)
 
 pub returns-in_err-resolved-clause-refused : goal.returns-in_err-resolved-clause-refused
 returns-in_err-resolved-clause-refused g c why e =

@@ -4,11 +4,11 @@ use Rattle.host_trait.specs.declared.tree.HostFault.TheVariants.{Device}
 use Rattle.host_trait.proofs.Moments.{told_before}
 use Rattle.host_trait.proofs.Readings.{reads_of, reads_then}
 use Rattle.switch_engine.specs.Commands.{switched_by}
-use Rattle.switch_engine.proofs.PlanLemmas.{told_still}
 use Rattle.switch_engine.proofs.RefusesLemmas.{some_log_to}
 use Rattle.switch_parts.specs.declared.plan_fault.PlanFault.TheVariants.{Host, Refused}
 use Rattle.switch_parts.proofs.Faults.{handed, no_err, same_err}
 use Rattle.unit_stage.proofs.KnownLemmas.{same_fault}
+use Rattle.tree_put.proofs.FoundLemmas.{told_still}
 use Rattle.switch_engine.proofs.planning.plan_row.Goals as goal
 
 pub check_lengths-requires-clause-planned : goal.check_lengths-requires-clause-planned

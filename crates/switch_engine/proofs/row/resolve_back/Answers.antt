@@ -8,7 +8,7 @@ use Rattle.host_trait.proofs.Moments.{told_as}
 use Rattle.host_trait.proofs.Readings.{read_of, reads_of, reads_then, told_read}
 use Rattle.switch_engine.specs.declared.command.Command.TheVariants.{Rollback}
 use Rattle.switch_engine.specs.Resolved.{IsResolved, Lacks}
-use Rattle.switch_engine.proofs.PlanLemmas.{told_still}
+use Rattle.tree_put.proofs.FoundLemmas.{told_still}
 use Rattle.switch_engine.proofs.ResolveLemmas.{found_back, found_row}
 use Rattle.switch_parts.specs.declared.plan_fault.PlanFault.TheVariants.{Host, Refused}
 use Rattle.switch_parts.specs.declared.refusal.Refusal.TheVariants.{NoPrevious}

@@ -1,5 +1,4 @@
 use Rattle.std.proofs.Common.{◌++◌, ◌∷◌, [], List, None, ap, subst, sym, take, ◌∙◌}
-use Rattle.std.proofs.lemmas.Bool.{both_ways}
 use Rattle.std.proofs.lemmas.List.{take_all, take_more}
 use Rattle.leaf_limits.specs.Limits.{AreWithin}
 use Rattle.leaf_limits.proofs.LongLemmas.{stays_within}

@@ -10,7 +10,8 @@ returns c states are =
     let stops = ap length (c.as_slice-stops.ensures ∙ c.stops.ensures) in
     let reloads = ap length (c.as_slice-reloads.ensures ∙ ap (λ (lists : Lists). lists.reloads) c.recorded-lists.ensures) in
     let restarts = ap length (c.as_slice-restarts.ensures ∙ ap (λ (lists : Lists). lists.restarts) c.recorded-lists.ensures) in
-    are_parts (owed_of plan) plan.ordered.units states calls others later _ _ _ _ (c.as_slice-calls.ensures ∙ c.duties.ensures ∙ are)
+    are_parts (owed_of plan) plan.ordered.units states calls others later _
+    (record { stops = c.first_calls.result; reloads = c.first_calls-2.result; restarts = c.first_calls-3.result; starts = c.calls_after.result }) (c.as_slice-calls.ensures ∙ c.duties.ensures ∙ are)
     (c.first_calls.ensures ∙ ap (λ n. take n calls) stops)
     (c.calls_after-others.ensures ∙ ap (λ n. drop n calls) stops)
     (c.first_calls-2.ensures ∙ ap (λ n. take n others) reloads)

@@ -17,7 +17,7 @@ returns-clause-plan g c =
 
 pub returns-clause-steady : goal.returns-clause-steady
 returns-clause-steady g c =
-    told_as c.in_ok-known.ensures.known (λ w. IsTrue c.in_ok-plan.plan.steady ↔ IsSteadyWorld c.args.start_up w c.args.system.now)
+    told_as c.in_ok-known.ensures.known (λ w. IsTrue c.in_ok-plan.plan.steady ↔ IsSteadyWorld c.args.start_up c.args.system.now w)
     (λ w is known. steady_is c.args.start_up c.args.system.now w c.in_ok-known.known known c.in_ok-plan.plan c.in_ok-plan.ensures.plan)
 
 pub returns-in_err-plan-clause-refused : goal.returns-in_err-plan-clause-refused

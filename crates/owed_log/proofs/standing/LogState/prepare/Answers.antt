@@ -1,7 +1,6 @@
-use Rattle.std.proofs.Common.{◌<◌, is_some, length, sym, ap, subst}
+use Rattle.std.proofs.Common.{is_some, ap, subst}
 use Rattle.std.proofs.lemmas.Bool.{both_ways}
 use Rattle.owed_log.specs.Standing.{IsLogState}
-use Rattle.owed_log.proofs.MomentLemmas.{some_text}
 use Rattle.owed_log.proofs.standing.LogState.prepare.Goals as goal
 
 pub returns-in-Other-clause-prepared : goal.returns-in-Other-clause-prepared

@@ -2,17 +2,17 @@ use Rattle.std.proofs.Common.{◌≡◌, ℕ, List, ◌∷◌, [], ◌++◌, Som
 use Rattle.std.specs.List.{All}
 use Rattle.std.specs.Map.{keys_of}
 use Rattle.std.proofs.lemmas.List.Elements.{All-head, All-rest}
-use Rattle.unit_defs.specs.declared.reading.found.Found.{Found}
+use Rattle.unit_defs.specs.declared.reading.found.FoundUnits.{FoundUnits}
 use Rattle.unit_defs.specs.declared.reading.found.UnitFiles.{UnitFiles}
 use Rattle.unit_defs.specs.declared.unit.Unit.{Unit}
 use Rattle.unit_defs.specs.Found.{files_in, unit_of}
 use Rattle.unit_defs.proofs.NameLemmas.{all_moved, moved_on}
 use Rattle.unit_defs.proofs.reading.units.units_of.Goals as goal
 
-abbrev IsFound : Found → List ℕ × UnitFiles → Type 0
+abbrev IsFound : FoundUnits → List ℕ × UnitFiles → Type 0
 IsFound found entry = files_in found entry.0 ≡ Some entry.1
 
-abbrev made : Found → List (List ℕ × UnitFiles) → List Unit
+abbrev made : FoundUnits → List (List ℕ × UnitFiles) → List Unit
 made found entries = map (unit_of found) (keys_of entries)
 
 pub loop-name-init : goal.loop-name-init

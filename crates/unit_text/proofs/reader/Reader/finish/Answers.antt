@@ -1,7 +1,7 @@
 use Rattle.std.proofs.Common.{[], Err, Option, Some, Result, inl, inr, ⊎_elim, sym, ap, ◌∙◌, subst}
 use Rattle.std.specs.Option.{option_map}
 use Rattle.std.proofs.lemmas.Result.{err_from_is_err_and}
-use Rattle.unit_text.specs.declared.reader.Part.{Part}
+use Rattle.unit_text.specs.declared.reader.ReadPart.{ReadPart}
 use Rattle.unit_text.specs.declared.text_fault.TextFault.{TextFault}
 use Rattle.unit_text.specs.declared.text_fault.TextFault.TheVariants.{Utf8}
 use Rattle.unit_text.specs.Reader.{fault_left}
@@ -31,7 +31,7 @@ sound c =
           (completes_as self c.take.new.self w.complete.new.self
           (ap (λ text. record { first = w.in-Some.part.first; last = w.in-Some.part.last; text = text }) w.as_str.ensures.value) w.in_ok-complete.ensures.ok))
       | in_default w ↦
-          subst (Finishes self) (sym (w.self-is ∙ ap (λ (part : Option Part). record { bad = self.bad; part = part; body = self.body }) c.take.ensures.after))
+          subst (Finishes self) (sym (w.self-is ∙ ap (λ (part : Option ReadPart). record { bad = self.bad; part = part; body = self.body }) c.take.ensures.after))
           (finishes_alone self (sym c.take.ensures.value ∙ w.in_default.is))
     ]
 
@@ -45,7 +45,7 @@ refused c =
           (completes_as self c.take.new.self w.complete.new.self
           (ap (λ text. record { first = w.in-Some.part.first; last = w.in-Some.part.last; text = text }) w.as_str.ensures.value) w.in_ok-complete.ensures.ok))
       | in_default w ↦
-          subst (Finishes self) (sym (w.self-is ∙ ap (λ (part : Option Part). record { bad = self.bad; part = part; body = self.body }) c.take.ensures.after))
+          subst (Finishes self) (sym (w.self-is ∙ ap (λ (part : Option ReadPart). record { bad = self.bad; part = part; body = self.body }) c.take.ensures.after))
           (finishes_alone self (sym c.take.ensures.value ∙ w.in_default.is))
     ]
 

@@ -1,3 +1,0 @@
-pub mod NameSetLemmas
-pub mod RootLemmas
-pub mod SearchLemmas
