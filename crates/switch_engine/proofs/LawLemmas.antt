@@ -1,9 +1,6 @@
 -- Runs of a command: where one begins, how one goes on from another, and how the last one ends.
-use Rattle.std.proofs.Common.{◌≡◌, ◌⊎◌, ◌&&◌, ◌++◌, Bool, true, false, List, [], ◌∷◌, Option, None, Some, append_assoc, refl, sym, ap, subst, ◌∙◌, inl, inr, ⊎_elim}
-use Rattle.std.specs.List.{AllByRecursion}
-use Rattle.std.proofs.lemmas.Bool.{both_ways, or_left, or_right}
-use Rattle.std.proofs.lemmas.List.{append-nil}
-use Rattle.std.proofs.lemmas.List.Folds.{list_any-append}
+use Rattle.std.proofs.Common.{◌≡◌, ◌⊎◌, ◌&&◌, ◌++◌, Bool, true, false, List, [], ◌∷◌, Option, None, Some, refl, ap, subst, ◌∙◌, inl, inr, ⊎_elim}
+use Rattle.std.proofs.lemmas.Bool.{both_ways}
 use Rattle.generations.specs.declared.moving.Move.{Move}
 use Rattle.generations.specs.declared.moving.Move.TheVariants.{Point, Set}
 use Rattle.host_trait.specs.declared.entry.Act.{Act}
@@ -15,33 +12,25 @@ use Rattle.switch_engine.specs.declared.row.Row.{Row}
 use Rattle.switch_engine.specs.Commands.{IsQuery, brought_to, goes_back, if_so, is_back, moved_by, new_system, row, set_to, switched_by, switched_to}
 use Rattle.switch_engine.specs.Final.{AreEntries, AreFinalUnits, IsEndOf}
 use Rattle.switch_engine.specs.Moments.{HasComeBack, HasComeBackIn, IsMomentOf, IsOnItsWay, IsRecordStep, IsStepIf, IsStepOf, IsStepTo, LeadsBy, NamesOneOf}
-use Rattle.switch_engine.specs.Owing.{HasEntered, IsOver, IsPaidBy, IsSteadyFor, IsUnderway, OwesActTo, OwesUnit}
+use Rattle.switch_engine.specs.Owing.{IsOver, IsSteadyFor, IsUnderway}
 use Rattle.switch_engine.specs.Rows.{refusal}
 use Rattle.switch_names.specs.Names.{Name}
-use Rattle.unit_stage.specs.Owes as units
-use Rattle.unit_stage.specs.Owes.{pays}
+use Rattle.unit_stage.specs.End.{entries_of}
+use Rattle.unit_stage.specs.Owes.{HasEntered, HasGoneOn, IsPaidTo, OwesTo}
+use Rattle.unit_stage.proofs.EndLemmas.{left_alone}
+use Rattle.unit_stage.proofs.EnteredLemmas.{all_entered_owed, all_entered_paid}
+use Rattle.unit_stage.proofs.GoneOnLemmas.{begins, entered_on, goes_on, paid_before, paid_since}
 use Rattle.unit_stage.proofs.OrderLemmas.{arranges}
 use Rattle.boot_entries.proofs.MenuLemmas.{menu_begins_law}
 use Rattle.switch_engine.proofs.FlagLemmas.{changes_on}
-use Rattle.switch_engine.proofs.PaidLemmas.{all_joined, entered_owed, entered_paid, left_alone}
 
 -- ---- where a run begins
-
-nothing_entered : (command : Command) (w : WorldState) → HasEntered command w w
-nothing_entered command w = record {
-  entered = [];
-  journal = sym (append-nil w.manager.journal);
-  owed_alone = tt;
-  others = λ unit other. refl;
-}
 
 pub begins_underway : (w : WorldState) (command : Command) → refusal command w.leaves ≡ None → IsSteadyFor command w → IsUnderway command w w
 begins_underway w command none steady = record {
   same_row = refl;
   same_end = λ v. (λ is. is, λ is. is);
-  since = nothing_entered command w;
-  paid_or_owed = λ act unit owed. inr owed;
-  no_more_owed = λ unit owed. owed;
+  gone_on = begins (row command w.leaves).start_up (switched_to command w.leaves) w;
   not_refused = none;
   steady = steady;
 }
@@ -79,93 +68,72 @@ begins_moment command w none = record {
 
 -- ---- from one run to the next
 
--- what some entries pay, more entries pay
-paid_before : (to : Option Name) (act : Act) (unit : Name) (xs ys : List Entry) → IsPaidBy to act unit xs → IsPaidBy to act unit (xs ++ ys)
-paid_before None act unit xs ys paid = absurd paid
-paid_before (Some system) act unit xs ys paid = list_any-append (pays system act unit) xs ys ∙ or_left _ _ paid
-
-paid_since : (to : Option Name) (act : Act) (unit : Name) (xs ys : List Entry) → IsPaidBy to act unit ys → IsPaidBy to act unit (xs ++ ys)
-paid_since None act unit xs ys paid = absurd paid
-paid_since (Some system) act unit xs ys paid = list_any-append (pays system act unit) xs ys ∙ or_right _ _ paid
+-- a switch of the units has entered what pays all that it owed
+abbrev HasPaid : Bool → Option Name → WorldState → WorldState → Type 0
+HasPaid start_up to first w = (since : HasEntered start_up to first w) × ((act : Act) (unit : Name) → OwesTo start_up to first act unit → IsPaidTo to act unit since.entered)
 
 module _ (command : Command) (first w : WorldState) (before : IsUnderway command first w) where
-  abbrev entered_then : (m : WorldState) → HasEntered command w m → HasEntered command first m
-  entered_then m after = record {
-    entered = before.since.entered ++ after.entered;
-    journal = after.journal ∙ ap (λ entries. entries ++ after.entered) before.since.journal ∙ append_assoc first.manager.journal before.since.entered after.entered;
-    owed_alone = all_joined (λ (entry : Entry). OwesUnit command first entry.unit) (λ (entry : Entry). OwesUnit command w entry.unit) (λ entry. before.no_more_owed entry.unit)
-        before.since.entered after.entered before.since.owed_alone after.owed_alone;
-    others = λ unit other. after.others unit (λ owed. other (before.no_more_owed unit owed)) ∙ before.since.others unit other;
-  }
+  abbrev start_up : Bool
+  start_up = (row command first.leaves).start_up
 
-  paid_then : (entered : List Entry) (act : Act) (unit : Name) → IsPaidBy (switched_to command w.leaves) act unit entered → IsPaidBy (switched_to command first.leaves) act unit (before.since.entered ++ entered)
-  paid_then entered act unit paid =
-      paid_since (switched_to command first.leaves) act unit before.since.entered entered
-      (subst (λ (to : Option Name). IsPaidBy to act unit entered) (ap switched_by before.same_row) paid)
+  abbrev to : Option Name
+  to = switched_to command first.leaves
 
   -- a run that is underway, and from there underway again
   pub stays_underway : (m : WorldState) → IsUnderway command w m → IsUnderway command first m
   stays_underway m after = record {
     same_row = after.same_row ∙ before.same_row;
     same_end = λ v. (λ is. (before.same_end v).0 ((after.same_end v).0 is), λ is. (after.same_end v).1 ((before.same_end v).1 is));
-    since = entered_then m after.since;
-    paid_or_owed = λ act unit owed. ⊎_elim
-        (λ paid. inl (paid_before (switched_to command first.leaves) act unit before.since.entered after.since.entered paid))
-        (λ owed_still. ⊎_elim
-        (λ paid. inl (paid_then after.since.entered act unit paid))
-        (λ owed_now. inr owed_now)
-        (after.paid_or_owed act unit owed_still))
-        (before.paid_or_owed act unit owed);
-    no_more_owed = λ unit owed. before.no_more_owed unit (after.no_more_owed unit owed);
+    gone_on = goes_on start_up to first w m before.gone_on (subst (λ (r : Row). HasGoneOn r.start_up (switched_by r) w m) before.same_row after.gone_on);
     not_refused = after.not_refused;
     steady = after.steady;
   }
 
   -- a run that is underway, and from there over
   pub over_then : (v : WorldState) → IsOver command w v → IsOver command first v
-  over_then v after = record {
-    final = (before.same_end v).0 after.final;
-    since = entered_then v after.since;
-    paid = λ act unit owed. ⊎_elim
-        (λ paid. paid_before (switched_to command first.leaves) act unit before.since.entered after.since.entered paid)
-        (λ owed_still. paid_then after.since.entered act unit (after.paid act unit owed_still))
-        (before.paid_or_owed act unit owed);
-  }
+  over_then v after =
+      let then : HasPaid start_up to w v = subst (λ (r : Row). HasPaid r.start_up (switched_by r) w v) before.same_row (after.since, after.paid) in
+      record {
+        final = (before.same_end v).0 after.final;
+        since = entered_on start_up to first w v before.gone_on then.0;
+        paid = λ act unit owed. ⊎_elim
+            (paid_before to act unit before.gone_on.since.entered then.0.entered)
+            (λ still. paid_since to act unit before.gone_on.since.entered then.0.entered (then.1 act unit still))
+            (before.gone_on.paid_or_owed act unit owed);
+      }
 
 -- ---- the end of a run
 
--- what a switch of the units to a system enters, or none, is about what it owes, and pays it
-record HasPaid (start_up : Bool) (to : Option Name) (w v : WorldState) (entries : List Entry) : Type 0 where
-  owed_alone : AllByRecursion (λ entry. (act : Act) × OwesActTo start_up to w act entry.unit) entries
-  others : (unit : Name) → ¬ ((act : Act) × OwesActTo start_up to w act unit) → state_of v.manager.states unit ≡ state_of w.manager.states unit
-  paid : (act : Act) (unit : Name) → OwesActTo start_up to w act unit → IsPaidBy to act unit entries
-
-has_paid : (start_up switches : Bool) (system : Name) (w v : WorldState) (entries : List Entry) → AreFinalUnits start_up (if_so switches system) w v → AreEntries start_up (if_so switches system) w entries → HasPaid start_up (if_so switches system) w v entries
-has_paid start_up true system w v entries final are =
-    let states = final.0 in
-    let same = arranges w.leaves system are.0 are.1 are.3 in
-    record {
-      owed_alone = subst (λ (entries : List Entry). AllByRecursion (λ entry. units.OwesUnit start_up system w entry.unit) entries) (sym are.4) (entered_owed start_up w system are.0 are.2 are.1 same);
-      others = λ unit other. states.2 unit ∙ left_alone start_up w system states.0 states.1 unit other;
-      paid = λ act unit owes. subst (λ (entries : List Entry). units.IsPaid system act unit entries) (sym are.4) (entered_paid start_up w system are.0 are.2 are.1 same act unit owes);
-    }
-has_paid start_up false system w v entries final are = record {
-  owed_alone = subst (λ (entries : List Entry). AllByRecursion (λ entry. (act : Act) × OwesActTo start_up None w act entry.unit) entries) (sym are) tt;
-  others = λ unit other. ap (λ (states : UnitStates). state_of states unit) final.0;
-  paid = λ act unit owes. absurd owes;
-}
+-- what a switch of the units to a system enters, or none, pays all that it owes
+has_paid : (start_up switches : Bool) (system : Name) (w v : WorldState) (entries : List Entry) → AreFinalUnits start_up (if_so switches system) w v → AreEntries start_up (if_so switches system) w entries →
+    v.manager.journal ≡ w.manager.journal ++ entries → HasPaid start_up (if_so switches system) w v
+has_paid start_up true system w v entries final (owed, order, is_owed, in_order, same) journal =
+    let arranged = arranges w.leaves system owed order in_order in (
+      record {
+        entered = entries_of system owed order w;
+        journal = journal ∙ ap (λ all. w.manager.journal ++ all) same;
+        owed_alone = all_entered_owed start_up system is_owed.0 owed order arranged w is_owed.1;
+        others = λ unit other. final.0.2 unit ∙ left_alone start_up system final.0.1.0 final.0.0 w final.0.1.1 unit other;
+      },
+      all_entered_paid start_up system is_owed.0 owed order arranged w is_owed.1,
+    )
+has_paid start_up false system w v entries final none journal = (
+  record {
+    entered = [];
+    journal = journal ∙ ap (λ all. w.manager.journal ++ all) none;
+    owed_alone = tt;
+    others = λ unit other. ap (λ (states : UnitStates). state_of states unit) final.0;
+  },
+  λ act unit owes. absurd owes,
+)
 
 -- a run that has come to its end is over
 pub ended_over : (command : Command) (w v : WorldState) → (IsQuery command → ⊥) → IsEndOf command w v → IsOver command w v
 ended_over command w v changes end =
     let brought : brought_to command w.leaves ≡ switched_to command w.leaves = ap (λ b. if_so (b && (row command w.leaves).switches) (new_system command w.leaves)) (changes_on command w.leaves changes) in
     let paid = has_paid (row command w.leaves).start_up (row command w.leaves).switches (new_system command w.leaves) w v end.entries
-    (subst (λ to. AreFinalUnits (row command w.leaves).start_up to w v) brought end.final.units) (subst (λ to. AreEntries (row command w.leaves).start_up to w end.entries) brought end.are_entered) in
-    record {
-      final = end.final;
-      since = record { entered = end.entries; journal = end.journal; owed_alone = paid.owed_alone; others = paid.others };
-      paid = paid.paid;
-    }
+    (subst (λ to. AreFinalUnits (row command w.leaves).start_up to w v) brought end.final.units) (subst (λ to. AreEntries (row command w.leaves).start_up to w end.entries) brought end.are_entered) end.journal in
+    record { final = end.final; since = paid.0; paid = paid.1 }
 
 -- ---- any number of cuts
 

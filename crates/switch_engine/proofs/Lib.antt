@@ -13,7 +13,6 @@ pub mod LongLemmas
 pub mod MenuApart
 pub mod MovedPart
 pub mod MovedQuiet
-pub mod PaidLemmas
 pub mod PartsLemmas
 pub mod PlaceLemmas
 pub mod PlanLemmas

@@ -1,9 +1,7 @@
 -- Where the work of a command's parts has come to a moment, the command is underway.
-use Rattle.std.proofs.Common.{◌≡◌, ◌≢◌, ◌⊎◌, ◌↔◌, ◌&&◌, ℕ, Bool, true, false, cond, ◌++◌, List, [], length, nat_lt, unwrap_or, codes, append_assoc, Option, None, Some, is_none, option_map, refl, sym, ap, subst, ◌∙◌}
-use Rattle.std.proofs.lemmas.List.{append-nil}
+use Rattle.std.proofs.Common.{◌≡◌, ◌≢◌, ◌↔◌, ◌&&◌, ℕ, Bool, true, false, cond, ◌++◌, List, [], length, nat_lt, unwrap_or, codes, append_assoc, Option, None, Some, is_none, option_map, refl, sym, ap, subst, ◌∙◌}
 use Rattle.std.proofs.lemmas.Bool.{both_ways}
 use Rattle.std.specs.FinMap.{get}
-use Rattle.std.specs.List.{AllByRecursion}
 use Rattle.activation_stage.specs.ActivationPart.{activation_part}
 use Rattle.activation_stage.specs.Owners.{owners_after}
 use Rattle.boot_entries.specs.Entries.{version_path}
@@ -11,8 +9,6 @@ use Rattle.etc_manifest.specs.Owners.{OwnerIds}
 use Rattle.generations.specs.declared.gens.Gens.{Gens}
 use Rattle.generations.specs.declared.moving.Move.{Move}
 use Rattle.generations.specs.Move.{gens_moved}
-use Rattle.host_trait.specs.declared.entry.Act.{Act}
-use Rattle.host_trait.specs.declared.entry.Entry.{Entry}
 use Rattle.host_trait.specs.declared.manager_state.ManagerState.{ManagerState}
 use Rattle.host_trait.specs.States.{state_of}
 use Rattle.host_trait.specs.World.{Leaves, WorldState, content_of, stage}
@@ -23,7 +19,7 @@ use Rattle.switch_engine.specs.declared.command.Command.{Command}
 use Rattle.switch_engine.specs.declared.row.Row.{Row}
 use Rattle.switch_engine.specs.Commands.{brought_by, brought_to, if_so, lacks_system, missing, new_system, row, switched_by, switched_to}
 use Rattle.switch_engine.specs.Final.{AreFinalUnits}
-use Rattle.switch_engine.specs.Owing.{IsPaidBy, IsSteadyFor, IsSteadyTo, IsUnderway, OwesActTo}
+use Rattle.switch_engine.specs.Owing.{IsSteadyFor, IsSteadyTo, IsUnderway}
 use Rattle.switch_engine.specs.Rows.{default_if, final, gens_to, part_of, parts, parts_in, refusal, refusal_before_length, refusal_by, refusal_in_parts, switch_part, system_refusal, too_many_by, too_much_by}
 use Rattle.leaf_limits.specs.Limits.{is_long, leaf_max}
 use Rattle.switch_engine.specs.Lengths.{too_long_by}
@@ -46,8 +42,9 @@ use Rattle.switch_engine.proofs.LongLemmas.{none_refused, unless}
 use Rattle.switch_parts.specs.Limits.{long_refusal}
 use Rattle.switch_parts.specs.Part.{IsFree, IsPartMoment, IsPart, final_leaf}
 use Rattle.switch_parts.proofs.Parts.{ends_alike, first_free}
-use Rattle.unit_stage.specs.Owes.{IsSteadyWorld}
+use Rattle.unit_stage.specs.Owes.{HasGoneOn, IsSteadyWorld}
 use Rattle.unit_stage.specs.Units.{AreUnitsUnderway, units_part}
+use Rattle.unit_stage.proofs.GoneOnLemmas.{no_call}
 
 -- ---- why a command isn't refused
 
@@ -109,33 +106,12 @@ version_inside system named =
 
 -- ---- what a moment keeps for the units
 
--- a switch of the units to a system, or none, is underway
-pub record IsSince (start_up : Bool) (to : Option Name) (w m : WorldState) : Type 0 where
-  pub units : (v : WorldState) → AreFinalUnits start_up to m v ↔ AreFinalUnits start_up to w v
-  pub same_bad : m.manager.bad ≡ w.manager.bad
-  pub entered : List Entry
-  pub journal : m.manager.journal ≡ w.manager.journal ++ entered
-  pub owed_alone : AllByRecursion (λ entry. (act : Act) × OwesActTo start_up to w act entry.unit) entered
-  pub others : (unit : Name) → ¬ ((act : Act) × OwesActTo start_up to w act unit) → state_of m.manager.states unit ≡ state_of w.manager.states unit
-  pub paid_or_owed : (act : Act) (unit : Name) → OwesActTo start_up to w act unit → IsPaidBy to act unit entered ⊎ OwesActTo start_up to m act unit
-  pub no_more_owed : (unit : Name) → ((act : Act) × OwesActTo start_up to m act unit) → (act : Act) × OwesActTo start_up to w act unit
-  pub steady : IsSteadyTo start_up to m
-
-since_units : (start_up : Bool) (system : Name) (w m : WorldState) → AreUnitsUnderway start_up system w m → IsSince start_up (Some system) w m
-since_units start_up system w m units = record {
-  units = λ v. (
-    λ is. ((units.same_states (state_of v.manager.states)).0 is.0, is.1),
-    λ is. ((units.same_states (state_of v.manager.states)).1 is.0, is.1),
-  );
-  same_bad = units.same_bad;
-  entered = units.entered;
-  journal = units.journal;
-  owed_alone = units.owed_alone;
-  others = units.others;
-  paid_or_owed = units.paid_or_owed;
-  no_more_owed = units.no_more_owed;
-  steady = units.steady;
-}
+-- what a moment keeps of a switch of the units to a system, or of none: it leaves the same states, and has gone on to there
+record IsSince (start_up : Bool) (to : Option Name) (w m : WorldState) : Type 0 where
+  units : (v : WorldState) → AreFinalUnits start_up to m v ↔ AreFinalUnits start_up to w v
+  same_bad : m.manager.bad ≡ w.manager.bad
+  gone_on : HasGoneOn start_up to w m
+  steady : IsSteadyTo start_up to m
 
 since_none : (start_up : Bool) (w m : WorldState) → m.manager ≡ w.manager → IsSince start_up None w m
 since_none start_up w m same = record {
@@ -144,12 +120,7 @@ since_none start_up w m same = record {
     λ is. (is.0 ∙ sym (ap (λ (k : ManagerState). k.states) same), is.1 ∙ sym (ap (λ (k : ManagerState). k.loaded) same)),
   );
   same_bad = ap (λ (k : ManagerState). k.bad) same;
-  entered = [];
-  journal = ap (λ (k : ManagerState). k.journal) same ∙ sym (append-nil w.manager.journal);
-  owed_alone = tt;
-  others = λ unit other. ap (λ (k : ManagerState). state_of k.states unit) same;
-  paid_or_owed = λ act unit owed. absurd owed;
-  no_more_owed = λ unit owed. absurd owed.1;
+  gone_on = no_call start_up None w m same (λ act unit owed. absurd owed) (λ unit owed. absurd owed.1);
   steady = tt;
 }
 
@@ -168,7 +139,14 @@ short_by start_up false moves system owners gens w m free moment steady owed on 
 
 since_by : (start_up switches : Bool) (moves : Option Move) (system : Name) (owners : OwnerIds) (gens : Gens) (w m : WorldState) → IsFree (parts start_up switches moves system owners gens) w.leaves → IsPartMoment (parts start_up switches moves system owners gens) w m → IsSteadyTo start_up (if_so switches system) w →
     IsSince start_up (if_so switches system) w m
-since_by start_up true moves system owners gens w m free moment steady = since_units start_up system w m (units_by start_up moves system owners gens w m free moment steady)
+since_by start_up true moves system owners gens w m free moment steady =
+    let is = units_by start_up moves system owners gens w m free moment steady in
+    record {
+      units = λ v. (λ end. ((is.same_states (state_of v.manager.states)).0 end.0, end.1), λ end. ((is.same_states (state_of v.manager.states)).1 end.0, end.1));
+      same_bad = is.same_bad;
+      gone_on = is.gone_on;
+      steady = is.steady;
+    }
 since_by start_up false (Some move) system owners gens w m free moment steady = since_none start_up w m (moment.only.manager refl)
 since_by start_up false None system owners gens w m free moment steady = since_none start_up w m (moment.only.manager refl)
 
@@ -273,9 +251,7 @@ module _ (command : Command) (w m : WorldState) (on : (row command w.leaves).cha
             bad = is.bad ∙ sym since.same_bad;
           },
         );
-        since = record { entered = since.entered; journal = since.journal; owed_alone = since.owed_alone; others = since.others };
-        paid_or_owed = λ act unit owed. subst (λ (r : Row). IsPaidBy (switched_to command w.leaves) act unit since.entered ⊎ OwesActTo r.start_up (switched_by r) m act unit) (sym same) (since.paid_or_owed act unit owed);
-        no_more_owed = λ unit owed. since.no_more_owed unit (owed.0, subst (λ (r : Row). OwesActTo r.start_up (switched_by r) m owed.0 unit) same owed.1);
+        gone_on = since.gone_on;
         not_refused = still_not_refused steady;
         steady = subst (λ (r : Row). IsSteadyTo r.start_up (switched_by r) m) (sym same) since.steady;
       }

@@ -1,9 +1,6 @@
 -- What a command owes each unit, and a run of it that is underway: NixOS manual, "Unit handling".
-use Rattle.std.specs.Prelude.{◌≡◌, ◌⊎◌, ◌↔◌, ◌++◌, Bool, List, Option, None, Some}
-use Rattle.std.specs.List.{AllByRecursion}
+use Rattle.std.specs.Prelude.{◌≡◌, ◌↔◌, Bool, Option, None, Some}
 use Rattle.host_trait.specs.declared.entry.Act.{Act}
-use Rattle.host_trait.specs.declared.entry.Entry.{Entry}
-use Rattle.host_trait.specs.States.{state_of}
 use Rattle.host_trait.specs.World.{WorldState}
 use Rattle.leaf_limits.specs.declared.too_long.TooLong.{TooLong}
 use Rattle.leaf_limits.specs.Limits.{first_long}
@@ -14,26 +11,12 @@ use Rattle.switch_engine.specs.Final.{IsFinalOf}
 use Rattle.switch_engine.specs.Rows.{parts_in, refusal, refusal_by, refusal_with}
 use Rattle.switch_names.specs.Names.{Name}
 use Rattle.switch_parts.specs.declared.refusal.Refusal.{Refusal}
-use Rattle.unit_stage.specs.Owes.{IsPaid, IsSteadyWorld, Owes}
+use Rattle.unit_stage.specs.Owes.{HasEntered, HasGoneOn, IsPaidTo, IsSteadyWorld, OwesTo}
 use Rattle.unit_stage.specs.Plan.{IsLongLog}
-
--- a switch of the units to a system, where there is one, owes a unit of a world an act of this kind
-abbrev pub OwesActTo : Bool → Option Name → WorldState → Act → Name → Type 0
-OwesActTo start_up None w act unit = ⊥
-OwesActTo start_up (Some system) w act unit = Owes start_up system w act unit
 
 -- a command owes a unit of a world an act of this kind
 abbrev pub OwesAct : Command → WorldState → Act → Name → Type 0
-OwesAct command w act unit = OwesActTo (row command w.leaves).start_up (switched_to command w.leaves) w act unit
-
--- a command owes a unit of a world something
-abbrev pub OwesUnit : Command → WorldState → Name → Type 0
-OwesUnit command w unit = (act : Act) × OwesAct command w act unit
-
--- some entries pay what a command owes a unit, whose system is that of this world
-abbrev pub IsPaidBy : Option Name → Act → Name → List Entry → Type 0
-IsPaidBy None act unit entries = ⊥
-IsPaidBy (Some system) act unit entries = IsPaid system act unit entries
+OwesAct command w act unit = OwesTo (row command w.leaves).start_up (switched_to command w.leaves) w act unit
 
 -- a steady world, as far as a switch of the units looks at it
 abbrev pub IsSteadyTo : Bool → Option Name → WorldState → Type 0
@@ -62,23 +45,13 @@ RefusesBy its w why = (long : Option TooLong) × IsLongLogTo its.start_up (switc
 abbrev pub Refuses : Command → WorldState → Option Refusal → Type 0
 Refuses command w why = (long : Option TooLong) × IsLongLogTo (row command w.leaves).start_up (switched_to command w.leaves) w long × (why ≡ refusal_with long command w.leaves)
 
--- What a run of a command has entered since it began in a world: only units that were owed something have been called,
--- and every other is in the state that it was in.
-pub record HasEntered (command : Command) (first w : WorldState) : Type 0 where
-  pub entered : List Entry
-  pub journal : w.manager.journal ≡ first.manager.journal ++ entered
-  pub owed_alone : AllByRecursion (λ entry. OwesUnit command first entry.unit) entered
-  pub others : (unit : Name) → ¬ OwesUnit command first unit → state_of w.manager.states unit ≡ state_of first.manager.states unit
-
 -- A run of a command that began in a world is underway in another: the command has there the row that it had, leaves from
--- there what it leaves from the first world, and isn't refused. What it owed the units is paid or still owed, only these units
--- have been called, and every other is in the state that it was in.
+-- there what it leaves from the first world, and isn't refused. Its switch of the units has gone on to there, and the world is
+-- steady.
 pub record IsUnderway (command : Command) (first w : WorldState) : Type 0 where
   pub same_row : row command w.leaves ≡ row command first.leaves
   pub same_end : (v : WorldState) → IsFinalOf command w v ↔ IsFinalOf command first v
-  pub since : HasEntered command first w
-  pub paid_or_owed : (act : Act) (unit : Name) → OwesAct command first act unit → IsPaidBy (switched_to command first.leaves) act unit since.entered ⊎ OwesAct command w act unit
-  pub no_more_owed : (unit : Name) → OwesUnit command w unit → OwesUnit command first unit
+  pub gone_on : HasGoneOn (row command first.leaves).start_up (switched_to command first.leaves) first w
   pub not_refused : refusal command w.leaves ≡ None
   pub steady : IsSteadyFor command w
 
@@ -86,5 +59,5 @@ pub record IsUnderway (command : Command) (first w : WorldState) : Type 0 where
 -- and no unit was touched that was owed nothing.
 pub record IsOver (command : Command) (first w : WorldState) : Type 0 where
   pub final : IsFinalOf command first w
-  pub since : HasEntered command first w
-  pub paid : (act : Act) (unit : Name) → OwesAct command first act unit → IsPaidBy (switched_to command first.leaves) act unit since.entered
+  pub since : HasEntered (row command first.leaves).start_up (switched_to command first.leaves) first w
+  pub paid : (act : Act) (unit : Name) → OwesAct command first act unit → IsPaidTo (switched_to command first.leaves) act unit since.entered

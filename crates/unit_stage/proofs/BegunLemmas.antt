@@ -1,6 +1,5 @@
 -- Where nothing has changed that the units' part looks at, a switch of the units is underway.
-use Rattle.std.proofs.Common.{◌≡◌, ◌||◌, [], sym, ap, subst, ◌∙◌, Bool, inr}
-use Rattle.std.proofs.lemmas.List.{append-nil}
+use Rattle.std.proofs.Common.{◌≡◌, ◌||◌, Some, sym, ap, subst, ◌∙◌, Bool}
 use Rattle.std.specs.FinMap.{get}
 use Rattle.host_trait.specs.declared.entry.Act.{Act}
 use Rattle.host_trait.specs.declared.manager_state.ManagerState.{ManagerState}
@@ -24,6 +23,7 @@ use Rattle.unit_stage.specs.System.{IsSystem, current_place, current_system, def
 use Rattle.unit_stage.specs.Units.{AreUnitsFree, AreUnitsUnderway}
 use Rattle.unit_stage.specs.Waiting.{AreListsFor, waits_besides}
 use Rattle.unit_stage.proofs.EndLemmas.{ends_same, one_end, owed_in}
+use Rattle.unit_stage.proofs.GoneOnLemmas.{no_call}
 use Rattle.unit_stage.proofs.ListsLemmas.{lists_back}
 use Rattle.unit_stage.proofs.RoomLemmas.{still_room}
 use Rattle.unit_stage.proofs.SystemsLemmas.{systems_before}
@@ -112,12 +112,7 @@ module _ (start_up : Bool) (system : Name) (is_system : IsSystem system) (w m : 
       record {
         same_states = ends_same start_up system owed.1.0 owed.0 w owed.1.1 m (end_before owed.1.0 owed.0 owed.1.1);
         same_bad = ap (λ (x : ManagerState). x.bad) manager;
-        entered = [];
-        journal = ap (λ (x : ManagerState). x.journal) manager ∙ sym (append-nil w.manager.journal);
-        owed_alone = tt;
-        paid_or_owed = λ act unit owes. inr (owes_after act unit owes);
-        no_more_owed = unit_before;
-        others = λ unit none. ap (λ (x : ManagerState). state_of x.states unit) manager;
+        gone_on = no_call start_up (Some system) w m manager owes_after unit_before;
         free = free;
         short = short;
         steady = is_steady steady;

@@ -1,20 +1,24 @@
 -- The states that a switch leaves are the same from each moment.
-use Rattle.std.proofs.Common.{◌≡◌, ◌↔◌, sym, subst, ◌∙◌, Bool}
+use Rattle.std.proofs.Common.{◌≡◌, ◌&&◌, ◌||◌, ◌↔◌, Bool, false, not, if◌then◌else◌, sym, subst, ◌∙◌}
+use Rattle.std.proofs.lemmas.Bool.{false_from_ne_true}
 use Rattle.host_trait.specs.declared.entry.Act.{Act}
 use Rattle.host_trait.specs.declared.entry.Act.TheVariants.{Stop, Reload, Restart, Start}
 use Rattle.host_trait.specs.declared.unit_state.State.{State}
+use Rattle.host_trait.specs.declared.unit_state.State.TheVariants.{Active, Inactive}
+use Rattle.host_trait.specs.Manager.{is_active}
 use Rattle.host_trait.specs.States.{state_of}
 use Rattle.host_trait.specs.World.{WorldState}
 use Rattle.log_text.specs.declared.lists.Lists.{Lists}
 use Rattle.owed_plan.specs.declared.owed.Owed.{Owed}
-use Rattle.owed_plan.specs.FinalStates.{final_state}
+use Rattle.owed_plan.specs.FinalStates.{brought_by, final_state}
 use Rattle.owed_plan.specs.Lists.{owed_names}
 use Rattle.owed_plan.specs.Owed.{IsOwed}
 use Rattle.owed_plan.specs.Systems.{Systems, systems_at}
 use Rattle.owed_plan.proofs.ExistLemmas.{plan_at}
 use Rattle.owed_plan.proofs.ListLemmas as plans
-use Rattle.switch_names.specs.Names.{Name}
+use Rattle.switch_names.specs.Names.{Name, has}
 use Rattle.unit_stage.specs.End.{AreEndStates, state_after}
+use Rattle.unit_stage.specs.Owes.{OwesUnit}
 use Rattle.unit_stage.specs.Plan.{IsOwedBy, IsOwedIn}
 use Rattle.unit_stage.specs.System.{current_system, definitions_of}
 use Rattle.unit_stage.proofs.WaitingLemmas.{same_waiting, waiting_in}
@@ -43,6 +47,23 @@ module _ (start_up : Bool) (system : Name) (lists : Lists) (owed : Owed) (w : Wo
   one_end first is unit =
       let same = same_names first is in
       λ i. final_state (record { stops = same Stop i; reloads = same Reload i; restarts = same Restart i; starts = same Start i; left = owed.left }) (definitions_of system) w.manager.bad states unit
+
+  lacks : (act : Act) (unit : Name) → ¬ OwesUnit start_up system w unit → has (owed_names owed act) unit ≡ false
+  lacks act unit none = false_from_ne_true (has (owed_names owed act) unit) (λ found. none (act, (lists, owes.listed, ((owes.is_owed act).exact unit).0 found)))
+
+  -- a unit that is owed nothing stays in its state
+  pub left_alone : (unit : Name) → ¬ OwesUnit start_up system w unit → state_after system owed w unit ≡ states unit
+  left_alone unit none =
+      let stops = lacks Stop unit none in
+      let reloads = lacks Reload unit none in
+      let restarts = lacks Restart unit none in
+      let starts = lacks Start unit none in
+      let to = brought_by (definitions_of system) w.manager.bad unit in
+      λ i. if restarts i then to
+      else if (starts i || reloads i) && is_active (states unit) && not (stops i) then Active
+      else if starts i || reloads i then to
+      else if stops i then Inactive
+      else states unit
 
   -- where what is owed at another moment leaves the same states, the end is the same
   pub ends_same : (m : WorldState) → ((next : Owed) → IsOwedBy start_up system m next → (unit : Name) → state_after system next m unit ≡ state_after system owed w unit) →

@@ -8,8 +8,10 @@ pub mod ComeLemmas
 pub mod CountLemmas
 pub mod ElsewhereLemmas
 pub mod EndLemmas
+pub mod EnteredLemmas
 pub mod FreeLemmas
 pub mod GivenLemmas
+pub mod GoneOnLemmas
 pub mod KnownLemmas
 pub mod LengthLemmas
 pub mod ListsLemmas

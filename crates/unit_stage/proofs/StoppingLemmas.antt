@@ -141,12 +141,11 @@ module _ (start_up : Bool) (system : Name) (lists : Lists) (owed : Owed) (w m : 
   stops_underway free short = record {
     same_states = ends_same start_up system lists owed w owes m end_now;
     same_bad = moment.bad;
-    entered = entered;
-    journal = moment.journal;
-    owed_alone = entered_owed;
-    paid_or_owed = paid_or_owed;
-    no_more_owed = no_more_owed;
-    others = others_kept;
+    gone_on = record {
+      since = record { entered = entered; journal = moment.journal; owed_alone = entered_owed; others = others_kept };
+      paid_or_owed = paid_or_owed;
+      no_more_owed = no_more_owed;
+    };
     free = free;
     short = short;
     steady = record { marks = are_marks; room = still_room start_up system w m no_more_owed steady };

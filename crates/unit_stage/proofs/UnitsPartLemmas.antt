@@ -1,12 +1,7 @@
 -- What is about the units is a part of a switch.
-use Rattle.std.proofs.Common.{◌≡◌, ◌⊎◌, ◌||◌, ◌++◌, true, codes, List, refl, sym, ap, subst, ◌∙◌, Bool, inl, inr}
-use Rattle.std.proofs.lemmas.Bool.{both_ways, or_left, or_right}
-use Rattle.std.proofs.lemmas.List.{append_assoc}
-use Rattle.std.proofs.lemmas.List.Folds.{list_any-append}
+use Rattle.std.proofs.Common.{◌≡◌, ◌||◌, true, codes, List, Some, refl, sym, subst, ◌∙◌, Bool, inl}
+use Rattle.std.proofs.lemmas.Bool.{both_ways, or_left}
 use Rattle.std.specs.FinMap.{get}
-use Rattle.std.specs.List.{list_any}
-use Rattle.host_trait.specs.declared.entry.Act.{Act}
-use Rattle.host_trait.specs.declared.entry.Entry.{Entry}
 use Rattle.host_trait.specs.World.{WorldState}
 use Rattle.log_text.specs.declared.lists.Lists.{Lists}
 use Rattle.owed_lists.specs.Lists.{place_of}
@@ -24,61 +19,33 @@ use Rattle.owed_plan.specs.declared.owed.Owed.{Owed}
 use Rattle.unit_stage.specs.Order.{IsOrderedAt}
 use Rattle.unit_stage.specs.Plan.{IsOwedBy}
 use Rattle.unit_stage.specs.Owned.{owns_units, reads_units, unit_places}
-use Rattle.unit_stage.specs.Owes.{IsPaid, Owes, OwesUnit, pays}
 use Rattle.unit_stage.specs.System.{IsSystem, current_place}
 use Rattle.unit_stage.specs.Units.{AreUnitsFree, AreUnitsKept, AreUnitsUnderway, units_part}
 use Rattle.unit_stage.proofs.BegunLemmas.{begun_underway, owed_after}
 use Rattle.unit_stage.proofs.FreeLemmas.{stays_free}
+use Rattle.unit_stage.proofs.GoneOnLemmas.{goes_on}
 use Rattle.unit_stage.proofs.ListsLemmas.{AreSameLists, lists_same, old_leaves, write_same}
 use Rattle.unit_stage.proofs.MomentLemmas.{free_law, underway_law}
 use Rattle.unit_stage.proofs.OrderLemmas.{ordered_there}
 use Rattle.unit_stage.proofs.OwnedLemmas.{not_reads_stage, same_store}
 use Rattle.unit_stage.proofs.ElsewhereLemmas.{own_current, own_list, own_log}
-use Rattle.unit_stage.proofs.PayLemmas.{all_implied, all_joined}
 use Rattle.unit_stage.proofs.ShortLemmas.{short_same}
 
 -- ---- from moment to moment
 
-module _ (start_up : Bool) (system : Name) (w v m : WorldState) (one : AreUnitsUnderway start_up system w v) (then : AreUnitsUnderway start_up system v m) where
-  paid_first : (act : Act) (unit : Name) → IsPaid system act unit one.entered → IsPaid system act unit (one.entered ++ then.entered)
-  paid_first act unit paid =
-      list_any-append (pays system act unit) one.entered then.entered
-      ∙ or_left (list_any (pays system act unit) one.entered) (list_any (pays system act unit) then.entered) paid
-
-  paid_then : (act : Act) (unit : Name) → IsPaid system act unit then.entered → IsPaid system act unit (one.entered ++ then.entered)
-  paid_then act unit paid =
-      list_any-append (pays system act unit) one.entered then.entered
-      ∙ or_right (list_any (pays system act unit) one.entered) (list_any (pays system act unit) then.entered) paid
-
-  paid_or_owed : (act : Act) (unit : Name) → Owes start_up system w act unit → IsPaid system act unit (one.entered ++ then.entered) ⊎ Owes start_up system m act unit
-  paid_or_owed act unit owes = elim (one.paid_or_owed act unit owes) [
-    | inl paid ↦ inl (paid_first act unit paid)
-    | inr still ↦ elim (then.paid_or_owed act unit still) [
-      | inl paid ↦ inl (paid_then act unit paid)
-      | inr left ↦ inr left
-    ]
-  ]
-
-  -- what is underway stays underway
-  pub underway_then : AreUnitsUnderway start_up system w m
-  underway_then = record {
-    same_states = λ states. (
-      λ end. (one.same_states states).0 ((then.same_states states).0 end),
-      λ end. (then.same_states states).1 ((one.same_states states).1 end),
-    );
-    same_bad = then.same_bad ∙ one.same_bad;
-    entered = one.entered ++ then.entered;
-    journal = then.journal ∙ ap (λ entries. entries ++ then.entered) one.journal ∙ append_assoc w.manager.journal one.entered then.entered;
-    owed_alone =
-        all_joined (λ entry. OwesUnit start_up system w entry.unit) one.entered then.entered one.owed_alone
-        (all_implied (λ (entry : Entry). OwesUnit start_up system v entry.unit) (λ entry. OwesUnit start_up system w entry.unit) (λ entry owes. one.no_more_owed entry.unit owes) then.entered then.owed_alone);
-    paid_or_owed = paid_or_owed;
-    no_more_owed = λ unit owes. one.no_more_owed unit (then.no_more_owed unit owes);
-    others = λ unit none. then.others unit (λ owes. none (one.no_more_owed unit owes)) ∙ one.others unit none;
-    free = then.free;
-    short = λ short. then.short (one.short short);
-    steady = then.steady;
-  }
+-- what is underway stays underway
+pub underway_then : (start_up : Bool) (system : Name) (w v m : WorldState) → AreUnitsUnderway start_up system w v → AreUnitsUnderway start_up system v m → AreUnitsUnderway start_up system w m
+underway_then start_up system w v m one then = record {
+  same_states = λ states. (
+    λ end. (one.same_states states).0 ((then.same_states states).0 end),
+    λ end. (then.same_states states).1 ((one.same_states states).1 end),
+  );
+  same_bad = then.same_bad ∙ one.same_bad;
+  gone_on = goes_on start_up (Some system) w v m one.gone_on then.gone_on;
+  free = then.free;
+  short = λ short. then.short (one.short short);
+  steady = then.steady;
+}
 
 pub kept_then : (start_up : Bool) (system : Name) (w v m : WorldState) → AreUnitsKept start_up system w v → AreUnitsKept start_up system v m → AreUnitsKept start_up system w m
 kept_then start_up system w v m one then = record {

@@ -1,18 +1,14 @@
 -- The part of a switch that is about the units: NixOS manual, "Unit handling".
-use Rattle.std.specs.Prelude.{◌≡◌, ◌⊎◌, ◌↔◌, ◌++◌, true, List, Option, None, Some, if◌then◌else◌, Bool}
-use Rattle.std.specs.List.{AllByRecursion}
-use Rattle.host_trait.specs.declared.entry.Act.{Act}
-use Rattle.host_trait.specs.declared.entry.Entry.{Entry}
+use Rattle.std.specs.Prelude.{◌≡◌, ◌↔◌, true, Option, None, Some, if◌then◌else◌, Bool}
 use Rattle.host_trait.specs.declared.leaf.LeafKind.{LeafKind}
 use Rattle.host_trait.specs.declared.unit_state.State.{State}
-use Rattle.host_trait.specs.States.{state_of}
 use Rattle.host_trait.specs.World.{Leaves, WorldState, is_path}
 use Rattle.owed_log.specs.Lengths.{AreOwedShort}
 use Rattle.switch_names.specs.Names.{Name}
 use Rattle.switch_parts.specs.Part.{Part}
 use Rattle.tree_put.specs.WrittenPlace.{in_the_way}
 use Rattle.unit_stage.specs.End.{AreEndStates}
-use Rattle.unit_stage.specs.Owes.{IsPaid, IsSteadyWorld, Owes, OwesUnit}
+use Rattle.unit_stage.specs.Owes.{HasGoneOn, IsSteadyWorld}
 use Rattle.unit_stage.specs.Owned.{owns_units, reads_units, unit_places}
 use Rattle.unit_stage.specs.System.{current_place, system_leaf, unit_refusal}
 
@@ -21,18 +17,13 @@ pub record AreUnitsFree (system : Name) (leaves : Leaves) : Type 0 where
   pub way : in_the_way unit_places leaves ≡ None
   pub refusal : unit_refusal leaves system ≡ None
 
--- A switch of the units that began in a world is underway in another: it leaves the same states from there. What
--- it owed the units is paid or still owed, only these units have been called, and every other is in the state that
--- it was in. It isn't refused, what is read of what is owed is short enough where it was, and the world is steady.
+-- A switch of the units that began in a world is underway in another: it has gone on to there, and leaves from there what it
+-- leaves from the first world. It isn't refused, what is read of what is owed is short enough where it was, and the world is
+-- steady.
 pub record AreUnitsUnderway (start_up : Bool) (system : Name) (first w : WorldState) : Type 0 where
   pub same_states : (states : Name → State) → AreEndStates start_up system w states ↔ AreEndStates start_up system first states
   pub same_bad : w.manager.bad ≡ first.manager.bad
-  pub entered : List Entry
-  pub journal : w.manager.journal ≡ first.manager.journal ++ entered
-  pub owed_alone : AllByRecursion (λ entry. OwesUnit start_up system first entry.unit) entered
-  pub paid_or_owed : (act : Act) (unit : Name) → Owes start_up system first act unit → IsPaid system act unit entered ⊎ Owes start_up system w act unit
-  pub no_more_owed : (unit : Name) → OwesUnit start_up system w unit → OwesUnit start_up system first unit
-  pub others : (unit : Name) → ¬ OwesUnit start_up system first unit → state_of w.manager.states unit ≡ state_of first.manager.states unit
+  pub gone_on : HasGoneOn start_up (Some system) first w
   pub free : AreUnitsFree system w.leaves
   pub short : AreOwedShort first.leaves → AreOwedShort w.leaves
   pub steady : IsSteadyWorld start_up system w
