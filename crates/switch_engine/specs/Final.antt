@@ -1,6 +1,7 @@
 -- What a command leaves: NixOS manual, "What happens during a system switch?".
 use Rattle.std.specs.Prelude.{◌≡◌, ◌≢◌, ◌⊎◌, ◌++◌, List, [], Option, None, Some, IsSome, Bool, true, false, ◌&&◌, is_some}
 use Rattle.std.specs.FinMap.{get}
+use Rattle.std.specs.Option.{IsSomeAnd}
 use Rattle.host_trait.specs.declared.entry.Entry.{Entry}
 use Rattle.host_trait.specs.declared.unit_state.State.{State}
 use Rattle.host_trait.specs.declared.unit_state.State.TheVariants.{Failed}
@@ -63,8 +64,7 @@ pub record IsLeftFailed (system : Name) (owed : Owed) (w : WorldState) (unit : N
 
 -- a switch of the units to a system leaves one of them failed
 abbrev pub LeavesFailedAt : Bool → Option Name → WorldState → Type 0
-LeavesFailedAt start_up None w = ⊥
-LeavesFailedAt start_up (Some system) w = (owed : Owed) × IsOwedBy start_up system w owed × ((unit : Name) × IsLeftFailed system owed w unit)
+LeavesFailedAt start_up to w = IsSomeAnd to (λ system. (owed : Owed) × IsOwedBy start_up system w owed × ((unit : Name) × IsLeftFailed system owed w unit))
 
 -- a command leaves a unit failed that its system defines
 abbrev pub LeavesFailed : Command → WorldState → Type 0

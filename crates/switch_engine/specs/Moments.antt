@@ -20,6 +20,7 @@ use Rattle.switch_engine.specs.declared.command.Command.{Command}
 use Rattle.switch_engine.specs.Commands.{brought_to, moved_by, new_system, row, set_to}
 use Rattle.switch_engine.specs.Final.{IsEndOf, IsEntering}
 use Rattle.switch_engine.specs.Owing.{IsOver, IsSteadyFor, IsUnderway}
+use Rattle.switch_engine.specs.Presence.{where_some}
 use Rattle.switch_engine.specs.Rows.{switched_leaf}
 use Rattle.switch_names.specs.Names.{Name}
 use Rattle.tree_put.specs.Put.{IsOldOrGone, IsOldOrNew}
@@ -65,8 +66,7 @@ record_world (Some (Point n)) w = seen (with_leaf goal_place (goal_leaf n) w)
 -- a step of making a system the boot default, where the profile is moved to it: the profile is being moved, or it is moved,
 -- and the boot menu is being made
 abbrev pub IsDefaultStep : Option Move → Name → WorldState → WorldState → Type 0
-IsDefaultStep None system w m = seen m ≡ seen w
-IsDefaultStep (Some move) system w m = IsMakingDefault move system w m
+IsDefaultStep moves system w m = where_some (seen m ≡ seen w) (λ move. IsMakingDefault move system w m) moves
 
 -- but for the stage, the world in which a system is the boot default, where the profile is moved to it
 abbrev pub default_world : Option Move → Name → WorldState → WorldState
@@ -85,8 +85,7 @@ IsSwitchEnd start_up (Some system) w v = (owed : Owed) × (order : List Name) ×
 
 -- a step of removing the goal, where the profile is moved
 abbrev pub IsClearStep : Option Move → WorldState → WorldState → Type 0
-IsClearStep None w m = m ≡ w
-IsClearStep (Some move) w m = IsOldOrGone goal_place w m
+IsClearStep moves w m = where_some (m ≡ w) (λ move. IsOldOrGone goal_place w m) moves
 
 -- the goal is being recorded, or the system is being made the boot default, or the units are being switched, or the goal is
 -- being removed; each begins in the world that the one before it leaves
@@ -119,8 +118,7 @@ IsOnItsWay (Some (Point n)) command w m = IsUnderway command w m ⊎ HasComeBack
 
 -- the profile names the system that it named, or the one that it is moved to
 abbrev pub NamesOneOf : Option Name → WorldState → WorldState → Type 0
-NamesOneOf None w m = (other : List ℕ) → Names m.leaves other ↔ Names w.leaves other
-NamesOneOf (Some system) w m = NamesOldOrNew system w m
+NamesOneOf to w m = where_some ((other : List ℕ) → Names m.leaves other ↔ Names w.leaves other) (λ system. NamesOldOrNew system w m) to
 
 -- What each moment has of a planned command that is carried out, given the world at its beginning, which isn't refused.
 -- The journal has grown by a beginning of exactly what the command enters, so that no act runs ahead of its entry or is

@@ -1,5 +1,5 @@
 -- What a command owes each unit, and a run of it that is underway: NixOS manual, "Unit handling".
-use Rattle.std.specs.Prelude.{◌≡◌, ◌↔◌, Bool, Option, None, Some}
+use Rattle.std.specs.Prelude.{◌≡◌, ◌↔◌, Bool, Option, None, IfSome}
 use Rattle.host_trait.specs.declared.entry.Act.{Act}
 use Rattle.host_trait.specs.World.{WorldState}
 use Rattle.leaf_limits.specs.declared.too_long.TooLong.{TooLong}
@@ -8,6 +8,7 @@ use Rattle.switch_engine.specs.declared.command.Command.{Command}
 use Rattle.switch_engine.specs.declared.row.Row.{Row}
 use Rattle.switch_engine.specs.Commands.{row, switched_by, switched_to}
 use Rattle.switch_engine.specs.Final.{IsFinalOf}
+use Rattle.switch_engine.specs.Presence.{where_some}
 use Rattle.switch_engine.specs.Rows.{parts_in, refusal, refusal_by, refusal_with}
 use Rattle.switch_names.specs.Names.{Name}
 use Rattle.switch_parts.specs.declared.refusal.Refusal.{Refusal}
@@ -20,8 +21,7 @@ OwesAct command w act unit = OwesTo (row command w.leaves).start_up (switched_to
 
 -- a steady world, as far as a switch of the units looks at it
 abbrev pub IsSteadyTo : Bool → Option Name → WorldState → Type 0
-IsSteadyTo start_up None w = Unit {0}
-IsSteadyTo start_up (Some system) w = IsSteadyWorld start_up system w
+IsSteadyTo start_up to w = IfSome to (λ system. IsSteadyWorld start_up system w)
 
 -- such a world for a command
 abbrev pub IsSteadyFor : Command → WorldState → Type 0
@@ -29,8 +29,7 @@ IsSteadyFor command w = IsSteadyTo (row command w.leaves).start_up (switched_to 
 
 -- the log that a switch of the units to a system, where there is one, records what it owes in, where that would be too long
 abbrev pub IsLongLogTo : Bool → Option Name → WorldState → Option TooLong → Type 0
-IsLongLogTo start_up None w long = long ≡ None
-IsLongLogTo start_up (Some system) w long = IsLongLog start_up system w long
+IsLongLogTo start_up to w long = where_some (long ≡ None) (λ system. IsLongLog start_up system w long) to
 
 -- the first in byte order of that log and of what the parts of a row put, where one would be too long
 abbrev pub IsLongBy : Row → WorldState → Option TooLong → Type 0
