@@ -1,5 +1,5 @@
 -- What calls on units make of their states.
-use Rattle.std.proofs.Common.{◌≡◌, ◌&&◌, ◌||◌, Bool, true, false, cond, not, ℕ, List, [], ◌∷◌, filter, map, Option, None, Some, unwrap_or, if◌then◌else◌, refl, sym, ap, ◌∙◌}
+use Rattle.std.proofs.Common.{◌≡◌, ◌||◌, Bool, true, false, cond, ℕ, List, [], ◌∷◌, map, Option, None, Some, unwrap_or, if◌then◌else◌, refl, sym, ap, ◌∙◌}
 use Rattle.std.specs.FinMap.{get, get-insert, get-remove}
 use Rattle.host_trait.specs.declared.entry.Act.{Act}
 use Rattle.host_trait.specs.declared.entry.Act.TheVariants.{Stop, Reload, Restart, Start}
@@ -15,7 +15,6 @@ use Rattle.owed_plan.specs.Calls.{duty}
 use Rattle.owed_plan.specs.FinalStates.{brought_by}
 use Rattle.switch_names.specs.Names.{Name, has, is_name}
 use Rattle.unit_stage.specs.Acts.{CanPerform, performed}
-use Rattle.unit_decide.specs.Kinds.{is_kind}
 use Rattle.host_trait.proofs.NameOrder.{name_exact}
 
 -- ---- the state of one unit

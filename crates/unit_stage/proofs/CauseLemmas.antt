@@ -1,13 +1,8 @@
 -- A fault of several calls, one after the other, has its cause in the call that failed.
-use Rattle.std.proofs.Common.{◌≡◌, Result, Ok, Err, IsErrOf, sym, ap, ◌∙◌}
+use Rattle.std.proofs.Common.{Result, Ok}
 use Rattle.host_trait.specs.declared.tree.HostFault.{HostFault}
-use Rattle.host_trait.specs.declared.tree.HostFault.TheVariants.{Device, Memory}
 use Rattle.host_trait.specs.Host.{HasCause, HostState}
 use Rattle.host_trait.proofs.Causes.{cause_ok, cause_then}
-use Rattle.switch_parts.specs.declared.plan_fault.PlanFault.{PlanFault}
-use Rattle.switch_parts.specs.declared.plan_fault.PlanFault.TheVariants.{Host, Refused}
-use Rattle.switch_parts.specs.declared.refusal.Refusal.{Refusal}
-use Rattle.switch_parts.proofs.Faults.{memory_no_device, refused_is}
 
 module _ {a b c : HostState} where
   pub cause_end : {T U V : Type 0} {r : Result T HostFault} {s : Result U HostFault} {x : V} → HasCause a b r → HasCause b c s → HasCause a c (Ok x)

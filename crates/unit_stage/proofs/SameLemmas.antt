@@ -1,12 +1,11 @@
 -- The steps of a switch of the units look at the units alone: in worlds with the same units they lead to worlds with the same units.
-use Rattle.std.proofs.Common.{◌≡◌, ◌∷◌, Bool, true, cond, ℕ, List, [], take, Option, None, Some, refl, sym, ap, ◌∙◌, inl, inr}
+use Rattle.std.proofs.Common.{◌≡◌, ◌∷◌, true, cond, ℕ, List, [], take, Option, None, Some, refl, sym, ap, ◌∙◌, inl, inr}
 use Rattle.std.specs.FinMap.{get, get-insert, get-remove, insert, remove}
 use Rattle.std.specs.Ordering.{eq_by_cmp}
 use Rattle.host_trait.specs.declared.leaf.LeafKind.{LeafKind}
-use Rattle.host_trait.specs.declared.manager_state.ManagerState.{ManagerState}
 use Rattle.host_trait.specs.Change.{IsMoment, finished}
 use Rattle.host_trait.specs.Manager.{halted, loading}
-use Rattle.host_trait.specs.World.{Leaves, WorldState, bytes_cmp, extended, seen, stage, with_extended, with_manager, with_more}
+use Rattle.host_trait.specs.World.{Leaves, WorldState, bytes_cmp, extended, seen, with_extended, with_manager, with_more}
 use Rattle.host_trait.proofs.Places.{bytes_total}
 use Rattle.host_trait.proofs.Seen.{seen_at}
 use Rattle.log_text.specs.declared.lists.Which.{Which}

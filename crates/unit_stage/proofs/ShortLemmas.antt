@@ -8,7 +8,7 @@ use Rattle.host_trait.specs.States.{state_of}
 use Rattle.leaf_limits.specs.Limits.{leaf_max, length_at, length_of}
 use Rattle.log_text.specs.declared.lists.Lists.{Lists}
 use Rattle.log_text.specs.declared.lists.Which.{Which}
-use Rattle.log_text.specs.declared.lists.Which.TheVariants.{Starts, Restarts, Reloads}
+use Rattle.log_text.specs.declared.lists.Which.TheVariants.{Starts}
 use Rattle.owed_lists.specs.Lists.{place_of}
 use Rattle.owed_log.specs.declared.log_write.LogWrite.{LogWrite}
 use Rattle.owed_log.specs.Lengths.{AreOwedShort, HaveRoom, log_length}

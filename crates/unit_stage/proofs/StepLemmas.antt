@@ -1,5 +1,5 @@
 -- The steps of a switch of the units, and the moments on their way.
-use Rattle.std.proofs.Common.{◌≡◌, ◌≢◌, ◌==◌, arith, true, false, ◌⊎◌, ℕ, List, [], ◌∷◌, ◌++◌, is_some, length, take, Some, refl, sym, ap, subst, ◌∙◌, inl, inr, ⊎_elim}
+use Rattle.std.proofs.Common.{◌≡◌, ◌≢◌, ◌==◌, arith, true, false, List, [], ◌∷◌, ◌++◌, is_some, length, take, Some, refl, ap, subst, ◌∙◌, inl, inr, ⊎_elim}
 use Rattle.std.specs.FinMap.{get}
 use Rattle.host_trait.specs.declared.leaf.LeafKind.{LeafKind}
 use Rattle.host_trait.specs.declared.leaf.LeafKind.TheVariants.{Link}
@@ -7,7 +7,7 @@ use Rattle.host_trait.specs.declared.manager_state.ManagerState.{ManagerState}
 use Rattle.host_trait.specs.Change.{DaemonReload, IsMoment, definitions_place, finished, loaded_from}
 use Rattle.host_trait.specs.Manager.{acted, halted, loading}
 use Rattle.host_trait.specs.World.{IsFileAt, Leaves, WorldState, file_bytes, seen, stage, with_leaf, with_manager}
-use Rattle.host_trait.proofs.Seen.{other_of, seen_at, seen_with_leaf}
+use Rattle.host_trait.proofs.Seen.{other_of, seen_at}
 use Rattle.host_trait.proofs.Sound.{get_other}
 use Rattle.log_text.specs.declared.lists.Which.{Which}
 use Rattle.log_text.specs.declared.lists.Which.TheVariants.{Starts, Restarts, Reloads}
@@ -22,7 +22,7 @@ use Rattle.switch_names.specs.Names.{Name}
 use Rattle.tree_put.specs.Put.{AreApart, IsOldOrNew}
 use Rattle.tree_put.proofs.PutLemmas.{apart_ne}
 use Rattle.unit_stage.specs.Acts.{CanPerform, IsPerforming, performed, with_calls}
-use Rattle.unit_stage.specs.Steps.{CanLoad, HasLogFor, IsBringMoment, IsBringStep, IsClearingMoment, IsGiveMoment, IsListMoment, IsLoadMoment, IsStopMoment, IsStopStep, give_order, with_all_given, with_brought, with_cleared, with_current, with_given, with_loaded, with_stops}
+use Rattle.unit_stage.specs.Steps.{CanLoad, HasLogFor, IsBringMoment, IsBringStep, IsClearingMoment, IsGiveMoment, IsListMoment, IsLoadMoment, IsStopMoment, IsStopStep, give_order, with_all_given, with_brought, with_cleared, with_current, with_given, with_loaded}
 use Rattle.unit_stage.specs.System.{current_place, definitions_of, system_leaf}
 use Rattle.unit_stage.proofs.RecordLemmas.{more_file}
 
