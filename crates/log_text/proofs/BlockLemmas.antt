@@ -1,6 +1,6 @@
 -- A block's text is the beginning of no other block's.
-use Rattle.std.proofs.Common.{◌≡◌, ◌≢◌, ◌==◌, ◌++◌, ◌∷◌, ◌<◌, ◌^◌, ℕ, suc, All, true, false, List, [], length, refl, sym, ap, subst, ◌∙◌, drop, leb, arith}
-use Rattle.std.specs.List.{AllByRecursion}
+use Rattle.std.proofs.Common.{◌≡◌, ◌≢◌, ◌==◌, ◌++◌, ◌∷◌, ◌<◌, ◌^◌, ℕ, suc, All, true, false, List, [], length, Option, Some, refl, sym, ap, subst, ◌∙◌, drop, leb, arith}
+use Rattle.std.specs.List.{AllByRecursion, find}
 use Rattle.std.specs.Char.{is_ascii_digit}
 use Rattle.std.specs.Fmt.{decimal}
 use Rattle.std.specs.Str.{all_ascii_digits}
@@ -10,10 +10,13 @@ use Rattle.std.proofs.lemmas.List.Elements.{All-weaker}
 use Rattle.std.proofs.lemmas.Fmt.{decimal_injective, digits_decimal}
 use Rattle.std.proofs.lemmas.List.{append_assoc, append_cancel_left}
 use Rattle.std.proofs.lemmas.Str.Parse.{numerals_by_value, tells_all_ascii_digits}
+use Rattle.host_trait.specs.World.{is_path}
 use Rattle.log_text.specs.declared.block.Block.{Block}
 use Rattle.log_text.specs.declared.lists.Which.{Which}
 use Rattle.log_text.specs.declared.lists.Which.TheVariants.{Starts, Restarts, Reloads}
+use Rattle.log_text.specs.Lists.{record_order}
 use Rattle.log_text.specs.Log.{IsBlock, IsLine, IsLog, block_text, header_of, last_line, list_text, log_text, word}
+use Rattle.log_text.proofs.WhichLemmas.{each_in_order}
 use Rattle.switch_names.specs.Names.{Name}
 use Rattle.switch_names.specs.UnitName.{IsUnitName, is_no_unit_byte}
 use Rattle.switch_names.proofs.UnitNames.{IsShortName-from_name}
@@ -114,16 +117,17 @@ header_is_line block is =
     lacks_append 10 (word block.which) (32 ∷ decimal (length block.names)) (word_is_line block.which)
     (refl, decimal_lacks 10 (length block.names) (omega arith) is.counted)
 
+-- the list that a word is for
+named : List ℕ → Option Which
+named text = find (λ which. is_path (word which) text) record_order
+
+named_word : (which : Which) → named (word which) ≡ Some which
+unfolding named
+named_word = each_in_order (λ which. named (word which) ≡ Some which) (refl, (refl, (refl, tt)))
+
+-- lists have words of their own
 same_word : (one other : Which) → word one ≡ word other → one ≡ other
-same_word Starts Starts is = refl
-same_word Starts Restarts is = absurd (let n : 5 ≡ 7 = ap length is in omega (arith, n))
-same_word Starts Reloads is = absurd (let n : 5 ≡ 6 = ap length is in omega (arith, n))
-same_word Restarts Starts is = absurd (let n : 7 ≡ 5 = ap length is in omega (arith, n))
-same_word Restarts Restarts is = refl
-same_word Restarts Reloads is = absurd (let n : 7 ≡ 6 = ap length is in omega (arith, n))
-same_word Reloads Starts is = absurd (let n : 6 ≡ 5 = ap length is in omega (arith, n))
-same_word Reloads Restarts is = absurd (let n : 6 ≡ 7 = ap length is in omega (arith, n))
-same_word Reloads Reloads is = refl
+same_word one other is = let same : Some one ≡ Some other = sym (named_word one) ∙ ap named is ∙ named_word other in cc
 
 -- ---- blocks
 

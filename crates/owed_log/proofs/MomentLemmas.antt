@@ -73,14 +73,9 @@ both_empty false = refl
 one_emptied : (other which : Which) (rest : Bool) (lists : Lists) → cond rest [] (list_names (with_list lists other []) which) ≡ cond (is_name (place_of which) (place_of other) || rest) [] (list_names lists which)
 unfolding starts_place restarts_place reloads_place
 one_emptied Starts Starts rest lists = both_empty rest
-one_emptied Starts Restarts rest lists = refl
-one_emptied Starts Reloads rest lists = refl
-one_emptied Restarts Starts rest lists = refl
 one_emptied Restarts Restarts rest lists = both_empty rest
-one_emptied Restarts Reloads rest lists = refl
-one_emptied Reloads Starts rest lists = refl
-one_emptied Reloads Restarts rest lists = refl
 one_emptied Reloads Reloads rest lists = both_empty rest
+one_emptied other which rest lists = refl
 
 -- the lists that have names are those whose places are left
 names_left : (which : Which) (order : List Which) (count : ℕ) (lists : Lists) →
