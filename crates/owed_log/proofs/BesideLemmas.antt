@@ -8,7 +8,7 @@ use Rattle.host_trait.specs.World.{Leaves, WorldState, seen, extended, stage, wi
 use Rattle.host_trait.proofs.Seen.{other_of, seen_at, seen_with_leaf}
 use Rattle.host_trait.proofs.Sound.{get_other}
 use Rattle.log_text.specs.declared.lists.Which.{Which}
-use Rattle.log_text.specs.declared.lists.Which.TheVariants.{Starts, Restarts, Reloads}
+use Rattle.log_text.specs.declared.lists.Which.TheVariants.{Starts}
 use Rattle.log_text.specs.Lists.{block_of, record_order}
 use Rattle.log_text.specs.Log.{block_text}
 use Rattle.switch_names.specs.Names.{Name, is_name}
@@ -64,8 +64,7 @@ pub clearing_beside : (which : Which) (w m : WorldState) (q : Name) → q ≢ lo
 clearing_beside Starts w m q other (inl is) = at_of m w q is
 clearing_beside Starts w m q other (inr (inl is)) = ap (λ (x : WorldState). get x.leaves q) is ∙ removed_elsewhere w.leaves log_place q other
 clearing_beside Starts w m q other (inr (inr middle)) = absurd middle
-clearing_beside Restarts w m q other cut = append_beside (block_text (block_of Restarts [])) w m q other cut
-clearing_beside Reloads w m q other cut = append_beside (block_text (block_of Reloads [])) w m q other cut
+clearing_beside which w m q other cut = append_beside (block_text (block_of which [])) w m q other cut
 
 -- ---- the manager
 
@@ -101,8 +100,7 @@ pub clearing_manager : (which : Which) (w m : WorldState) → IsMoment (clearing
 clearing_manager Starts w m (inl is) = ap (λ (x : WorldState). x.manager) is
 clearing_manager Starts w m (inr (inl is)) = ap (λ (x : WorldState). x.manager) is
 clearing_manager Starts w m (inr (inr middle)) = absurd middle
-clearing_manager Restarts w m cut = append_manager (block_text (block_of Restarts [])) w m cut
-clearing_manager Reloads w m cut = append_manager (block_text (block_of Reloads [])) w m cut
+clearing_manager which w m cut = append_manager (block_text (block_of which [])) w m cut
 
 -- ---- worlds that are equal but for the stage
 
@@ -122,8 +120,7 @@ module _ (v w : WorldState) (same : seen v ≡ seen w) where
   -- and where a list is cleared
   pub cleared_seen : (which : Which) → seen (finished (clearing which) v) ≡ seen (finished (clearing which) w)
   cleared_seen Starts = seen_without_leaf log_place v w same
-  cleared_seen Restarts = more_seen (block_text (block_of Restarts []))
-  cleared_seen Reloads = more_seen (block_text (block_of Reloads []))
+  cleared_seen which = more_seen (block_text (block_of which []))
 
   part_seen : (text : List ℕ) (m : WorldState) → IsMiddle (Change.Append log_place text) v m → (u : WorldState) × IsMoment (Change.Append log_place text) w u × (seen m ≡ seen u)
   part_seen text m middle =
@@ -134,5 +131,4 @@ module _ (v w : WorldState) (same : seen v ≡ seen w) where
   clearing_seen which m (inl is) = (w, inl refl, ap seen is ∙ same)
   clearing_seen which m (inr (inl is)) = (finished (clearing which) w, inr (inl refl), ap seen is ∙ cleared_seen which)
   clearing_seen Starts m (inr (inr middle)) = absurd middle
-  clearing_seen Restarts m (inr (inr middle)) = part_seen (block_text (block_of Restarts [])) m middle
-  clearing_seen Reloads m (inr (inr middle)) = part_seen (block_text (block_of Reloads [])) m middle
+  clearing_seen which m (inr (inr middle)) = part_seen (block_text (block_of which [])) m middle

@@ -239,8 +239,7 @@ module _ (w m : WorldState) where
       let equal = ap (λ (x : WorldState). length_at x.leaves log_place) done in
       omega (arith, equal, none)
   clearing_length Starts (inr (inr middle)) = absurd middle
-  clearing_length Restarts cut = append_longer (block_text (block_of Restarts [])) (few_bytes Restarts) cut
-  clearing_length Reloads cut = append_longer (block_text (block_of Reloads [])) (few_bytes Reloads) cut
+  clearing_length which cut = append_longer (block_text (block_of which [])) (few_bytes which) cut
 
 pub roomy_clear_law : RoomyClearLaw
 roomy_clear_law which more w m room moment = record {

@@ -10,7 +10,7 @@ use Rattle.log_text.specs.declared.block.Block.{Block}
 use Rattle.log_text.specs.declared.lists.Lists.{Lists}
 use Rattle.log_text.specs.Laws.{IsRecording}
 use Rattle.log_text.specs.declared.lists.Which.{Which}
-use Rattle.log_text.specs.declared.lists.Which.TheVariants.{Starts, Restarts, Reloads}
+use Rattle.log_text.specs.declared.lists.Which.TheVariants.{Starts}
 use Rattle.log_text.specs.Lists.{AreInOrder, AreLists, lists_after, lists_of, no_lists, with_block, with_list}
 use Rattle.log_text.specs.Log.{IsBlock, IsLog}
 use Rattle.log_text.proofs.BlockLemmas.{one_log}
@@ -51,8 +51,7 @@ given_lists leaves lists text is gives = subst (λ (content : Option (List ℕ))
 
 one_sorted : (lists : Lists) (which : Which) (names : List Name) → IsStrictlySortedBy bytes_cmp lists.starts → IsStrictlySortedBy bytes_cmp names → IsStrictlySortedBy bytes_cmp (with_list lists which names).starts
 one_sorted lists Starts names is also = also
-one_sorted lists Restarts names is also = is
-one_sorted lists Reloads names is also = is
+one_sorted lists which names is also = is
 
 all_sorted : (lists : Lists) (blocks : List Block) → IsStrictlySortedBy bytes_cmp lists.starts → AllByRecursion IsBlock blocks → IsStrictlySortedBy bytes_cmp (lists_after lists blocks).starts
 all_sorted lists [] is all = is

@@ -326,8 +326,7 @@ clear_law_of Starts w m old now alone last (inl same) also = stays Starts w m ol
 clear_law_of Starts w m old now alone last (inr (inl done)) also =
     inr (one_lists (without_leaf log_place w).leaves now no_lists (subst (λ (x : WorldState). AreListsAt x.leaves now) done also) (without_lists w alone.none_old) ∙ sym last)
 clear_law_of Starts w m old now alone last (inr (inr middle)) also = absurd middle
-clear_law_of Restarts w m old now alone file moment also = let whole = filed w.leaves alone.tidy file in cut Restarts w m old now alone.are also whole.0 whole.1 moment
-clear_law_of Reloads w m old now alone file moment also = let whole = filed w.leaves alone.tidy file in cut Reloads w m old now alone.are also whole.0 whole.1 moment
+clear_law_of which w m old now alone file moment also = let whole = filed w.leaves alone.tidy file in cut which w m old now alone.are also whole.0 whole.1 moment
 
 -- ---- and what stands then
 
@@ -365,5 +364,4 @@ cleared_law Starts w old alone last = record {
   tidy = inl (log_goes w alone.none_old);
   none_old = none_still w alone.none_old;
 }
-cleared_law Restarts w old alone file = appended_alone Restarts w old alone file
-cleared_law Reloads w old alone file = appended_alone Reloads w old alone file
+cleared_law which w old alone file = appended_alone which w old alone file
