@@ -249,7 +249,10 @@ roomy_clear_law which more w m room moment = record {
 
 -- ---- the text of empty lists
 
-pub empty_length : length (text_of no_lists) ≡ 39
+abbrev pub empty_count : ℕ
+empty_count = length (flat_map (λ which. block_with which (48 ∷ [])) record_order)
+
+pub empty_length : length (text_of no_lists) ≡ empty_count
 empty_length = λ i. length (flat_map (λ which. none_counted which i) record_order)
 
 -- ---- what is told of a log that isn't too long

@@ -1,10 +1,10 @@
 //! The lists that stand in a tree.
-ghost use Rattle.std.specs.Prelude.{◌≡◌, ◌↔◌, ◌≤◌, ◌+◌, Some, IsTrue, IfOk, OnOk};
+ghost use Rattle.std.specs.Prelude.{◌≡◌, ◌↔◌, ◌≤◌, ◌+◌, [], Some, IsTrue, IfOk, OnOk};
 ghost use Rattle.std.specs.FinMap.{get};
 ghost use Rattle.host_trait.specs.Host.{Told};
 ghost use Rattle.host_trait.specs.Reading.{IsReading};
 ghost use Rattle.host_trait.specs.World.{Leaves, content_of};
-ghost use Rattle.log_text.specs.Lists.{AreCounted, no_lists};
+ghost use Rattle.log_text.specs.Lists.{AreCounted, list_names, no_lists};
 ghost use Rattle.tree_put.specs.Found.{AreFound, standing_of};
 ghost use Rattle.owed_log.specs.Places.{log_place};
 ghost use Rattle.owed_log.specs.Standing.{AreStanding, IsLogState};
@@ -13,7 +13,7 @@ ghost use Rattle.owed_log.specs.Writing.{IsFilled, IsPrepared, log_max};
 use crate::log_write::{LOG_MAX, LogWrite};
 use crate::places::log_path;
 use host_trait::{HostFault, Tree};
-use log_text::{Lists, Log, RECORD_ORDER, lists_text, read_log};
+use log_text::{Lists, Log, RECORD_ORDER, Which, lists_text, read_log};
 use owed_lists::load;
 use std::alloc::{AllocError, Global};
 use std::collections::BTreeMap;
@@ -128,13 +128,23 @@ impl LogState {
     }
 }
 
+/// Whether nothing is on one of the lists.
+fn is_empty(lists: &Lists, which: Which) -> bool
+    ensures { IsTrue result ↔ (list_names lists.now which ≡ []) }
+{
+    lists.of(which).as_slice().is_empty()
+}
+
 /// Whether nothing is on any of the lists.
 fn are_empty(lists: &Lists) -> bool
     ensures { IsTrue result ↔ (lists.now ≡ no_lists) }
 {
-    RECORD_ORDER
-        .iter()
-        .all(|which| lists.of(*which).as_slice().is_empty())
+    for which in RECORD_ORDER {
+        if !is_empty(lists, which) {
+            return false;
+        }
+    }
+    true
 }
 
 /// Whether a log of so many bytes doesn't become too long with so many more.

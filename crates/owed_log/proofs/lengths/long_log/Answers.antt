@@ -1,12 +1,12 @@
 use Rattle.std.proofs.Common.{length, refl, sym, ap, subst, ◌∙◌}
 use Rattle.owed_log.specs.Writing.{IsPrepared, text_of}
-use Rattle.owed_log.proofs.LengthLemmas.{empty_length, none_told, write_text}
+use Rattle.owed_log.proofs.LengthLemmas.{empty_count, empty_length, none_told, write_text}
 use Rattle.owed_log.proofs.lengths.long_log.Goals as goal
 
 -- an empty text is short enough
 pub returns-in-Nothing : goal.returns-in-Nothing
 returns-in-Nothing c leaves lists is =
-    none_told lists 39 (sym empty_length ∙ ap (λ l. length (text_of l)) (sym (subst (IsPrepared leaves lists) c.in-Nothing.is is).0)) refl
+    none_told lists empty_count (sym empty_length ∙ ap (λ l. length (text_of l)) (sym (subst (IsPrepared leaves lists) c.in-Nothing.is is).0)) refl
 
 pub returns-in-None : goal.returns-in-None
 returns-in-None c leaves lists is =
