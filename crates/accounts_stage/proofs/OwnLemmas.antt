@@ -14,6 +14,11 @@ use Rattle.switch_parts.proofs.StoreLemmas.{store_is, system_stored}
 use Rattle.accounts_stage.specs.AccountsPart.{reads_accounts}
 use Rattle.accounts_stage.specs.Places.{account_names, account_places, gids_place, group_place, groups_place, memory_places, owns_accounts, passwd_place, shadow_place, spec_path, table_places, uids_place, users_place}
 
+-- what a proof opens to compute with the places of accounts
+unfoldable pub accounts_open : Unit {0}
+unfolding account_names table_places memory_places group_place passwd_place shadow_place groups_place users_place gids_place uids_place
+accounts_open = tt
+
 pub owned_read : (q : Name) → owns_accounts q ≡ true → reads_accounts q ≡ true
 owned_read q own = or_left (owns_accounts q) (is_in_store q || is_near account_places q) own
 

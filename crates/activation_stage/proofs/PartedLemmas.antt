@@ -5,11 +5,10 @@ use Rattle.std.specs.List.{AllByRecursion}
 use Rattle.switch_names.specs.Names.{Name, is_name}
 use Rattle.host_trait.specs.World.{is_in_line, stage}
 use Rattle.host_trait.proofs.Places.{same_or_other}
-use Rattle.tree_put.specs.declared.written_place.WrittenPlace.{WrittenPlace}
 use Rattle.switch_parts.specs.Leaves.{is_near}
 use Rattle.switch_parts.specs.Part.{AreParted}
 use Rattle.switch_parts.specs.Store.{is_in_store}
-use Rattle.switch_parts.proofs.LeafLemmas.{BeginApart, each_among, none_near}
+use Rattle.switch_parts.proofs.LeafLemmas.{none_among, none_near}
 use Rattle.etc_manifest.specs.Owners.{OwnerIds}
 use Rattle.etc_manifest.specs.Place.{is_reserved, reserved_names}
 use Rattle.etc_clean.specs.CleanList.{clean_name}
@@ -22,24 +21,14 @@ use Rattle.etc_farm.proofs.LineLemmas.{free_line}
 use Rattle.etc_farm.proofs.PlaceLemmas.{owned_read, place_of_owned}
 use Rattle.etc_farm.proofs.StoreLemmas.{place_not_stored}
 use Rattle.accounts_stage.specs.AccountsPart.{accounts_part, reads_accounts}
-use Rattle.accounts_stage.specs.Places.{account_names, account_places, gids_place, group_place, groups_place, memory_places, owns_accounts, passwd_place, shadow_place, table_places, uids_place, users_place}
+use Rattle.accounts_stage.specs.Places.{account_names, account_places, group_place, memory_places, owns_accounts, passwd_place, shadow_place, table_places}
+use Rattle.accounts_stage.proofs.OwnLemmas.{accounts_open}
 
 -- ---- a farm doesn't look at the places of accounts
 
-unread_in_etc : AllByRecursion (λ q. reads_farm q ≡ false) (group_place ∷ passwd_place ∷ shadow_place ∷ [])
-unfolding group_place passwd_place shadow_place is_in_etc name_of place static_name clean_name reserved_names stage is_in_store
-unread_in_etc = (refl, (refl, (refl, tt)))
-
-unread_memory : AllByRecursion (λ q. reads_farm q ≡ false) (groups_place ∷ users_place ∷ gids_place ∷ uids_place ∷ [])
-unfolding groups_place users_place gids_place uids_place is_in_etc name_of place static_name clean_name reserved_names stage is_in_store
-unread_memory = (refl, (refl, (refl, (refl, tt))))
-
-all_unread : AllByRecursion (λ q. reads_farm q ≡ false) account_names
-unfolding account_names
-all_unread = (unread_in_etc.0, (unread_in_etc.1.0, (unread_in_etc.1.1.0, unread_memory)))
-
 pub accounts_unread : (at : Name) → owns_accounts at ≡ true → reads_farm at ≡ false
-accounts_unread at own = each_among (λ q. reads_farm q ≡ false) account_names all_unread at own
+unfolding accounts_open is_in_etc name_of place static_name clean_name reserved_names stage is_in_store
+accounts_unread at own = none_among reads_farm account_names refl at own
 
 -- ---- the accounts don't look at the places of a farm
 
@@ -80,12 +69,10 @@ shadow_is : place (codes "shadow") ≡ shadow_place
 unfolding place shadow_place
 shadow_is = refl
 
-begin_apart : (q : Name) → AllByRecursion (λ (one : WrittenPlace). BeginApart (place q) one.at) (record { at = stage; is_read = false } ∷ memory_places)
-unfolding memory_places place stage groups_place users_place gids_place uids_place
-begin_apart q = (
-  record { first = refl; second = refl },
-  (record { first = refl; second = refl }, (record { first = refl; second = refl }, (record { first = refl; second = refl }, (record { first = refl; second = refl }, tt)))),
-)
+-- nothing below /etc is near the stage or what is remembered
+memory_apart : (q : Name) → is_near (record { at = stage; is_read = false } ∷ memory_places) (place q) ≡ false
+unfolding accounts_open place stage
+memory_apart q = none_near (place q) (record { at = stage; is_read = false } ∷ memory_places) refl
 
 module _ (q : Name) (own : is_owned q ≡ true) where
   out_of_line : (table : Name) → is_in_line (place static_name) (place table) ≡ false → is_in_line (place clean_name) (place table) ≡ false → is_reserved table ≡ true →
@@ -104,7 +91,7 @@ module _ (q : Name) (own : is_owned q ≡ true) where
       (subst (λ p. is_in_line (place q) p ≡ false) group_is (out_of_line (codes "group") static_line.0 clean_line.0 tables_reserved.0))
       (subst (λ p. is_in_line (place q) p ≡ false) passwd_is (out_of_line (codes "passwd") static_line.1.0 clean_line.1.0 tables_reserved.1.0))
       (subst (λ p. is_in_line (place q) p ≡ false) shadow_is (out_of_line (codes "shadow") static_line.1.1.0 clean_line.1.1.0 tables_reserved.1.1.0))
-      (none_near (place q) (record { at = stage; is_read = false } ∷ memory_places) (begin_apart q))
+      (memory_apart q)
 
 pub farm_unread : (at : Name) → owns_farm at ≡ true → reads_accounts at ≡ false
 farm_unread at own =

@@ -3,7 +3,6 @@ use Rattle.std.proofs.Common.{◌≡◌, ◌≢◌, ◌||◌, ◌++◌, ℕ, not
 use Rattle.std.proofs.lemmas.Bool.{and_from, both_ways, cases_Bool, or_cases, or_from}
 use Rattle.std.specs.Cmp.Lexicographic.{same_text}
 use Rattle.std.specs.FinMap.{get, get-retain_keys}
-use Rattle.std.specs.List.{AllByRecursion}
 use Rattle.switch_names.specs.Names.{Name}
 use Rattle.switch_names.specs.Path.{is_below, slash}
 use Rattle.switch_names.proofs.Below.{rest_below}
@@ -13,10 +12,9 @@ use Rattle.host_trait.proofs.FirstNames.{elsewhere_of}
 use Rattle.host_trait.proofs.Places.{bytes_exact}
 use Rattle.host_trait.proofs.Seen.{other_of}
 use Rattle.host_trait.proofs.Sound.{get_other}
-use Rattle.tree_put.specs.declared.written_place.WrittenPlace.{WrittenPlace}
 use Rattle.switch_parts.specs.Leaves.{is_near}
 use Rattle.switch_parts.specs.Store.{is_in_store}
-use Rattle.switch_parts.proofs.LeafLemmas.{BeginApart, none_near}
+use Rattle.switch_parts.proofs.LeafLemmas.{none_near}
 use Rattle.etc_manifest.specs.Owners.{OwnerIds}
 use Rattle.etc_clean.specs.CleanList.{clean_name}
 use Rattle.etc_clean.specs.Etc.{static_name}
@@ -24,8 +22,9 @@ use Rattle.etc_clean.specs.Names.{is_in_etc, place}
 use Rattle.etc_farm.specs.FarmPart.{fixed_places, owns_farm, reads_farm}
 use Rattle.etc_farm.proofs.PlaceLemmas as farm
 use Rattle.accounts_stage.specs.AccountsPart.{reads_accounts}
-use Rattle.accounts_stage.specs.Places.{account_names, account_places, gids_place, group_place, groups_place, memory_places, owns_accounts, passwd_place, shadow_place, table_places, uids_place, users_place}
+use Rattle.accounts_stage.specs.Places.{account_places, owns_accounts}
 use Rattle.accounts_stage.proofs.OwnLemmas as accounts
+use Rattle.accounts_stage.proofs.OwnLemmas.{accounts_open}
 use Rattle.activation_stage.specs.ActivationPart.{activation_part}
 use Rattle.activation_stage.specs.Owners.{owners_after}
 use Rattle.activation_stage.specs.Reboot.{IsAfterReboot, RebootEndLaw, RebootLaw}
@@ -40,28 +39,16 @@ in_run q is = ⊎_elim
     (λ below. let cut = rest_below q run_folder below in (slash ∷ cut.0, cut.1))
     (or_cases (is_path q run_folder) (is_below q run_folder) is)
 
-begin_apart : (rest : List ℕ) → AllByRecursion (λ (one : WrittenPlace). BeginApart (codes "run" ++ rest) one.at) account_places
-unfolding table_places memory_places group_place passwd_place shadow_place stage groups_place users_place gids_place uids_place
-begin_apart rest = (
-  record { first = refl; second = refl },
-  (
-    record { first = refl; second = refl },
-    (
-      record { first = refl; second = refl },
-      (
-        record { first = refl; second = refl },
-        (record { first = refl; second = refl }, (record { first = refl; second = refl }, (record { first = refl; second = refl }, (record { first = refl; second = refl }, tt)))),
-      ),
-    ),
-  ),
-)
+accounts_apart : (rest : List ℕ) → is_near account_places (codes "run" ++ rest) ≡ false
+unfolding accounts_open stage
+accounts_apart rest = none_near (codes "run" ++ rest) account_places refl
 
-fixed_apart : (rest : List ℕ) → AllByRecursion (λ (one : WrittenPlace). BeginApart (codes "run" ++ rest) one.at) fixed_places
+fixed_apart : (rest : List ℕ) → is_near fixed_places (codes "run" ++ rest) ≡ false
 unfolding place clean_name static_name stage
-fixed_apart rest = (record { first = refl; second = refl }, (record { first = refl; second = refl }, (record { first = refl; second = refl }, tt)))
+fixed_apart rest = none_near (codes "run" ++ rest) fixed_places refl
 
 unowned_accounts : (rest : List ℕ) → owns_accounts (codes "run" ++ rest) ≡ false
-unfolding account_names group_place passwd_place shadow_place groups_place users_place gids_place uids_place
+unfolding accounts_open
 unowned_accounts rest = refl
 
 unowned_farm : (rest : List ℕ) → owns_farm (codes "run" ++ rest) ≡ false
@@ -77,9 +64,9 @@ unread_in_run rest =
     let path = codes "run" ++ rest in
     or_from (reads_accounts path) (reads_farm path)
     (or_from (owns_accounts path) (is_in_store path || is_near account_places path) (unowned_accounts rest)
-    (or_from (is_in_store path) (is_near account_places path) (unstored rest) (none_near path account_places (begin_apart rest))))
+    (or_from (is_in_store path) (is_near account_places path) (unstored rest) (accounts_apart rest)))
     (or_from (owns_farm path) (is_in_store path || is_near fixed_places path) (unowned_farm rest)
-    (or_from (is_in_store path) (is_near fixed_places path) (unstored rest) (none_near path fixed_places (fixed_apart rest))))
+    (or_from (is_in_store path) (is_near fixed_places path) (unstored rest) (fixed_apart rest)))
 
 not_stage : (q : Name) → (reads_accounts q || reads_farm q) ≡ true → q ≢ stage
 not_stage q read same =

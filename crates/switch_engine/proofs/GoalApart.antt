@@ -2,9 +2,9 @@
 use Rattle.std.proofs.Common.{◌≡◌, ◌≢◌, ◌||◌, ◌++◌, ℕ, Bool, true, false, codes, None, is_some, refl, sym, ap, subst, ◌∙◌, inl, inr}
 use Rattle.std.proofs.lemmas.Bool.{both_ways, cases_Bool, or_from}
 use Rattle.std.specs.Cmp.Lexicographic.{nat_list_eq_equiv, same_text}
-use Rattle.std.specs.List.{AllByRecursion}
 use Rattle.accounts_stage.specs.AccountsPart.{reads_accounts}
-use Rattle.accounts_stage.specs.Places.{account_names, gids_place, group_place, groups_place, memory_places, owns_accounts, passwd_place, shadow_place, table_places, uids_place, users_place}
+use Rattle.accounts_stage.specs.Places.{account_names, owns_accounts}
+use Rattle.accounts_stage.proofs.OwnLemmas.{accounts_open}
 use Rattle.boot_entries.specs.BootPart.{reads_boot}
 use Rattle.boot_entries.specs.Places.{entries_folder, loader_path, numbered, owns_boot}
 use Rattle.boot_entries.proofs.NumberLemmas.{bears_numbered}
@@ -19,30 +19,28 @@ use Rattle.generations.specs.Places.{profile, profiles}
 use Rattle.generations.specs.ProfilePart.{owns_profile, reads_profile}
 use Rattle.generations.proofs.ProfileApart.{owned_fails}
 use Rattle.host_trait.specs.World.{is_in_line, is_path, stage}
-use Rattle.owed_lists.specs.Lists.{reloads_place, restarts_place, starts_place}
-use Rattle.owed_log.specs.Places.{log_place}
 use Rattle.owed_plan.specs.Store.{IsInStore}
 use Rattle.switch_engine.proofs.ActivationApart.{fails}
 use Rattle.switch_engine.proofs.MenuApart.{menu_fails}
 use Rattle.switch_names.specs.Names.{Name}
 use Rattle.switch_names.specs.Path.{is_below}
-use Rattle.switch_parts.proofs.LeafLemmas.{BeginApart, each_among, not_line}
+use Rattle.switch_parts.proofs.LeafLemmas.{BeginApart, none_among, not_line}
 use Rattle.switch_parts.specs.Store.{is_in_store}
 use Rattle.unit_stage.specs.Owned.{owned_places, owns_units, reads_units}
-use Rattle.unit_stage.specs.System.{current_place}
+use Rattle.unit_stage.proofs.OwnedLemmas.{units_open}
 
 -- ---- the goal's part doesn't look at what others own
 
 unread : (q : Name) → is_path q goal_place ≡ false → is_in_store q ≡ false → BeginApart q goal_place → reads_goal q ≡ false
 unread q other outside apart = or_from _ _ other (or_from _ _ outside (or_from _ _ (not_line q goal_place apart) refl))
 
-units_unread : AllByRecursion (λ q. reads_goal q ≡ false) owned_places
-unfolding current_place log_place reloads_place restarts_place starts_place goal_place is_in_store
-units_unread = (refl, (refl, (refl, (refl, (refl, tt)))))
+units_unread : (q : Name) → owns_units q ≡ true → reads_goal q ≡ false
+unfolding units_open goal_place is_in_store
+units_unread = none_among reads_goal owned_places refl
 
-accounts_unread : AllByRecursion (λ q. reads_goal q ≡ false) account_names
-unfolding account_names group_place passwd_place shadow_place groups_place users_place gids_place uids_place goal_place is_in_store
-accounts_unread = (refl, (refl, (refl, (refl, (refl, (refl, (refl, tt)))))))
+accounts_unread : (q : Name) → owns_accounts q ≡ true → reads_goal q ≡ false
+unfolding accounts_open goal_place is_in_store
+accounts_unread = none_among reads_goal account_names refl
 
 etc_unread : (q : Name) → reads_goal (place q) ≡ false
 unfolding place goal_place is_in_store
@@ -53,7 +51,7 @@ goal_unread_activation = fails reads_goal (record { accounts = accounts_unread; 
 
 pub goal_unread_switch : (q : Name) → owns_units q || (owns_accounts q || owns_farm q) ≡ true → reads_goal q ≡ false
 goal_unread_switch q own = elim (cases_Bool (owns_units q)) [
-  | inl units ↦ each_among (λ x. reads_goal x ≡ false) owned_places units_unread q units
+  | inl units ↦ units_unread q units
   | inr other ↦ goal_unread_activation q (sym (ap (λ b. b || (owns_accounts q || owns_farm q)) other) ∙ own)
 ]
 
@@ -77,11 +75,11 @@ at_goal : (test : Name → Bool) → test goal_place ≡ false → (q : Name) �
 at_goal test is q own = ap test (same_text q goal_place (sym own)) ∙ is
 
 units_apart : reads_units goal_place ≡ false
-unfolding goal_place stage current_place log_place reloads_place restarts_place starts_place
+unfolding goal_place stage units_open
 units_apart = refl
 
 accounts_apart : reads_accounts goal_place ≡ false
-unfolding goal_place stage account_names table_places memory_places group_place passwd_place shadow_place groups_place users_place gids_place uids_place is_in_store
+unfolding goal_place stage accounts_open is_in_store
 accounts_apart = refl
 
 farm_apart : reads_farm goal_place ≡ false

@@ -2,9 +2,10 @@
 use Rattle.std.proofs.Common.{◌≡◌, ◌≢◌, ◌||◌, ◌++◌, ℕ, Bool, true, false, codes, drop, nat_eq, Option, None, Some, is_some, refl, sym, ap, subst, ◌∙◌, inl, inr}
 use Rattle.std.proofs.lemmas.Bool.{both_ways, cases_Bool, or_from}
 use Rattle.std.specs.Cmp.Lexicographic.{nat_list_eq_equiv, same_text}
-use Rattle.std.specs.List.{AllByRecursion, starts_with}
+use Rattle.std.specs.List.{starts_with}
 use Rattle.accounts_stage.specs.AccountsPart.{reads_accounts}
-use Rattle.accounts_stage.specs.Places.{account_names, account_places, gids_place, group_place, groups_place, memory_places, owns_accounts, passwd_place, shadow_place, table_places, uids_place, users_place}
+use Rattle.accounts_stage.specs.Places.{account_names, account_places, owns_accounts}
+use Rattle.accounts_stage.proofs.OwnLemmas.{accounts_open}
 use Rattle.switch_parts.specs.Store.{is_in_store}
 use Rattle.boot_entries.specs.BootPart.{reads_boot}
 use Rattle.boot_entries.specs.Places.{entries_folder, entry_path, loader_path, numbered, owns_boot}
@@ -15,15 +16,13 @@ use Rattle.etc_clean.specs.Etc.{static_name}
 use Rattle.etc_clean.specs.Names.{is_in_etc, place}
 use Rattle.etc_farm.specs.FarmPart.{fixed_places, owns_farm, reads_farm}
 use Rattle.host_trait.specs.World.{is_in_line, is_path, stage}
-use Rattle.owed_lists.specs.Lists.{reloads_place, restarts_place, starts_place}
-use Rattle.owed_log.specs.Places.{log_place}
 use Rattle.owed_plan.specs.Store.{IsInStore}
 use Rattle.switch_engine.proofs.ActivationApart.{fails}
 use Rattle.switch_names.specs.Names.{Name}
 use Rattle.switch_names.specs.Path.{is_below}
-use Rattle.switch_parts.proofs.LeafLemmas.{each_among, none_near, not_below, not_line}
+use Rattle.switch_parts.proofs.LeafLemmas.{none_among, none_near, not_below, not_line}
 use Rattle.unit_stage.specs.Owned.{owned_places, owns_units, reads_units, unit_places}
-use Rattle.unit_stage.specs.System.{current_place}
+use Rattle.unit_stage.proofs.OwnedLemmas.{units_open}
 
 -- ---- what the boot menu looks at
 
@@ -50,14 +49,17 @@ away q apart other =
 
 -- ---- it doesn't look at what a switch owns
 
-units_away : AllByRecursion (λ q. reads_boot q ≡ false) owned_places
-unfolding current_place log_place reloads_place restarts_place starts_place stage loader_path entries_folder is_in_store
-units_away = (away current_place refl refl, (away log_place refl refl, (away reloads_place refl refl, (away restarts_place refl refl, (away starts_place refl refl, tt)))))
+-- a path that begins as the boot menu's
+abbrev begins_so : Name → Bool
+begins_so q = starts_with nat_eq q (codes "boot/loader/")
 
-accounts_away : AllByRecursion (λ q. reads_boot q ≡ false) account_names
-unfolding account_names group_place passwd_place shadow_place groups_place users_place gids_place uids_place stage loader_path entries_folder is_in_store
-accounts_away =
-    (away group_place refl refl, (away passwd_place refl refl, (away shadow_place refl refl, (away groups_place refl refl, (away users_place refl refl, (away gids_place refl refl, (away uids_place refl refl, tt)))))))
+units_away : (q : Name) → owns_units q ≡ true → reads_boot q ≡ false
+unfolding units_open stage loader_path entries_folder is_in_store
+units_away q own = away q (none_among begins_so owned_places refl q own) (none_among reads_others owned_places refl q own)
+
+accounts_away : (q : Name) → owns_accounts q ≡ true → reads_boot q ≡ false
+unfolding accounts_open stage loader_path entries_folder is_in_store
+accounts_away q own = away q (none_among begins_so account_names refl q own) (none_among reads_others account_names refl q own)
 
 etc_away : (q : Name) → reads_boot (place q) ≡ false
 unfolding place stage loader_path entries_folder is_in_store
@@ -73,7 +75,7 @@ menu_unread_activation = fails reads_boot (record { accounts = accounts_away; et
 
 pub menu_unread : (q : Name) → owns_units q || (owns_accounts q || owns_farm q) ≡ true → reads_boot q ≡ false
 menu_unread q own = elim (cases_Bool (owns_units q)) [
-  | inl units ↦ each_among (λ x. reads_boot x ≡ false) owned_places units_away q units
+  | inl units ↦ units_away q units
   | inr other ↦ menu_unread_activation q (sym (ap (λ b. b || (owns_accounts q || owns_farm q)) other) ∙ own)
 ]
 
@@ -106,35 +108,16 @@ pub menu_fails : (test : Name → Bool) → ((rest : Name) → test (menu_path r
 menu_fails test each q own = subst (λ x. test x ≡ false) (sym (owned_begins q own)) (each (drop 12 q))
 
 units_apart : (rest : Name) → reads_units (menu_path rest) ≡ false
-unfolding stage current_place log_place reloads_place restarts_place starts_place
-units_apart rest =
-    or_from _ _
-    (or_from _ _ refl (none_near (menu_path rest) unit_places
-    (record { first = refl; second = refl }, (record { first = refl; second = refl }, (record { first = refl; second = refl }, (record { first = refl; second = refl }, (record { first = refl; second = refl }, (record { first = refl; second = refl }, tt))))))))
-    (not_below (menu_path rest) (codes "nix/store") refl)
+unfolding stage units_open
+units_apart rest = or_from _ _ (or_from _ _ refl (none_near (menu_path rest) unit_places refl)) (not_below (menu_path rest) (codes "nix/store") refl)
 
 accounts_apart : (rest : Name) → reads_accounts (menu_path rest) ≡ false
-unfolding stage account_names table_places memory_places group_place passwd_place shadow_place groups_place users_place gids_place uids_place is_in_store
-accounts_apart rest =
-    or_from _ _ refl (or_from _ _ refl (none_near (menu_path rest) account_places (
-      record { first = refl; second = refl },
-      (
-        record { first = refl; second = refl },
-        (
-          record { first = refl; second = refl },
-          (
-            record { first = refl; second = refl },
-            (record { first = refl; second = refl }, (record { first = refl; second = refl }, (record { first = refl; second = refl }, (record { first = refl; second = refl }, tt)))),
-          ),
-        ),
-      ),
-    )))
+unfolding stage accounts_open is_in_store
+accounts_apart rest = or_from _ _ refl (or_from _ _ refl (none_near (menu_path rest) account_places refl))
 
 farm_apart : (rest : Name) → reads_farm (menu_path rest) ≡ false
 unfolding stage is_in_etc place clean_name static_name is_in_store
-farm_apart rest =
-    or_from _ _ refl (or_from _ _ refl (none_near (menu_path rest) fixed_places
-    (record { first = refl; second = refl }, (record { first = refl; second = refl }, (record { first = refl; second = refl }, tt)))))
+farm_apart rest = or_from _ _ refl (or_from _ _ refl (none_near (menu_path rest) fixed_places refl))
 
 pub activation_unread : (q : Name) → owns_boot q ≡ true → reads_accounts q || reads_farm q ≡ false
 activation_unread q own = or_from _ _ (menu_fails reads_accounts accounts_apart q own) (menu_fails reads_farm farm_apart q own)

@@ -19,8 +19,6 @@ use Rattle.generations.proofs.GoalPartLemmas.{goal_is}
 use Rattle.generations.specs.ProfilePart.{owns_profile, reads_profile}
 use Rattle.generations.proofs.ProfileApart.{owned_fails}
 use Rattle.host_trait.specs.World.{Leaves, stage}
-use Rattle.owed_lists.specs.Lists.{reloads_place, restarts_place, starts_place}
-use Rattle.owed_log.specs.Places.{log_place}
 use Rattle.owed_plan.specs.Store.{IsInStore}
 use Rattle.switch_engine.specs.Commands.{is_back}
 use Rattle.switch_engine.specs.Rows.{default_if, default_part, gens_to, goal_by, part_if, parts, switch_part}
@@ -34,12 +32,11 @@ use Rattle.switch_engine.proofs.StoreApart.{store_not_owned}
 use Rattle.switch_names.specs.Names.{Name}
 use Rattle.switch_names.specs.SystemName.{IsSystemPath}
 use Rattle.switch_parts.specs.Part.{AreParted, IsPart, no_part}
-use Rattle.switch_parts.proofs.LeafLemmas.{each_among, none_near, not_below}
+use Rattle.switch_parts.proofs.LeafLemmas.{none_among, none_near, not_below}
 use Rattle.switch_parts.proofs.Parts.{both_part}
 use Rattle.unit_stage.specs.Owned.{owned_places, owns_units, reads_units, unit_places}
-use Rattle.unit_stage.specs.System.{current_place}
 use Rattle.unit_stage.specs.Units.{units_part}
-use Rattle.unit_stage.proofs.OwnedLemmas.{not_owns_store as units_not_in_store}
+use Rattle.unit_stage.proofs.OwnedLemmas.{not_owns_store as units_not_in_store, units_open}
 use Rattle.unit_stage.proofs.SystemsLemmas.{is_system}
 use Rattle.unit_stage.proofs.UnitsPartLemmas.{units_part_law}
 
@@ -62,28 +59,9 @@ switch_is start_up system named owners =
 
 -- ---- neither looks at what the other owns
 
-current_unread : reads_profile current_place ≡ false
-unfolding current_place profiles stage
-current_unread = refl
-
-log_unread : reads_profile log_place ≡ false
-unfolding log_place profiles stage
-log_unread = refl
-
-reloads_unread : reads_profile reloads_place ≡ false
-unfolding reloads_place profiles stage
-reloads_unread = refl
-
-restarts_unread : reads_profile restarts_place ≡ false
-unfolding restarts_place profiles stage
-restarts_unread = refl
-
-starts_unread : reads_profile starts_place ≡ false
-unfolding starts_place profiles stage
-starts_unread = refl
-
 units_unread : (q : Name) → owns_units q ≡ true → reads_profile q ≡ false
-units_unread q own = each_among (λ x. reads_profile x ≡ false) owned_places (current_unread, (log_unread, (reloads_unread, (restarts_unread, (starts_unread, tt))))) q own
+unfolding units_open profiles stage
+units_unread = none_among reads_profile owned_places refl
 
 switch_unread : (q : Name) → owns_units q || (owns_accounts q || owns_farm q) ≡ true → reads_profile q ≡ false
 switch_unread q own = elim (cases_Bool (owns_units q)) [
@@ -92,12 +70,8 @@ switch_unread q own = elim (cases_Bool (owns_units q)) [
 ]
 
 units_apart : (rest : Name) → reads_units (profile_path rest) ≡ false
-unfolding stage current_place log_place reloads_place restarts_place starts_place
-units_apart rest =
-    or_from _ _
-    (or_from _ _ refl (none_near (profile_path rest) unit_places
-    (record { first = refl; second = refl }, (record { first = refl; second = refl }, (record { first = refl; second = refl }, (record { first = refl; second = refl }, (record { first = refl; second = refl }, (record { first = refl; second = refl }, tt))))))))
-    (not_below (profile_path rest) (codes "nix/store") refl)
+unfolding stage units_open
+units_apart rest = or_from _ _ (or_from _ _ refl (none_near (profile_path rest) unit_places refl)) (not_below (profile_path rest) (codes "nix/store") refl)
 
 profile_apart : (q : Name) → owns_profile q ≡ true → reads_units q || (reads_accounts q || reads_farm q) ≡ false
 profile_apart q own = or_from _ _ (owned_fails reads_units units_apart q own) (activation_apart q own)

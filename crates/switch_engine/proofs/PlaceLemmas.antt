@@ -1,16 +1,14 @@
 -- Where nothing is in the way of the places that a switch of the units writes, each is clear.
-use Rattle.std.proofs.Common.{◌≡◌, true, false, List, [], ◌∷◌, ◌++◌, append_assoc, None, map, refl, sym}
+use Rattle.std.proofs.Common.{◌≡◌, true, false, List, [], ◌∷◌, ◌++◌, append_assoc, drop, None, map, refl, sym}
 use Rattle.boot_entries.specs.BootDefault.{menu_places}
 use Rattle.boot_entries.specs.BootPart.{boot_places, entry_places}
 use Rattle.boot_entries.specs.Places.{loader_path}
 use Rattle.generations.specs.declared.gens.Gen.{Gen}
 use Rattle.host_trait.specs.World.{IsClear, Leaves, stage}
-use Rattle.owed_lists.specs.Lists.{reloads_place, restarts_place, starts_place}
 use Rattle.owed_log.specs.Places.{log_place}
-use Rattle.tree_put.specs.declared.written_place.WrittenPlace.{WrittenPlace}
 use Rattle.tree_put.specs.WrittenPlace.{AreApartFromStage, in_the_way, written}
 use Rattle.tree_put.proofs.WayLemmas.{clear_first}
-use Rattle.unit_stage.specs.Owned.{unit_places}
+use Rattle.unit_stage.specs.Owned.{list_places, unit_places}
 use Rattle.unit_stage.specs.System.{current_place}
 
 -- the places of the boot menu and the stage
@@ -23,25 +21,15 @@ pub stage_apart : AreApartFromStage (written false stage ∷ [])
 unfolding stage
 stage_apart = (refl, tt)
 
--- each place that is written is clear
+-- the places that are written first are clear
 pub record AreClear (leaves : Leaves) : Type 0 where
   pub stage : IsClear leaves stage
   pub current : IsClear leaves current_place
   pub log : IsClear leaves log_place
-  pub reloads : IsClear leaves reloads_place
-  pub restarts : IsClear leaves restarts_place
-  pub starts : IsClear leaves starts_place
 
 pub all_clear : (leaves : Leaves) → in_the_way unit_places leaves ≡ None → AreClear leaves
 all_clear leaves free =
-    let last : List WrittenPlace = written true starts_place ∷ [] in
-    let lists : List WrittenPlace = written true restarts_place ∷ last in
-    let old_lists : List WrittenPlace = written true reloads_place ∷ lists in
-    let all_lists : List WrittenPlace = written true log_place ∷ old_lists in
-    let staged = clear_first leaves (written false stage) (written false current_place ∷ all_lists) free in
-    let current = clear_first leaves (written false current_place) all_lists staged.1 in
-    let log = clear_first leaves (written true log_place) old_lists current.1 in
-    let reloads = clear_first leaves (written true reloads_place) lists log.1 in
-    let restarts = clear_first leaves (written true restarts_place) last reloads.1 in
-    let starts = clear_first leaves (written true starts_place) [] restarts.1 in
-    record { stage = staged.0; current = current.0; log = log.0; reloads = reloads.0; restarts = restarts.0; starts = starts.0 }
+    let staged = clear_first leaves (written false stage) (written false current_place ∷ list_places) free in
+    let current = clear_first leaves (written false current_place) list_places staged.1 in
+    let log = clear_first leaves (written true log_place) (drop 1 list_places) current.1 in
+    record { stage = staged.0; current = current.0; log = log.0 }

@@ -2,21 +2,18 @@
 use Rattle.std.proofs.Common.{◌≡◌, ◌≢◌, Bool, true, false, List, ◌++◌, append_assoc, not, refl, sym, ap, subst, ◌∙◌, inl, inr, arith}
 use Rattle.std.proofs.lemmas.Bool.{both_ways, cases_Bool}
 use Rattle.std.specs.FinMap.{get}
-use Rattle.std.specs.List.{AllByRecursion}
 use Rattle.host_trait.specs.declared.leaf.LeafKind.{LeafKind}
 use Rattle.host_trait.specs.World.{Leaves, WorldState, stage}
-use Rattle.owed_lists.specs.Lists.{reloads_place, restarts_place, starts_place}
-use Rattle.owed_log.specs.Places.{log_place}
 use Rattle.switch_engine.specs.Quiet.{IsQuietRun, is_not_quiet, is_quiet}
 use Rattle.switch_names.specs.Names.{Name, has}
 use Rattle.switch_parts.specs.Leaves.{End}
 use Rattle.switch_parts.specs.Quiet.{IsQuiet, IsQuietAt, times}
-use Rattle.switch_parts.proofs.LeafLemmas.{each_among}
+use Rattle.switch_parts.proofs.LeafLemmas.{none_among}
 use Rattle.switch_parts.proofs.QuietLemmas.{quiet_as, quiet_never, times_append, times_never}
 use Rattle.tree_put.specs.Written.{WritesOnly}
 use Rattle.tree_put.proofs.WrittenLemmas.{writes_wider}
 use Rattle.unit_stage.specs.Owned.{owned_places, owns_units}
-use Rattle.unit_stage.specs.System.{current_place}
+use Rattle.unit_stage.proofs.OwnedLemmas.{units_open}
 
 -- ---- quiet places
 
@@ -27,12 +24,9 @@ not_owned owns loud q quiet = elim (cases_Bool (owns q)) [
   | inr other ↦ other
 ]
 
-units_loud : AllByRecursion (λ q. is_not_quiet q ≡ true) owned_places
-unfolding current_place log_place reloads_place restarts_place starts_place
-units_loud = (refl, (refl, (refl, (refl, (refl, tt)))))
-
 pub units_not_quiet : (q : Name) → owns_units q ≡ true → is_not_quiet q ≡ true
-units_not_quiet q own = each_among (λ at. is_not_quiet at ≡ true) owned_places units_loud q own
+unfolding units_open
+units_not_quiet q own = ap not (none_among is_quiet owned_places refl q own)
 
 stage_loud : is_quiet stage ≡ false
 unfolding stage

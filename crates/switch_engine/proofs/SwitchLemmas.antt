@@ -1,5 +1,5 @@
 -- All steps of a switch of the units, one after the other: each is a moment of its parts, and the last leaves them at their ends.
-use Rattle.std.proofs.Common.{◌≡◌, Bool, true, false, cond, ◌||◌, List, length, None, Some, refl, sym, ap, subst, ◌∙◌, inl, inr}
+use Rattle.std.proofs.Common.{◌≡◌, Bool, true, false, cond, ◌∷◌, ◌||◌, List, length, None, Some, refl, sym, ap, subst, ◌∙◌, inl, inr}
 use Rattle.std.proofs.lemmas.Bool.{both_ways, cases_Bool, or_from}
 use Rattle.std.specs.Cmp.Lexicographic.{same_text}
 use Rattle.std.specs.FinMap.{get}
@@ -18,10 +18,9 @@ use Rattle.host_trait.specs.World.{WorldState, is_path, seen}
 use Rattle.host_trait.proofs.Seen.{seen_at}
 use Rattle.log_text.specs.declared.lists.Which.{Which}
 use Rattle.log_text.specs.declared.lists.Which.TheVariants.{Starts, Restarts, Reloads}
-use Rattle.owed_lists.specs.Lists.{reloads_place, restarts_place, starts_place}
 use Rattle.owed_log.specs.declared.log_write.LogWrite.{LogWrite}
 use Rattle.owed_log.specs.Laws.{AreAlone}
-use Rattle.owed_log.specs.Places.{log_place}
+use Rattle.owed_log.specs.Places.{log_place, old_places}
 use Rattle.owed_log.specs.Writing.{IsWriteFor, recorded}
 use Rattle.owed_log.proofs.BesideLemmas.{recorded_manager}
 use Rattle.owed_plan.specs.Calls.{listed_calls, stop_calls}
@@ -42,6 +41,8 @@ use Rattle.switch_names.specs.Names.{Name}
 use Rattle.switch_names.specs.SystemName.{IsSystemPath}
 use Rattle.switch_parts.specs.Part.{IsAtEnd, IsFree, IsPartMoment, IsOnly, IsPart, Part}
 use Rattle.tree_put.specs.Written.{WritesOnly}
+use Rattle.switch_parts.specs.Leaves.{is_among}
+use Rattle.switch_parts.proofs.LeafLemmas.{each_among}
 use Rattle.switch_parts.proofs.Parts.{first_free, first_moment, is_final, moment_then, only_beside, only_first, only_then, second_free, second_moment}
 use Rattle.unit_stage.specs.Acts.{CanPerform, IsPerforming, performed, with_calls}
 use Rattle.unit_stage.specs.Laws.{AreSameBeside}
@@ -255,18 +256,13 @@ module _ (start_up : Bool) (system : Name) (named : IsSystemPath system) (owed :
             | inl is_current ↦
                 ap (get d.leaves) (same_text q current_place (sym is_current)) ∙ at_end.current
                 ∙ sym (ap (λ b. cond b (Some (system_leaf system)) None) is_current)
-            | inr other ↦ lists_gone (sym (ap (λ b. b || (is_path q log_place || (is_path q reloads_place || (is_path q restarts_place || (is_path q starts_place || false))))) other) ∙ own)
+            | inr other ↦ none_stands (sym (ap (λ b. b || is_among (log_place ∷ old_places) q) other) ∙ own)
                 ∙ sym (ap (λ b. cond b (Some (system_leaf system)) None) other)
           ]
             where
-              gone_at_place : (p : Name) (rest : Bool) → get d.leaves p ≡ None → (rest ≡ true → get d.leaves q ≡ None) → is_path q p || rest ≡ true → get d.leaves q ≡ None
-              gone_at_place p rest none others one = elim (cases_Bool (is_path q p)) [
-                | inl is ↦ ap (get d.leaves) (same_text q p (sym is)) ∙ none
-                | inr other ↦ others (sym (ap (λ b. b || rest) other) ∙ one)
-              ]
-
-              lists_gone : is_path q log_place || (is_path q reloads_place || (is_path q restarts_place || (is_path q starts_place || false))) ≡ true → get d.leaves q ≡ None
-              lists_gone = gone_at_place log_place _ at_end.log (gone_at_place reloads_place _ (at_end.old Reloads) (gone_at_place restarts_place _ (at_end.old Restarts) (gone_at_place starts_place _ (at_end.old Starts) (λ never. absurd (both_ways false refl never)))))
+              none_stands : is_among (log_place ∷ old_places) q ≡ true → get d.leaves q ≡ None
+              none_stands among =
+                  each_among (λ p. get d.leaves p ≡ None) (log_place ∷ old_places) (at_end.log, (at_end.old Starts, (at_end.old Restarts, (at_end.old Reloads, tt)))) q among
 
           -- a place of the activation is at the end that it had from the beginning
           activated_end : (q : Name) → owns_units q ≡ false → activation.owns q ≡ true → get d.leaves q ≡ activation.end w.leaves q

@@ -244,8 +244,7 @@ module _ (system : Name) (owed : Owed) (order : List Name) (w : WorldState) (wri
   -- it can be cleared, and then no other lists stand than those that follow
   can_clear : (which : Which) → (which ≢ Starts → IsFileAt (turn which).leaves log_place) → CanClear which (turn which).leaves (left which)
   can_clear Starts file = refl
-  can_clear Restarts file = file (λ same. cc same)
-  can_clear Reloads file = file (λ same. cc same)
+  can_clear which file = file (λ same. cc same)
 
   next_left : (which : Which) → with_list (left which) which [] ≡ lists_without lists (given_before which ++ which ∷ [])
   next_left Starts = refl

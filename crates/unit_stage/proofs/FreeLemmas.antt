@@ -28,7 +28,7 @@ use Rattle.unit_defs.specs.Count.{units_past}
 use Rattle.unit_defs.specs.Units.{first_fault_of}
 use Rattle.unit_stage.specs.System.{IsSystem, current_place, current_system, defs_refusal, old_units_past, system_leaf, text_refusal, unit_refusal, units_too_long, units_too_many}
 use Rattle.unit_stage.specs.Units.{AreUnitsFree}
-use Rattle.unit_stage.proofs.OwnedLemmas.{IsWritten, current_written, log_written, reloads_written, restarts_written, same_line, same_store, stage_written, starts_written}
+use Rattle.unit_stage.proofs.OwnedLemmas.{IsWritten, current_written, list_written, log_written, same_line, same_store, stage_written}
 use Rattle.unit_stage.proofs.ListsLemmas.{AreListLeaves, IsListLeaf}
 use Rattle.unit_stage.proofs.CountLemmas.{refusal_by}
 use Rattle.unit_stage.proofs.LengthLemmas.{still_short}
@@ -112,10 +112,10 @@ module _ (system : Name) (w m : WorldState) (same : AreSameBeside w m) where
             (
               list_free log_place log_written are.log was.1.1.0,
               (
-                list_free reloads_place reloads_written (are.old Reloads) was.1.1.1.0,
+                list_free starts_place (list_written Starts) (are.old Starts) was.1.1.1.0,
                 (
-                  list_free restarts_place restarts_written (are.old Restarts) was.1.1.1.1.0,
-                  (list_free starts_place starts_written (are.old Starts) was.1.1.1.1.1.0, tt),
+                  list_free restarts_place (list_written Restarts) (are.old Restarts) was.1.1.1.1.0,
+                  (list_free reloads_place (list_written Reloads) (are.old Reloads) was.1.1.1.1.1.0, tt),
                 ),
               ),
             ),

@@ -106,14 +106,12 @@ stands lists Starts = refl
 
 last_one : (lists : Lists) (which : Which) → which ≡ Starts → with_list (lists_without lists (given_before which)) which [] ≡ no_lists
 last_one lists Starts is = refl
-last_one lists Restarts is = absurd (cc is)
-last_one lists Reloads is = absurd (cc is)
+last_one lists which is = absurd (cc is)
 
 -- a list that has no names is as it is without
 same_without : (lists : Lists) (which : Which) → list_names lists which ≡ [] → with_list lists which [] ≡ lists
 same_without lists Starts none = ap (with_list lists Starts) (sym none)
-same_without lists Restarts none = ap (with_list lists Restarts) (sym none)
-same_without lists Reloads none = ap (with_list lists Reloads) (sym none)
+same_without lists which none = ap (with_list lists which) (sym none)
 
 module _ (calls : Which → List Duty) (x : WorldState) where
   -- the world when a list has its turn

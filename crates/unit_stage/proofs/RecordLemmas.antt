@@ -113,8 +113,7 @@ module _ (lists : Lists) (first : Leaves) (y u : WorldState) (alone : AreAlone y
   clearing_leaves which can (inr (inl done)) =
       subst (λ (x : WorldState). AreListLeaves first x.leaves) (sym done) (alone_leaves first (finished (clearing which) y).leaves (with_list lists which []) (cleared_law which y lists alone can))
   clearing_leaves Starts can (inr (inr middle)) = absurd middle
-  clearing_leaves Restarts file (inr (inr middle)) = longer Restarts file middle.0 middle.1
-  clearing_leaves Reloads file (inr (inr middle)) = longer Reloads file middle.0 middle.1
+  clearing_leaves which file (inr (inr middle)) = longer which file middle.0 middle.1
 
   pub clears : (which : Which) → CanClear which y.leaves lists → IsMoment (clearing which) y u → IsClearing which lists first u
   clears which can moment =

@@ -75,8 +75,7 @@ module _ (w v : WorldState) (same : AreSameUnits w v) where
 
   same_finished : (which : Which) → AreSameUnits (finished (clearing which) w) (finished (clearing which) v)
   same_finished Starts = record { leaves = λ q own. gone_same v.leaves w.leaves log_place q (same.leaves q own); manager = same.manager }
-  same_finished Restarts = record { leaves = longer (block_text (block_of Restarts [])); manager = same.manager }
-  same_finished Reloads = record { leaves = longer (block_text (block_of Reloads [])); manager = same.manager }
+  same_finished which = record { leaves = longer (block_text (block_of which [])); manager = same.manager }
 
   same_middle : (more : List ℕ) (m : WorldState) → m ≡ record v { leaves = with_more v.leaves log_place more } → AreSameUnits (record w { leaves = with_more w.leaves log_place more }) m
   same_middle more m is = record {
@@ -88,10 +87,8 @@ module _ (w v : WorldState) (same : AreSameUnits w v) where
   same_moment which m (inl is) = (w, inl refl, units_then w v m same (units_as v m is))
   same_moment which m (inr (inl is)) = (finished (clearing which) w, inr (inl refl), units_then (finished (clearing which) w) (finished (clearing which) v) m (same_finished which) (units_as (finished (clearing which) v) m is))
   same_moment Starts m (inr (inr middle)) = absurd middle
-  same_moment Restarts m (inr (inr middle)) =
-      let part = take middle.0 (block_text (block_of Restarts [])) in (record w { leaves = with_more w.leaves log_place part }, inr (inr (middle.0, refl)), same_middle part m middle.1)
-  same_moment Reloads m (inr (inr middle)) =
-      let part = take middle.0 (block_text (block_of Reloads [])) in (record w { leaves = with_more w.leaves log_place part }, inr (inr (middle.0, refl)), same_middle part m middle.1)
+  same_moment which m (inr (inr middle)) =
+      let part = take middle.0 (block_text (block_of which [])) in (record w { leaves = with_more w.leaves log_place part }, inr (inr (middle.0, refl)), same_middle part m middle.1)
 
   pub same_performing : (calls : List Duty) (m : WorldState) → IsPerforming calls v m → (u : WorldState) × IsPerforming calls w u × AreSameUnits u m
   same_performing calls m (IsPerforming.After count is) =

@@ -126,8 +126,7 @@ pub given_alone : (which : Which) (calls : List Duty) (x : WorldState) (lists : 
     (which ≡ Starts → with_list lists which [] ≡ no_lists) → HasLogFor which calls x.leaves → AreAlone (with_given which calls x).leaves (with_list lists which [])
 given_alone Starts calls x lists alone none last log = cleared_law Starts (with_calls calls x) lists alone (last refl)
 given_alone which [] x lists alone none last log = subst (AreAlone x.leaves) (sym (none (λ same. cc same) refl)) alone
-given_alone Restarts (call ∷ rest) x lists alone none last log = cleared_law Restarts (with_calls (call ∷ rest) x) lists alone log
-given_alone Reloads (call ∷ rest) x lists alone none last log = cleared_law Reloads (with_calls (call ∷ rest) x) lists alone log
+given_alone which (call ∷ rest) x lists alone none last log = cleared_law which (with_calls (call ∷ rest) x) lists alone log
 
 cleared_manager : (which : Which) (calls : List Duty) (x : WorldState) → (with_cleared which calls x).manager ≡ performed calls x.manager
 cleared_manager which calls x = clearing_manager which (with_calls calls x) (with_cleared which calls x) (inr (inl refl))

@@ -123,8 +123,7 @@ same_listed which calls w other none = none_given which calls w
 pub given_file : (which : Which) (calls : List Duty) (w : WorldState) → which ≢ Starts → IsFileAt w.leaves log_place → IsFileAt (with_given which calls w).leaves log_place
 given_file Starts calls w other file = absurd (other refl)
 given_file which [] w other file = file
-given_file Restarts (call ∷ calls) w other file = more_file w.leaves log_place (block_text (block_of Restarts [])) file
-given_file Reloads (call ∷ calls) w other file = more_file w.leaves log_place (block_text (block_of Reloads [])) file
+given_file which (call ∷ calls) w other file = more_file w.leaves log_place (block_text (block_of which [])) file
 
 pub given_log : (which later : Which) (calls more : List Duty) (w : WorldState) → which ≢ Starts → HasLogFor later more w.leaves → HasLogFor later more (with_given which calls w).leaves
 given_log which Starts calls more w other log = tt

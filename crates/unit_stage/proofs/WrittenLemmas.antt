@@ -48,8 +48,7 @@ then_reloaded w v u writes done = none_more w v u writes (ap (λ (x : WorldState
 -- what is given writes the log, as its lists are cleared
 cleared_written : (which : Which) (calls : List Duty) (w : WorldState) → WritesOnly owns_units w (with_cleared which calls w)
 cleared_written Starts calls w = writes_one owns_units log_place w (with_cleared Starts calls w) own_log refl
-cleared_written Restarts calls w = writes_one owns_units log_place w (with_cleared Restarts calls w) own_log refl
-cleared_written Reloads calls w = writes_one owns_units log_place w (with_cleared Reloads calls w) own_log refl
+cleared_written which calls w = writes_one owns_units log_place w (with_cleared which calls w) own_log refl
 
 given_written : (which : Which) (calls : List Duty) (w : WorldState) → WritesOnly owns_units w (with_given which calls w)
 given_written Starts calls w = cleared_written Starts calls w

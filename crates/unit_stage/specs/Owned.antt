@@ -1,8 +1,7 @@
 -- The places that the units' part of a switch owns: NixOS manual, "What happens during a system switch?".
-use Rattle.std.specs.Prelude.{◌||◌, Bool, true, false, List, [], ◌∷◌, codes}
+use Rattle.std.specs.Prelude.{◌||◌, Bool, true, false, List, ◌∷◌, codes, map}
 use Rattle.host_trait.specs.World.{stage}
-use Rattle.owed_lists.specs.Lists.{reloads_place, restarts_place, starts_place}
-use Rattle.owed_log.specs.Places.{log_place}
+use Rattle.owed_log.specs.Places.{log_place, old_places}
 use Rattle.switch_names.specs.Names.{Name}
 use Rattle.switch_names.specs.Path.{is_below}
 use Rattle.switch_parts.specs.Leaves.{is_among, is_near}
@@ -12,7 +11,7 @@ use Rattle.unit_stage.specs.System.{current_place}
 
 -- the link to the system in use, the log of what is owed, and the lists of an older program
 abbrev pub owned_places : List Name
-owned_places = current_place ∷ log_place ∷ reloads_place ∷ restarts_place ∷ starts_place ∷ []
+owned_places = current_place ∷ log_place ∷ old_places
 
 -- whether a place is one of them
 abbrev pub owns_units : Name → Bool
@@ -20,7 +19,7 @@ owns_units q = is_among owned_places q
 
 -- the places of the log and of the lists, which are read before
 abbrev pub list_places : List WrittenPlace
-list_places = written true log_place ∷ written true reloads_place ∷ written true restarts_place ∷ written true starts_place ∷ []
+list_places = map (written true) (log_place ∷ old_places)
 
 -- the places that are written by way of the stage
 abbrev pub unit_places : List WrittenPlace

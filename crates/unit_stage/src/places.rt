@@ -4,7 +4,7 @@ ghost use Rattle.tree_put.specs.WrittenPlace.{AreApartFromStage};
 ghost use Rattle.unit_stage.specs.Owned.{list_places, unit_places};
 
 use crate::system::current_path;
-use log_text::Which;
+use log_text::RECORD_ORDER;
 use owed_lists::list_path;
 use owed_log::log_path;
 use std::alloc::{AllocError, Global};
@@ -16,9 +16,10 @@ fn add_lists(alloc: Global, places: &mut Listed<WrittenPlace>) -> Result<(), All
     ensures { OnOk result (places.new ≡ places.old ++ list_places) }
 {
     places.push(read_before(log_path(alloc)?))?;
-    places.push(read_before(list_path(alloc, Which::Reloads)?))?;
-    places.push(read_before(list_path(alloc, Which::Restarts)?))?;
-    places.push(read_before(list_path(alloc, Which::Starts)?))
+    for which in RECORD_ORDER {
+        places.push(read_before(list_path(alloc, which)?))?;
+    }
+    Ok(())
 }
 
 /// Adds the places that switching the units writes: the stage, the link to the system in use, the
