@@ -3,6 +3,7 @@ use Rattle.std.proofs.Common.{◌≡◌, ◌++◌, ◌||◌, Bool, true, false, 
 use Rattle.std.proofs.lemmas.Bool.{cases_Bool, or_parts}
 use Rattle.std.specs.FinMap.{get}
 use Rattle.std.specs.List.{AllByRecursion}
+use Rattle.host_trait.specs.Leaf.{open_file}
 use Rattle.account_text.specs.Group.{group_text}
 use Rattle.account_text.specs.Passwd.{passwd_text}
 use Rattle.account_text.specs.Shadow.{shadow_text}
@@ -20,7 +21,7 @@ use Rattle.tree_put.proofs.LeftLemmas.{AreElsewhere}
 use Rattle.users_merge.specs.Order.{group_rows, passwd_rows, shadow_rows}
 use Rattle.users_merge.specs.Stored.{Merged}
 use Rattle.accounts_stage.specs.AccountsPart.{accounts_part, end_by, merged_in, puts_by, puts_of}
-use Rattle.accounts_stage.specs.Files.{account_puts, closed_file, merged_end, names_text, open_file}
+use Rattle.accounts_stage.specs.Files.{account_puts, closed_file, merged_end, names_text}
 use Rattle.accounts_stage.specs.OnTheWay.{first_by, merged_first, names_first}
 use Rattle.accounts_stage.specs.Places.{account_names, gids_place, group_place, groups_place, owns_accounts, passwd_place, shadow_place, uids_place, users_place}
 use Rattle.accounts_stage.proofs.EndLemmas.{puts_elsewhere}

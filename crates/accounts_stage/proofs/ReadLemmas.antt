@@ -3,6 +3,7 @@ use Rattle.std.proofs.Common.{◌≡◌, ℕ, zero, suc, true, false, cond, List
 use Rattle.std.specs.Cmp.Lexicographic.{nat_list_eq_equiv}
 use Rattle.std.specs.FinMap.{empty, get, insert}
 use Rattle.std.specs.Option.{option_map_or, unwrap_or}
+use Rattle.host_trait.specs.Leaf.{open_file}
 use Rattle.account_text.specs.declared.group.GroupRow.{GroupRow}
 use Rattle.account_text.specs.declared.passwd.PasswdRow.{PasswdRow}
 use Rattle.account_text.specs.declared.shadow.ShadowRow.{ShadowRow}
@@ -22,7 +23,7 @@ use Rattle.users_merge.specs.Order.{group_rows, passwd_rows, shadow_rows}
 use Rattle.users_merge.specs.Stored.{Merged, Stored, Table, table_of}
 use Rattle.tree_put.specs.declared.leaf_put.LeafPut.{LeafPut}
 use Rattle.tree_put.specs.Sequence.{put_at, with_puts}
-use Rattle.accounts_stage.specs.Files.{account_puts, closed_file, names_text, open_file}
+use Rattle.accounts_stage.specs.Files.{account_puts, closed_file, names_text}
 use Rattle.accounts_stage.specs.Places.{gids_place, group_place, groups_place, owns_accounts, passwd_place, shadow_place, uids_place, users_place}
 use Rattle.accounts_stage.specs.Rows.{lines_of}
 use Rattle.accounts_stage.specs.Standing.{names_in}

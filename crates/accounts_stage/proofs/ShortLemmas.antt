@@ -3,6 +3,7 @@ use Rattle.std.proofs.Common.{◌≡◌, ℕ, ◌||◌, ◌++◌, Bool, true, fa
 use Rattle.std.proofs.lemmas.Bool.{cases_Bool}
 use Rattle.std.specs.Cmp.Lexicographic.{same_text}
 use Rattle.std.specs.FinMap.{insert}
+use Rattle.host_trait.specs.Leaf.{open_file}
 use Rattle.host_trait.specs.declared.leaf.LeafKind.{LeafKind}
 use Rattle.host_trait.specs.declared.leaf.LeafKind.TheVariants.{File}
 use Rattle.host_trait.specs.World.{Leaves, WorldState, content_of, file_bytes, is_path, with_leaf}
@@ -25,7 +26,7 @@ use Rattle.users_merge.proofs.AgainLemmas.{in_union}
 use Rattle.users_merge.proofs.NameLemmas.{has-append}
 use Rattle.users_merge.proofs.NameOrderLemmas.{ordered_has}
 use Rattle.users_merge.proofs.OrderedLemmas.{ordered_same}
-use Rattle.accounts_stage.specs.Files.{account_puts, names_text, open_file}
+use Rattle.accounts_stage.specs.Files.{account_puts, names_text}
 use Rattle.accounts_stage.specs.Lengths.{account_texts, accounts_too_long, texts_long}
 use Rattle.accounts_stage.specs.Places.{account_names, gids_place, group_place, groups_place, owns_accounts, passwd_place, shadow_place, spec_path, uids_place, users_place}
 use Rattle.accounts_stage.proofs.FrameLemmas.{own_gids, own_group, own_groups, own_passwd, own_shadow, own_uids, own_users}

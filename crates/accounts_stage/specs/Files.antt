@@ -1,6 +1,7 @@
 -- The files of accounts that a merge leaves, and the order in which they are put: nixpkgs, update-users-groups.pl.
 use Rattle.std.specs.Prelude.{ℕ, ◌∷◌, ◌++◌, List, [], Option, None, Some, if◌then◌else◌}
 use Rattle.std.specs.List.{flat_map}
+use Rattle.host_trait.specs.Leaf.{open_file}
 use Rattle.account_text.specs.declared.tables.Tables.{Tables}
 use Rattle.account_text.specs.Group.{group_text}
 use Rattle.account_text.specs.Passwd.{passwd_text}
@@ -17,10 +18,6 @@ use Rattle.users_merge.specs.Stored.{Merged}
 use Rattle.tree_put.specs.declared.leaf_put.LeafPut.{LeafPut}
 use Rattle.tree_put.specs.Sequence.{put_at}
 use Rattle.accounts_stage.specs.Places.{gids_place, group_place, groups_place, passwd_place, shadow_place, uids_place, users_place}
-
--- a file of mode 0644 that root owns
-abbrev pub open_file : List ℕ → LeafKind
-open_file text = File text 420 0 0
 
 -- a file of mode 0600 that root owns
 abbrev pub closed_file : List ℕ → LeafKind

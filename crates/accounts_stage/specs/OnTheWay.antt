@@ -1,11 +1,12 @@
 -- What stands on the way while accounts are set: nixpkgs, update-users-groups.pl.
 use Rattle.std.specs.Prelude.{◌∷◌, List, [], Option, None, Some, if◌then◌else◌}
+use Rattle.host_trait.specs.Leaf.{open_file}
 use Rattle.host_trait.specs.declared.leaf.LeafKind.{LeafKind}
 use Rattle.host_trait.specs.World.{Leaves, is_path}
 use Rattle.switch_names.specs.Names.{Name}
 use Rattle.users_merge.specs.Stored.{Merged}
 use Rattle.accounts_stage.specs.AccountsPart.{merged_in}
-use Rattle.accounts_stage.specs.Files.{names_text, open_file}
+use Rattle.accounts_stage.specs.Files.{names_text}
 use Rattle.accounts_stage.specs.Places.{groups_place, users_place}
 
 -- the leaves that a merge puts at a place before its end: the names of old with those that are declared now

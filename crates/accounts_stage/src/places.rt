@@ -4,7 +4,7 @@ ghost use Rattle.accounts_stage.specs.Places.{gids_place, group_place, groups_pl
 
 use host_trait::fixed_path;
 use std::alloc::{AllocError, Global};
-use switch_names::{NameFault, Path, SystemName};
+use switch_names::{Path, SystemName};
 use switch_parts::TableFile;
 
 /// The place of the table of groups.
@@ -79,9 +79,5 @@ pub fn uids_path(alloc: Global) -> Result<Path, AllocError>
 pub fn spec_path(alloc: Global, system: &SystemName) -> Result<Path, AllocError>
     ensures { IfOk result (λ path. path ≡ spec_path system.now) }
 {
-    // The path of a system has 265 bytes at most, so that memory alone can be wanting.
-    system
-        .path()
-        .join(alloc, "users-groups.json")
-        .map_err(|_fault: NameFault| AllocError)
+    system.place(alloc, "users-groups.json")
 }

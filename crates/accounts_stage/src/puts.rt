@@ -1,7 +1,8 @@
 //! The files that a merge of accounts puts.
 ghost use Rattle.std.specs.Prelude.{◌≡◌, ◌++◌, IfOk, OnOk};
+ghost use Rattle.host_trait.specs.Leaf.{open_file};
 ghost use Rattle.tree_put.specs.Sequence.{put_at};
-ghost use Rattle.accounts_stage.specs.Files.{closed_file, ids_puts, names_puts, names_text, open_file, table_puts};
+ghost use Rattle.accounts_stage.specs.Files.{closed_file, ids_puts, names_puts, names_text, table_puts};
 ghost use Rattle.accounts_stage.specs.Puts.{AreAtAccounts, first_puts};
 ghost use Rattle.id_memory.specs.Json.{ids_text};
 
@@ -23,7 +24,7 @@ fn open_put(at: Path, bytes: Bytes) -> LeafPut
 {
     LeafPut {
         at,
-        leaf: Leaf::file(bytes, 0o644, 0, 0),
+        leaf: Leaf::open_file(bytes),
     }
 }
 

@@ -3,11 +3,11 @@ use Rattle.std.specs.Prelude.{◌||◌, ◌++◌, ◌∷◌, ℕ, Bool, true, fa
 use Rattle.std.specs.FinMap.{from_entries, get, keys}
 use Rattle.std.specs.List.{filter_map}
 use Rattle.std.specs.Option.{option_map_or}
+use Rattle.host_trait.specs.Leaf.{open_file}
 use Rattle.generations.specs.declared.gens.Gen.{Gen}
 use Rattle.generations.specs.declared.gens.Gens.{Gens}
 use Rattle.generations.specs.Gens.{listed_at}
 use Rattle.host_trait.specs.declared.leaf.LeafKind.{LeafKind}
-use Rattle.host_trait.specs.declared.leaf.LeafKind.TheVariants.{File}
 use Rattle.host_trait.specs.World.{Leaves, bytes_cmp, is_in_line, is_path, stage}
 use Rattle.switch_names.specs.Names.{Name}
 use Rattle.switch_parts.specs.Leaves.{leaf_part}
@@ -22,7 +22,7 @@ use Rattle.boot_entries.specs.Texts.{entry_of}
 
 -- a file of mode 0644 that root owns
 abbrev pub boot_leaf : List ℕ → LeafKind
-boot_leaf text = File text 420 0 0
+boot_leaf text = open_file text
 
 -- the entry's place of a generation, where it names a system
 abbrev pub place_if : Gen → Option Name

@@ -19,7 +19,7 @@ use tree_put::{LeafPut, drop_all};
 fn file_at(alloc: Global, at: Path, bytes: &Bytes) -> Result<LeafPut, AllocError>
     ensures { IfOk result (λ put. put ≡ boot_put (boot_file at bytes.now)) }
 {
-    let leaf = Leaf::file(bytes.copy(alloc)?, 0o644, 0, 0);
+    let leaf = Leaf::open_file(bytes.copy(alloc)?);
     Ok(LeafPut { at, leaf })
 }
 

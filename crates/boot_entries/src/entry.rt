@@ -41,11 +41,7 @@ pub fn entry_path(alloc: Global, number: u32) -> Result<Path, AllocError>
 pub fn version_path(alloc: Global, system: &SystemName) -> Result<Path, AllocError>
     ensures { IfOk result (λ path. path ≡ version_path system.now) }
 {
-    // The path of a system has 265 bytes at most, so that memory alone can be wanting.
-    match system.path().join(alloc, "nixos-version") {
-        Ok(path) => Ok(path),
-        Err(_) => Err(AllocError),
-    }
+    system.place(alloc, "nixos-version")
 }
 
 /// Where a system keeps the parameters of its kernel.
@@ -53,10 +49,7 @@ pub fn version_path(alloc: Global, system: &SystemName) -> Result<Path, AllocErr
 pub fn params_path(alloc: Global, system: &SystemName) -> Result<Path, AllocError>
     ensures { IfOk result (λ path. path ≡ params_path system.now) }
 {
-    match system.path().join(alloc, "kernel-params") {
-        Ok(path) => Ok(path),
-        Err(_) => Err(AllocError),
-    }
+    system.place(alloc, "kernel-params")
 }
 
 /// Whether a byte is a line feed.

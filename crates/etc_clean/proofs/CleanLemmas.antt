@@ -13,7 +13,7 @@ use Rattle.std.proofs.Math.Bool.{and-false}
 use Rattle.switch_names.specs.declared.name_fault.NameFault.{NameFault}
 use Rattle.switch_names.specs.declared.name_fault.NameFault.TheVariants.{Byte, Dot}
 use Rattle.switch_names.specs.Names.{Name}
-use Rattle.switch_names.specs.Path.{is_dots, is_no_path_byte, names_of, path_fault}
+use Rattle.switch_names.specs.Path.{is_dots, is_no_path_byte, named_path, names_of, path_fault}
 use Rattle.switch_names.specs.Texts.{is_empty, is_line_feed}
 use Rattle.switch_names.proofs.Faultless.{HasNone-from_sought, no_place}
 use Rattle.switch_names.proofs.Positions.{All-from_no_position}
@@ -30,16 +30,10 @@ path_by : (line : List ℕ) (fault : Option NameFault) → IsUtf8 line → path_
 unfolding is_path_text
 path_by line fault good is = ap (λ b. b && is_none (path_fault line)) (is_utf8-from_IsUtf8 line good) ∙ ap (λ (o : Option NameFault). is_none o) is
 
-module _ (line text : List ℕ) where
-  -- a line that is read as a path is that path
-  pub read_as_path : (path : List ℕ) → text ≡ line → IsUtf8 line → path ≡ text → path_fault text ≡ None → Some path ≡ (if is_path_text line then Some line else None)
-  read_as_path path same good is none =
-      ap Some (is ∙ same) ∙ sym (ap (λ b. if b then Some line else None) (path_by line None good (ap path_fault (sym same) ∙ none)))
-
-  -- and one with a fault is no path
-  pub read_as_none : (fault : NameFault) → text ≡ line → IsUtf8 line → path_fault text ≡ Some fault → None ≡ (if is_path_text line then Some line else None)
-  read_as_none fault same good some =
-      sym (ap (λ b. if b then Some line else None) (path_by line (Some fault) good (ap path_fault (sym same) ∙ some)))
+-- a line is read as the path that its text names
+pub read_as_text : (line text : List ℕ) (path : Option (List ℕ)) → text ≡ line → IsUtf8 line → path ≡ named_path text → path ≡ (if is_path_text line then Some line else None)
+read_as_text line text path same good is =
+    is ∙ ap named_path same ∙ sym (ap (λ b. if b then Some line else None) (path_by line (path_fault line) good refl))
 
 -- ---- what is written is read
 

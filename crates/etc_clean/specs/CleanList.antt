@@ -2,10 +2,10 @@
 use Rattle.std.specs.Prelude.{◌≡◌, ◌==◌, ◌&&◌, ℕ, not, Bool, true, List, [], ◌∷◌, ◌++◌, codes, filter, Option, None, Some, is_none}
 use Rattle.std.specs.List.{AllByRecursion, flat_map, slice_split}
 use Rattle.std.specs.Str.{is_utf8}
+use Rattle.host_trait.specs.Leaf.{open_file}
 use Rattle.switch_names.specs.Names.{Name}
 use Rattle.switch_names.specs.Path.{path_fault}
 use Rattle.host_trait.specs.declared.leaf.LeafKind.{LeafKind}
-use Rattle.host_trait.specs.declared.leaf.LeafKind.TheVariants.{File}
 use Rattle.host_trait.specs.World.{Leaves, content_of}
 use Rattle.etc_manifest.specs.Place.{is_reserved}
 use Rattle.etc_clean.specs.Names.{place}
@@ -32,7 +32,7 @@ clean_text names = flat_map (λ name. name ++ 10 ∷ []) names
 
 -- the leaf of a clean list: a file of mode 0644 that root owns
 abbrev pub clean_leaf : List Name → LeafKind
-clean_leaf names = File (clean_text names) 420 0 0
+clean_leaf names = open_file (clean_text names)
 
 -- the names that a content says: one that isn't there says none
 abbrev pub names_in : Option (List ℕ) → List Name

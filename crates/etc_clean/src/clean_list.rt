@@ -13,7 +13,7 @@ use etc_manifest::is_reserved;
 use host_trait::{HostFault, Tree, fixed_path};
 use std::alloc::{AllocError, Global};
 use std::collections::BTreeMap;
-use switch_names::{Bytes, Listed, NameFault, Path};
+use switch_names::{Bytes, Listed, Path};
 use tree_put::{Found, find_content};
 
 /// The place of the clean list.
@@ -29,12 +29,8 @@ pub fn clean_path(alloc: Global) -> Result<Path, AllocError>
 fn read_path(alloc: Global, line: &[u8]) -> Result<Option<Path>, AllocError>
     ensures { IfOk result (λ path. path ≡ (if is_path_text line.now then Some line.now else None)) }
 {
-    let Ok(text) = std::str::from_utf8(line) else {
-        return Ok(None);
-    };
-    match Path::parse(alloc, text) {
-        Ok(path) => Ok(Some(path)),
-        Err(NameFault::Memory) => Err(AllocError),
+    match std::str::from_utf8(line) {
+        Ok(text) => Path::of_text(alloc, text),
         Err(_) => Ok(None),
     }
 }

@@ -4,7 +4,7 @@ ghost use Rattle.etc_clean.specs.Names.{etc_folder, is_in_etc, name_of, place};
 
 use host_trait::fixed_path;
 use std::alloc::{AllocError, Global};
-use switch_names::{NameFault, Path};
+use switch_names::Path;
 
 /// The folder of all that a farm puts.
 #[tactic(auto, unfolding(crate::specs::Names::etc_folder))]
@@ -21,9 +21,7 @@ pub fn etc_place(alloc: Global, name: &Path) -> Result<Path, AllocError>
 {
     let folder = fixed_path(alloc, "etc")?;
     // Too long a path is no leaf's: it counts as want of memory.
-    folder
-        .join(alloc, name.as_str())
-        .map_err(|_fault: NameFault| AllocError)
+    folder.below(alloc, name.as_str())
 }
 
 /// The name below `etc` that a path has, where it has one.

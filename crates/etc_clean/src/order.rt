@@ -19,23 +19,11 @@ fn set_of(alloc: Global, names: &[Path]) -> Result<BTreeSet<Path>, AllocError>
     Ok(set)
 }
 
-/// The names of a set in byte order.
-fn listed(alloc: Global, set: BTreeSet<Path>) -> Result<Listed<Path>, AllocError>
-    ensures names { IfOk result (λ names. names ≡ set.keys) }
-    ensures sorted { IsStrictlySortedBy bytes_cmp set.keys }
-{
-    let mut names = Listed::new(alloc);
-    for name in set {
-        names.push(name)?;
-    }
-    Ok(names)
-}
-
 /// Names in byte order, each once.
 pub fn in_order(alloc: Global, names: &[Path]) -> Result<Listed<Path>, AllocError>
     ensures sorted { IfOk result (λ list. IsStrictlySortedBy bytes_cmp list) }
     ensures same { IfOk result (λ list. (q : Name) → has list q ≡ has names.now q) }
 {
     let set = set_of(alloc, names)?;
-    listed(alloc, set)
+    Listed::of_set(alloc, set)
 }

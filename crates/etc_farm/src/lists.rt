@@ -18,9 +18,6 @@ use std::alloc::{AllocError, Global};
 use switch_names::{Listed, Path};
 use tree_put::LeafPut;
 
-/// The mode of a clean list's file.
-const CLEAN_MODE: u16 = 0o644;
-
 /// Whether an entry's name goes on the clean list: it is put as a leaf of its own, and not as a link
 /// into `/etc/static`.
 fn is_made(kind: &ItemKind) -> bool
@@ -97,7 +94,7 @@ pub fn list_put(alloc: Global, names: &Listed<Path>) -> Result<LeafPut, AllocErr
     ensures read_back { AllByRecursion (λ name. is_reserved name ≡ false) names.now → OnOk result (clean_names (clean_text names.now) ≡ names.now) }
 {
     let text = write_clean(alloc, names)?;
-    let leaf = Leaf::file(text, CLEAN_MODE, 0, 0);
+    let leaf = Leaf::open_file(text);
     let at = clean_path(alloc)?;
     Ok(LeafPut { at, leaf })
 }

@@ -2,17 +2,14 @@
 ghost use Rattle.std.specs.Prelude.{◌≡◌, IfOk};
 ghost use Rattle.host_trait.specs.Host.{Told};
 ghost use Rattle.host_trait.specs.Reading.{IsReading};
-ghost use Rattle.host_trait.specs.World.{file_at, file_bytes, store_place};
+ghost use Rattle.host_trait.specs.World.{file_at, store_place};
 ghost use Rattle.leaf_limits.specs.Limits.{is_long, is_long_content};
 ghost use Rattle.etc_manifest.specs.Companion.{short_content};
 
-use host_trait::{HostFault, Leaf, LeafKind, Tree, content};
+use host_trait::{HostFault, Tree, content, store_content};
 use leaf_limits::is_long;
-use std::alloc::{AllocError, Global};
-use switch_names::{Bytes, NameFault, Path};
-
-/// Where the store lies, as a link's target begins that leads into it.
-const STORE: &str = "/nix/store/";
+use std::alloc::Global;
+use switch_names::{Bytes, Path};
 
 /// Whether the content at a path is longer than may be read.
 pub fn is_long_at<T: Tree>(alloc: Global, host: &mut T, at: &Path) -> Result<bool, HostFault>
@@ -39,41 +36,11 @@ pub fn short_content<T: Tree>(
     Ok(content)
 }
 
-/// The bytes of a leaf that is a file.
-fn into_file_bytes(leaf: Option<Leaf>) -> Option<Bytes>
-    ensures { result ≡ file_bytes leaf }
-{
-    match leaf?.into_kind() {
-        LeafKind::File { bytes, .. } => Some(bytes),
-        LeafKind::Link { .. } => None,
-    }
-}
-
-/// The path in the store that a link's target names.
-fn find_store_place(alloc: Global, target: &str) -> Result<Option<Path>, AllocError>
-    ensures { IfOk result (λ place. place ≡ store_place target.now) }
-{
-    if !target.as_bytes().starts_with(STORE.as_bytes()) {
-        return Ok(None);
-    }
-    let Some(place) = target.strip_prefix('/') else {
-        return Ok(None);
-    };
-    match Path::parse(alloc, place) {
-        Ok(path) => Ok(Some(path)),
-        Err(NameFault::Memory) => Err(AllocError),
-        Err(_) => Ok(None),
-    }
-}
-
 /// Whether the file in the store that a link leads to is longer than may be read.
 pub fn is_target_long<T: Tree>(alloc: Global, host: &mut T, target: &str) -> Result<bool, HostFault>
     ensures long { IfOk result (λ long. Told (T.host host.old) (λ w. long ≡ is_long_content (file_at w.leaves (store_place target.now)))) }
     ensures reads { IsReading (T.host host.old) (T.host host.new) result }
 {
-    let Some(at) = find_store_place(alloc, target)? else {
-        return Ok(false);
-    };
-    let leaf = host.read(alloc, &at)?;
-    Ok(is_long(&into_file_bytes(leaf)))
+    let content = store_content(alloc, host, target)?;
+    Ok(is_long(&content))
 }

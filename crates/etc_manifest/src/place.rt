@@ -43,11 +43,7 @@ pub fn etc_folder(alloc: Global, system: &SystemName) -> Result<Path, AllocError
     ensures folder { IfOk result (λ folder. folder ≡ etc_folder system.now) }
     ensures named { IsSystemPath system.now }
 {
-    // The path of a system has 265 bytes at most, so that memory alone can be wanting.
-    match system.path().join(alloc, "etc") {
-        Ok(folder) => Ok(folder),
-        Err(_) => Err(AllocError),
-    }
+    system.place(alloc, "etc")
 }
 
 /// What a text has after a front.

@@ -35,10 +35,7 @@ pub fn path_in(alloc: Global, folder: &Path, name: &str) -> Result<Path, AllocEr
     ensures { IfOk result (λ path. path ≡ path_in folder.now name.now) }
 {
     // The name follows the folder in a path, so that memory alone can be wanting.
-    match folder.join(alloc, name) {
-        Ok(path) => Ok(path),
-        Err(_) => Err(AllocError),
-    }
+    folder.below(alloc, name)
 }
 
 /// The path of the companion of an entry, where a leaf stands there.

@@ -8,13 +8,13 @@ use Rattle.std.specs.Char.{digit_char, is_ascii_alphanumeric}
 use Rattle.std.specs.List.{AllByRecursion, flat_map, onto_first, slice_split}
 use Rattle.switch_names.specs.Path.{names_of}
 use Rattle.switch_names.specs.UnitKind.{ending_of}
-use Rattle.switch_names.specs.UnitName.{is_no_unit_byte, unit_fault}
+use Rattle.switch_names.specs.UnitName.{is_no_unit_byte, unit_fault, named_unit}
 use Rattle.switch_names.specs.declared.name_fault.NameFault.{NameFault}
 use Rattle.switch_names.specs.declared.unit_kind.UnitKind.{UnitKind}
 use Rattle.switch_names.specs.Texts.{is_empty}
 use Rattle.switch_names.proofs.UnitNames.{IsShortName-from_name, IsUnitName-from_stem}
 use Rattle.switch_names.proofs.Lists.{all_join}
-use Rattle.fstab_mounts.specs.Escape.{escaped, escaped_byte, escaped_first, escaped_path, in_digits, is_plain, is_some_name, joined, named, path_names, path_unit, short_name, with_name}
+use Rattle.fstab_mounts.specs.Escape.{escaped, escaped_byte, escaped_first, escaped_path, in_digits, is_plain, is_some_name, joined, path_names, path_unit, short_name, with_name}
 
 -- ---- names are joined one by one
 
@@ -193,7 +193,7 @@ no_short path kind fault all is =
     ] refl
 
 -- what a path's text names
-pub named_is : (path : List ℕ) (kind : UnitKind) → AllByRecursion IsSmall path → named (path_unit kind path) ≡ short_name (path_unit kind path)
+pub named_is : (path : List ℕ) (kind : UnitKind) → AllByRecursion IsSmall path → named_unit (path_unit kind path) ≡ short_name (path_unit kind path)
 named_is path kind all = elim (unit_fault (path_unit kind path)) as (λ o. unit_fault (path_unit kind path) ≡ o → cond (is_none o) (Some (path_unit kind path)) None ≡ short_name (path_unit kind path)) [
   | None ↦ λ e.
       let short = (IsShortName-from_name (path_unit kind path) e).short in

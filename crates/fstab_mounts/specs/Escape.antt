@@ -1,10 +1,9 @@
 -- Names of units that stand for paths: systemd.unit(5), "String Escaping for Inclusion in Unit Names".
-use Rattle.std.specs.Prelude.{ℕ, ◌/◌, ◌%◌, ◌||◌, ◌==◌, Bool, not, List, [], ◌∷◌, ◌++◌, length, filter, codes, nat_lt, Option, None, Some, is_none, if◌then◌else◌}
+use Rattle.std.specs.Prelude.{ℕ, ◌/◌, ◌%◌, ◌||◌, ◌==◌, Bool, not, List, [], ◌∷◌, ◌++◌, length, filter, codes, nat_lt, Option, None, Some, if◌then◌else◌}
 use Rattle.std.specs.Char.{digit_char, is_ascii_alphanumeric}
 use Rattle.std.specs.List.{flat_map, list_any}
 use Rattle.switch_names.specs.Path.{names_of}
 use Rattle.switch_names.specs.UnitKind.{ending_of}
-use Rattle.switch_names.specs.UnitName.{unit_fault}
 use Rattle.switch_names.specs.declared.name_fault.NameFault.{NameFault}
 use Rattle.switch_names.specs.declared.name_fault.NameFault.TheVariants.{Long}
 use Rattle.switch_names.specs.declared.unit_kind.UnitKind.{UnitKind}
@@ -68,10 +67,6 @@ long_fault name = if nat_lt 255 (length name) then Some Long else None
 -- the name, where it isn't too long
 abbrev pub short_name : List ℕ → Option (List ℕ)
 short_name name = if nat_lt 255 (length name) then None else Some name
-
--- the unit that a text names
-abbrev pub named : List ℕ → Option (List ℕ)
-named text = if is_none (unit_fault text) then Some text else None
 
 -- the names so far and one more
 abbrev pub with_name : List ℕ → List ℕ → List ℕ

@@ -2,7 +2,7 @@
 ghost use Rattle.std.specs.Prelude.{◌≡◌, ◌++◌, ◌<◌, None, IfOk, OnOk, string_bytes};
 ghost use Rattle.std.specs.Char.{digit_char};
 ghost use Rattle.switch_names.specs.NameFault.{IsRefusedBy};
-ghost use Rattle.fstab_mounts.specs.Escape.{escaped, escaped_byte, escaped_first, escaped_path, in_digits, is_plain, long_fault, mount_name, named, path_unit, short_name, swap_name, with_name};
+ghost use Rattle.fstab_mounts.specs.Escape.{escaped, escaped_byte, escaped_first, escaped_path, in_digits, is_plain, long_fault, mount_name, path_unit, short_name, swap_name, with_name};
 
 use std::alloc::{AllocError, Global};
 use switch_names::{NameFault, UnitKind, UnitName};
@@ -110,23 +110,12 @@ fn unit_text(alloc: Global, path: &str, kind: UnitKind) -> Result<String, AllocE
     Ok(text)
 }
 
-/// The unit that a text names.
-fn named(alloc: Global, text: &str) -> Result<Option<UnitName>, AllocError>
-    ensures { IfOk result (λ unit. unit ≡ named text.now) }
-{
-    match UnitName::parse(alloc, text) {
-        Ok(unit) => Ok(Some(unit)),
-        Err(NameFault::Memory) => Err(AllocError),
-        Err(_) => Ok(None),
-    }
-}
-
 /// The unit of a kind that stands for a path, if its name isn't too long.
 pub fn short_unit(alloc: Global, path: &str, kind: UnitKind) -> Result<Option<UnitName>, AllocError>
     ensures { IfOk result (λ unit. unit ≡ short_name (path_unit kind path.now)) }
 {
     let text = unit_text(alloc, path, kind)?;
-    named(alloc, text.as_str())
+    UnitName::of_text(alloc, text.as_str())
 }
 
 /// The unit that mounts a file system at a path: systemd.mount(5), and systemd.unit(5), "String

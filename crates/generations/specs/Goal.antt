@@ -3,6 +3,7 @@ use Rattle.std.specs.Prelude.{◌≡◌, ◌&&◌, ◌==◌, ◌++◌, ◌∷◌
 use Rattle.std.specs.Cmp.Lexicographic.{pointwise}
 use Rattle.std.specs.FinMap.{get}
 use Rattle.std.specs.Fmt.{decimal}
+use Rattle.host_trait.specs.Leaf.{open_file}
 use Rattle.generations.specs.Digits.{BearsNumber}
 use Rattle.generations.specs.Places.{generation_at, greatest_below, link_name, link_path, profile}
 use Rattle.host_trait.specs.declared.leaf.LeafKind.{LeafKind}
@@ -19,7 +20,7 @@ goal_text n = decimal n ++ (10 ∷ [])
 
 -- the leaf of a goal: its text, which all may read
 abbrev pub goal_leaf : ℕ → LeafKind
-goal_leaf n = File (goal_text n) 420 0 0
+goal_leaf n = open_file (goal_text n)
 
 -- a generation that stands and names a system
 abbrev pub names_system : Option (Option (List ℕ)) → Bool

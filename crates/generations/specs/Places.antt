@@ -1,10 +1,10 @@
 -- Where the generations of the system profile stand: Nix manual, "Profiles".
-use Rattle.std.specs.Prelude.{◌≡◌, ◌&&◌, ℕ, zero, suc, ◌+◌, ◌^◌, Bool, false, List, ◌∷◌, ◌++◌, codes, nat_eq, nat_lt, Option, None, Some, IsSome, is_none, is_some, option_map, if◌then◌else◌}
+use Rattle.std.specs.Prelude.{◌≡◌, ◌&&◌, ℕ, zero, suc, ◌+◌, ◌^◌, Bool, false, List, ◌∷◌, ◌++◌, codes, nat_eq, nat_lt, Option, None, Some, IsSome, is_some, option_map, if◌then◌else◌}
 use Rattle.std.specs.Cmp.Lexicographic.{pointwise}
 use Rattle.std.specs.FinMap.{get}
 use Rattle.std.specs.Fmt.{decimal}
 use Rattle.switch_names.specs.Path.{slash}
-use Rattle.switch_names.specs.SystemName.{system_fault, system_path}
+use Rattle.switch_names.specs.SystemName.{named_system}
 use Rattle.host_trait.specs.declared.leaf.LeafKind.{LeafKind}
 use Rattle.host_trait.specs.declared.leaf.LeafKind.TheVariants.{File, Link}
 use Rattle.host_trait.specs.World.{Leaves, WorldState, seen, with_leaf}
@@ -33,14 +33,10 @@ link_target system = slash ∷ system
 abbrev pub is_number : ℕ → Bool
 is_number n = nat_lt 0 n && nat_lt n (2 ^ 32)
 
--- the system that a text names
-abbrev pub system_of : List ℕ → Option (List ℕ)
-system_of text = if is_none (system_fault text) then Some (system_path text) else None
-
 -- the system that a leaf names by its link
 abbrev pub target_of : LeafKind → Option (List ℕ)
 target_of (File bytes mode uid gid) = None
-target_of (Link target) = system_of target
+target_of (Link target) = named_system target
 
 -- the generation of a number where it stands: the system that it names, or none
 abbrev pub generation_at : Leaves → ℕ → Option (Option (List ℕ))

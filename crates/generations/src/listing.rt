@@ -7,7 +7,7 @@ ghost use Rattle.host_trait.specs.Host.{Told};
 ghost use Rattle.host_trait.specs.Reading.{IsReading};
 ghost use Rattle.generations.specs.Gens.{IsGensOf, listed_at};
 ghost use Rattle.generations.specs.LinkNumber.{Bears};
-ghost use Rattle.generations.specs.Places.{profile, system_of, target_of};
+ghost use Rattle.generations.specs.Places.{profile, target_of};
 ghost use Rattle.generations.specs.Targets.{AreTargetsAt, AreTargetsOf, IsGenAt, link_to, target_in, target_with};
 
 use crate::gens::{Gen, Gens};
@@ -16,21 +16,10 @@ use crate::setting::profile_path;
 use host_trait::{HostFault, Leaf, LeafKind, Tree, fixed_path};
 use std::alloc::{AllocError, Global};
 use std::collections::BTreeMap;
-use switch_names::{Listed, NameFault, Path, SystemName};
+use switch_names::{Listed, Path, SystemName};
 
 /// Targets of generations by number.
 type Targets = BTreeMap<u32, Option<SystemName>>;
-
-/// The system that a text names, where it names one.
-fn system_of(alloc: Global, text: &str) -> Result<Option<SystemName>, AllocError>
-    ensures { IfOk result (λ system. system ≡ system_of text.now) }
-{
-    match SystemName::parse(alloc, text) {
-        Ok(system) => Ok(Some(system)),
-        Err(NameFault::Memory) => Err(AllocError),
-        Err(_) => Ok(None),
-    }
-}
 
 /// The system that a leaf names by its link, where it names one.
 pub fn target_of(alloc: Global, leaf: &Leaf) -> Result<Option<SystemName>, AllocError>
@@ -38,7 +27,7 @@ pub fn target_of(alloc: Global, leaf: &Leaf) -> Result<Option<SystemName>, Alloc
 {
     match leaf.kind() {
         LeafKind::File { .. } => Ok(None),
-        LeafKind::Link { target } => system_of(alloc, target.as_str()),
+        LeafKind::Link { target } => SystemName::of_text(alloc, target.as_str()),
     }
 }
 

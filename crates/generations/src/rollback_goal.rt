@@ -144,7 +144,7 @@ fn goal_leaf(alloc: Global, number: u32) -> Result<Leaf, AllocError>
 {
     let text = format!(in alloc; "{number}\n")?;
     let bytes = Bytes::from_slice(alloc, text.as_bytes())?;
-    Ok(Leaf::file(bytes, 0o644, 0, 0))
+    Ok(Leaf::open_file(bytes))
 }
 
 /// Records the goal of a rollback, so that one that was cut goes to the same generation when it is made again.

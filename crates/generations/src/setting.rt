@@ -38,13 +38,6 @@ impl From<HostFault> for SetFault {
     }
 }
 
-/// A link to a text that is short and has neither NUL nor line feed.
-fn short_link(alloc: Global, target: &str) -> Result<Leaf, AllocError>
-    ensures { IfOk result (λ leaf. leaf ≡ Link target.now) }
-{
-    Leaf::link(alloc, target).map_err(|_fault: NameFault| AllocError)
-}
-
 /// The path of a generation's link.
 #[tactic(auto, unfolding(crate::specs::Places::link_path))]
 pub fn generation_path(alloc: Global, number: u32) -> Result<Path, AllocError>
@@ -67,15 +60,15 @@ fn profile_link(alloc: Global, number: u32) -> Result<Leaf, AllocError>
     ensures { IfOk result (λ leaf. leaf ≡ Link (link_name number)) }
 {
     let target = format!(in alloc; "system-{number}-link")?;
-    short_link(alloc, target.as_str())
+    Leaf::short_link(alloc, target.as_str())
 }
 
-/// A generation's link to a system.
-fn system_link(alloc: Global, system: &SystemName) -> Result<Leaf, AllocError>
+/// The link to a system: a generation's, and that to the system in use.
+pub fn system_link(alloc: Global, system: &SystemName) -> Result<Leaf, AllocError>
     ensures { IfOk result (λ leaf. leaf ≡ Link (link_target system.now)) }
 {
     let target = system.link_text(alloc)?;
-    short_link(alloc, target.as_str())
+    Leaf::short_link(alloc, target.as_str())
 }
 
 /// Points the profile's link to a generation.

@@ -17,3 +17,7 @@ link_fault target =
 abbrev pub IsLeaf : LeafKind → Type 0
 IsLeaf (File bytes mode uid gid) = mode ≤ 4095
 IsLeaf (Link target) = link_fault target ≡ None
+
+-- a file that all may read and root alone may write: mode 0644, owned by root
+abbrev pub open_file : List ℕ → LeafKind
+open_file bytes = File bytes 420 0 0

@@ -2,7 +2,7 @@
 ghost use Rattle.std.specs.Prelude.{◌≡◌, ◌≤◌, ◌↔◌, IfOk, IsTrue, position};
 ghost use Rattle.switch_names.specs.NameFault.{IsRefusedBy};
 ghost use Rattle.switch_names.specs.Path.{is_no_path_byte};
-ghost use Rattle.host_trait.specs.Leaf.{link_fault};
+ghost use Rattle.host_trait.specs.Leaf.{link_fault, open_file};
 
 use std::alloc::{AllocError, Global};
 use std::marker::Model;
@@ -117,6 +117,20 @@ impl Leaf {
                 gid,
             },
         }
+    }
+
+    /// A file with these bytes that all may read and root alone may write: mode 0644, owned by root.
+    pub fn open_file(bytes: Bytes) -> Leaf
+        ensures { result ≡ open_file bytes }
+    {
+        Leaf::file(bytes, 0o644, 0, 0)
+    }
+
+    /// A link to a target that is short and has neither NUL nor line feed. Another one counts as want of memory.
+    pub fn short_link(alloc: Global, target: &str) -> Result<Leaf, AllocError>
+        ensures { IfOk result (λ leaf. leaf ≡ LeafKind.Link target.now) }
+    {
+        Leaf::link(alloc, target).map_err(|_fault: NameFault| AllocError)
     }
 
     /// A link to this target.

@@ -127,11 +127,7 @@ fn least_below(alloc: Global, at: &Path) -> Result<Option<Path>, AllocError>
     ensures some { IfOk result (λ least. IfSome least (λ path. path ≡ at.now ++ slash ∷ 1 ∷ [])) }
     ensures none { IfOk result (λ least. IsNone least → path_fault (at.now ++ slash ∷ 1 ∷ []) ≢ None) }
 {
-    match at.join(alloc, "\u{1}") {
-        Ok(path) => Ok(Some(path)),
-        Err(NameFault::Memory) => Err(AllocError),
-        Err(_) => Ok(None),
-    }
+    NameFault::or_none(at.join(alloc, "\u{1}"))
 }
 
 /// Whether a leaf stands strictly below a path.

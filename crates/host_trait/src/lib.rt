@@ -26,7 +26,7 @@ pub use known_path::{fixed_path, stage_path};
 pub use leaf::{Leaf, LeafKind, MODE_MAX};
 pub use manager::Manager;
 pub use manager_state::ManagerState;
-pub use reading::content;
+pub use reading::{content, store_content};
 pub use sink::{Sink, SinkFault};
 pub use states::States;
 pub use tree::{HostFault, Tree};

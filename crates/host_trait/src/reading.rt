@@ -7,7 +7,7 @@ ghost use Rattle.host_trait.specs.World.{content_of, file_bytes, file_at, store_
 use crate::leaf::{Leaf, LeafKind};
 use crate::tree::{HostFault, Tree};
 use std::alloc::{AllocError, Global};
-use switch_names::{Bytes, NameFault, Path};
+use switch_names::{Bytes, Path};
 
 /// Where the store lies, as a link's target begins that leads into it.
 const STORE: &str = "/nix/store/";
@@ -32,11 +32,7 @@ fn find_store_place(alloc: Global, target: &str) -> Result<Option<Path>, AllocEr
     let Some(place) = target.strip_prefix('/') else {
         return Ok(None);
     };
-    match Path::parse(alloc, place) {
-        Ok(path) => Ok(Some(path)),
-        Err(NameFault::Memory) => Err(AllocError),
-        Err(_) => Ok(None),
-    }
+    Path::of_text(alloc, place)
 }
 
 /// The bytes of the file at a place, where there is one.
@@ -55,6 +51,19 @@ fn file_content<T: Tree>(
     Ok(into_file_bytes(leaf))
 }
 
+/// The bytes of the file in the store that a link's target leads to.
+pub fn store_content<T: Tree>(
+    alloc: Global,
+    host: &mut T,
+    target: &str,
+) -> Result<Option<Bytes>, HostFault>
+    ensures content { IfOk result (λ bytes. Told (T.host host.old) (λ w. bytes ≡ file_at w.leaves (store_place target.now))) }
+    ensures reads { IsReading (T.host host.old) (T.host host.new) result }
+{
+    let place = find_store_place(alloc, target)?;
+    file_content(alloc, host, place)
+}
+
 /// The bytes of the file at a path, or of the file in the store that a link there leads to.
 ///
 /// One link is followed, and only into the store.
@@ -67,9 +76,6 @@ pub fn content<T: Tree>(alloc: Global, host: &mut T, at: &Path) -> Result<Option
     };
     match leaf.into_kind() {
         LeafKind::File { bytes, .. } => Ok(Some(bytes)),
-        LeafKind::Link { target } => {
-            let place = find_store_place(alloc, target.as_str())?;
-            file_content(alloc, host, place)
-        }
+        LeafKind::Link { target } => store_content(alloc, host, target.as_str()),
     }
 }

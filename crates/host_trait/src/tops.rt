@@ -7,7 +7,6 @@ ghost use Rattle.host_trait.specs.World.{AreTops};
 use crate::known_path::fixed_path;
 use crate::leaf::Leaf;
 use crate::leaf_map::is_elsewhere;
-use crate::unit_set::listed;
 use std::alloc::{AllocError, Global};
 use std::collections::{BTreeMap, BTreeSet};
 use switch_names::{Listed, Path};
@@ -32,5 +31,5 @@ pub fn top_names(alloc: Global, leaves: &BTreeMap<Path, Leaf>) -> Result<Listed<
             tops.insert(first_name(alloc, path)?)?;
         }
     }
-    listed(alloc, tops)
+    Listed::of_set(alloc, tops)
 }

@@ -96,21 +96,6 @@ impl UnitSet {
         ensures sorted { IsStrictlySortedBy (slice_cmp nat_cmp) self }
     {
         let UnitSet { units } = self;
-        listed(alloc, units)
+        Listed::of_set(alloc, units)
     }
-}
-
-/// The names of a set in order.
-pub(crate) fn listed<T: Ord + Drop>(
-    alloc: Global,
-    set: BTreeSet<T>,
-) -> Result<Listed<T>, AllocError>
-    ensures names { IfOk result (λ names. names ≡ set.keys) }
-    ensures sorted { IsStrictlySortedBy T.cmp set.keys }
-{
-    let mut names = Listed::new(alloc);
-    for name in set {
-        names.push(name)?;
-    }
-    Ok(names)
 }

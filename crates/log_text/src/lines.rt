@@ -1,14 +1,13 @@
 //! Lines, and the names in them.
-ghost use Rattle.std.specs.Prelude.{◌≡◌, ◌≢◌, ◌++◌, ◌∷◌, ◌↔◌, ℕ, List, IsTrue, IfOk, IfSome, MatchOption, None, ◌==◌, position};
+ghost use Rattle.std.specs.Prelude.{◌≡◌, ◌≢◌, ◌++◌, ◌∷◌, ◌↔◌, ℕ, List, IsTrue, IfOk, MatchOption, None, ◌==◌, position};
 ghost use Rattle.std.specs.List.Sorted.{IsStrictlySortedBy};
 ghost use Rattle.std.specs.declared.cmp.Ordering.TheVariants.{Less};
 ghost use Rattle.host_trait.specs.Bytes.{bytes_cmp};
 ghost use Rattle.log_text.specs.Log.{AreFirstNames, IsLine};
-ghost use Rattle.switch_names.specs.UnitName.{IsUnitName};
 
 use std::alloc::{AllocError, Global};
 use std::cmp::Ordering;
-use switch_names::{Listed, NameFault, UnitName};
+use switch_names::{Listed, UnitName};
 
 /// The place of the first line feed.
 fn line_end(text: &[u8]) -> Option<usize>
@@ -27,21 +26,6 @@ pub(crate) fn first_line(text: &[u8]) -> Option<(&[u8], &[u8])>
     }
 }
 
-/// The unit that a line names.
-fn read_name(alloc: Global, line: &[u8]) -> Result<Option<UnitName>, AllocError>
-    ensures some { IfOk result (λ name. IfSome name (λ unit. (unit ≡ line.now) × IsUnitName line.now)) }
-    ensures none { IfOk result (λ name. name ≡ None → IsUnitName line.now → ⊥) }
-{
-    let Ok(text) = std::str::from_utf8(line) else {
-        return Ok(None);
-    };
-    match UnitName::parse(alloc, text) {
-        Ok(name) => Ok(Some(name)),
-        Err(NameFault::Memory) => Err(AllocError),
-        Err(_) => Ok(None),
-    }
-}
-
 /// The unit names with which a text begins, a line each, and what follows them.
 pub(crate) fn first_names<'a>(
     alloc: Global,
@@ -55,7 +39,7 @@ pub(crate) fn first_names<'a>(
         let Some((line, after)) = first_line(rest) else {
             return Ok((names, rest));
         };
-        let Some(name) = read_name(alloc, line)? else {
+        let Some(name) = UnitName::of_bytes(alloc, line)? else {
             return Ok((names, rest));
         };
         names.push(name)?;

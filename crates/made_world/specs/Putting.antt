@@ -1,9 +1,9 @@
 -- A made machine: leaves that are put at paths, one after the other.
 use Rattle.std.specs.Prelude.{◌++◌, ◌∷◌, ℕ, List, [], codes}
 use Rattle.std.specs.FinMap.{empty, insert}
+use Rattle.host_trait.specs.Leaf.{open_file}
 use Rattle.host_trait.specs.declared.entry.Bad.{Bad}
 use Rattle.host_trait.specs.declared.leaf.LeafKind.{LeafKind}
-use Rattle.host_trait.specs.declared.leaf.LeafKind.TheVariants.{File}
 use Rattle.host_trait.specs.Manager.{empty_manager}
 use Rattle.host_trait.specs.World.{Leaves, WorldState}
 use Rattle.switch_names.specs.Names.{Name}
@@ -18,7 +18,7 @@ new_system = codes "nix/store/new-sys"
 
 -- a file of the store
 abbrev pub store_file : List ℕ → LeafKind
-store_file bytes = File bytes 420 0 0
+store_file bytes = open_file bytes
 
 -- a file of a system, at its place below the system
 abbrev pub file_in : Name → Name → List ℕ → Name × LeafKind

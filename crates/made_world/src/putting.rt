@@ -44,7 +44,7 @@ pub(crate) fn put_file(
     let Ok(at) = system.path().join(alloc, place) else {
         return Err(AllocError);
     };
-    match world.set_leaf(alloc, at, Leaf::file(bytes, 0o644, 0, 0)) {
+    match world.set_leaf(alloc, at, Leaf::open_file(bytes)) {
         Ok(_was) => Ok(()),
         Err(_) => Err(AllocError),
     }

@@ -3,7 +3,7 @@ use Rattle.std.proofs.Common.{◌≡◌, ◌≢◌, ℕ, nat_eq, codes, true, fa
 use Rattle.std.specs.Cmp.Lexicographic.{pointwise, same_text}
 use Rattle.std.specs.List.{find}
 use Rattle.std.specs.Option.{option_map_or}
-use Rattle.switch_names.specs.UnitName.{IsUnitName}
+use Rattle.switch_names.specs.UnitName.{IsUnitName, named_unit}
 use Rattle.host_trait.specs.declared.entry.Act.{Act}
 use Rattle.host_trait.specs.declared.entry.Act.TheVariants as act
 use Rattle.host_trait.specs.declared.unit_state.State.{State}
@@ -12,7 +12,7 @@ use Rattle.manager_core.specs.declared.line.Line.{Line}
 use Rattle.manager_core.specs.declared.line.Line.TheVariants as line
 use Rattle.manager_core.specs.declared.line.Word.{Word}
 use Rattle.manager_core.specs.declared.line.Word.TheVariants.{Loaded, Active, Failed, Bad, Stop, Reload, Restart, Start}
-use Rattle.manager_core.specs.Reading.{all_words, both, entry_said, line_of, parted, said, state_said, text_of, unit_and_text, unit_of, word_of, word_text}
+use Rattle.manager_core.specs.Reading.{all_words, both, entry_said, line_of, parted, said, state_said, text_of, unit_and_text, word_of, word_text}
 use Rattle.host_trait.specs.Words.{act_word, state_word}
 use Rattle.manager_core.specs.StateText.{IsLine, IsText, line_text}
 use Rattle.manager_core.proofs.Names.{HasNo, name_has_no, name_is_read, text_has_no, text_is, text_is_read, unit_is}
@@ -28,7 +28,7 @@ after_word word rest none is =
 
 both_read : (unit text : List ℕ) → IsUnitName unit → IsText text → unit_and_text (unit ++ 32 ∷ text) ≡ Some (unit, text)
 both_read unit text is_unit is_text =
-    ap (λ parts. option_map_or (λ p. both (unit_of p.0) (text_of p.1)) parts None) (parted_joined 32 unit text (name_has_no 32 refl unit is_unit))
+    ap (λ parts. option_map_or (λ p. both (named_unit p.0) (text_of p.1)) parts None) (parted_joined 32 unit text (name_has_no 32 refl unit is_unit))
     ∙ ap (λ u. both u (text_of text)) (name_is_read unit is_unit) ∙ ap (both (Some unit)) (text_is_read text is_text)
 
 state_is_read : (unit : List ℕ) (one : State) → IsUnitName unit → one ≢ state.Inactive → line_of (state_word one ++ 32 ∷ unit) ≡ Some (line.State (record { unit = unit; state = one }))
@@ -71,10 +71,10 @@ mapped f (Some x) y is = (x, refl, let same : f x ≡ y = cc in same)
 
 both_is : (rest : List ℕ) (parts : List ℕ × List ℕ) → unit_and_text rest ≡ Some parts → (rest ≡ parts.0 ++ 32 ∷ parts.1) × IsUnitName parts.0 × IsText parts.1
 both_is rest parts is =
-    elim (parted 32 rest) as (λ o. parted 32 rest ≡ o → option_map_or (λ p. both (unit_of p.0) (text_of p.1)) o None ≡ Some parts
+    elim (parted 32 rest) as (λ o. parted 32 rest ≡ o → option_map_or (λ p. both (named_unit p.0) (text_of p.1)) o None ≡ Some parts
     → (rest ≡ parts.0 ++ 32 ∷ parts.1) × IsUnitName parts.0 × IsText parts.1) [
       | None ↦ λ e i. absurd (let n : None ≡ Some parts = i in cc)
-      | Some p ↦ λ e i. elim (unit_of p.0) as (λ u. unit_of p.0 ≡ u → both u (text_of p.1) ≡ Some parts → (rest ≡ parts.0 ++ 32 ∷ parts.1) × IsUnitName parts.0 × IsText parts.1) [
+      | Some p ↦ λ e i. elim (named_unit p.0) as (λ u. named_unit p.0 ≡ u → both u (text_of p.1) ≡ Some parts → (rest ≡ parts.0 ++ 32 ∷ parts.1) × IsUnitName parts.0 × IsText parts.1) [
         | None ↦ λ f j. absurd (let n : None ≡ Some parts = j in cc)
         | Some unit ↦ λ f j. elim (text_of p.1) as (λ t. text_of p.1 ≡ t → both (Some unit) t ≡ Some parts → (rest ≡ parts.0 ++ 32 ∷ parts.1) × IsUnitName parts.0 × IsText parts.1) [
           | None ↦ λ g k. absurd (let n : None ≡ Some parts = k in cc)
@@ -90,7 +90,7 @@ both_is rest parts is =
 
 state_said_is : (one : State) (rest : List ℕ) (says : Line) → one ≢ state.Inactive → state_said one rest ≡ Some says → (state_word one ++ 32 ∷ rest ≡ line_text says) × IsLine says
 state_said_is one rest says other is =
-    let read = mapped (λ u. line.State (record { unit = u; state = one })) (unit_of rest) says is in
+    let read = mapped (λ u. line.State (record { unit = u; state = one })) (named_unit rest) says is in
     let unit = unit_is rest read.0 read.1 in
     subst (λ l. (state_word one ++ 32 ∷ rest ≡ line_text l) × IsLine l) read.2 (ap (λ r. state_word one ++ 32 ∷ r) unit.0, (unit.1, other))
 

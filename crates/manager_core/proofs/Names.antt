@@ -5,11 +5,11 @@ use Rattle.std.specs.Str.{IsUtf8, is_utf8}
 use Rattle.std.proofs.lemmas.Bool.{both_ways, eqb-true}
 use Rattle.std.proofs.lemmas.Str.{IsUtf8-from_ascii, IsUtf8-from_is_utf8, is_utf8-from_IsUtf8}
 use Rattle.switch_names.specs.Path.{is_no_path_byte}
-use Rattle.switch_names.specs.UnitName.{IsUnitName, is_no_unit_byte, unit_fault}
+use Rattle.switch_names.specs.UnitName.{IsUnitName, is_no_unit_byte, unit_fault, named_unit}
 use Rattle.switch_names.proofs.Positions.{All-from_no_position}
 use Rattle.switch_names.proofs.UnitNames.{IsShortName-from_name, not_utf8, unit_utf8}
 use Rattle.host_trait.specs.Manager.{IsPlain}
-use Rattle.manager_core.specs.Reading.{text_of, unit_of, utf8_of}
+use Rattle.manager_core.specs.Reading.{text_of, utf8_of}
 use Rattle.manager_core.specs.StateText.{IsText}
 
 -- no byte of these is this one
@@ -31,7 +31,7 @@ pub name_utf8 : (name : List ℕ) → IsUnitName name → is_utf8 name ≡ true
 name_utf8 name is = is_utf8-from_IsUtf8 name (unit_utf8 name is)
 
 -- bytes that aren't UTF-8 are no unit's name
-pub no_unit : (bytes : List ℕ) → is_utf8 bytes ≡ false → unit_of bytes ≡ None
+pub no_unit : (bytes : List ℕ) → is_utf8 bytes ≡ false → named_unit bytes ≡ None
 no_unit bytes not = elim (is_none (unit_fault bytes)) as (λ b. is_none (unit_fault bytes) ≡ b → cond b (Some bytes) None ≡ None) [
   | true ↦ λ e. absurd (both_ways _ not (name_utf8 bytes (let none : unit_fault bytes ≡ None = grind (arith, e) in none)))
   | false ↦ λ e. refl
@@ -51,7 +51,7 @@ pub text_has_no : (mark : ℕ) → is_no_path_byte mark ≡ true → (text : Lis
 text_has_no mark is text plain = all_weaker (apart is_no_path_byte mark is) text (by_recursion _ text (All-from_no_position is_no_path_byte text plain))
 
 -- what is read as a name or a text is one
-pub unit_is : (bytes unit : List ℕ) → unit_of bytes ≡ Some unit → (bytes ≡ unit) × IsUnitName unit
+pub unit_is : (bytes unit : List ℕ) → named_unit bytes ≡ Some unit → (bytes ≡ unit) × IsUnitName unit
 unit_is bytes unit is = elim (is_none (unit_fault bytes)) as (λ b. is_none (unit_fault bytes) ≡ b → cond b (Some bytes) None ≡ Some unit → (bytes ≡ unit) × IsUnitName unit) [
   | true ↦ λ e i.
       let none : unit_fault bytes ≡ None = grind (arith, e) in
@@ -60,7 +60,7 @@ unit_is bytes unit is = elim (is_none (unit_fault bytes)) as (λ b. is_none (uni
   | false ↦ λ e i. absurd (let n : None ≡ Some unit = i in cc)
 ] refl is
 
-pub name_is_read : (unit : List ℕ) → IsUnitName unit → unit_of unit ≡ Some unit
+pub name_is_read : (unit : List ℕ) → IsUnitName unit → named_unit unit ≡ Some unit
 name_is_read unit is = ap (λ fault. cond (is_none fault) (Some unit) None) is
 
 pub text_is : (bytes text : List ℕ) → text_of bytes ≡ Some text → (bytes ≡ text) × IsText text

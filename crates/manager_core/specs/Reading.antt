@@ -4,7 +4,7 @@ use Rattle.std.specs.Cmp.Lexicographic.{pointwise}
 use Rattle.std.specs.Option.{option_map_or}
 use Rattle.std.specs.Str.{is_utf8}
 use Rattle.switch_names.specs.Path.{is_no_path_byte}
-use Rattle.switch_names.specs.UnitName.{unit_fault}
+use Rattle.switch_names.specs.UnitName.{named_unit}
 use Rattle.host_trait.specs.declared.entry.Act.{Act}
 use Rattle.host_trait.specs.declared.entry.Act.TheVariants as act
 use Rattle.host_trait.specs.declared.unit_state.State.{State}
@@ -42,10 +42,6 @@ utf8_of bytes = if is_utf8 bytes then Some bytes else None
 abbrev pub text_of : List ℕ → Option (List ℕ)
 text_of bytes = if is_none (position is_no_path_byte bytes) then utf8_of bytes else None
 
--- the bytes, where they are a unit's name
-abbrev pub unit_of : List ℕ → Option (List ℕ)
-unit_of bytes = if is_none (unit_fault bytes) then Some bytes else None
-
 -- one thing read, and then another
 abbrev pub both : {A B : Type 0} → Option A → Option B → Option (A × B)
 both None second = None
@@ -54,10 +50,10 @@ both (Some first) (Some second) = Some (first, second)
 
 -- a unit's name, a blank and a text
 abbrev pub unit_and_text : List ℕ → Option (List ℕ × List ℕ)
-unit_and_text bytes = option_map_or (λ parts. both (unit_of parts.0) (text_of parts.1)) (parted 32 bytes) None
+unit_and_text bytes = option_map_or (λ parts. both (named_unit parts.0) (text_of parts.1)) (parted 32 bytes) None
 
 abbrev pub state_said : State → List ℕ → Option Line
-state_said one bytes = option_map (λ unit. line.State (record { unit = unit; state = one })) (unit_of bytes)
+state_said one bytes = option_map (λ unit. line.State (record { unit = unit; state = one })) (named_unit bytes)
 
 abbrev pub bad_said : List ℕ → Option Line
 bad_said bytes = option_map (λ read. line.Bad (record { loaded = read.1; unit = read.0 })) (unit_and_text bytes)

@@ -2,11 +2,11 @@
 ghost use Rattle.std.specs.Prelude.{◌≡◌, ◌==◌, IfOk, nat_eq, position, option_map};
 ghost use Rattle.std.specs.Cmp.Lexicographic.{pointwise};
 ghost use Rattle.switch_names.specs.Path.{is_no_path_byte};
-ghost use Rattle.manager_core.specs.Reading.{bad_said, entry_said, line_of, parted, said, state_said, text_of, unit_and_text, unit_of, utf8_of, word_of, word_text};
+ghost use Rattle.manager_core.specs.Reading.{bad_said, entry_said, line_of, parted, said, state_said, text_of, unit_and_text, utf8_of, word_of, word_text};
 
 use host_trait::{Act, Bad, Entry, State, UnitState};
 use std::alloc::{AllocError, Global};
-use switch_names::{NameFault, Text, UnitName};
+use switch_names::{Text, UnitName};
 
 /// What a line says.
 #[derive(Drop)]
@@ -134,20 +134,6 @@ fn read_text(alloc: Global, bytes: &[u8]) -> Result<Option<Text>, AllocError>
     }
 }
 
-/// Reads the name of a unit.
-fn read_unit(alloc: Global, bytes: &[u8]) -> Result<Option<UnitName>, AllocError>
-    ensures { IfOk result (λ unit. unit ≡ unit_of bytes.now) }
-{
-    let Some(text) = utf8_of(bytes) else {
-        return Ok(None);
-    };
-    match UnitName::parse(alloc, text) {
-        Ok(unit) => Ok(Some(unit)),
-        Err(NameFault::Memory) => Err(AllocError),
-        Err(_) => Ok(None),
-    }
-}
-
 /// Reads the name of a unit, and after a blank where definitions lie.
 fn read_unit_and_text(alloc: Global, bytes: &[u8]) -> Result<Option<(UnitName, Text)>, AllocError>
     ensures { IfOk result (λ read. read ≡ unit_and_text bytes.now) }
@@ -155,7 +141,7 @@ fn read_unit_and_text(alloc: Global, bytes: &[u8]) -> Result<Option<(UnitName, T
     let Some((unit, text)) = parted(bytes, b' ') else {
         return Ok(None);
     };
-    let Some(unit) = read_unit(alloc, unit)? else {
+    let Some(unit) = UnitName::of_bytes(alloc, unit)? else {
         return Ok(None);
     };
     match read_text(alloc, text)? {
@@ -168,7 +154,7 @@ fn read_unit_and_text(alloc: Global, bytes: &[u8]) -> Result<Option<(UnitName, T
 fn read_unit_state(alloc: Global, state: State, bytes: &[u8]) -> Result<Option<Line>, AllocError>
     ensures { IfOk result (λ line. line ≡ state_said state bytes.now) }
 {
-    match read_unit(alloc, bytes)? {
+    match UnitName::of_bytes(alloc, bytes)? {
         Some(unit) => Ok(Some(Line::State(UnitState { unit, state }))),
         None => Ok(None),
     }

@@ -1,4 +1,3 @@
 pub mod ListLemmas
-pub mod NameLemmas
 pub mod OrderLemmas
 pub mod PlaceLemmas

@@ -13,28 +13,14 @@ use host_trait::{HostFault, Tree, UnitSet};
 use log_text::{Lists, Which};
 use std::alloc::{AllocError, Global};
 use std::collections::BTreeMap;
-use switch_names::{Bytes, Listed, NameFault, Path, UnitName};
+use switch_names::{Bytes, Listed, Path, UnitName};
 use tree_put::{Found, find_content};
-
-/// The unit that a line names.
-fn read_name(alloc: Global, line: &[u8]) -> Result<Option<UnitName>, AllocError>
-    ensures { IfOk result (λ name. name ≡ (if is_unit line.now then Some line.now else None)) }
-{
-    let Ok(text) = std::str::from_utf8(line) else {
-        return Ok(None);
-    };
-    match UnitName::parse(alloc, text) {
-        Ok(name) => Ok(Some(name)),
-        Err(NameFault::Memory) => Err(AllocError),
-        Err(_) => Ok(None),
-    }
-}
 
 /// Adds the unit that a line names, if it does.
 fn add_line(alloc: Global, names: &mut Listed<UnitName>, line: &[u8]) -> Result<(), AllocError>
     ensures { OnOk result (names.new ≡ names.old ++ filter is_unit (line.now ∷ [])) }
 {
-    match read_name(alloc, line)? {
+    match UnitName::of_bytes(alloc, line)? {
         Some(name) => names.push(name),
         None => Ok(()),
     }

@@ -1,9 +1,9 @@
 -- How the log is written, and what a cut leaves: write(2), rename(2), unlink(2).
 use Rattle.std.specs.Prelude.{◌≡◌, ◌≤◌, ◌<◌, ◌+◌, ◌^◌, ℕ, List, [], length, None}
 use Rattle.std.specs.FinMap.{get}
+use Rattle.host_trait.specs.Leaf.{open_file}
 use Rattle.host_trait.specs.Change.{Change, IsMoment, finished}
 use Rattle.host_trait.specs.declared.leaf.LeafKind.{LeafKind}
-use Rattle.host_trait.specs.declared.leaf.LeafKind.TheVariants.{File}
 use Rattle.host_trait.specs.World.{Leaves, WorldState, IsFileAt, seen, with_leaf}
 use Rattle.log_text.specs.declared.lists.Lists.{Lists}
 use Rattle.log_text.specs.declared.lists.Which.{Which}
@@ -49,7 +49,7 @@ pub record IsWriteFor (leaves : Leaves) (lists : Lists) (write : LogWrite) : Typ
 
 -- the leaf of a log: a file of mode 0644 that root owns
 abbrev pub log_leaf : List ℕ → LeafKind
-log_leaf text = File text 420 0 0
+log_leaf text = open_file text
 
 -- what a write needs: a file to append to, or nothing in the way of what is put
 abbrev pub CanWrite : LogWrite → WorldState → Type 0

@@ -15,9 +15,6 @@ use std::alloc::{AllocError, Global};
 use switch_names::Bytes;
 use tree_put::{drop_all, put};
 
-/// The mode of a log's file.
-const LOG_MODE: u16 = 0o644;
-
 /// Appends bytes to the log.
 pub(crate) fn append_text<T: Tree>(
     alloc: Global,
@@ -40,7 +37,7 @@ fn log_leaf(alloc: Global, text: &[u8]) -> Result<Leaf, AllocError>
     ensures { IfOk result (λ leaf. leaf ≡ log_leaf text.now) }
 {
     let bytes = Bytes::from_slice(alloc, text)?;
-    Ok(Leaf::file(bytes, LOG_MODE, 0, 0))
+    Ok(Leaf::open_file(bytes))
 }
 
 /// Puts a log of these bytes.

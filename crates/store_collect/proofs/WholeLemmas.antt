@@ -6,7 +6,7 @@ use Rattle.std.proofs.lemmas.List.Folds.{list_any-append, list_any_none}
 use Rattle.std.specs.FinMap.{get}
 use Rattle.std.specs.List.{list_any}
 use Rattle.std.specs.Option.{option_map_or}
-use Rattle.generations.specs.Places.{generation_at, is_number, link_path, system_of, target_of}
+use Rattle.generations.specs.Places.{generation_at, is_number, link_path, target_of}
 use Rattle.generations.specs.ProfilePart.{owns_profile}
 use Rattle.generations.proofs.Apart.{link_apart}
 use Rattle.generations.proofs.ProfileApart.{boot_unread, link_owned, owned_other, unowned}
@@ -19,7 +19,7 @@ use Rattle.host_trait.proofs.Seen.{seen_at}
 use Rattle.switch_names.specs.declared.name_fault.NameFault.{NameFault}
 use Rattle.switch_names.specs.Names.{Name, has, is_name}
 use Rattle.switch_names.specs.Path.{is_slash}
-use Rattle.switch_names.specs.SystemName.{is_no_store_byte, store_folder, store_name, system_fault, system_path}
+use Rattle.switch_names.specs.SystemName.{is_no_store_byte, store_folder, store_name, system_fault, system_path, named_system}
 use Rattle.switch_names.proofs.StorePaths.{IsStorePath-from_named}
 use Rattle.tree_put.specs.Sequence.{without_places}
 use Rattle.tree_put.proofs.LeftLemmas.{gone_at}
@@ -46,18 +46,18 @@ use Rattle.store_collect.proofs.LawLemmas.{among_first, in_both, live_kept, link
 
 -- ---- the system that a link names
 
-pub system_named : (text system : List ℕ) → system_of text ≡ Some system → (system_fault text ≡ None) × (system_path text ≡ system)
+pub system_named : (text system : List ℕ) → named_system text ≡ Some system → (system_fault text ≡ None) × (system_path text ≡ system)
 system_named text system is = by (system_fault text) refl is
   where
     by : (o : Option NameFault) → system_fault text ≡ o → cond (is_none o) (Some (system_path text)) None ≡ Some system → (system_fault text ≡ None) × (system_path text ≡ system)
     by None none is = (none, cc)
     by (Some fault) some is = absurd cc
 
-pub link_named : (b : Bool) (o : Option LeafKind) (system : Name) → cond b (option_map target_of o) None ≡ Some (Some system) → (target : List ℕ) × (o ≡ Some (Link target)) × (system_of target ≡ Some system)
+pub link_named : (b : Bool) (o : Option LeafKind) (system : Name) → cond b (option_map target_of o) None ≡ Some (Some system) → (target : List ℕ) × (o ≡ Some (Link target)) × (named_system target ≡ Some system)
 link_named false o system is = absurd cc
 link_named true None system is = absurd cc
 link_named true (Some (File bytes mode uid gid)) system is = absurd (let no : None ≡ Some system = cc in cc)
-link_named true (Some (Link target)) system is = (target, refl, let same : system_of target ≡ Some system = cc in same)
+link_named true (Some (Link target)) system is = (target, refl, let same : named_system target ≡ Some system = cc in same)
 
 byte_free : (byte : ℕ) → is_no_store_byte byte ≡ false → is_slash byte ≡ false
 byte_free byte is = grind arith
@@ -139,7 +139,7 @@ module _ (keep : ℕ) (collection : Collection) (w : WorldState) (entries : AreE
       (apart_ne (link_path n) stage (link_apart n))
 
   module _ (m : WorldState) (n : ℕ) (system q : Name) (stands : generation_at m.leaves n ≡ Some (Some system)) (at : is_at system q ≡ true) where
-    link : (target : List ℕ) × (get m.leaves (link_path n) ≡ Some (Link target)) × (system_of target ≡ Some system)
+    link : (target : List ℕ) × (get m.leaves (link_path n) ≡ Some (Link target)) × (named_system target ≡ Some system)
     link = link_named (is_number n) (get m.leaves (link_path n)) system stands
 
     named : (system_fault link.0 ≡ None) × (system_path link.0 ≡ system)

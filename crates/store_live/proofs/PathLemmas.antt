@@ -1,5 +1,6 @@
 -- Store paths, and what lies in them.
-use Rattle.std.proofs.Common.{◌≡◌, ◌≢◌, ◌⊎◌, ◌↔◌, ℕ, suc, ◌+◌, ◌≤◌, ◌||◌, not, Bool, true, false, cond, codes, List, [], ◌∷◌, ◌++◌, length, take, drop, Option, None, Some, IfSome, IsSome, is_none, refl, sym, ap, subst, ◌∙◌, inl, inr, arith, append-nil}
+use Rattle.std.proofs.Common.{◌≡◌, ◌≢◌, ◌⊎◌, ◌↔◌, ℕ, suc, ◌+◌, ◌≤◌, ◌&&◌, ◌||◌, not, Bool, true, false, cond, codes, List, [], ◌∷◌, ◌++◌, length, take, drop, Option, None, Some, IfSome, IsSome, is_none, refl, sym, ap, subst, ◌∙◌, inl, inr, arith, append-nil}
+use Rattle.std.proofs.Math.Bool.{and-false}
 use Rattle.std.proofs.lemmas.Bool.{and_from, and_parts, both_ways, cases_Bool, cases_lt, not-true, not_from_false, or_cases, or_left, or_right}
 use Rattle.std.specs.Cmp.Lexicographic.{nat_list_eq_equiv, same_text}
 use Rattle.std.specs.FinMap.{get, keys}
@@ -201,6 +202,9 @@ stored_are leaves places all x = (
 -- a store path begins with no slash
 pub same_system : (x : Name) → is_store_path x ≡ true → system_path x ≡ x
 same_system x is = ap system_path (store_path_cut x is) ∙ sym (store_path_cut x is)
+
+pub not_dead_by : (live : List Name) (x : Name) → is_none (system_fault x) ≡ false → is_dead_by live x ≡ false
+not_dead_by live x faulty = ap (λ b. not (has live x) && b) faulty ∙ and-false (not (has live x))
 
 pub dead_by : (live : List Name) (x : Name) → has live x ≡ false → system_fault x ≡ None → is_dead_by live x ≡ true
 dead_by live x apart none = and_from (not (has live x)) (is_none (system_fault x)) (not_from_false (has live x) apart) (ap is_none none)

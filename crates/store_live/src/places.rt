@@ -14,7 +14,7 @@ use crate::names::{into_names, push_all};
 use host_trait::{HostFault, Tree, fixed_path};
 use std::alloc::{AllocError, Global};
 use std::collections::BTreeSet;
-use switch_names::{Listed, NameFault, Path};
+use switch_names::{Listed, Path};
 
 /// Adds the places of the leaves at or below a path.
 fn add_places<T: Tree>(
@@ -72,9 +72,7 @@ fn first_name(path: &Path) -> &str
 fn path_in(alloc: Global, folder: &Path, name: &str) -> Result<Path, AllocError>
     ensures { IfOk result (λ path. path ≡ folder.now ++ slash ∷ name.now) }
 {
-    folder
-        .join(alloc, name)
-        .map_err(|_fault: NameFault| AllocError)
+    folder.below(alloc, name)
 }
 
 /// The store path that a place lies in, where it lies in one.

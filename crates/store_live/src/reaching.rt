@@ -18,7 +18,7 @@ use crate::roots::roots;
 use host_trait::{HostFault, Manager, Tree};
 use std::alloc::{AllocError, Global};
 use std::collections::BTreeSet;
-use switch_names::{Listed, NameFault, Path, SystemName};
+use switch_names::{Listed, Path, SystemName};
 
 /// Adds a name that isn't among those that are walked to those that are left to walk.
 fn add_if_new(
@@ -115,10 +115,9 @@ fn add_dead(
     if live.contains(path) {
         return Ok(());
     }
-    match SystemName::parse(alloc, path.as_str()) {
-        Ok(system) => dead.push(system),
-        Err(NameFault::Memory) => Err(AllocError),
-        Err(_) => Ok(()),
+    match SystemName::of_text(alloc, path.as_str())? {
+        Some(system) => dead.push(system),
+        None => Ok(()),
     }
 }
 

@@ -16,17 +16,13 @@ use crate::names::add_in;
 use host_trait::{HostFault, Leaf, LeafKind, Manager, Tree};
 use std::alloc::{AllocError, Global};
 use std::collections::BTreeSet;
-use switch_names::{NameFault, Path, SystemName};
+use switch_names::{Path, SystemName};
 
 /// Whether a path is a system's.
 fn is_system(alloc: Global, path: &Path) -> Result<bool, AllocError>
     ensures { IfOk result (λ is. is ≡ is_none (system_fault path.now)) }
 {
-    match SystemName::parse(alloc, path.as_str()) {
-        Ok(_system) => Ok(true),
-        Err(NameFault::Memory) => Err(AllocError),
-        Err(_) => Ok(false),
-    }
+    Ok(SystemName::of_text(alloc, path.as_str())?.is_some())
 }
 
 /// Adds a store path, where it is no system's.

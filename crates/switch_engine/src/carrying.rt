@@ -20,11 +20,11 @@ use crate::outcome::{Outcome, has_failed};
 use crate::plan::Plan;
 use activation_stage::{ActivationPlan, activate};
 use boot_entries::make_boot_default;
-use generations::{Move, clear_goal, record_goal};
+use generations::{Move, clear_goal, record_goal, system_link};
 use host_trait::{HostFault, Leaf, Manager, Tree};
 use std::alloc::Global;
 use switch_names::SystemName;
-use unit_stage::{UnitPlan, bring_units, calls_of, stop_units, system_leaf};
+use unit_stage::{UnitPlan, bring_units, calls_of, stop_units};
 
 /// Records the goal of a rollback, and has it kept beyond a loss of power.
 fn record_kept<T: Tree>(alloc: Global, host: &mut T, number: u32) -> Result<(), HostFault>
@@ -217,7 +217,7 @@ pub fn carry_out<H: Manager>(alloc: Global, host: &mut H, plan: &Plan) -> Result
     ensures moments { Passes (H.host host.old) (H.host host.new) (IsMomentOf plan.now.command) }
     ensures cause { HasCause (H.host host.old) (H.host host.new) result }
 {
-    let current = system_leaf(alloc, plan.to())?;
+    let current = system_link(alloc, plan.to())?;
     prepare(alloc, host, plan)?;
     let outcome = carry_units(alloc, host, plan, &current)?;
     finish(alloc, host, plan)?;

@@ -1,9 +1,9 @@
 -- Texts that are cut at a slash: a path, a slash and more.
-use Rattle.std.proofs.Common.{◌≡◌, ℕ, ◌+◌, ◌≤◌, ◌==◌, ◌||◌, Bool, true, false, cond, List, [], ◌∷◌, ◌++◌, length, take, drop, map, Bor, position, nat_lt, Option, None, Some, option_map, refl, sym, ap, ◌∙◌, arith, append_assoc, length-append}
+use Rattle.std.proofs.Common.{◌≡◌, ℕ, ◌+◌, ◌<◌, ◌≤◌, ◌==◌, ◌||◌, Bool, true, false, cond, List, [], ◌∷◌, ◌++◌, length, take, drop, map, Bor, position, nat_lt, Option, None, Some, option_map, refl, sym, ap, ◌∙◌, arith, append_assoc, length-append}
 use Rattle.std.specs.List.{All, list_any, onto_first}
 use Rattle.std.proofs.lemmas.Bool.{or_parts}
 use Rattle.std.proofs.lemmas.List.{drop_at, map-append, take_at}
-use Rattle.std.proofs.lemmas.List.Elements.{All-push, All-same, All-take, All-drop}
+use Rattle.std.proofs.lemmas.List.Elements.{All-append, All-push, All-same, All-take, All-drop}
 use Rattle.std.proofs.lemmas.List.Folds.{list_any-append}
 use Rattle.std.proofs.Math.Bool.{or-false}
 use Rattle.switch_names.specs.Path.{IsPath, fault_after, is_dots, is_no_path_byte, names_of, path_fault, slash}
@@ -100,6 +100,19 @@ both_paths folder more is =
       path_from folder full.0 (omega (arith, len, short)) (All-same (λ byte. is_no_path_byte byte ≡ false) folder (take (length folder) whole) front (All-take (λ byte. is_no_path_byte byte ≡ false) (length folder) whole (path_bytes whole is))) named.0,
       path_from more full.1 (omega (arith, len, short)) (All-same (λ byte. is_no_path_byte byte ≡ false) more (drop (length folder + 1) whole) back (All-drop (λ byte. is_no_path_byte byte ≡ false) (length folder + 1) whole (path_bytes whole is))) named.1,
     )
+
+-- a path, a slash and a path are a path, if they aren't too long
+pub joined_path : (folder more : List ℕ) → IsPath folder → IsPath more → length folder + length more < 4096 → IsPath (folder ++ slash ∷ more)
+joined_path folder more is_front is_back short =
+    let front = faultless folder is_front in
+    let back = faultless more is_back in
+    let bytes = All-append (λ byte. is_no_path_byte byte ≡ false) (folder ++ slash ∷ []) more (All-push (λ byte. is_no_path_byte byte ≡ false) folder slash (path_bytes folder is_front) refl) (path_bytes more is_back) in
+    let whole : (folder ++ slash ∷ []) ++ more ≡ folder ++ slash ∷ more = append_assoc folder (slash ∷ []) more in
+    path_from (folder ++ slash ∷ more)
+    (any_after is_empty folder more front.not_empty ∙ back.not_empty)
+    (omega (arith, short, length-append folder (slash ∷ more)))
+    (All-same (λ byte. is_no_path_byte byte ≡ false) (folder ++ slash ∷ more) ((folder ++ slash ∷ []) ++ more) (sym whole) bytes)
+    (any_after is_dots folder more front.not_last ∙ back.not_last)
 
 -- ---- what is sought in the second part alone
 

@@ -4,6 +4,7 @@ pub mod Endings
 pub mod Faultless
 pub mod Joined
 pub mod Lists
+pub mod Named
 pub mod Names
 pub mod Outcomes
 pub mod Positions

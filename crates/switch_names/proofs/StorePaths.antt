@@ -100,6 +100,13 @@ IsPath-from_system path is =
     let parts = subst (λ path. IsStorePath path) is.same (IsStorePath-from_named path is.no_fault) in
     subst (λ path. IsPath path) (sym (store_path_is path parts.begins)) (IsPath-from_name (store_name path) parts.name)
 
+-- it has 265 bytes at most
+pub system_short : (path : List ℕ) → IsSystemPath path → length path ≤ 265
+system_short path is =
+    let parts = subst (λ path. IsStorePath path) is.same (IsStorePath-from_named path is.no_fault) in
+    let len : length path ≡ length store_folder + length (store_name path) = ap length (store_path_is path parts.begins) ∙ length-append store_folder (store_name path) in
+    omega (arith, len, parts.name.short)
+
 -- a slash before it names the same system
 pub NamesSystem-with_slash : (path : List ℕ) → IsSystemPath path → NamesSystem (slash ∷ path) path
 NamesSystem-with_slash path is =

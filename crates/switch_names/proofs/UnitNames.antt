@@ -10,12 +10,13 @@ use Rattle.std.proofs.lemmas.Str.Ascii.{IsAscii-from_all}
 use Rattle.std.proofs.lemmas.List.Elements.{All-append, All-from_recursion, All-same, All-take, All-push}
 use Rattle.std.proofs.lemmas.Slice.Eq.{ends_is}
 use Rattle.switch_names.specs.UnitKind.{ending_of, kind_of}
-use Rattle.switch_names.specs.UnitName.{IsUnitName, is_at_sign, is_no_unit_byte, stem_of, name_ending, instance_of, template_of}
+use Rattle.switch_names.specs.UnitName.{IsUnitName, is_at_sign, is_no_unit_byte, stem_of, name_ending, instance_of, is_unit, template_of, unit_fault}
 use Rattle.switch_names.specs.declared.name_fault.NameFault.TheVariants.{Byte, Kind}
 use Rattle.switch_names.specs.declared.unit_kind.UnitKind.{UnitKind}
 use Rattle.switch_names.specs.declared.unit_kind.UnitKind.TheVariants.{Service, Socket, Target, Mount, Automount, Swap, Path, Slice, Timer, Scope, Device}
 use Rattle.switch_names.proofs.Endings.{kind_of-stem, ends-from_kind, longer-from_kind}
 use Rattle.switch_names.proofs.Faultless.{HasNone-from_sought, sought-from_HasNone, no_place}
+use Rattle.switch_names.proofs.Outcomes.{none_from_test}
 use Rattle.switch_names.proofs.Positions.{All-from_no_position, no_position-from_All}
 
 pub name_ending-of_kind : (text : List ℕ) (kind : UnitKind) → kind_of text ≡ Some kind → name_ending text ≡ ending_of kind
@@ -78,6 +79,10 @@ pub unit_utf8 : (name : List ℕ) → IsUnitName name → IsUtf8 name
 unit_utf8 name is =
     let bytes = (IsShortName-from_name name is).bytes in
     IsUtf8-from_ascii name (IsAscii-from_all name (λ k d l. ascii_byte _ (bytes k d l)))
+
+-- bytes that aren't UTF-8 name no unit
+pub no_unit : (bytes : List ℕ) → ¬ IsUtf8 bytes → is_unit bytes ≡ false
+no_unit bytes bad = false_from_ne_true (is_unit bytes) (λ is. bad (unit_utf8 bytes (none_from_test (unit_fault bytes) is)))
 
 pub not_utf8 : (text : List ℕ) → (IsUtf8 text → ⊥) → is_utf8 text ≡ false
 not_utf8 text bad = false_from_ne_true (is_utf8 text) (λ is. bad (IsUtf8-from_is_utf8 text is))

@@ -1,5 +1,5 @@
 -- Paths of leaves: path_resolution(7), "Step 2: walk along the path", and pathname limits of limits.h(0p).
-use Rattle.std.specs.Prelude.{◌≡◌, ◌⊎◌, ℕ, ◌+◌, ◌&&◌, ◌||◌, ◌==◌, Bool, true, false, List, [], ◌∷◌, length, drop, nat_lt, position, Option, None, Some, option_map, slice_index, nat_eq, if◌then◌else◌}
+use Rattle.std.specs.Prelude.{◌≡◌, ◌⊎◌, ℕ, ◌+◌, ◌&&◌, ◌||◌, ◌==◌, Bool, true, false, List, [], ◌∷◌, length, drop, nat_lt, position, Option, None, Some, is_none, option_map, slice_index, nat_eq, if◌then◌else◌}
 use Rattle.std.specs.Option.{option_or}
 use Rattle.std.specs.List.{slice_split, list_any, starts_with}
 use Rattle.switch_names.specs.declared.name_fault.NameFault.{NameFault}
@@ -43,6 +43,10 @@ fault_after before text =
 -- a path is names joined by slashes, none empty or of dots alone, in at most 4,096 bytes
 abbrev pub IsPath : List ℕ → Type 0
 IsPath text = path_fault text ≡ None
+
+-- the path that a text is, where it is one
+abbrev pub named_path : List ℕ → Option (List ℕ)
+named_path text = if is_none (path_fault text) then Some text else None
 
 -- the first path lies strictly below the second: it begins with it and a slash
 abbrev pub is_below : List ℕ → List ℕ → Bool

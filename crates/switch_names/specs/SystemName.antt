@@ -1,5 +1,5 @@
 -- Names of built systems: Nix manual, "Store Path".
-use Rattle.std.specs.Prelude.{◌≡◌, ℕ, ◌+◌, ◌-◌, ◌||◌, ◌==◌, not, Bool, List, [], ◌∷◌, length, drop, codes, nat_eq, nat_lt, position, Option, None, Some, option_map, if◌then◌else◌}
+use Rattle.std.specs.Prelude.{◌≡◌, ℕ, ◌+◌, ◌-◌, ◌||◌, ◌==◌, not, Bool, List, [], ◌∷◌, length, drop, codes, nat_eq, nat_lt, position, Option, None, Some, is_none, option_map, if◌then◌else◌}
 use Rattle.std.specs.Char.{is_ascii_alphanumeric}
 use Rattle.std.specs.List.{list_any, starts_with}
 use Rattle.std.specs.Option.{option_or}
@@ -36,6 +36,10 @@ system_fault text =
     if starts_with nat_eq (system_path text) store_folder
     then store_name_fault (length text - length (store_name (system_path text))) (store_name (system_path text))
     else Some Kind
+
+-- the system that a text names, where it names one
+abbrev pub named_system : List ℕ → Option (List ℕ)
+named_system text = if is_none (system_fault text) then Some (system_path text) else None
 
 -- the text names the system with this path
 pub record NamesSystem (text path : List ℕ) : Type 0 where

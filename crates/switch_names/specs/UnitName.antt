@@ -26,6 +26,10 @@ IsUnitName text = unit_fault text ≡ None
 abbrev pub is_unit : List ℕ → Bool
 is_unit text = is_none (unit_fault text)
 
+-- the unit that a text names, where it names one
+abbrev pub named_unit : List ℕ → Option (List ℕ)
+named_unit text = if is_unit text then Some text else None
+
 -- the ending of the name
 abbrev pub name_ending : List ℕ → List ℕ
 name_ending name = option_map_or ending_of (kind_of name) []

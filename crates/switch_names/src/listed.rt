@@ -1,7 +1,9 @@
 //! A list that contracts see as its items.
-ghost use Rattle.std.specs.Prelude.{◌≡◌, ◌<◌, ◌≤◌, ◌++◌, [], ◌∷◌, length, take, drop, Some, OnOk, OnErr, slice_get, slice_set};
+ghost use Rattle.std.specs.Prelude.{◌≡◌, ◌<◌, ◌≤◌, ◌++◌, [], ◌∷◌, length, take, drop, Some, IfOk, OnOk, OnErr, slice_get, slice_set};
+ghost use Rattle.std.specs.List.Sorted.{IsStrictlySortedBy};
 
 use std::alloc::{AllocError, Global};
+use std::collections::BTreeSet;
 use std::marker::Model;
 
 /// A list of items in order.
@@ -39,6 +41,20 @@ impl<T> Listed<T> {
         ensures { result ≡ items.items }
     {
         Listed { items }
+    }
+
+    /// The items of a set, in its order.
+    pub fn of_set(alloc: Global, set: BTreeSet<T>) -> Result<Listed<T>, AllocError>
+    where
+        T: Ord + Drop,
+        ensures items { IfOk result (λ list. list ≡ set.keys) }
+        ensures sorted { IsStrictlySortedBy T.cmp set.keys }
+    {
+        let mut list = Listed::new(alloc);
+        for item in set {
+            list.push(item)?;
+        }
+        Ok(list)
     }
 
     /// The items as a vector, without a copy.

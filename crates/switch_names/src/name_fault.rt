@@ -1,5 +1,5 @@
 //! Why a text is no name.
-ghost use Rattle.std.specs.Prelude.{◌≡◌};
+ghost use Rattle.std.specs.Prelude.{◌≡◌, None, Some, IfErr, IfOk};
 ghost use Rattle.switch_names.specs.declared.name_fault.NameFault.TheVariants.{Memory};
 
 use std::alloc::{AllocError, AllocFailed};
@@ -41,5 +41,19 @@ impl<T: Drop> From<AllocFailed<T>> for NameFault {
 
     fn from(_error: AllocFailed<T>) -> NameFault {
         NameFault::Memory
+    }
+}
+
+impl NameFault {
+    /// What a reader of names read, and none where the text is no such name.
+    pub fn or_none<T: Drop>(read: Result<T, NameFault>) -> Result<Option<T>, AllocError>
+        ensures named { IfOk read (λ name. IfOk result (λ found. found ≡ Some name)) }
+        ensures refused { IfErr read (λ fault. IfOk result (λ found. (found ≡ None) × (fault ≡ Memory → ⊥))) }
+    {
+        match read {
+            Ok(name) => Ok(Some(name)),
+            Err(NameFault::Memory) => Err(AllocError),
+            Err(_) => Ok(None),
+        }
     }
 }

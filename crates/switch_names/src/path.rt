@@ -3,7 +3,7 @@ ghost use Rattle.std.specs.Prelude.{◌≡◌, ℕ, ◌+◌, ◌<◌, ◌^◌, �
 ghost use Rattle.std.specs.List.{list_any, starts_with};
 ghost use Rattle.std.specs.Option.{option_copied};
 ghost use Rattle.switch_names.specs.Texts.{is_empty};
-ghost use Rattle.switch_names.specs.Path.{IsPath, path_fault, fault_after, name_below, names_of, is_no_path_byte, is_dots, is_below, slash, IsParentOf};
+ghost use Rattle.switch_names.specs.Path.{IsPath, path_fault, named_path, fault_after, name_below, names_of, is_no_path_byte, is_dots, is_below, slash, IsParentOf};
 ghost use Rattle.switch_names.specs.NameFault.{IsRefusedBy};
 
 use crate::name_fault::NameFault;
@@ -151,6 +151,13 @@ impl Path {
         })
     }
 
+    /// The path that a text is, where it is one.
+    pub fn of_text(alloc: Global, text: &str) -> Result<Option<Path>, AllocError>
+        ensures { IfOk result (λ path. path ≡ named_path text.now) }
+    {
+        NameFault::or_none(Path::parse(alloc, text))
+    }
+
     /// The path of a text that is known to be one.
     pub(crate) fn of_checked(alloc: Global, text: &str) -> Result<Path, AllocError>
         requires { IsPath text.now }
@@ -159,6 +166,24 @@ impl Path {
         Ok(Path {
             text: Text::from_str(alloc, text)?,
         })
+    }
+
+    /// The path of `more` below this one, where it is known to be one.
+    pub(crate) fn join_checked(&self, alloc: Global, more: &str) -> Result<Path, AllocError>
+        requires { IsPath (self.now ++ slash ∷ more.now) }
+        ensures { IfOk result (λ path. path ≡ self.now ++ slash ∷ more.now) }
+    {
+        Ok(Path {
+            text: joined(alloc, self.as_str(), more)?,
+        })
+    }
+
+    /// The path of `more` below this one. Too long a path is no leaf's: it counts as want of memory.
+    pub fn below(&self, alloc: Global, more: &str) -> Result<Path, AllocError>
+        ensures { IfOk result (λ path. path ≡ self.now ++ slash ∷ more.now) }
+    {
+        self.join(alloc, more)
+            .map_err(|_fault: NameFault| AllocError)
     }
 
     /// The path of `more` below this one: `parse` of this path, a slash and `more`.

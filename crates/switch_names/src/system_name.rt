@@ -1,8 +1,8 @@
 //! The name of a built system in the store.
-ghost use Rattle.std.specs.Prelude.{◌≡◌, ◌+◌, ◌<◌, ◌^◌, ◌∷◌, length, position, None, IfOk, OnOk};
+ghost use Rattle.std.specs.Prelude.{◌≡◌, ◌+◌, ◌<◌, ◌≤◌, ◌^◌, ◌++◌, ◌∷◌, length, position, None, IfOk, OnOk};
 ghost use Rattle.switch_names.specs.NameFault.{IsRefusedBy};
-ghost use Rattle.switch_names.specs.Path.{IsPath, slash};
-ghost use Rattle.switch_names.specs.SystemName.{NamesSystem, is_no_store_byte, store_name_fault, system_fault, system_path};
+ghost use Rattle.switch_names.specs.Path.{IsPath, path_fault, slash};
+ghost use Rattle.switch_names.specs.SystemName.{NamesSystem, is_no_store_byte, store_name_fault, system_fault, named_system, system_path};
 
 use crate::name_fault::NameFault;
 use crate::path::{Path, after_prefix, is_dots};
@@ -118,6 +118,25 @@ impl SystemName {
         Ok(SystemName {
             path: Path::of_checked(alloc, without_slash(text))?,
         })
+    }
+
+    /// The system that a text names, where it names one.
+    pub fn of_text(alloc: Global, text: &str) -> Result<Option<SystemName>, AllocError>
+        ensures { IfOk result (λ system. system ≡ named_system text.now) }
+    {
+        NameFault::or_none(SystemName::parse(alloc, text))
+    }
+
+    /// Where the system keeps a file: the path of a name below its own.
+    ///
+    /// The path of a system has 265 bytes at most, so that memory alone can be wanting.
+    pub fn place(&self, alloc: Global, name: &str) -> Result<Path, AllocError>
+        requires path { path_fault name.now ≡ None }
+        requires short { length name.now ≤ 255 }
+        ensures ok { IfOk result (λ path. path ≡ self.now ++ slash ∷ name.now) }
+        ensures names { NamesSystem self.now self.now }
+    {
+        self.path.join_checked(alloc, name)
     }
 
     /// The path of the system, lent.

@@ -3,7 +3,7 @@ ghost use Rattle.std.specs.Prelude.{◌≡◌, ◌-◌, ◌<◌, ◌∷◌, ◌+
 ghost use Rattle.std.specs.List.{ends_with, position_or_len, before_first, after_first};
 ghost use Rattle.switch_names.specs.NameFault.{IsRefusedBy};
 ghost use Rattle.switch_names.specs.UnitKind.{kind_of};
-ghost use Rattle.switch_names.specs.UnitName.{IsUnitName, is_at_sign, is_no_unit_byte, is_template, name_ending, stem_of, template_of, unit_fault};
+ghost use Rattle.switch_names.specs.UnitName.{IsUnitName, is_at_sign, is_no_unit_byte, is_template, name_ending, stem_of, template_of, unit_fault, named_unit};
 
 use crate::name_fault::NameFault;
 use crate::text::Text;
@@ -120,6 +120,23 @@ impl UnitName {
             text: Text::from_str(alloc, text)?,
             kind,
         })
+    }
+
+    /// The unit that a text names, where it names one.
+    pub fn of_text(alloc: Global, text: &str) -> Result<Option<UnitName>, AllocError>
+        ensures { IfOk result (λ unit. unit ≡ named_unit text.now) }
+    {
+        NameFault::or_none(UnitName::parse(alloc, text))
+    }
+
+    /// The unit that some bytes name, where they name one.
+    pub fn of_bytes(alloc: Global, bytes: &[u8]) -> Result<Option<UnitName>, AllocError>
+        ensures { IfOk result (λ unit. unit ≡ named_unit bytes.now) }
+    {
+        match std::str::from_utf8(bytes) {
+            Ok(text) => UnitName::of_text(alloc, text),
+            Err(_) => Ok(None),
+        }
     }
 
     /// The name, lent.

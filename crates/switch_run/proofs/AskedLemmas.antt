@@ -9,7 +9,7 @@ use Rattle.std.specs.Cmp.Lexicographic.{pointwise, same_text}
 use Rattle.std.specs.Fmt.{decimal}
 use Rattle.std.specs.Str.{bytes_eq}
 use Rattle.std.specs.Str.Parse.{ParsesUnsigned}
-use Rattle.generations.specs.Places.{system_of}
+use Rattle.switch_names.specs.SystemName.{named_system}
 use Rattle.host_trait.specs.declared.tree.HostFault.TheVariants as host
 use Rattle.host_trait.specs.Change.{IsSame}
 use Rattle.host_trait.specs.Host.{EachMoment, HasCauseOf, HostState, IsHost, Passes, Rose, Told}
@@ -98,8 +98,8 @@ no_command [] word is = absurd (none-some word is)
 no_command (verb ∷ []) word is = absurd (none-some word is)
 no_command (verb ∷ next ∷ []) word is = by (is_rehearsal verb) refl is
   where
-    by : (b : Bool) → is_rehearsal verb ≡ b → cond b (Some next) None ≡ Some word → option_and_then (command_for verb) (system_of next) ≡ None
-    by true same is = none_with verb (system_of next) same
+    by : (b : Bool) → is_rehearsal verb ≡ b → cond b (Some next) None ≡ Some word → option_and_then (command_for verb) (named_system next) ≡ None
+    by true same is = none_with verb (named_system next) same
     by false same is = absurd (none-some word is)
 no_command (verb ∷ next ∷ more ∷ rest) word is = absurd (none-some word is)
 

@@ -6,8 +6,8 @@ use Rattle.std.proofs.lemmas.Option.{none-some, same_Some}
 use Rattle.std.specs.Cmp.Lexicographic.{pointwise, same_text}
 use Rattle.std.specs.Fmt.{decimal}
 use Rattle.std.specs.Result.{OkIff, result_ok}
+use Rattle.switch_names.specs.SystemName.{named_system}
 use Rattle.generations.specs.Digits.{BearsNumber}
-use Rattle.generations.specs.Places.{system_of}
 use Rattle.switch_engine.specs.declared.command.Command.{Command}
 use Rattle.switch_run.specs.Collecting.{AsksCollection, collected_word}
 use Rattle.switch_run.specs.Commands.{command_for, command_of}
@@ -28,10 +28,10 @@ neither (verb ∷ []) word is = absurd (none-some word is)
 neither (verb ∷ next ∷ []) word is = by (pointwise nat_eq verb (codes "collect")) refl is
   where
     by : (b : Bool) → pointwise nat_eq verb (codes "collect") ≡ b → cond b (Some next) None ≡ Some word →
-        (option_and_then (command_for verb) (system_of next) ≡ None) × (cond (is_rehearsal verb) (Some next) None ≡ None)
+        (option_and_then (command_for verb) (named_system next) ≡ None) × (cond (is_rehearsal verb) (Some next) None ≡ None)
     by true same is =
-        subst (λ (v : List ℕ). (option_and_then (command_for v) (system_of next) ≡ None) × (cond (is_rehearsal v) (Some next) None ≡ None))
-        (sym (same_text verb (codes "collect") (sym same))) (none_for (system_of next), refl)
+        subst (λ (v : List ℕ). (option_and_then (command_for v) (named_system next) ≡ None) × (cond (is_rehearsal v) (Some next) None ≡ None))
+        (sym (same_text verb (codes "collect") (sym same))) (none_for (named_system next), refl)
     by false same is = absurd (none-some word is)
 neither (verb ∷ next ∷ more ∷ rest) word is = absurd (none-some word is)
 

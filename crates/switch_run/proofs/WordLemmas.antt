@@ -1,11 +1,10 @@
 -- The words of a command.
 use Rattle.std.proofs.Common.{◌≡◌, ℕ, Bool, true, false, codes, nat_eq, List, [], ◌∷◌, Option, None, Some, cond, is_none, option_and_then, unwrap_or, ap, refl, sym, subst, ◌∙◌}
 use Rattle.std.proofs.lemmas.Option.{none-some}
-use Rattle.generations.specs.Places.{system_of}
 use Rattle.host_trait.specs.World.{Leaves}
 use Rattle.switch_engine.specs.declared.command.Command.{Command}
 use Rattle.switch_engine.specs.declared.command.Command.TheVariants.{Switch, Test, Boot, DryActivate, Rollback, StartUp}
-use Rattle.switch_engine.specs.Commands.{lacks_system, named_by, new_system, system_of as system_of_goal}
+use Rattle.switch_engine.specs.Commands.{lacks_system, named_by, new_system, system_of}
 use Rattle.switch_engine.proofs.GoalKeptLemmas.{names_it}
 use Rattle.generations.specs.Boot.{boot_system}
 use Rattle.generations.specs.Goal.{goal}
@@ -16,14 +15,14 @@ use Rattle.generations.proofs.GoalLemmas.{goal_names}
 use Rattle.std.proofs.lemmas.Bool.{both_ways}
 use Rattle.std.specs.Cmp.Lexicographic.{pointwise}
 use Rattle.switch_names.specs.declared.name_fault.NameFault.{NameFault}
-use Rattle.switch_names.specs.SystemName.{IsSystemPath, system_fault, system_path}
+use Rattle.switch_names.specs.SystemName.{IsSystemPath, system_fault, system_path, named_system}
 use Rattle.switch_names.proofs.StorePaths.{IsSystemPath-from_named}
 use Rattle.switch_run.specs.Commands.{command_for, command_of}
 
 -- the system that a text names
-pub system_is : (text word system : List ℕ) → text ≡ word → system ≡ system_path text → system_fault text ≡ None → Some system ≡ system_of word
+pub system_is : (text word system : List ℕ) → text ≡ word → system ≡ system_path text → system_fault text ≡ None → Some system ≡ named_system word
 system_is text word system same is none =
-    ap Some is ∙ sym (ap (λ f. cond (is_none f) (Some (system_path text)) None) none) ∙ ap system_of same
+    ap Some is ∙ sym (ap (λ f. cond (is_none f) (Some (system_path text)) None) none) ∙ ap named_system same
 
 -- a command for a system is about it, whichever it is
 pub same_command : (one other : Command) → Some one ≡ Some other → one ≡ other
@@ -42,7 +41,7 @@ module _ (system : List ℕ) (named : IsSystemPath system) (leaves : Leaves) (co
   named_for false false false false is = absurd (none-some command is)
 
 -- a rollback that has a goal is about the system that it names
-named_back : (leaves : Leaves) (o : Option ℕ) → goal leaves ≡ o → is_none o ≡ false → IsSystemPath (system_of_goal o leaves)
+named_back : (leaves : Leaves) (o : Option ℕ) → goal leaves ≡ o → is_none o ≡ false → IsSystemPath (system_of o leaves)
 named_back leaves None is has = absurd (both_ways _ has refl)
 named_back leaves (Some n) is has = named_at leaves n (Some (named_by (generation_at leaves n))) (names_it (generation_at leaves n) (goal_names leaves n is))
 

@@ -1,7 +1,7 @@
 -- The commands that a run takes: the words of switch-to-configuration, NixOS manual, "Upgrading NixOS".
 use Rattle.std.specs.Prelude.{ℕ, List, [], ◌∷◌, codes, nat_eq, Option, None, Some, option_and_then, if◌then◌else◌}
 use Rattle.std.specs.Cmp.Lexicographic.{pointwise}
-use Rattle.generations.specs.Places.{system_of}
+use Rattle.switch_names.specs.SystemName.{named_system}
 use Rattle.switch_engine.specs.declared.command.Command.{Command}
 use Rattle.switch_engine.specs.declared.command.Command.TheVariants.{Switch, Test, Boot, DryActivate, Rollback, StartUp}
 
@@ -25,5 +25,5 @@ command_alone verb =
 abbrev pub command_of : List (List ℕ) → Option Command
 command_of [] = None
 command_of (verb ∷ []) = command_alone verb
-command_of (verb ∷ word ∷ []) = option_and_then (command_for verb) (system_of word)
+command_of (verb ∷ word ∷ []) = option_and_then (command_for verb) (named_system word)
 command_of (verb ∷ word ∷ more ∷ rest) = None

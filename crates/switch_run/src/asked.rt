@@ -2,8 +2,8 @@
 ghost use Rattle.std.specs.Prelude.{◌≡◌, ◌↔◌, IfOk, IsTrue, MatchOption, None, Some, option_and_then, ℕ};
 ghost use Rattle.std.specs.Fmt.{decimal};
 ghost use Rattle.std.specs.Str.{bytes_eq};
+ghost use Rattle.switch_names.specs.SystemName.{named_system};
 ghost use Rattle.generations.specs.Digits.{BearsNumber};
-ghost use Rattle.generations.specs.Places.{system_of};
 ghost use Rattle.switch_run.specs.Asked.{IsAskedBy};
 ghost use Rattle.switch_run.specs.Collecting.{collected_word};
 ghost use Rattle.switch_run.specs.Commands.{command_alone, command_for, command_of};
@@ -12,7 +12,7 @@ ghost use Rattle.switch_run.specs.Rehearsing.{IsNumber, asks_jobs, is_rehearsal,
 
 use std::alloc::{AllocError, Global};
 use switch_engine::Command;
-use switch_names::{NameFault, SystemName, Text};
+use switch_names::{SystemName, Text};
 
 /// What words ask for.
 #[derive(Debug, Drop)]
@@ -29,17 +29,6 @@ pub enum Asked {
     Collection(u32),
     /// Nothing that the program does.
     Nothing,
-}
-
-/// The system that a word names, or none.
-fn read_system(alloc: Global, word: &Text) -> Result<Option<SystemName>, AllocError>
-    ensures { IfOk result (λ system. system ≡ system_of word.now) }
-{
-    match SystemName::parse(alloc, word.as_str()) {
-        Ok(system) => Ok(Some(system)),
-        Err(NameFault::Memory) => Err(AllocError),
-        Err(_) => Ok(None),
-    }
 }
 
 /// The command that a word gives for a system, or none.
@@ -76,9 +65,9 @@ fn read_alone(verb: &Text) -> Option<Command>
 
 /// The command that two words give, or none.
 fn read_pair(alloc: Global, verb: &Text, word: &Text) -> Result<Option<Command>, AllocError>
-    ensures { IfOk result (λ command. command ≡ option_and_then (command_for verb.now) (system_of word.now)) }
+    ensures { IfOk result (λ command. command ≡ option_and_then (command_for verb.now) (named_system word.now)) }
 {
-    match read_system(alloc, word)? {
+    match SystemName::of_text(alloc, word.as_str())? {
         Some(system) => Ok(command_for(verb, system)),
         None => Ok(None),
     }

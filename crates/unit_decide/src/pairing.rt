@@ -7,7 +7,7 @@ ghost use Rattle.unit_decide.specs.Sockets.{is_socket_name, sockets_of, words};
 use crate::flags::is_not_socket_activated;
 use crate::kinds::{is_service, is_socket};
 use std::alloc::{AllocError, Global};
-use switch_names::{Listed, NameFault, Text, UnitName};
+use switch_names::{Listed, Text, UnitName};
 use unit_text::UnitText;
 
 /// The sockets that a service is paired with: the unit names of kind socket among the words of
@@ -85,13 +85,11 @@ fn add_socket(alloc: Global, sockets: &mut Listed<UnitName>, word: &[u8]) -> Res
 fn read_socket(alloc: Global, word: &[u8]) -> Result<Option<UnitName>, AllocError>
     ensures { IfOk result (λ socket. socket ≡ (if is_socket_name word.now then Some word.now else None)) }
 {
-    let Ok(text) = std::str::from_utf8(word) else {
+    let Some(name) = UnitName::of_bytes(alloc, word)? else {
         return Ok(None);
     };
-    match UnitName::parse(alloc, text) {
-        Ok(name) if is_socket(name.kind()) => Ok(Some(name)),
-        Ok(_) => Ok(None),
-        Err(NameFault::Memory) => Err(AllocError),
-        Err(_) => Ok(None),
+    if !is_socket(name.kind()) {
+        return Ok(None);
     }
+    Ok(Some(name))
 }

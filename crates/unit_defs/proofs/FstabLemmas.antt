@@ -6,6 +6,7 @@ use Rattle.std.specs.List.{find}
 use Rattle.std.specs.Option.{option_map_or, option_or}
 use Rattle.std.proofs.lemmas.Bool.{or_cases, or_left, or_right}
 use Rattle.std.proofs.lemmas.List.{append-nil, take_more}
+use Rattle.switch_names.specs.UnitName.{named_unit}
 use Rattle.switch_names.specs.declared.unit_kind.UnitKind.{UnitKind}
 use Rattle.switch_names.specs.declared.unit_kind.UnitKind.TheVariants.{Service, Socket, Target, Mount, Automount, Swap, Path, Slice, Timer, Scope, Device}
 use Rattle.switch_names.specs.Names.{Name, has, is_name}
@@ -22,7 +23,6 @@ use Rattle.unit_defs.specs.declared.part.FilePart.{FilePart}
 use Rattle.unit_defs.specs.declared.place.UnitPlace.TheVariants.{Want}
 use Rattle.unit_defs.specs.Files.{folder_wants}
 use Rattle.unit_defs.specs.Found.{AreFilesOf, Joins, JoinsLines, Takes, drop_in_in, drop_ins_in, files_in, line_in, wants_in}
-use Rattle.unit_defs.specs.Place.{named}
 use Rattle.unit_defs.specs.Fstab.{fstab_of, fstab_path, is_auto_mount, is_mount_kind, is_swap, is_swap_kind, line_text, names_of, target_by, target_of, wanted_by_lines}
 use Rattle.host_trait.proofs.NameOrder.{name_exact}
 use Rattle.unit_defs.proofs.WorldLemmas.{inner_at, none_wanted}
@@ -185,18 +185,18 @@ joins_wanted line target name old new is_target is_name takes = record {
 
 -- ---- the targets, by their names
 
-mounts_named : named (codes "local-fs.target") ≡ Some (codes "local-fs.target")
+mounts_named : named_unit (codes "local-fs.target") ≡ Some (codes "local-fs.target")
 unfolding kind_of
 mounts_named = refl
 
-swaps_named : named (codes "swap.target") ≡ Some (codes "swap.target")
+swaps_named : named_unit (codes "swap.target") ≡ Some (codes "swap.target")
 unfolding kind_of
 swaps_named = refl
 
-pub mount_target : (line : FsUnit) → kind_of line.unit ≡ Some Mount → line.auto ≡ true → named (codes "local-fs.target") ≡ target_of line
+pub mount_target : (line : FsUnit) → kind_of line.unit ≡ Some Mount → line.auto ≡ true → named_unit (codes "local-fs.target") ≡ target_of line
 mount_target line is auto = mounts_named ∙ sym (ap (λ kind. target_by kind line.auto) is ∙ ap (target_by (Some Mount)) auto)
 
-pub swap_target : (line : FsUnit) → kind_of line.unit ≡ Some Swap → named (codes "swap.target") ≡ target_of line
+pub swap_target : (line : FsUnit) → kind_of line.unit ≡ Some Swap → named_unit (codes "swap.target") ≡ target_of line
 swap_target line is = swaps_named ∙ sym (ap (λ kind. target_by kind line.auto) is)
 
 -- ---- what the folder and the lines say

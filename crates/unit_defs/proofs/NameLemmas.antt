@@ -16,9 +16,8 @@ use Rattle.unit_defs.specs.declared.unit.Unit.{Unit}
 use Rattle.unit_defs.specs.declared.unit.Wants.{Wants}
 use Rattle.unit_defs.specs.Defs.{AreNamesOf, AreSorted, IsDefs, own_in, unit_in, wants_for}
 use Rattle.switch_names.specs.Names.{has, is_name}
-use Rattle.unit_defs.specs.Place.{named}
 use Rattle.unit_defs.specs.Units.{can_be_wanted, find_text}
-use Rattle.switch_names.specs.UnitName.{IsUnitName, is_template, template_of, is_unit}
+use Rattle.switch_names.specs.UnitName.{IsUnitName, is_template, template_of, is_unit, named_unit}
 use Rattle.std.specs.Option.{option_or}
 use Rattle.std.proofs.Math.Bool.{or-false, and-true, and-false, or_assoc}
 
@@ -116,18 +115,18 @@ name_by true text name same = cc
 name_by false text name same = absurd (cc)
 
 -- a name that a text has is the text
-pub named_same : (text name : List ℕ) → Some name ≡ named text → name ≡ text
+pub named_same : (text name : List ℕ) → Some name ≡ named_unit text → name ≡ text
 named_same text name same = name_by (is_unit text) text name same
 
 no_name_by : (b : Bool) (text : List ℕ) → None ≡ cond b (Some text) None → b ≡ false
 no_name_by true text none = absurd (cc)
 no_name_by false text none = refl
 
-pub not_named : (text : List ℕ) → None ≡ named text → is_unit text ≡ false
+pub not_named : (text : List ℕ) → None ≡ named_unit text → is_unit text ≡ false
 not_named text none = no_name_by (is_unit text) text none
 
 -- what is no unit name can't be wanted
-pub not_wanted : (own : List ℕ → Option (List Assignment)) (text unit : List ℕ) (had : Bool) → None ≡ named text → had ≡ (had || (is_name unit text && can_be_wanted own text))
+pub not_wanted : (own : List ℕ → Option (List Assignment)) (text unit : List ℕ) (had : Bool) → None ≡ named_unit text → had ≡ (had || (is_name unit text && can_be_wanted own text))
 not_wanted own text unit had none =
     sym (ap (λ b. had || (is_name unit text && b))
     (ap (λ f. is_some (cond f (option_or (own text) (option_and_then own (template_of text))) None) && not (is_template text)) (not_named text none))

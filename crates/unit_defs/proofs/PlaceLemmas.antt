@@ -5,14 +5,14 @@ use Rattle.std.specs.Option.{option_or}
 use Rattle.std.proofs.lemmas.Bool.{both_ways}
 use Rattle.std.proofs.lemmas.Bool.Decides.{Decides-eqb}
 use Rattle.std.proofs.lemmas.Slice.Eq.{starts_is}
-use Rattle.switch_names.specs.UnitName.{IsUnitName, is_unit}
+use Rattle.switch_names.specs.UnitName.{IsUnitName, is_unit, named_unit}
 use Rattle.unit_defs.specs.declared.place.UnitPlace.{UnitPlace}
 use Rattle.unit_defs.specs.declared.place.UnitPlace.TheVariants.{File, DropIn, Want}
 use Rattle.unit_defs.specs.Found.{is_file}
 use Rattle.switch_names.specs.Path.{is_slash}
 use Rattle.switch_names.specs.Texts.{before_end}
 use Rattle.switch_names.proofs.Cuts.{front_there}
-use Rattle.unit_defs.specs.Place.{drop_in, drop_in_of, is_drop_in_name, named, place_after, place_below, place_in, want, want_of}
+use Rattle.unit_defs.specs.Place.{drop_in, drop_in_of, is_drop_in_name, place_after, place_below, place_in, want, want_of}
 use Rattle.host_trait.proofs.NameOrder.{name_exact, name_itself}
 use Rattle.unit_defs.proofs.NameLemmas.{name_by, not_named}
 
@@ -22,12 +22,12 @@ file_by : (b : Bool) (rest unit : List ℕ) (other : Option UnitPlace) → Some 
 file_by true rest unit other is = ap (λ u. Some (File u)) (name_by true rest unit is)
 file_by false rest unit other is = absurd (cc)
 
-pub placed_file : (rest unit : List ℕ) → Some unit ≡ named rest → Some (File unit) ≡ place_in rest
+pub placed_file : (rest unit : List ℕ) → Some unit ≡ named_unit rest → Some (File unit) ≡ place_in rest
 placed_file rest unit is = file_by (is_unit rest) rest unit _ is
 
 -- a drop-in by what its folder and its name have before their endings
 pub placed_drop_in : (folder name front stem unit copy : List ℕ) (holds : Bool) → Some front ≡ before_end (codes ".d") folder → Some stem ≡ before_end (codes ".conf") name →
-    holds ≡ is_drop_in_name stem → holds ≡ true → Some unit ≡ named front → copy ≡ stem → Some (DropIn unit copy) ≡ drop_in folder name
+    holds ≡ is_drop_in_name stem → holds ≡ true → Some unit ≡ named_unit front → copy ≡ stem → Some (DropIn unit copy) ≡ drop_in folder name
 placed_drop_in folder name front stem unit copy holds is_front is_stem tested passes is same =
     ap (λ text. Some (DropIn unit text)) same ∙ by (is_unit front) is ∙ ap (λ b. cond (b && is_unit front) (Some (DropIn front stem)) None) (sym passes ∙ tested) ∙ (λ i. drop_in_of (is_front i) (is_stem i))
   where
@@ -36,7 +36,7 @@ placed_drop_in folder name front stem unit copy holds is_front is_stem tested pa
     by false is = absurd (both_ways false refl (ap (λ o. is_none o) is))
 
 -- a wanted unit by what its folder has before its ending
-pub placed_want : (end folder name front unit wanted : List ℕ) → Some front ≡ before_end end folder → Some unit ≡ named front → Some wanted ≡ named name → Some (Want unit wanted) ≡ want end folder name
+pub placed_want : (end folder name front unit wanted : List ℕ) → Some front ≡ before_end end folder → Some unit ≡ named_unit front → Some wanted ≡ named_unit name → Some (Want unit wanted) ≡ want end folder name
 placed_want end folder name front unit wanted is_front is_unit_name is_wanted = by (is_unit front) (is_unit name) is_unit_name is_wanted ∙ ap (λ o. want_of o name) is_front
   where
     by : (a b : Bool) → Some unit ≡ cond a (Some front) None → Some wanted ≡ cond b (Some name) None → Some (Want unit wanted) ≡ cond (a && b) (Some (Want front name)) None
@@ -45,7 +45,7 @@ placed_want end folder name front unit wanted is_front is_unit_name is_wanted = 
     by false b first second = absurd (both_ways false refl (ap (λ o. is_none o) first))
 
 -- where the unit is no name there is no drop-in
-pub no_drop_in : (folder name front stem : List ℕ) → Some front ≡ before_end (codes ".d") folder → Some stem ≡ before_end (codes ".conf") name → None ≡ named front → None ≡ drop_in folder name
+pub no_drop_in : (folder name front stem : List ℕ) → Some front ≡ before_end (codes ".d") folder → Some stem ≡ before_end (codes ".conf") name → None ≡ named_unit front → None ≡ drop_in folder name
 no_drop_in folder name front stem is_front is_stem none =
     by (is_drop_in_name stem) ∙ sym (ap (λ b. cond (is_drop_in_name stem && b) (Some (DropIn front stem)) None) (not_named front none)) ∙ (λ i. drop_in_of (is_front i) (is_stem i))
   where
@@ -54,11 +54,11 @@ no_drop_in folder name front stem is_front is_stem none =
     by false = refl
 
 -- where one of the two is no name there is no wanted unit
-pub no_unit_wants : (end folder name front : List ℕ) → Some front ≡ before_end end folder → None ≡ named front → None ≡ want end folder name
+pub no_unit_wants : (end folder name front : List ℕ) → Some front ≡ before_end end folder → None ≡ named_unit front → None ≡ want end folder name
 no_unit_wants end folder name front is_front none =
     sym (ap (λ b. cond (b && is_unit name) (Some (Want front name)) None) (not_named front none)) ∙ ap (λ o. want_of o name) is_front
 
-pub no_unit_wanted : (end folder name front : List ℕ) → Some front ≡ before_end end folder → None ≡ named name → None ≡ want end folder name
+pub no_unit_wanted : (end folder name front : List ℕ) → Some front ≡ before_end end folder → None ≡ named_unit name → None ≡ want end folder name
 no_unit_wanted end folder name front is_front none =
     by (is_unit front) ∙ sym (ap (λ b. cond (is_unit front && b) (Some (Want front name)) None) (not_named name none)) ∙ ap (λ o. want_of o name) is_front
   where
@@ -66,7 +66,7 @@ no_unit_wanted end folder name front is_front none =
     by true = refl
     by false = refl
 
-module _ (rest : List ℕ) (none : None ≡ named rest) where
+module _ (rest : List ℕ) (none : None ≡ named_unit rest) where
   abbrev below : Option UnitPlace
   below = place_below (before_first is_slash rest) (after_first is_slash rest)
 

@@ -25,10 +25,6 @@ path_of system name = unit_folder system ++ slash ∷ name
 abbrev pub is_drop_in_name : List ℕ → Bool
 is_drop_in_name name = not (length name == 0) && not (list_any is_slash name)
 
--- a unit name, where a text is one
-abbrev pub named : List ℕ → Option (List ℕ)
-named text = if is_unit text then Some text else None
-
 -- a drop-in by its unit and its name, where both are names
 abbrev pub drop_in_of : Option (List ℕ) → Option (List ℕ) → Option UnitPlace
 drop_in_of (Some unit) (Some name) = if is_drop_in_name name && is_unit unit then Some (DropIn unit name) else None

@@ -5,12 +5,12 @@ ghost use Rattle.std.specs.Option.{option_copied};
 ghost use Rattle.unit_defs.specs.Found.{Takes};
 ghost use Rattle.switch_names.specs.Path.{is_slash};
 ghost use Rattle.switch_names.specs.Texts.{after_front, before_end};
-ghost use Rattle.unit_defs.specs.Place.{drop_in, is_drop_in_name, is_want, named, place_below, place_after, place_in, want};
+ghost use Rattle.unit_defs.specs.Place.{drop_in, is_drop_in_name, is_want, place_below, place_after, place_in, want};
 
 use crate::part::FilePart;
 use crate::reading::found::FoundUnits;
 use std::alloc::{AllocError, Global};
-use switch_names::{NameFault, Path, Text, UnitName};
+use switch_names::{Path, Text, UnitName};
 
 /// What a leaf in the folder of units is.
 pub enum UnitPlace {
@@ -55,17 +55,6 @@ impl UnitPlace {
             UnitPlace::DropIn(unit, name) => found.add_drop_in(alloc, unit, name, part),
             UnitPlace::Want(unit, name) => found.add_want(alloc, unit, name),
         }
-    }
-}
-
-/// A unit name, where a text is one.
-pub fn named(alloc: Global, text: &str) -> Result<Option<UnitName>, AllocError>
-    ensures { IfOk result (λ unit. unit ≡ named text.now) }
-{
-    match UnitName::parse(alloc, text) {
-        Ok(unit) => Ok(Some(unit)),
-        Err(NameFault::Memory) => Err(AllocError),
-        Err(_) => Ok(None),
     }
 }
 
@@ -117,7 +106,7 @@ fn drop_in(alloc: Global, folder: &str, name: &str) -> Result<Option<UnitPlace>,
     if !is_drop_in_name(stem) {
         return Ok(None);
     }
-    let Some(unit) = named(alloc, unit)? else {
+    let Some(unit) = UnitName::of_text(alloc, unit)? else {
         return Ok(None);
     };
     Ok(Some(UnitPlace::DropIn(unit, Text::from_str(alloc, stem)?)))
@@ -130,10 +119,10 @@ fn want(alloc: Global, folder: &str, end: &str, name: &str) -> Result<Option<Uni
     let Some(unit) = before_end(folder, end) else {
         return Ok(None);
     };
-    let Some(unit) = named(alloc, unit)? else {
+    let Some(unit) = UnitName::of_text(alloc, unit)? else {
         return Ok(None);
     };
-    let Some(name) = named(alloc, name)? else {
+    let Some(name) = UnitName::of_text(alloc, name)? else {
         return Ok(None);
     };
     Ok(Some(UnitPlace::Want(unit, name)))
@@ -156,7 +145,7 @@ fn place_below(alloc: Global, folder: &str, name: &str) -> Result<Option<UnitPla
 fn place_in(alloc: Global, rest: &str) -> Result<Option<UnitPlace>, AllocError>
     ensures { IfOk result (λ place. place ≡ place_in rest.now) }
 {
-    if let Some(unit) = named(alloc, rest)? {
+    if let Some(unit) = UnitName::of_text(alloc, rest)? {
         return Ok(Some(UnitPlace::File(unit)));
     }
     match split_at_slash(rest) {

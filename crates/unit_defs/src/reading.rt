@@ -25,7 +25,7 @@ use crate::place::{UnitPlace, place_after};
 use crate::unit::Unit;
 use host_trait::{HostFault, Tree};
 use std::alloc::{AllocError, Global};
-use switch_names::{Listed, NameFault, Path, SystemName, Text};
+use switch_names::{Listed, Path, SystemName, Text};
 use unit_text::UnitText;
 
 /// The text that another system has for the unit whose file this place is.
@@ -105,10 +105,7 @@ fn read_paths<T: Tree>(
 pub fn unit_folder(alloc: Global, system: &SystemName) -> Result<Path, AllocError>
     ensures { IfOk result (λ path. path ≡ unit_folder system.now) }
 {
-    system
-        .path()
-        .join(alloc, "etc/systemd/system")
-        .map_err(|_fault: NameFault| AllocError)
+    system.place(alloc, "etc/systemd/system")
 }
 
 /// A text with a slash after it.

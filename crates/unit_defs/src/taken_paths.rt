@@ -64,18 +64,6 @@ fn taken_among(
     Ok(taken)
 }
 
-/// The paths of a set in byte order.
-fn listed(alloc: Global, set: BTreeSet<Path>) -> Result<Listed<Path>, AllocError>
-    ensures paths { IfOk result (λ paths. paths ≡ set.keys) }
-    ensures sorted { IsStrictlySortedBy bytes_cmp set.keys }
-{
-    let mut paths = Listed::new(alloc);
-    for path in set {
-        paths.push(path)?;
-    }
-    Ok(paths)
-}
-
 /// The paths in byte order of the contents that the units of a system are read from: its fstab, the files of its units,
 /// and the drop-ins of those whose files have a base.
 ///
@@ -101,5 +89,5 @@ pub fn taken<T: Tree>(
         paths.as_slice(),
         units.as_slice(),
     )?;
-    Ok(listed(alloc, taken)?)
+    Ok(Listed::of_set(alloc, taken)?)
 }

@@ -1,7 +1,7 @@
 -- The systems and the lists at the moments of a switch of the units.
 use Rattle.std.proofs.Common.{◌≡◌, ◌∷◌, ℕ, List, Option, None, Some, is_none, codes, cond, option_and_then, refl, ap, subst, ◌∙◌}
 use Rattle.std.specs.FinMap.{get}
-use Rattle.generations.specs.Places.{system_of, target_of}
+use Rattle.generations.specs.Places.{target_of}
 use Rattle.host_trait.specs.declared.leaf.LeafKind.{LeafKind}
 use Rattle.host_trait.specs.declared.leaf.LeafKind.TheVariants.{File, Link}
 use Rattle.host_trait.specs.World.{Leaves, WorldState, content_of, leaf_content}
@@ -11,7 +11,7 @@ use Rattle.owed_plan.proofs.StoreLemmas.{leaf_same, systems_law}
 use Rattle.switch_names.specs.declared.name_fault.NameFault.{NameFault}
 use Rattle.switch_names.specs.Names.{Name}
 use Rattle.switch_names.specs.Path.{is_below, slash}
-use Rattle.switch_names.specs.SystemName.{IsSystemPath, store_name, system_fault, system_path}
+use Rattle.switch_names.specs.SystemName.{IsSystemPath, store_name, system_fault, system_path, named_system}
 use Rattle.switch_names.proofs.Below.{below_front}
 use Rattle.switch_names.proofs.StorePaths.{IsStorePath-from_named, NamesSystem-with_slash, store_path_is}
 use Rattle.unit_stage.specs.Laws.{AreSameBeside}
@@ -24,7 +24,7 @@ named_inside text none =
     let path = store_path_is (system_path text) (IsStorePath-from_named text none).begins in
     ap (λ p. is_below p (codes "nix/store")) path ∙ below_front (codes "nix/store") (store_name (system_path text))
 
-text_inside : (text : List ℕ) → IsOldInStore (system_of text)
+text_inside : (text : List ℕ) → IsOldInStore (named_system text)
 text_inside text = by (system_fault text) refl
   where
     by : (o : Option NameFault) → system_fault text ≡ o → IsOldInStore (cond (is_none o) (Some (system_path text)) None)

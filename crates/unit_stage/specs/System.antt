@@ -2,10 +2,11 @@
 use Rattle.std.specs.Prelude.{◌≡◌, ◌||◌, ℕ, ◌++◌, Bool, false, List, Option, None, Some, codes, option_and_then, option_map}
 use Rattle.std.specs.FinMap.{get}
 use Rattle.std.specs.Option.{option_or}
+use Rattle.switch_names.specs.SystemName.{named_system}
 use Rattle.host_trait.specs.declared.leaf.LeafKind.{LeafKind}
 use Rattle.host_trait.specs.declared.leaf.LeafKind.TheVariants.{Link}
 use Rattle.host_trait.specs.World.{Leaves}
-use Rattle.generations.specs.Places.{link_target, system_of, target_of}
+use Rattle.generations.specs.Places.{link_target, target_of}
 use Rattle.leaf_limits.specs.Limits.{long_past}
 use Rattle.owed_plan.specs.Store.{IsInStore}
 use Rattle.switch_names.specs.Names.{Name}
@@ -69,4 +70,4 @@ definitions_of system = link_target system ++ codes "/etc"
 -- the path is that of a system in the store, which a link to it names
 pub record IsSystem (system : List ℕ) : Type 0 where
   pub inside : IsInStore system
-  pub named : system_of (link_target system) ≡ Some system
+  pub named : named_system (link_target system) ≡ Some system

@@ -80,18 +80,6 @@ impl NameSet {
         ensures sorted { IsStrictlySortedBy bytes_cmp self }
     {
         let NameSet { names } = self;
-        listed(alloc, names)
+        Listed::of_set(alloc, names)
     }
-}
-
-/// The names of a set in byte order.
-fn listed(alloc: Global, set: BTreeSet<Text>) -> Result<Listed<Text>, AllocError>
-    ensures names { IfOk result (λ names. names ≡ set.keys) }
-    ensures sorted { IsStrictlySortedBy bytes_cmp set.keys }
-{
-    let mut names = Listed::new(alloc);
-    for name in set {
-        names.push(name)?;
-    }
-    Ok(names)
 }

@@ -7,7 +7,6 @@ ghost use Rattle.unit_defs.specs.Defs.{AddsName, AddsWanted, AreNamesOf, AreSort
 ghost use Rattle.unit_defs.specs.Units.{can_be_wanted, wanted, words_in, words_of};
 
 use super::search::{find_template, find_unit};
-use crate::place::named;
 use crate::unit::{Unit, Wants, copies};
 use host_trait::UnitSet;
 use std::alloc::{AllocError, Global};
@@ -85,7 +84,7 @@ fn add_word(alloc: Global, units: &[Unit], set: &mut UnitSet, word: &str) -> Res
     requires { AreSorted units.now }
     ensures { OnOk result (AddsName units.now word.now set.old set.new) }
 {
-    match named(alloc, word)? {
+    match UnitName::of_text(alloc, word)? {
         Some(name) => add_name(units, set, name),
         None => Ok(()),
     }

@@ -11,21 +11,17 @@ ghost use Rattle.switch_names.specs.Names.{is_name};
 
 use super::found::FoundUnits;
 use super::noting::content_measured;
-use crate::place::named;
 use fstab_mounts::{FsUnit, parse};
 use host_trait::{HostFault, Tree};
 use std::alloc::{AllocError, Global};
-use switch_names::{Bytes, Listed, NameFault, Path, SystemName, UnitKind, UnitName};
+use switch_names::{Bytes, Listed, Path, SystemName, UnitKind, UnitName};
 
 /// The fstab of a system.
 #[tactic(auto, unfolding(crate::specs::Fstab::fstab_path))]
 pub fn fstab_path(alloc: Global, system: &SystemName) -> Result<Path, AllocError>
     ensures { IfOk result (λ path. path ≡ fstab_path system.now) }
 {
-    system
-        .path()
-        .join(alloc, "etc/fstab")
-        .map_err(|_fault: NameFault| AllocError)
+    system.place(alloc, "etc/fstab")
 }
 
 /// The units that the lines of an fstab define, where it has content.
@@ -59,8 +55,8 @@ fn target_of(alloc: Global, line: &FsUnit) -> Result<Option<UnitName>, AllocErro
     ensures { IfOk result (λ target. target ≡ target_of line.now) }
 {
     match line.unit.kind() {
-        UnitKind::Mount if line.auto => named(alloc, "local-fs.target"),
-        UnitKind::Swap => named(alloc, "swap.target"),
+        UnitKind::Mount if line.auto => UnitName::of_text(alloc, "local-fs.target"),
+        UnitKind::Swap => UnitName::of_text(alloc, "swap.target"),
         _ => Ok(None),
     }
 }

@@ -1,8 +1,8 @@
 use Rattle.std.proofs.Common.{ap, ◌∙◌}
 use Rattle.std.proofs.lemmas.Result.{on_ok_weaker}
+use Rattle.host_trait.specs.Leaf.{open_file}
 use Rattle.id_memory.specs.Json.{ids_text}
 use Rattle.tree_put.specs.Sequence.{put_at}
-use Rattle.accounts_stage.specs.Files.{open_file}
 use Rattle.accounts_stage.proofs.PuttingLemmas.{two_added}
 use Rattle.accounts_stage.proofs.puts.add_ids.Goals as goal
 

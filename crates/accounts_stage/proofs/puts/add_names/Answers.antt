@@ -1,7 +1,8 @@
 use Rattle.std.proofs.Common.{ap, ◌∙◌}
 use Rattle.std.proofs.lemmas.Result.{on_ok_weaker}
+use Rattle.host_trait.specs.Leaf.{open_file}
 use Rattle.tree_put.specs.Sequence.{put_at}
-use Rattle.accounts_stage.specs.Files.{names_text, open_file}
+use Rattle.accounts_stage.specs.Files.{names_text}
 use Rattle.accounts_stage.proofs.PuttingLemmas.{two_added}
 use Rattle.accounts_stage.proofs.puts.add_names.Goals as goal
 

@@ -15,11 +15,5 @@ returns-in_default c =
     ∙ ap (λ t. starts_with nat_eq c.args.target.now t) c.as_bytes-2.ensures.value) in
     absurd (both_ways _ lacks is)
 
-pub returns-in-Ok : goal.returns-in-Ok
-returns-in-Ok c = search rules steps 500000
-
 pub returns-then-not-starts_with : goal.returns-then-not-starts_with
 returns-then-not-starts_with c = search rules steps 500000
-
-pub returns-in-Err : goal.returns-in-Err
-returns-in-Err c = search rules steps 500000

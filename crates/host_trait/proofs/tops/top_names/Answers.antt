@@ -16,8 +16,8 @@ loop-path-preserved-in_ok-insert c = λ name.
 pub returns : goal.returns
 returns c =
     let es = c.args.leaves.now.entries in
-    tops_of_set c.listed.result (leaves_of c.args.leaves.now) c.loop-path.tops.keys
-    (tops_are (leaves_of c.args.leaves.now) c.loop-path.tops.keys c.listed.ensures.sorted
+    tops_of_set c.of_set.result (leaves_of c.args.leaves.now) c.loop-path.tops.keys
+    (tops_are (leaves_of c.args.leaves.now) c.loop-path.tops.keys c.of_set.ensures.sorted
     (λ name. at_end name (list_any (is_top name) (keys_of es)) c.loop-path.tops.keys c.loop-path.path-iterator c.in-None.ensures.steps.0 (c.loop-path.invariant name)
     ∙ ap (list_any (is_top name)) (sym (ordered_keys es c.keys-path-items.ensures.ordered))))
-    c.listed.ensures.names
+    c.of_set.ensures.items

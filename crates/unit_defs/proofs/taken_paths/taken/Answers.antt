@@ -17,8 +17,8 @@ returns-in_err-paths-clause-reads g c = read_handed (read_then c.read_file_units
 pub returns-in_err-taken-clause-reads : goal.returns-in_err-taken-clause-reads
 returns-in_err-taken-clause-reads g c = read_starved (read_then c.read_file_units.ensures.reads c.list.ensures.reads) _ c.from_residual-in_err-taken.ensures.1
 
-pub returns-in_err-listed-clause-reads : goal.returns-in_err-listed-clause-reads
-returns-in_err-listed-clause-reads g c = read_starved (read_then c.read_file_units.ensures.reads c.list.ensures.reads) _ c.from_residual-in_err-listed.ensures.1
+pub returns-in_err-of_set-clause-reads : goal.returns-in_err-of_set-clause-reads
+returns-in_err-of_set-clause-reads g c = read_starved (read_then c.read_file_units.ensures.reads c.list.ensures.reads) _ c.from_residual-in_err-of_set.ensures.1
 
 pub returns-clause-reads : goal.returns-clause-reads
 returns-clause-reads g c = read_ok (read_then c.read_file_units.ensures.reads c.list.ensures.reads) _
@@ -26,7 +26,7 @@ returns-clause-reads g c = read_ok (read_then c.read_file_units.ensures.reads c.
 pub returns-clause-taken : goal.returns-clause-taken
 returns-clause-taken g c = record {
   has = λ w is.
-      subst (λ (places : List Name). AreTaken places (takes_units w.leaves c.args.system.now) w.leaves) (sym c.in_ok-listed.ensures.paths)
+      subst (λ (places : List Name). AreTaken places (takes_units w.leaves c.args.system.now) w.leaves) (sym c.in_ok-of_set.ensures.items)
       (all_taken w.leaves c.args.system.now c.in_ok-fstab.fstab _ _ c.in_ok-taken.taken.keys c.in_ok-units.units c.in_ok-fstab.ensures
       (c.as_str-2.ensures ∙ c.in_ok-front.ensures ∙ ap (λ (text : List ℕ). text ++ slash ∷ []) (c.as_str.ensures.text ∙ c.in_ok-folder.ensures))
       (c.as_slice.ensures ∙ (told_read c.read_file_units.ensures.reads c.in_ok-paths.ensures.paths).has w is ∙ ap (λ folder. listed folder w.leaves) c.in_ok-folder.ensures)

@@ -1,6 +1,0 @@
-use Rattle.std.proofs.Common.{arith}
-use Rattle.std.proofs.lemmas.Grind.{common_steps}
-use Rattle.unit_defs.proofs.taken_paths.listed.Goals as goal
-
-pub loop-path-preserved : goal.loop-path-preserved
-loop-path-preserved c = grind (arith, common_steps)
