@@ -50,8 +50,7 @@ module _ (start_up : Bool) (system : Name) (is_system : IsSystem system) (w m : 
     stored = listed.stored;
     standing = lists_back w.leaves m.leaves forth listed.stored listed.standing;
     starts = record { sorted = listed.starts.sorted; exact = λ unit. listed.starts.exact unit ∙ ap (λ b. b || has listed.stored.starts unit) (waits_same unit) };
-    restarts = listed.restarts;
-    reloads = listed.reloads;
+    others = listed.others;
   }
 
   listed_after : (lists : Lists) → AreListsFor start_up w.leaves system lists → AreListsFor start_up m.leaves system lists
@@ -59,8 +58,7 @@ module _ (start_up : Bool) (system : Name) (is_system : IsSystem system) (w m : 
     stored = listed.stored;
     standing = forth listed.stored listed.standing;
     starts = record { sorted = listed.starts.sorted; exact = λ unit. listed.starts.exact unit ∙ ap (λ b. b || has listed.stored.starts unit) (sym (waits_same unit)) };
-    restarts = listed.restarts;
-    reloads = listed.reloads;
+    others = listed.others;
   }
 
   -- ---- what holds of systems and states holds of the others

@@ -56,7 +56,7 @@ use Rattle.unit_stage.proofs.StoppingLemmas.{IsMomentOfStops, stops_underway}
 use Rattle.unit_stage.proofs.SystemsLemmas.{systems_after, systems_before}
 use Rattle.unit_stage.proofs.TableLemmas.{after_all_stops}
 use Rattle.unit_stage.proofs.UnderwayLemmas.{IsMomentAfterLink, after_link_underway}
-use Rattle.unit_stage.proofs.WaitingLemmas.{besides_owed, besides_same, joined, joined_list, left_joined, recorded_list}
+use Rattle.unit_stage.proofs.WaitingLemmas.{besides_owed, besides_same, joined, joined_list, left_joined, others_stay, recorded_list}
 
 -- ---- nothing gets in the way
 
@@ -124,8 +124,7 @@ module _ (start_up : Bool) (system : Name) (lists : Lists) (owed : Owed) (order 
         stored = lists_left owed.starts restart reload;
         standing = stand.listed;
         starts = recorded_list start_up m.leaves system owed.starts (besides_then (current_system w.leaves) systems) (owes.is_owed Start).sorted;
-        restarts = refl;
-        reloads = refl;
+        others = λ which no_start. refl;
       };
       recorded = record { starts = refl; others = others };
       stopped = λ unit. ap (λ (x : ManagerState). state_of x.states unit) made ∙ after_stops taken w.manager unit;
@@ -146,8 +145,8 @@ module _ (start_up : Bool) (system : Name) (lists : Lists) (owed : Owed) (order 
 
         others : (which : Which) → (list_names (lists_left owed.starts restart reload) which ≡ list_names lists which) ⊎ (list_names (lists_left owed.starts restart reload) which ≡ owed_names owed (act_of which))
         others Starts = inr refl
-        others Restarts = as_listed restart old.restarts owed.restarts (ap (λ (l : Lists). l.restarts) was ∙ sym owes.listed.restarts) old_restarts
-        others Reloads = as_listed reload old.reloads owed.reloads (ap (λ (l : Lists). l.reloads) was ∙ sym owes.listed.reloads) old_reloads
+        others Restarts = as_listed restart old.restarts owed.restarts (ap (λ (l : Lists). l.restarts) was ∙ sym (owes.listed.others Restarts (λ same. absurd cc))) old_restarts
+        others Reloads = as_listed reload old.reloads owed.reloads (ap (λ (l : Lists). l.reloads) was ∙ sym (owes.listed.others Reloads (λ same. absurd cc))) old_reloads
 
   -- ---- the calls after them
 
@@ -168,8 +167,7 @@ module _ (start_up : Bool) (system : Name) (lists : Lists) (owed : Owed) (order 
           stored = kept;
           standing = stand.listed;
           starts = joined_list start_up m.leaves system kept.starts;
-          restarts = refl;
-          reloads = refl;
+          others = others_stay (joined start_up m.leaves system kept.starts) kept;
         };
         called = record {
           units = called.units;

@@ -1,11 +1,15 @@
 -- The lists of a world, as a switch to a system takes them.
-use Rattle.std.proofs.Common.{◌≡◌, ◌&&◌, ◌||◌, ◌∷◌, Bool, true, false, cond, IsTrue, List, Option, is_some, refl, sym, ap, subst, ◌∙◌, inl, inr, ⊎_elim}
+use Rattle.std.proofs.Common.{◌≡◌, ◌≢◌, ◌&&◌, ◌||◌, ◌∷◌, Bool, true, false, cond, IsTrue, List, Option, is_some, refl, sym, ap, subst, ◌∙◌, inl, inr, ⊎_elim}
 use Rattle.std.proofs.lemmas.Bool.{and_parts, both_ways, cases_Bool, or_cases, or_left, or_right}
 use Rattle.std.specs.List.Sorted.{IsStrictlySortedBy}
 use Rattle.host_trait.specs.declared.entry.Act.TheVariants.{Start}
 use Rattle.host_trait.specs.World.{Leaves, WorldState, bytes_cmp}
 use Rattle.host_trait.proofs.NameOrder.{name_exact}
 use Rattle.log_text.specs.declared.lists.Lists.{Lists}
+use Rattle.log_text.specs.declared.lists.Which.{Which}
+use Rattle.log_text.specs.declared.lists.Which.TheVariants.{Starts, Restarts, Reloads}
+use Rattle.log_text.specs.Lists.{list_names}
+use Rattle.log_text.proofs.WhichLemmas.{same_by_names}
 use Rattle.owed_lists.proofs.ListLemmas.{one_list}
 use Rattle.owed_lists.proofs.OrderLemmas.{has_ordered, ordered, ordered_sorted}
 use Rattle.owed_log.specs.Standing.{AreListsAt}
@@ -35,14 +39,30 @@ by_test list test is = record { sorted = is.sorted; exact = λ unit. (λ found. 
 same_by : (one other : List Name) (test : Name → Bool) → IsListBy one test → IsListBy other test → one ≡ other
 same_by one other test is also = one_list one other _ (by_test one test is) (by_test other test also)
 
+-- what holds of the units to start and of each other list holds of each
+by_start : (P : Which → Type 0) → P Starts → ((which : Which) → which ≢ Starts → P which) → (which : Which) → P which
+by_start P first others Starts = first
+by_start P first others Restarts = others Restarts (λ same. absurd cc)
+by_start P first others Reloads = others Reloads (λ same. absurd cc)
+
+-- some lists with these units to start
+abbrev pub with_starts : List Name → Lists → Lists
+with_starts starts lists = record { starts = starts; restarts = lists.restarts; reloads = lists.reloads }
+
+-- the other lists stay
+pub others_stay : (starts : List Name) (lists : Lists) (which : Which) → which ≢ Starts → list_names (with_starts starts lists) which ≡ list_names lists which
+others_stay starts lists Starts no_start = absurd (no_start refl)
+others_stay starts lists Restarts no_start = refl
+others_stay starts lists Reloads no_start = refl
+
 pub same_waiting : (start_up : Bool) (leaves : Leaves) (system : Name) (one other : Lists) → AreListsFor start_up leaves system one → AreListsFor start_up leaves system other → one ≡ other
 same_waiting start_up leaves system one other is also =
     let stored : is.stored ≡ also.stored = one_lists leaves is.stored also.stored is.standing also.standing in
     let starts : one.starts ≡ other.starts =
     same_by one.starts other.starts _ is.starts (subst (λ (l : Lists). IsListBy other.starts (λ unit. waits_besides start_up leaves system unit || has l.starts unit)) (sym stored) also.starts) in
-    let restarts : one.restarts ≡ other.restarts = is.restarts ∙ ap (λ (l : Lists). l.restarts) stored ∙ sym also.restarts in
-    let reloads : one.reloads ≡ other.reloads = is.reloads ∙ ap (λ (l : Lists). l.reloads) stored ∙ sym also.reloads in
-    λ i. record { starts = starts i; restarts = restarts i; reloads = reloads i }
+    let others : (which : Which) → which ≢ Starts → list_names one which ≡ list_names other which =
+    λ which no_start. is.others which no_start ∙ ap (λ (l : Lists). list_names l which) stored ∙ sym (also.others which no_start) in
+    same_by_names one other (by_start (λ which. list_names one which ≡ list_names other which) starts others)
 
 -- ---- the target joined to some names
 
@@ -82,8 +102,13 @@ module _ (start_up : Bool) (leaves : Leaves) (system : Name) (list : List Name) 
 pub waiting_in : (start_up : Bool) (leaves : Leaves) (system : Name) → (lists : Lists) × AreListsFor start_up leaves system lists
 waiting_in start_up leaves system =
     let stored = some_lists leaves in (
-      record { starts = joined start_up leaves system stored.0.starts; restarts = stored.0.restarts; reloads = stored.0.reloads },
-      record { stored = stored.0; standing = stored.1; starts = joined_list start_up leaves system stored.0.starts; restarts = refl; reloads = refl },
+      with_starts (joined start_up leaves system stored.0.starts) stored.0,
+      record {
+        stored = stored.0;
+        standing = stored.1;
+        starts = joined_list start_up leaves system stored.0.starts;
+        others = others_stay (joined start_up leaves system stored.0.starts) stored.0;
+      },
     )
 
 -- ---- what waits besides is owed a start
@@ -155,8 +180,7 @@ module _ (leaves : Leaves) (system : Name) (new : List Unit) (defs : AreDefsOf l
         stored = stored;
         standing = are;
         starts = record { sorted = starts.sorted; exact = λ unit. starts.exact unit ∙ ap (λ b. (start_up && b) || has stored.starts unit) (found_there unit) };
-        restarts = taken.restarts;
-        reloads = taken.reloads;
+        others = taken.others;
       }
 
 -- ---- the target is joined
@@ -174,8 +198,7 @@ taken_as start_up new stored target is none = record {
     exact = λ unit. still (start_up && (is_name unit start_up_target && is_some (found_in new unit))) (has stored.starts unit) (has stored.starts unit) refl
         (λ besides. absurd (none_besides start_up new unit (sym (ap (λ name. is_some (found_in new name)) is) ∙ none) besides));
   };
-  restarts = refl;
-  reloads = refl;
+  others = λ which no_start. refl;
 }
 
 joined_test : (n f h : Bool) → (n ≡ true → f ≡ true) → (h || n) ≡ ((n && f) || h)
@@ -185,7 +208,7 @@ joined_test false f false there = refl
 
 -- where it does, the target is among the units to start
 pub taken_with : (new : List Unit) (stored : Lists) (target : Name) (list : List Name) → target ≡ start_up_target → is_some (found_in new target) ≡ true → IsStrictlySortedBy bytes_cmp list →
-    ((unit : Name) → has list unit ≡ (has stored.starts unit || is_name unit target)) → AreTaken true new stored (record { starts = list; restarts = stored.restarts; reloads = stored.reloads })
+    ((unit : Name) → has list unit ≡ (has stored.starts unit || is_name unit target)) → AreTaken true new stored (with_starts list stored)
 taken_with new stored target list is some sorted has_list = record {
   starts = λ old. record {
     sorted = sorted;
@@ -194,6 +217,5 @@ taken_with new stored target list is some sorted has_list = record {
         ∙ joined_test (is_name unit start_up_target) (is_some (found_in new unit)) (has stored.starts unit)
         (λ same. ap (λ name. is_some (found_in new name)) (name_exact unit start_up_target same ∙ sym is) ∙ some);
   };
-  restarts = refl;
-  reloads = refl;
+  others = others_stay list stored;
 }

@@ -1,10 +1,13 @@
 -- What is read of a world before a switch is planned: NixOS manual, "What happens during a system switch?".
-use Rattle.std.specs.Prelude.{◌≡◌, ◌&&◌, ◌||◌, ◌↔◌, ℕ, Bool, IsTrue, List, is_some}
+use Rattle.std.specs.Prelude.{◌≡◌, ◌≢◌, ◌&&◌, ◌||◌, ◌↔◌, ℕ, Bool, IsTrue, List, is_some}
 use Rattle.std.specs.List.Sorted.{IsStrictlySortedBy}
 use Rattle.host_trait.specs.declared.entry.Act.{Act}
 use Rattle.host_trait.specs.States.{state_of}
 use Rattle.host_trait.specs.World.{Leaves, WorldState, bytes_cmp}
 use Rattle.log_text.specs.declared.lists.Lists.{Lists}
+use Rattle.log_text.specs.declared.lists.Which.{Which}
+use Rattle.log_text.specs.declared.lists.Which.TheVariants.{Starts}
+use Rattle.log_text.specs.Lists.{list_names}
 use Rattle.owed_log.specs.Standing.{IsLogState}
 use Rattle.owed_log.specs.Writing.{IsWriteFor}
 use Rattle.owed_plan.specs.Calls.{calls_of}
@@ -41,8 +44,7 @@ pub record AreStatesOf (start_up : Bool) (system : List ℕ) (w : WorldState) (u
 pub record AreTaken (start_up : Bool) (new : List Unit) (stored lists : Lists) : Type 0 where
   pub starts : IsStrictlySortedBy bytes_cmp stored.starts →
       IsListBy lists.starts (λ unit. (start_up && (is_name unit start_up_target && is_some (found_in new unit))) || has stored.starts unit)
-  pub restarts : lists.restarts ≡ stored.restarts
-  pub reloads : lists.reloads ≡ stored.reloads
+  pub others : (which : Which) → which ≢ Starts → list_names lists which ≡ list_names stored which
 
 -- all this is so in a world
 pub record IsKnownOf (start_up : Bool) (system : List ℕ) (w : WorldState) (known : Known) : Type 0 where

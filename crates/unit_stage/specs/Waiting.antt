@@ -1,7 +1,10 @@
 -- What waits for a start in a world: NixOS manual, "Unit handling"; bootup(7), "multi-user.target".
-use Rattle.std.specs.Prelude.{◌≡◌, ◌&&◌, ◌||◌, Bool, codes, is_some}
+use Rattle.std.specs.Prelude.{◌≡◌, ◌≢◌, ◌&&◌, ◌||◌, Bool, codes, is_some}
 use Rattle.host_trait.specs.World.{Leaves}
 use Rattle.log_text.specs.declared.lists.Lists.{Lists}
+use Rattle.log_text.specs.declared.lists.Which.{Which}
+use Rattle.log_text.specs.declared.lists.Which.TheVariants.{Starts}
+use Rattle.log_text.specs.Lists.{list_names}
 use Rattle.owed_log.specs.Standing.{AreListsAt}
 use Rattle.owed_plan.specs.Collected.{IsListBy}
 use Rattle.switch_names.specs.Names.{Name, has, is_name}
@@ -20,5 +23,4 @@ pub record AreListsFor (start_up : Bool) (leaves : Leaves) (system : Name) (list
   pub stored : Lists
   pub standing : AreListsAt leaves stored
   pub starts : IsListBy lists.starts (λ unit. waits_besides start_up leaves system unit || has stored.starts unit)
-  pub restarts : lists.restarts ≡ stored.restarts
-  pub reloads : lists.reloads ≡ stored.reloads
+  pub others : (which : Which) → which ≢ Starts → list_names lists which ≡ list_names stored which
