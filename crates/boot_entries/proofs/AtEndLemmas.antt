@@ -12,6 +12,7 @@ use Rattle.std.specs.declared.cmp.Ordering.TheVariants.{Less}
 use Rattle.generations.specs.declared.gens.Gen.{Gen}
 use Rattle.generations.specs.declared.gens.Gens.{Gens}
 use Rattle.generations.specs.Gens.{listed_at}
+use Rattle.host_trait.specs.Leaf.{open_file}
 use Rattle.host_trait.specs.declared.leaf.LeafKind.{LeafKind}
 use Rattle.host_trait.specs.World.{Leaves, WorldState, is_listed, is_path, stage}
 use Rattle.host_trait.proofs.Places.{itself, same_or_other}
@@ -19,7 +20,7 @@ use Rattle.host_trait.proofs.Seen.{seen_at}
 use Rattle.switch_names.specs.Names.{Name}
 use Rattle.boot_entries.specs.declared.boot_texts.BootFile.{BootFile}
 use Rattle.boot_entries.specs.declared.boot_texts.BootTexts.{BootTexts}
-use Rattle.boot_entries.specs.BootPart.{boot_end, boot_leaf, entry_end, loader_end, system_at}
+use Rattle.boot_entries.specs.BootPart.{boot_end, entry_end, loader_end, system_at}
 use Rattle.boot_entries.specs.Entries.{loader_text}
 use Rattle.boot_entries.specs.Laws.{BootEndLaw, IsGenList}
 use Rattle.boot_entries.specs.Places.{entries_folder, entry_path, loader_path, number_below, numbered, owns_boot}
@@ -108,7 +109,7 @@ gen_of k target = record { number = k; target = target }
 -- what is left, given whether the first generation has the number
 abbrev end_by : Leaves → ℕ → Gen → List Gen → Bool → Option LeafKind → Option LeafKind
 end_by leaves n gen list b old =
-    option_or (option_map (λ (system : Name). boot_leaf (entry_of leaves n system).bytes) (option_and_then (λ (target : Option Name). target) (option_map (λ (g : Gen). g.target) (cond b (Some gen) (find (λ (g : Gen). g.number == n) list))))) old
+    option_or (option_map (λ (system : Name). open_file (entry_of leaves n system).bytes) (option_and_then (λ (target : Option Name). target) (option_map (λ (g : Gen). g.target) (cond b (Some gen) (find (λ (g : Gen). g.number == n) list))))) old
 
 eq_self : (n : ℕ) → (n == n) ≡ true
 eq_self n = grind arith
@@ -125,7 +126,7 @@ module _ (leaves : Leaves) (n : ℕ) (small : n < 2 ^ 32) where
   first_left None list higher rest = record {
     left = λ old.
         rest.left old
-        ∙ ap (λ o. option_or (option_map (λ (system : Name). boot_leaf (entry_of leaves n system).bytes) (option_and_then (λ (target : Option Name). target) o)) old) (absent list n higher).0
+        ∙ ap (λ o. option_or (option_map (λ (system : Name). open_file (entry_of leaves n system).bytes) (option_and_then (λ (target : Option Name). target) o)) old) (absent list n higher).0
         ∙ sym (ap (λ b. end_by leaves n (gen_of n None) list b old) (eq_self n));
     target =
         ap (λ b. (b && false) || has_target list n) (eq_self n) ∙ (absent list n higher).1
@@ -133,9 +134,9 @@ module _ (leaves : Leaves) (n : ℕ) (small : n < 2 ^ 32) where
   }
   first_left (Some system) list higher rest = record {
     left = λ old.
-        ap (λ b. left_files (entries_of leaves list) (entry_path n) (cond b (Some (boot_leaf (entry_of leaves n system).bytes)) old)) (itself (entry_path n))
-        ∙ rest.left (Some (boot_leaf (entry_of leaves n system).bytes))
-        ∙ ap (λ o. option_or (option_map (λ (s : Name). boot_leaf (entry_of leaves n s).bytes) (option_and_then (λ (target : Option Name). target) o)) (Some (boot_leaf (entry_of leaves n system).bytes))) (absent list n higher).0
+        ap (λ b. left_files (entries_of leaves list) (entry_path n) (cond b (Some (open_file (entry_of leaves n system).bytes)) old)) (itself (entry_path n))
+        ∙ rest.left (Some (open_file (entry_of leaves n system).bytes))
+        ∙ ap (λ o. option_or (option_map (λ (s : Name). open_file (entry_of leaves n s).bytes) (option_and_then (λ (target : Option Name). target) o)) (Some (open_file (entry_of leaves n system).bytes))) (absent list n higher).0
         ∙ sym (ap (λ b. end_by leaves n (gen_of n (Some system)) list b old) (eq_self n));
     target =
         ap (λ b. (b && true) || has_target list n) (eq_self n)
@@ -152,7 +153,7 @@ module _ (leaves : Leaves) (n : ℕ) (small : n < 2 ^ 32) where
   }
   other_left k (Some system) list other also rest = record {
     left = λ old.
-        ap (λ b. left_files (entries_of leaves list) (entry_path n) (cond b (Some (boot_leaf (entry_of leaves k system).bytes)) old))
+        ap (λ b. left_files (entries_of leaves list) (entry_path n) (cond b (Some (open_file (entry_of leaves k system).bytes)) old))
         (not_equal (entry_path n) (entry_path k) (λ same. ne_other k n other (one_entry n k small also same)))
         ∙ rest.left old ∙ sym (ap (λ b. end_by leaves n (gen_of k (Some system)) list b old) other);
     target =
@@ -176,7 +177,7 @@ module _ (leaves : Leaves) (n : ℕ) (small : n < 2 ^ 32) where
 pub left_on : (xs ys : List BootFile) (q : Name) (old : Option LeafKind) → left_files (xs ++ ys) q old ≡ left_files ys q (left_files xs q old)
 unfolding left_by
 left_on [] ys q old = refl
-left_on (x ∷ xs) ys q old = left_on xs ys q (cond (eqb q x.at) (Some (boot_leaf x.bytes)) old)
+left_on (x ∷ xs) ys q old = left_on xs ys q (cond (eqb q x.at) (Some (open_file x.bytes)) old)
 
 abbrev pub last_file : Option (List ℕ) → List BootFile
 last_file loader = option_to_list (option_map (boot_file loader_path) loader)
@@ -192,7 +193,7 @@ entries_elsewhere (file ∷ files) are = (not_equal loader_path file.at (λ same
 last_left : (current : Option ℕ) (leaves : Leaves) → left_files (last_file (option_map loader_text current)) loader_path (get leaves loader_path) ≡ loader_end current leaves
 unfolding left_by
 last_left None leaves = refl
-last_left (Some n) leaves = ap (λ b. cond b (Some (boot_leaf (loader_text n))) (get leaves loader_path)) (itself loader_path)
+last_left (Some n) leaves = ap (λ b. cond b (Some (open_file (loader_text n))) (get leaves loader_path)) (itself loader_path)
 
 chosen : (f : Name → LeafKind) (system : Option Name) (old : Option LeafKind) → cond (not (is_some system) && is_some old) None (option_or (option_map f system) old) ≡ option_map f system
 chosen f None None = refl
@@ -220,7 +221,7 @@ module _ (gens : Gens) (texts : BootTexts) (w v : WorldState) (list : IsGenList 
       left_others (last_file texts.loader) (entry_path n) (left_files texts.entries (entry_path n) old) (last_elsewhere texts.loader n)
       ∙ ap (λ (files : List BootFile). left_files files (entry_path n) old) (ap (λ (t : BootTexts). t.entries) planned) ∙ left.left old)
       ∙ ap (λ b. cond b None (option_or (entry_end gens.list w.leaves n) old)) gone
-      ∙ chosen (λ (system : Name). boot_leaf (entry_of w.leaves n system).bytes) (system_at gens.list n) old
+      ∙ chosen (λ (system : Name). open_file (entry_of w.leaves n system).bytes) (system_at gens.list n) old
       ∙ sym (
       ap (λ b. cond b (loader_end gens.current w.leaves) (option_map_or (entry_end gens.list w.leaves) (numbered (entry_path n)) old)) (entry_not_loader n)
       ∙ ap (λ o. option_map_or (entry_end gens.list w.leaves) o old) (numbered_entry n small))

@@ -11,11 +11,11 @@ use Rattle.generations.specs.declared.gens.Gen.{Gen}
 use Rattle.generations.specs.Gens.{listed_at}
 use Rattle.generations.specs.Places.{is_number}
 use Rattle.host_trait.proofs.Places.{same_or_other}
+use Rattle.host_trait.specs.Leaf.{open_file}
 use Rattle.host_trait.specs.declared.leaf.LeafKind.{LeafKind}
 use Rattle.host_trait.specs.World.{Leaves}
 use Rattle.switch_names.specs.Names.{Name}
 use Rattle.boot_entries.specs.declared.boot_texts.BootFile.{BootFile}
-use Rattle.boot_entries.specs.BootPart.{boot_leaf}
 use Rattle.boot_entries.specs.Places.{entry_path}
 use Rattle.boot_entries.specs.Texts.{entries_of, entry_of}
 use Rattle.boot_entries.proofs.AtEndLemmas.{absent}
@@ -27,11 +27,11 @@ use Rattle.boot_entries.proofs.NumberLemmas.{one_entry}
 pub record IsListedEntry (leaves : Leaves) (list : List Gen) (n : ℕ) (leaf : LeafKind) : Type 0 where
   pub system : Name
   pub listed : listed_at list n ≡ Some (Some system)
-  pub text : leaf ≡ boot_leaf (entry_of leaves n system).bytes
+  pub text : leaf ≡ open_file (entry_of leaves n system).bytes
 
 -- where a file is put at the entry of this number, it is that
 abbrev pub IsFileOf : Leaves → List Gen → ℕ → BootFile → Type 0
-IsFileOf leaves list n file = eqb (entry_path n) file.at ≡ true → IsListedEntry leaves list n (boot_leaf file.bytes)
+IsFileOf leaves list n file = eqb (entry_path n) file.at ≡ true → IsListedEntry leaves list n (open_file file.bytes)
 
 all_more : (P Q : BootFile → Type 0) → ((file : BootFile) → P file → Q file) → (files : List BootFile) → AllByRecursion P files → AllByRecursion Q files
 all_more P Q more [] all = tt
@@ -64,7 +64,7 @@ module _ (leaves : Leaves) (n : ℕ) (small : n < 2 ^ 32) where
       record {
         system = system;
         listed = ap (λ b. option_map (λ (g : Gen). g.target) (cond b (Some (record { number = k; target = Some system })) (find (λ (g : Gen). g.number == n) list))) (eq-eqb k n same);
-        text = ap (λ j. boot_leaf (entry_of leaves j system).bytes) same;
+        text = ap (λ j. open_file (entry_of leaves j system).bytes) same;
       }
 
   pub files_listed : (list : List Gen) → IsStrictlySortedBy nat_cmp (map (λ (gen : Gen). gen.number) list) → AllByRecursion (λ (gen : Gen). is_number gen.number ≡ true) list →
@@ -80,18 +80,18 @@ module _ (leaves : Leaves) (n : ℕ) (small : n < 2 ^ 32) where
       by (Some system) rest = (own_file gen.number system list (below_bound gen.number numbers.0), rest)
 
 -- what puts leave at a place is what stood, or what one of them has put there
-pub left_is : (P : LeafKind → Type 0) (files : List BootFile) (q : Name) (old : Option LeafKind) → AllByRecursion (λ (file : BootFile). eqb q file.at ≡ true → P (boot_leaf file.bytes)) files →
+pub left_is : (P : LeafKind → Type 0) (files : List BootFile) (q : Name) (old : Option LeafKind) → AllByRecursion (λ (file : BootFile). eqb q file.at ≡ true → P (open_file file.bytes)) files →
     (left_files files q old ≡ old) ⊎ ((leaf : LeafKind) × (left_files files q old ≡ Some leaf) × P leaf)
 unfolding left_by
 left_is P [] q old all = inl refl
 left_is P (file ∷ files) q old all = elim (cases_Bool (eqb q file.at)) [
   | inl here ↦
-      let put = ap (λ b. left_files files q (cond b (Some (boot_leaf file.bytes)) old)) here in
+      let put = ap (λ b. left_files files q (cond b (Some (open_file file.bytes)) old)) here in
       ⊎_elim
-      (λ kept. inr (boot_leaf file.bytes, put ∙ kept, all.0 here)) (λ later. inr (later.0, put ∙ later.1, later.2))
-      (left_is P files q (Some (boot_leaf file.bytes)) all.1)
+      (λ kept. inr (open_file file.bytes, put ∙ kept, all.0 here)) (λ later. inr (later.0, put ∙ later.1, later.2))
+      (left_is P files q (Some (open_file file.bytes)) all.1)
   | inr away ↦
-      let rest = ap (λ b. left_files files q (cond b (Some (boot_leaf file.bytes)) old)) away in
+      let rest = ap (λ b. left_files files q (cond b (Some (open_file file.bytes)) old)) away in
       ⊎_elim (λ kept. inl (rest ∙ kept)) (λ later. inr (later.0, rest ∙ later.1, later.2)) (left_is P files q old all.1)
 ]
 

@@ -17,13 +17,14 @@ use Rattle.generations.specs.Move.{IsMoveTo, gens_moved, move_part, move_world, 
 use Rattle.generations.specs.Places.{IsCurrent, generation_at}
 use Rattle.host_trait.proofs.Places.{itself}
 use Rattle.host_trait.proofs.Seen.{seen_at}
+use Rattle.host_trait.specs.Leaf.{open_file}
 use Rattle.host_trait.specs.declared.leaf.LeafKind.{LeafKind}
 use Rattle.host_trait.specs.World.{Leaves, WorldState, is_listed, seen, stage}
 use Rattle.switch_names.specs.Names.{Name}
 use Rattle.tree_put.proofs.PutLemmas.{apart_ne}
 use Rattle.boot_entries.specs.declared.boot_texts.BootFile.{BootFile}
 use Rattle.boot_entries.specs.declared.boot_texts.BootTexts.{BootTexts}
-use Rattle.boot_entries.specs.BootPart.{boot_leaf, system_at, boot_part, entry_end, loader_end}
+use Rattle.boot_entries.specs.BootPart.{system_at, boot_part, entry_end, loader_end}
 use Rattle.boot_entries.specs.DefaultLaws.{IsSameMenu, IsSameProfile, IsSameStore, MenuBeginsLaw, MenuStaysLaw, MenuLaw, MenuEndLaw, MenuSinceLaw}
 use Rattle.boot_entries.specs.Entries.{loader_text}
 use Rattle.boot_entries.specs.Laws.{IsBootGens}
@@ -112,7 +113,7 @@ module _ (first other now : Leaves) (menu : IsSameMenu first other) (store : IsS
   entry_since n leaf is = record {
     system = is.system;
     stands = is.stands;
-    text = is.text ∙ ap (λ (file : BootFile). boot_leaf file.bytes) (sym (entry_kept no_gens no_gens_are first other store n is.system (named_at now n (Some is.system) is.stands)));
+    text = is.text ∙ ap (λ (file : BootFile). open_file file.bytes) (sym (entry_kept no_gens no_gens_are first other store n is.system (named_at now n (Some is.system) is.stands)));
   }
 
   loader_since : IsLoaderOf first now → IsLoaderOf other now
@@ -231,15 +232,15 @@ module _ (gens : Gens) (is : IsBootGens gens) (first : Leaves) (u : WorldState) 
         named =
             stands_left loader_path (inl refl) loader_stands ∙ ap (λ (fs : List BootFile). left_files fs loader_path (get first loader_path)) all
             ∙ left_on texts.entries last loader_path (get first loader_path)
-            ∙ ap (λ b. cond b (Some (boot_leaf (loader_text number))) (left_files texts.entries loader_path (get first loader_path))) (itself loader_path);
-        entry = boot_leaf (entry_of first number system).bytes;
+            ∙ ap (λ b. cond b (Some (open_file (loader_text number))) (left_files texts.entries loader_path (get first loader_path))) (itself loader_path);
+        entry = open_file (entry_of first number system).bytes;
         stands =
             stands_left (entry_path number) (inr (number, number_small, refl)) (stays number system number_small listed_current)
             ∙ ap (λ (fs : List BootFile). left_files fs (entry_path number) (get first (entry_path number))) all
             ∙ left_on texts.entries last (entry_path number) (get first (entry_path number))
             ∙ left_others last (entry_path number) (left_files texts.entries (entry_path number) (get first (entry_path number))) (last_elsewhere (Some (loader_text number)) number)
             ∙ (entries_left first number number_small gens.list is.list.rising is.list.numbers).left (get first (entry_path number))
-            ∙ ap (λ o. option_or (option_map (λ (s : Name). boot_leaf (entry_of first number s).bytes) (option_and_then (λ (target : Option Name). target) o)) (get first (entry_path number))) listed_current;
+            ∙ ap (λ o. option_or (option_map (λ (s : Name). open_file (entry_of first number s).bytes) (option_and_then (λ (target : Option Name). target) o)) (get first (entry_path number))) listed_current;
         is_entry = record { system = system; stands = generation_kept u.leaves m.leaves profile number ∙ named; text = refl };
       }
 
@@ -308,12 +309,12 @@ module _ (move : Move) (system : Name) (named : IsSystemPath system) (w : WorldS
         ∙ ap (λ o. option_map_or (entry_end gens.list w.leaves) o (get w.leaves (entry_path n))) (numbered_entry n small)
 
     whole_at : (n : ℕ) (leaf : LeafKind) (system_of_n : Option Name) → system_at gens.list n ≡ system_of_n →
-        option_map (λ (s : Name). boot_leaf (entry_of w.leaves n s).bytes) system_of_n ≡ Some leaf → IsEntryOf w.leaves v.leaves n leaf
+        option_map (λ (s : Name). open_file (entry_of w.leaves n s).bytes) system_of_n ≡ Some leaf → IsEntryOf w.leaves v.leaves n leaf
     whole_at n leaf None at stands = absurd (none-some leaf stands)
     whole_at n leaf (Some s) at stands = record {
       system = s;
       stands = generation_kept u.leaves v.leaves (profile_kept move system gens u v end_is.1) n ∙ sym (stand.exact n) ∙ system_listed gens.list n s at;
-      text = sym (same_Some (boot_leaf (entry_of w.leaves n s).bytes) leaf stands);
+      text = sym (same_Some (open_file (entry_of w.leaves n s).bytes) leaf stands);
     }
 
     menu_whole : IsMenuWhole w.leaves v.leaves

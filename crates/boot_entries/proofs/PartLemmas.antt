@@ -8,6 +8,7 @@ use Rattle.generations.proofs.Numbers.{below_bound}
 use Rattle.generations.specs.declared.gens.Gen.{Gen}
 use Rattle.generations.specs.declared.gens.Gens.{Gens}
 use Rattle.generations.specs.Places.{is_number}
+use Rattle.host_trait.specs.Leaf.{open_file}
 use Rattle.host_trait.specs.World.{IsClear, Leaves, WorldState, content_of, is_in_line, is_path, seen, stage}
 use Rattle.host_trait.proofs.Seen.{clear_seen, seen_at, stage_clear_seen}
 use Rattle.host_trait.proofs.NameOrder.{all_named}
@@ -31,7 +32,7 @@ use Rattle.tree_put.proofs.PutLemmas.{apart_ne}
 use Rattle.tree_put.proofs.WayLemmas.{clear_first}
 use Rattle.boot_entries.specs.declared.boot_texts.BootFile.{BootFile}
 use Rattle.boot_entries.specs.declared.boot_texts.BootTexts.{BootTexts}
-use Rattle.boot_entries.specs.BootPart.{boot_end, boot_leaf, boot_part, boot_places, entry_end, entry_places, loader_end, place_if, reads_boot, system_at}
+use Rattle.boot_entries.specs.BootPart.{boot_end, boot_part, boot_places, entry_end, entry_places, loader_end, place_if, reads_boot, system_at}
 use Rattle.boot_entries.specs.Entries.{entry_text, first_line, line_at, loader_text, params_path, version_path}
 use Rattle.boot_entries.specs.Laws.{BootMomentLaw, BootPartLaw, IsBootGens}
 use Rattle.boot_entries.specs.Places.{entry_path, loader_path, numbered, owns_boot}
@@ -111,9 +112,9 @@ module _ (gens : Gens) (is : IsBootGens gens) (w m : Leaves) (store : (q : Name)
       ap₂ (λ (version params : List ℕ). boot_file (entry_path n) (entry_text n system version params))
       (line_kept (version_path system) (version_stored system named)) (line_kept (params_path system) (params_stored system named))
 
-  end_kept : (n : ℕ) (o : Option Name) → IfSome o IsSystemPath → option_map (λ (system : Name). boot_leaf (entry_of m n system).bytes) o ≡ option_map (λ (system : Name). boot_leaf (entry_of w n system).bytes) o
+  end_kept : (n : ℕ) (o : Option Name) → IfSome o IsSystemPath → option_map (λ (system : Name). open_file (entry_of m n system).bytes) o ≡ option_map (λ (system : Name). open_file (entry_of w n system).bytes) o
   end_kept n None named = refl
-  end_kept n (Some system) named = ap (λ (file : BootFile). Some (boot_leaf file.bytes)) (entry_kept n system named)
+  end_kept n (Some system) named = ap (λ (file : BootFile). Some (open_file file.bytes)) (entry_kept n system named)
 
   numbered_kept : (q : Name) (o : Option ℕ) → is_some o ≡ true → option_map_or (entry_end gens.list m) o (get m q) ≡ option_map_or (entry_end gens.list w) o (get w q)
   numbered_kept q None some = absurd (both_ways _ refl some)

@@ -20,10 +20,6 @@ use Rattle.boot_entries.specs.Places.{entries_folder, entry_path, loader_path, n
 use Rattle.boot_entries.specs.Sources.{menu_too_long}
 use Rattle.boot_entries.specs.Texts.{entry_of}
 
--- a file of mode 0644 that root owns
-abbrev pub boot_leaf : List ℕ → LeafKind
-boot_leaf text = open_file text
-
 -- the entry's place of a generation, where it names a system
 abbrev pub place_if : Gen → Option Name
 place_if gen = option_map (λ system. entry_path gen.number) gen.target
@@ -46,12 +42,12 @@ system_at list n = option_and_then (λ target. target) (listed_at list n)
 
 -- the entry that stands for a number in the end, where its generation names a system
 abbrev pub entry_end : List Gen → Leaves → ℕ → Option LeafKind
-entry_end list leaves n = option_map (λ system. boot_leaf (entry_of leaves n system).bytes) (system_at list n)
+entry_end list leaves n = option_map (λ system. open_file (entry_of leaves n system).bytes) (system_at list n)
 
 -- what the boot loader reads first, in the end: as it was where no generation is the current one
 abbrev pub loader_end : Option ℕ → Leaves → Option LeafKind
 loader_end None leaves = get leaves loader_path
-loader_end (Some n) leaves = Some (boot_leaf (loader_text n))
+loader_end (Some n) leaves = Some (open_file (loader_text n))
 
 -- what is left at a place of the boot menu
 abbrev pub boot_end : Gens → Leaves → Name → Option LeafKind

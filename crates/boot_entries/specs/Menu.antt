@@ -2,10 +2,10 @@
 use Rattle.std.specs.Prelude.{◌≡◌, ◌<◌, ◌^◌, ◌⊎◌, ℕ, Some, IsSome}
 use Rattle.std.specs.FinMap.{get}
 use Rattle.generations.specs.Places.{IsCurrent, generation_at}
+use Rattle.host_trait.specs.Leaf.{open_file}
 use Rattle.host_trait.specs.declared.leaf.LeafKind.{LeafKind}
 use Rattle.host_trait.specs.World.{Leaves}
 use Rattle.switch_names.specs.Names.{Name}
-use Rattle.boot_entries.specs.BootPart.{boot_leaf}
 use Rattle.boot_entries.specs.Entries.{loader_text}
 use Rattle.boot_entries.specs.Places.{entry_path, loader_path}
 use Rattle.boot_entries.specs.Texts.{entry_of}
@@ -14,13 +14,13 @@ use Rattle.boot_entries.specs.Texts.{entry_of}
 pub record IsEntryOf (first now : Leaves) (n : ℕ) (leaf : LeafKind) : Type 0 where
   pub system : Name
   pub stands : generation_at now n ≡ Some (Some system)
-  pub text : leaf ≡ boot_leaf (entry_of first n system).bytes
+  pub text : leaf ≡ open_file (entry_of first n system).bytes
 
 -- what the boot loader reads first names the current generation, whose entry stands
 pub record IsLoaderOf (first now : Leaves) : Type 0 where
   pub number : ℕ
   pub current : IsCurrent now number
-  pub named : get now loader_path ≡ Some (boot_leaf (loader_text number))
+  pub named : get now loader_path ≡ Some (open_file (loader_text number))
   pub entry : LeafKind
   pub stands : get now (entry_path number) ≡ Some entry
   pub is_entry : IsEntryOf first now number entry

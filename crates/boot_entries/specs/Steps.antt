@@ -2,6 +2,7 @@
 use Rattle.std.specs.Prelude.{◌≡◌, ◌≤◌, ◌<◌, ◌^◌, ◌⊎◌, ◌++◌, ℕ, List, Option, length, map, take, option_map, option_to_list}
 use Rattle.std.specs.List.{AllByRecursion}
 use Rattle.generations.specs.declared.gens.Gens.{Gens}
+use Rattle.host_trait.specs.Leaf.{open_file}
 use Rattle.host_trait.specs.World.{WorldState, seen}
 use Rattle.switch_names.specs.Names.{Name}
 use Rattle.switch_parts.specs.Part.{IsFree}
@@ -9,13 +10,13 @@ use Rattle.tree_put.specs.declared.leaf_put.LeafPut.{LeafPut}
 use Rattle.tree_put.specs.Sequence.{IsPutting, put_at, with_puts, without_places}
 use Rattle.boot_entries.specs.declared.boot_texts.BootFile.{BootFile}
 use Rattle.boot_entries.specs.declared.boot_texts.BootTexts.{BootTexts}
-use Rattle.boot_entries.specs.BootPart.{boot_leaf, boot_part}
+use Rattle.boot_entries.specs.BootPart.{boot_part}
 use Rattle.boot_entries.specs.Places.{entry_path, loader_path}
 use Rattle.boot_entries.specs.Texts.{boot_file, menu_of}
 
 -- the put of a file
 abbrev pub boot_put : BootFile → LeafPut
-boot_put file = put_at file.at (boot_leaf file.bytes)
+boot_put file = put_at file.at (open_file file.bytes)
 
 -- what the boot loader reads first, where there is such a text
 abbrev pub loader_files : Option (List ℕ) → List BootFile

@@ -16,13 +16,9 @@ old_system = codes "nix/store/old-sys"
 unfoldable pub new_system : Name
 new_system = codes "nix/store/new-sys"
 
--- a file of the store
-abbrev pub store_file : List ℕ → LeafKind
-store_file bytes = open_file bytes
-
 -- a file of a system, at its place below the system
 abbrev pub file_in : Name → Name → List ℕ → Name × LeafKind
-file_in system place bytes = (system ++ (47 ∷ place), store_file bytes)
+file_in system place bytes = (system ++ (47 ∷ place), open_file bytes)
 
 -- these leaves put, one after the other
 abbrev pub put_all : Leaves → List (Name × LeafKind) → Leaves

@@ -3,6 +3,7 @@ use Rattle.std.proofs.Common.{◌≡◌, ◌≢◌, ◌⊎◌, ◌++◌, rules, 
 use Rattle.std.specs.FinMap.{get, gets, remove}
 use Rattle.std.specs.List.{list_any}
 use Rattle.host_trait.specs.Change.{Change, IsMiddle, IsMoment, finished}
+use Rattle.host_trait.specs.Leaf.{open_file}
 use Rattle.host_trait.specs.declared.leaf.LeafKind.{LeafKind}
 use Rattle.host_trait.specs.World.{Leaves, WorldState, seen, extended, stage, with_extended, with_leaf, with_more, without_leaf}
 use Rattle.host_trait.proofs.Seen.{other_of, seen_at, seen_with_leaf}
@@ -18,7 +19,7 @@ use Rattle.tree_put.proofs.SequenceLemmas.{seen_without_leaf}
 use Rattle.owed_log.specs.declared.log_write.LogWrite.{LogWrite}
 use Rattle.owed_log.specs.declared.log_write.LogWrite.TheVariants.{Nothing, Append, Put}
 use Rattle.owed_log.specs.Places.{log_place, old_places}
-use Rattle.owed_log.specs.Writing.{IsRecordMoment, IsWriting, clearing, log_leaf, recorded, with_write}
+use Rattle.owed_log.specs.Writing.{IsRecordMoment, IsWriting, clearing, recorded, with_write}
 use Rattle.owed_log.proofs.ContentLemmas.{log_other, more_elsewhere}
 
 at_of : (m w : WorldState) (q : Name) → m ≡ w → get m.leaves q ≡ get w.leaves q
@@ -37,12 +38,12 @@ module _ (q : Name) (ne : q ≢ stage) (other : q ≢ log_place) where
   writing_beside Nothing w m is = at_of m w q is
   writing_beside (Append text) w m cut = append_beside text w m q other cut
   writing_beside (Put text) w m (inl is) = seen_at m w is q ne
-  writing_beside (Put text) w m (inr is) = seen_at m (with_leaf log_place (log_leaf text) w) is q ne ∙ get_other w.leaves log_place q (log_leaf text) (other_of q log_place other)
+  writing_beside (Put text) w m (inr is) = seen_at m (with_leaf log_place (open_file text) w) is q ne ∙ get_other w.leaves log_place q (open_file text) (other_of q log_place other)
 
   pub write_beside : (write : LogWrite) (w : WorldState) → get (with_write write w).leaves q ≡ get w.leaves q
   write_beside Nothing w = refl
   write_beside (Append text) w = more_elsewhere w.leaves log_place text q other
-  write_beside (Put text) w = get_other w.leaves log_place q (log_leaf text) (other_of q log_place other)
+  write_beside (Put text) w = get_other w.leaves log_place q (open_file text) (other_of q log_place other)
 
 -- what isn't at the place of an older program's list
 module _ (q : Name) (ne : q ≢ stage) (other : q ≢ log_place) (apart : (count : ℕ) → list_any (is_name q) (take count old_places) ≡ false) where

@@ -3,7 +3,6 @@ use Rattle.std.specs.Prelude.{◌≡◌, ◌≤◌, ◌<◌, ◌+◌, ◌^◌, �
 use Rattle.std.specs.FinMap.{get}
 use Rattle.host_trait.specs.Leaf.{open_file}
 use Rattle.host_trait.specs.Change.{Change, IsMoment, finished}
-use Rattle.host_trait.specs.declared.leaf.LeafKind.{LeafKind}
 use Rattle.host_trait.specs.World.{Leaves, WorldState, IsFileAt, seen, with_leaf}
 use Rattle.log_text.specs.declared.lists.Lists.{Lists}
 use Rattle.log_text.specs.declared.lists.Which.{Which}
@@ -47,10 +46,6 @@ pub record IsWriteFor (leaves : Leaves) (lists : Lists) (write : LogWrite) : Typ
   pub prepared : IsPrepared leaves lists write
   pub counted : AreCounted lists
 
--- the leaf of a log: a file of mode 0644 that root owns
-abbrev pub log_leaf : List ℕ → LeafKind
-log_leaf text = open_file text
-
 -- what a write needs: a file to append to, or nothing in the way of what is put
 abbrev pub CanWrite : LogWrite → WorldState → Type 0
 CanWrite Nothing w = Unit {0}
@@ -66,13 +61,13 @@ IsFilled write = Unit {0}
 abbrev pub with_write : LogWrite → WorldState → WorldState
 with_write Nothing w = w
 with_write (Append text) w = finished (Change.Append log_place text) w
-with_write (Put text) w = with_leaf log_place (log_leaf text) w
+with_write (Put text) w = with_leaf log_place (open_file text) w
 
 -- what a cut leaves of the log's write: what stood, with any part of what is appended, or what is put
 abbrev pub IsWriting : LogWrite → WorldState → WorldState → Type 0
 IsWriting Nothing w m = m ≡ w
 IsWriting (Append text) w m = IsMoment (Change.Append log_place text) w m
-IsWriting (Put text) w m = IsOldOrNew log_place (log_leaf text) w m
+IsWriting (Put text) w m = IsOldOrNew log_place (open_file text) w m
 
 -- the world in which lists are recorded: the log is written, and no leaf of an older program's lists stands
 abbrev pub recorded : LogWrite → WorldState → WorldState

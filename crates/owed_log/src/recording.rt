@@ -2,11 +2,12 @@
 ghost use Rattle.std.specs.Prelude.{◌≡◌, ◌<◌, IfOk, OnOk, length};
 ghost use Rattle.host_trait.specs.Change.{Change, IsMoment, finished};
 ghost use Rattle.host_trait.specs.Host.{Told, Leads, Becomes, Comes, Passes, HasCause};
+ghost use Rattle.host_trait.specs.Leaf.{open_file};
 ghost use Rattle.host_trait.specs.World.{IsFileAt, with_leaf};
 ghost use Rattle.tree_put.specs.Put.{CanPut, IsOldOrNew};
 ghost use Rattle.tree_put.specs.Written.{WritesOnly};
 ghost use Rattle.owed_log.specs.Places.{is_owed_place, log_place};
-ghost use Rattle.owed_log.specs.Writing.{CanWrite, IsFilled, IsRecordMoment, IsWriting, log_leaf, recorded, with_write};
+ghost use Rattle.owed_log.specs.Writing.{CanWrite, IsFilled, IsRecordMoment, IsWriting, recorded, with_write};
 
 use crate::log_write::LogWrite;
 use crate::places::{log_path, old_paths};
@@ -34,7 +35,7 @@ pub(crate) fn append_text<T: Tree>(
 
 /// The leaf of a log.
 fn log_leaf(alloc: Global, text: &[u8]) -> Result<Leaf, AllocError>
-    ensures { IfOk result (λ leaf. leaf ≡ log_leaf text.now) }
+    ensures { IfOk result (λ leaf. leaf ≡ open_file text.now) }
 {
     let bytes = Bytes::from_slice(alloc, text)?;
     Ok(Leaf::open_file(bytes))
@@ -43,9 +44,9 @@ fn log_leaf(alloc: Global, text: &[u8]) -> Result<Leaf, AllocError>
 /// Puts a log of these bytes.
 fn put_text<T: Tree>(alloc: Global, host: &mut T, text: &[u8]) -> Result<(), HostFault>
     requires { Told (T.host host.old) (CanPut log_place) }
-    ensures ok { OnOk result (Comes (T.host host.old) (T.host host.new) (with_leaf log_place (log_leaf text.now))) }
+    ensures ok { OnOk result (Comes (T.host host.old) (T.host host.new) (with_leaf log_place (open_file text.now))) }
     ensures written { OnOk result (Leads (T.host host.old) (T.host host.new) (WritesOnly is_owed_place)) }
-    ensures moments { Passes (T.host host.old) (T.host host.new) (IsOldOrNew log_place (log_leaf text.now)) }
+    ensures moments { Passes (T.host host.old) (T.host host.new) (IsOldOrNew log_place (open_file text.now)) }
     ensures cause { HasCause (T.host host.old) (T.host host.new) result }
 {
     let at = log_path(alloc)?;

@@ -12,6 +12,7 @@ use Rattle.generations.specs.declared.gens.Gen.{Gen}
 use Rattle.generations.specs.declared.gens.Gens.{Gens}
 use Rattle.generations.specs.Gens.{listed_at}
 use Rattle.generations.specs.Places.{generation_at, link_path}
+use Rattle.host_trait.specs.Leaf.{open_file}
 use Rattle.host_trait.specs.declared.leaf.LeafKind.{LeafKind}
 use Rattle.host_trait.specs.World.{WorldState, is_path, seen, stage}
 use Rattle.host_trait.proofs.Fronts.{begins}
@@ -26,7 +27,7 @@ use Rattle.tree_put.proofs.PutLemmas.{apart_ne}
 use Rattle.tree_put.proofs.SequenceLemmas.{places_manager}
 use Rattle.boot_entries.specs.declared.boot_texts.BootFile.{BootFile}
 use Rattle.boot_entries.specs.declared.boot_texts.BootTexts.{BootTexts}
-use Rattle.boot_entries.specs.BootPart.{boot_end, boot_leaf, entry_end, loader_end}
+use Rattle.boot_entries.specs.BootPart.{boot_end, entry_end, loader_end}
 use Rattle.boot_entries.specs.Entries.{loader_text}
 use Rattle.boot_entries.specs.Places.{loader_path, numbered, owns_boot}
 use Rattle.boot_entries.specs.Steps.{AreEntries, with_menu}
@@ -238,7 +239,7 @@ module _ (keep : ℕ) (one : Collection) (w m : WorldState) (is : IsCollectionOf
   entry_same n = by (listed_at kept.list n) refl
     where
       by : (o : Option (Option Name)) → listed_at kept.list n ≡ o →
-          option_map (λ (system : Name). boot_leaf (entry_of m.leaves n system).bytes) (option_and_then (λ target. target) o) ≡ option_map (λ (system : Name). boot_leaf (entry_of w.leaves n system).bytes) (option_and_then (λ target. target) o)
+          option_map (λ (system : Name). open_file (entry_of m.leaves n system).bytes) (option_and_then (λ target. target) o) ≡ option_map (λ (system : Name). open_file (entry_of w.leaves n system).bytes) (option_and_then (λ target. target) o)
       by None none = refl
       by (Some None) listed = refl
       by (Some (Some system)) listed =
@@ -248,7 +249,7 @@ module _ (keep : ℕ) (one : Collection) (w m : WorldState) (is : IsCollectionOf
           (found_among (older keep is.gens) n first) (found_among (last_of keep is.gens) n last) in
           let stands : generation_at w.leaves n ≡ Some (Some system) = sym (is.stand.exact n) ∙ kept_listed keep is.gens n (Some system) apart listed in
           let live = kept_live keep one w is n system (kept_stands keep one w m is moment n among).0 stands in
-          ap (λ (file : BootFile). Some (boot_leaf file.bytes)) (same_entry keep one w m is moment system live.0 live.1 n)
+          ap (λ (file : BootFile). Some (open_file file.bytes)) (same_entry keep one w m is moment system live.0 live.1 n)
 
   menu_same : (q : Name) → owns_boot q ≡ true → boot_end kept m.leaves q ≡ boot_end kept w.leaves q
   menu_same q own = elim (cases_Bool (is_path q loader_path)) [

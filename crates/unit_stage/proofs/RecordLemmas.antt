@@ -4,6 +4,7 @@ use Rattle.std.proofs.lemmas.Bool.{both_ways}
 use Rattle.std.specs.FinMap.{get}
 use Rattle.std.specs.List.{list_any}
 use Rattle.host_trait.specs.Change.{IsMoment, finished}
+use Rattle.host_trait.specs.Leaf.{open_file}
 use Rattle.host_trait.specs.World.{IsFileAt, Leaves, WorldState, file_bytes, stage, with_leaf, with_more}
 use Rattle.host_trait.proofs.Places.{at_same}
 use Rattle.host_trait.proofs.Seen.{seen_at}
@@ -18,7 +19,7 @@ use Rattle.owed_log.specs.declared.log_write.LogWrite.TheVariants.{Nothing, Appe
 use Rattle.owed_log.specs.Laws.{AreAlone, CanClear}
 use Rattle.owed_log.specs.Places.{log_place, old_places}
 use Rattle.owed_log.specs.Standing.{AreListsAt}
-use Rattle.owed_log.specs.Writing.{IsPrepared, IsRecordMoment, IsWriting, clearing, log_leaf, with_write}
+use Rattle.owed_log.specs.Writing.{IsPrepared, IsRecordMoment, IsWriting, clearing, with_write}
 use Rattle.owed_log.proofs.ContentLemmas.{file_longer, log_other, more_elsewhere, old_not_log}
 use Rattle.owed_log.proofs.ListLemmas.{some_lists}
 use Rattle.owed_log.proofs.MomentLemmas.{clear_law_of, cleared_law, prepared_law}
@@ -65,12 +66,12 @@ module _ (lists : Lists) (w : WorldState) where
   writing_log (Put text) is m (inl cut) = IsListLeaf.Old (seen_at m w cut log_place log_other)
   writing_log (Put text) is m (inr new) =
       IsListLeaf.Written
-      (ap (λ o. is_some (file_bytes o)) (seen_at m (with_leaf log_place (log_leaf text) w) new log_place log_other ∙ at_same w.leaves log_place (log_leaf text)))
+      (ap (λ o. is_some (file_bytes o)) (seen_at m (with_leaf log_place (open_file text) w) new log_place log_other ∙ at_same w.leaves log_place (open_file text)))
 
   write_log : (write : LogWrite) → IsPrepared w.leaves lists write → IsListLeaf w.leaves log_place (get (with_write write w).leaves log_place)
   write_log Nothing is = IsListLeaf.Old refl
   write_log (Append text) is = IsListLeaf.Written (more_file w.leaves log_place text (prepared_law w.leaves lists text is).0)
-  write_log (Put text) is = IsListLeaf.Written (ap (λ o. is_some (file_bytes o)) (at_same w.leaves log_place (log_leaf text)))
+  write_log (Put text) is = IsListLeaf.Written (ap (λ o. is_some (file_bytes o)) (at_same w.leaves log_place (open_file text)))
 
   pub record_leaves : (write : LogWrite) → IsPrepared w.leaves lists write → (m : WorldState) → IsRecordMoment write w m → AreListLeaves w.leaves m.leaves
   record_leaves write is m (IsRecordMoment.Writing cut) =
