@@ -1,14 +1,15 @@
 -- What the profile's part owns begins as the profile's link does, and is among what it looks at.
-use Rattle.std.proofs.Common.{◌≡◌, ◌≢◌, ◌⊎◌, ℕ, ◌^◌, ◌<◌, Bool, true, false, ◌&&◌, ◌||◌, ◌==◌, nat_eq, nat_lt, slice_index, ◌++◌, codes, drop, length, refl, sym, ap, subst, ◌∙◌, inl, inr, ⊎_elim, arith}
-use Rattle.std.proofs.lemmas.Bool.{and_parts, both_ways, cases_Bool, or_left, or_right, or_from}
+use Rattle.std.proofs.Common.{◌≡◌, ◌≢◌, ◌⊎◌, ℕ, ◌^◌, ◌<◌, Bool, true, false, ◌&&◌, ◌||◌, nat_eq, nat_lt, ◌++◌, codes, drop, length, refl, sym, ap, subst, ◌∙◌, inl, inr, ⊎_elim, arith}
+use Rattle.std.proofs.lemmas.Bool.{both_ways, cases_Bool, or_left, or_right, or_from}
 use Rattle.std.proofs.lemmas.Bool.Decides.{Decides-eqb}
 use Rattle.std.proofs.lemmas.Slice.Eq.{starts_is}
 use Rattle.std.specs.Cmp.Lexicographic.{same_text}
 use Rattle.std.specs.List.{starts_with}
 use Rattle.switch_names.proofs.Below.{below_both, front_is_parent}
 use Rattle.switch_names.specs.Names.{Name}
-use Rattle.switch_names.specs.Path.{IsParentOf, is_below, slash}
-use Rattle.switch_parts.proofs.LeafLemmas.{BeginApart, not_below, not_line}
+use Rattle.switch_names.specs.Path.{IsParentOf, is_below}
+use Rattle.switch_parts.specs.Store.{is_in_store}
+use Rattle.switch_parts.proofs.LeafLemmas.{BeginApart, not_line}
 use Rattle.host_trait.specs.World.{is_in_line, is_path, stage}
 use Rattle.generations.proofs.DigitLemmas.{digits_no_slash}
 use Rattle.generations.proofs.Numbers.{small_number}
@@ -109,10 +110,6 @@ pub unread : (q : Name) → is_path q profiles ≡ false → BeginApart q profil
 unread q other folder staged = or_from _ _ (or_from _ _ other (not_line q profiles folder)) (not_line q stage staged)
 
 -- nothing below these folders is looked at
-pub store_unread : (rest : Name) → reads_profile (codes "nix/store" ++ rest) ≡ false
-unfolding profiles stage
-store_unread rest = unread (codes "nix/store" ++ rest) refl (record { first = refl; second = refl }) (record { first = refl; second = refl })
-
 pub run_unread : (rest : Name) → reads_profile (codes "run/" ++ rest) ≡ false
 unfolding profiles stage
 run_unread rest = unread (codes "run/" ++ rest) refl (record { first = refl; second = refl }) (record { first = refl; second = refl })
@@ -132,17 +129,13 @@ unowned q none = elim (cases_Bool (owns_profile q)) [
   | inr is ↦ is
 ]
 
--- what lies below a path begins with it
-pub below_begins : (q at : Name) → is_below q at ≡ true → q ≡ at ++ drop (length at) q
-below_begins q at below = (starts_is Decides-eqb q at (starts_with nat_eq q at) refl).0 (and_parts (starts_with nat_eq q at) (slice_index q (length at) == slash) (and_parts (nat_lt (length at) (length q)) _ below).1).0
+begins_unstored : (rest : Name) → is_in_store (codes "nix/var/nix/profiles/system" ++ rest) ≡ false
+unfolding is_in_store
+begins_unstored rest = refl
 
--- the store is neither owned nor looked at
-pub below_store_unread : (q : Name) → is_below q (codes "nix/store") ≡ true → reads_profile q ≡ false
-below_store_unread q below = subst (λ x. reads_profile x ≡ false) (sym (below_begins q (codes "nix/store") below)) (store_unread (drop 9 q))
-
-pub below_store_unowned : (q : Name) → is_below q (codes "nix/store") ≡ true → owns_profile q ≡ false
-below_store_unowned q below = unowned q (below_store_unread q below)
-
--- and what is owned isn't below it
-pub owned_not_in_store : (q : Name) → owns_profile q ≡ true → is_below q (codes "nix/store") ≡ false
-owned_not_in_store q own = owned_fails (λ x. is_below x (codes "nix/store")) (λ rest. not_below (codes "nix/var/nix/profiles/system" ++ rest) (codes "nix/store") refl) q own
+-- nothing in the store is owned
+pub store_unowned : (q : Name) → is_in_store q ≡ true → owns_profile q ≡ false
+store_unowned q is = elim (cases_Bool (owns_profile q)) [
+  | inl own ↦ absurd (both_ways _ (owned_fails is_in_store begins_unstored q own) is)
+  | inr none ↦ none
+]

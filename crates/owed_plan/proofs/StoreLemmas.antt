@@ -1,12 +1,10 @@
 -- Trees with the same in the store have the same systems.
-use Rattle.std.proofs.Common.{◌≡◌, ◌&&◌, ◌||◌, ◌++◌, ◌∷◌, ℕ, Bool, true, false, cond, not, List, [], Option, None, Some, is_none, is_some, drop, codes, nat_eq, map, filter, flat_map, option_map, option_and_then, if◌then◌else◌, refl, sym, ap, subst, ◌∙◌, inl, inr}
+use Rattle.std.proofs.Common.{◌≡◌, ◌&&◌, ◌||◌, ◌++◌, ◌∷◌, ℕ, Bool, true, false, cond, not, List, [], Option, None, Some, is_some, codes, map, filter, flat_map, option_map, option_and_then, refl, sym, ap, subst, ◌∙◌, inl, inr}
 use Rattle.std.proofs.lemmas.Bool.{and_parts, or_cases}
-use Rattle.std.proofs.lemmas.Bool.Decides.{Decides-eqb}
 use Rattle.std.proofs.lemmas.List.Kept.{IsStrictlySortedBy-filter}
 use Rattle.std.proofs.lemmas.Map.Lookups.{exact_bytes, btree_set_from_contains}
-use Rattle.std.proofs.lemmas.Slice.Eq.{starts_is}
 use Rattle.std.specs.FinMap.{from_entries, get, keys}
-use Rattle.std.specs.List.{AllByRecursion, find, starts_with}
+use Rattle.std.specs.List.{AllByRecursion, find}
 use Rattle.std.specs.List.Sorted.{IsStrictlySortedBy}
 use Rattle.std.specs.FinMap as finite
 use Rattle.std.specs.Option.{option_or}
@@ -21,9 +19,10 @@ use Rattle.owed_lists.proofs.OrderLemmas.{has_key}
 use Rattle.owed_plan.specs.Store.{AreSameInStore, IsInStore, IsOldInStore, SystemsLaw}
 use Rattle.owed_plan.specs.Systems.{systems_of, text_at}
 use Rattle.switch_names.specs.Names.{Name, has}
-use Rattle.switch_names.specs.Path.{is_below, path_fault}
+use Rattle.switch_names.specs.Path.{is_below}
 use Rattle.switch_names.specs.UnitName.{is_unit}
-use Rattle.switch_names.proofs.Below.{below_both, below_front}
+use Rattle.switch_names.proofs.Below.{below_front}
+use Rattle.switch_parts.proofs.StoreLemmas.{store_below, stored}
 use Rattle.unit_defs.specs.Count.{unit_names}
 use Rattle.unit_defs.specs.Files.{drop_in_at, file_of, paths_of, want_at, own_files}
 use Rattle.unit_defs.specs.Fstab.{fstab_of, fstab_path, line_text, names_of, wanted_by_lines}
@@ -36,19 +35,12 @@ use Rattle.unit_defs.specs.Units.{find_text, first_fault_of, in_order, file_part
 module _ (leaves other : Leaves) (same : AreSameInStore leaves other) where
   -- ---- contents
 
-  store_in : (target : List ℕ) → starts_with nat_eq target (codes "/nix/store/") ≡ true → IsInStore (drop 1 target)
-  store_in target starts =
-      let rest = (starts_is Decides-eqb target (codes "/nix/store/") (starts_with nat_eq target (codes "/nix/store/")) refl).0 starts in
-      ap (λ t. is_below (drop 1 t) (codes "nix/store")) rest ∙ below_front (codes "nix/store") (drop 11 target)
-
   file_same : (target : List ℕ) → file_at leaves (store_place target) ≡ file_at other (store_place target)
-  file_same target = by (starts_with nat_eq target (codes "/nix/store/")) (is_none (path_fault (drop 1 target))) refl
+  file_same target = by (store_place target) refl
     where
-      by : (a b : Bool) → starts_with nat_eq target (codes "/nix/store/") ≡ a →
-          file_at leaves (if a && b then Some (drop 1 target) else None) ≡ file_at other (if a && b then Some (drop 1 target) else None)
-      by true true starts = ap file_bytes (same (drop 1 target) (store_in target starts))
-      by true false starts = refl
-      by false b starts = refl
+      by : (place : Option Name) → store_place target ≡ place → file_at leaves place ≡ file_at other place
+      by None leads = refl
+      by (Some at) leads = ap file_bytes (same at (stored target at leads))
 
   pub leaf_same : (leaf : Option LeafKind) → leaf_content leaves leaf ≡ leaf_content other leaf
   leaf_same None = refl
@@ -81,16 +73,16 @@ flat_same P f g each (q ∷ qs) all = λ i. each q all.0 i ++ flat_same P f g ea
 module _ (leaves other : Leaves) (same : AreSameInStore leaves other) (system : Name) (inside : IsInStore system) where
   folder_inside : IsInStore (unit_folder system)
   unfolding unit_folder
-  folder_inside = below_both (unit_folder system) system (codes "nix/store") (below_front system (codes "etc/systemd/system")) inside
+  folder_inside = store_below (unit_folder system) system (below_front system (codes "etc/systemd/system")) inside
 
   path_inside : (name : List ℕ) → IsInStore (path_of system name)
-  path_inside name = below_both (path_of system name) (unit_folder system) (codes "nix/store") (below_front (unit_folder system) name) folder_inside
+  path_inside name = store_below (path_of system name) (unit_folder system) (below_front (unit_folder system) name) folder_inside
 
   listed_inside : (q : List ℕ) → is_listed (unit_folder system) q ≡ true → IsInStore q
   listed_inside q is =
       elim (or_cases (is_path q (unit_folder system)) (is_below q (unit_folder system)) (and_parts (is_path q (unit_folder system) || is_below q (unit_folder system)) (not (is_path q stage)) is).0) [
         | inl at ↦ subst IsInStore (sym ((bytes_eq-Decides q (unit_folder system)).0 at)) folder_inside
-        | inr below ↦ below_both q (unit_folder system) (codes "nix/store") below folder_inside
+        | inr below ↦ store_below q (unit_folder system) below folder_inside
       ]
 
   has_listed : (tree : Leaves) (q : List ℕ) → has (paths_of tree system) q ≡ (is_listed (unit_folder system) q && is_some (get tree q))
@@ -119,7 +111,7 @@ module _ (leaves other : Leaves) (same : AreSameInStore leaves other) (system : 
 
   fstab_inside : IsInStore (fstab_path system)
   unfolding fstab_path
-  fstab_inside = below_both (fstab_path system) system (codes "nix/store") (below_front system (codes "etc/fstab")) inside
+  fstab_inside = store_below (fstab_path system) system (below_front system (codes "etc/fstab")) inside
 
   lines_same : fstab_of leaves system ≡ fstab_of other system
   lines_same = fstab_same leaves other system (content_same leaves other same (fstab_path system) fstab_inside)

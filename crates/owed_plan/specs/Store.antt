@@ -1,14 +1,14 @@
 -- What a switch reads of the systems stands in the store, where no switch writes: Nix manual, "Nix Store".
-use Rattle.std.specs.Prelude.{◌≡◌, ℕ, true, List, Option, None, Some, codes}
+use Rattle.std.specs.Prelude.{◌≡◌, ℕ, true, List, Option, None, Some}
 use Rattle.std.specs.FinMap.{get}
 use Rattle.host_trait.specs.World.{Leaves}
 use Rattle.owed_plan.specs.Systems.{systems_at}
 use Rattle.switch_names.specs.Names.{Name}
-use Rattle.switch_names.specs.Path.{is_below}
+use Rattle.switch_parts.specs.Store.{is_in_store}
 
 -- the path lies in the store
 abbrev pub IsInStore : List ℕ → Type 0
-IsInStore path = is_below path (codes "nix/store") ≡ true
+IsInStore path = is_in_store path ≡ true
 
 -- two trees have the same in the store
 abbrev pub AreSameInStore : Leaves → Leaves → Type 0

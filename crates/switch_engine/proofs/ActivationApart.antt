@@ -1,9 +1,9 @@
 -- What an activation owns and looks at, the units' part and the profile's neither look at nor own.
 use Rattle.std.proofs.Common.{◌≡◌, Bool, true, false, ◌||◌, ◌++◌, codes, Some, refl, sym, ap, subst, ◌∙◌, inl, inr}
-use Rattle.std.proofs.lemmas.Bool.{both_ways, cases_Bool, or_from}
+use Rattle.std.proofs.lemmas.Bool.{cases_Bool, or_from}
 use Rattle.accounts_stage.specs.AccountsPart.{reads_accounts}
 use Rattle.accounts_stage.specs.Places.{account_names, account_places, owns_accounts}
-use Rattle.accounts_stage.proofs.OwnLemmas.{accounts_open}
+use Rattle.accounts_stage.proofs.OwnLemmas.{accounts_open, store_unowned}
 use Rattle.activation_stage.specs.ActivationPart.{activation_part}
 use Rattle.etc_clean.specs.CleanList.{clean_name}
 use Rattle.etc_clean.specs.Etc.{static_name}
@@ -11,6 +11,7 @@ use Rattle.etc_clean.specs.Names.{is_in_etc, name_of, place}
 use Rattle.switch_parts.specs.Store.{is_in_store}
 use Rattle.etc_farm.specs.FarmPart.{fixed_places, owns_farm, reads_farm, static_target}
 use Rattle.etc_farm.proofs.PlaceLemmas.{place_of_owned}
+use Rattle.etc_farm.proofs.StoreLemmas.{store_not_owned}
 use Rattle.etc_manifest.specs.Owners.{OwnerIds}
 use Rattle.generations.specs.Places.{profiles}
 use Rattle.generations.specs.ProfilePart.{owns_profile, reads_profile}
@@ -20,9 +21,8 @@ use Rattle.host_trait.specs.declared.leaf.LeafKind.TheVariants.{Link}
 use Rattle.host_trait.specs.World.{Leaves, stage}
 use Rattle.owed_plan.specs.Store.{IsInStore}
 use Rattle.switch_names.specs.Names.{Name}
-use Rattle.switch_names.specs.Path.{is_below}
 use Rattle.switch_parts.specs.Part.{AreParted}
-use Rattle.switch_parts.proofs.LeafLemmas.{none_among, none_near, not_below}
+use Rattle.switch_parts.proofs.LeafLemmas.{none_among, none_near}
 use Rattle.unit_stage.specs.Owned.{owned_places, owns_units, reads_units, unit_places}
 use Rattle.unit_stage.specs.System.{definitions_of}
 use Rattle.unit_stage.specs.Units.{units_part}
@@ -45,13 +45,12 @@ fails test failed q own = elim (cases_Bool (owns_accounts q)) [
 ]
 
 unread_accounts : (q : Name) → owns_accounts q ≡ true → reads_units q ≡ false
-unfolding accounts_open units_open stage
+unfolding accounts_open units_open stage is_in_store
 unread_accounts = none_among reads_units account_names refl
 
 unread_etc : (q : Name) → reads_units (place q) ≡ false
-unfolding place stage units_open
-unread_etc q =
-    or_from _ _ (or_from _ _ refl (none_near (codes "etc/" ++ q) unit_places refl)) (not_below (codes "etc/" ++ q) (codes "nix/store") refl)
+unfolding place stage units_open is_in_store
+unread_etc q = or_from _ _ (or_from _ _ refl (none_near (codes "etc/" ++ q) unit_places refl)) refl
 
 units_unread : (q : Name) → owns_accounts q || owns_farm q ≡ true → reads_units q ≡ false
 units_unread = fails reads_units (record { accounts = unread_accounts; etc = unread_etc })
@@ -67,20 +66,9 @@ profile_etc q = etc_unread q
 pub profile_unread : (q : Name) → owns_accounts q || owns_farm q ≡ true → reads_profile q ≡ false
 profile_unread = fails reads_profile (record { accounts = profile_accounts; etc = profile_etc })
 
-outside_accounts : (q : Name) → owns_accounts q ≡ true → is_below q (codes "nix/store") ≡ false
-unfolding accounts_open
-outside_accounts = none_among (λ q. is_below q (codes "nix/store")) account_names refl
-
-outside_etc : (q : Name) → is_below (place q) (codes "nix/store") ≡ false
-unfolding place
-outside_etc q = not_below (codes "etc/" ++ q) (codes "nix/store") refl
-
 -- an activation writes nothing in the store
 pub not_owns_store : (q : Name) → IsInStore q → owns_accounts q || owns_farm q ≡ false
-not_owns_store q inside = elim (cases_Bool (owns_accounts q || owns_farm q)) [
-  | inl own ↦ absurd (both_ways _ (fails (λ x. is_below x (codes "nix/store")) (record { accounts = outside_accounts; etc = outside_etc }) q own) inside)
-  | inr other ↦ other
-]
+not_owns_store q inside = or_from _ _ (store_unowned q inside) (store_not_owned q inside)
 
 -- ---- what an activation looks at
 

@@ -23,7 +23,6 @@ use Rattle.owed_plan.specs.Store.{IsInStore}
 use Rattle.switch_engine.proofs.ActivationApart.{fails}
 use Rattle.switch_engine.proofs.MenuApart.{menu_fails}
 use Rattle.switch_names.specs.Names.{Name}
-use Rattle.switch_names.specs.Path.{is_below}
 use Rattle.switch_parts.proofs.LeafLemmas.{BeginApart, none_among, not_line}
 use Rattle.switch_parts.specs.Store.{is_in_store}
 use Rattle.unit_stage.specs.Owned.{owned_places, owns_units, reads_units}
@@ -75,7 +74,7 @@ at_goal : (test : Name → Bool) → test goal_place ≡ false → (q : Name) �
 at_goal test is q own = ap test (same_text q goal_place (sym own)) ∙ is
 
 units_apart : reads_units goal_place ≡ false
-unfolding goal_place stage units_open
+unfolding goal_place stage units_open is_in_store
 units_apart = refl
 
 accounts_apart : reads_accounts goal_place ≡ false
@@ -120,13 +119,13 @@ default_unread_goal q own = or_from _ _ (at_goal reads_profile profile_apart q o
 
 -- ---- the goal isn't the stage, and doesn't lie in the store
 
-outside : is_below goal_place (codes "nix/store") ≡ false
-unfolding goal_place
+outside : is_in_store goal_place ≡ false
+unfolding goal_place is_in_store
 outside = refl
 
 pub goal_not_in_store : (q : Name) → IsInStore q → owns_goal q ≡ false
 goal_not_in_store q inside = elim (cases_Bool (owns_goal q)) [
-  | inl own ↦ absurd (both_ways _ (at_goal (λ p. is_below p (codes "nix/store")) outside q own) inside)
+  | inl own ↦ absurd (both_ways _ (at_goal is_in_store outside q own) inside)
   | inr none ↦ none
 ]
 

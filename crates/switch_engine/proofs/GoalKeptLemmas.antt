@@ -1,5 +1,5 @@
 -- At each moment of a rollback before its goal is removed it has the row that it had.
-use Rattle.std.proofs.Common.{◌≡◌, ◌≢◌, ℕ, [], true, false, Option, None, Some, is_none, option_map, unwrap_or, refl, ap, subst, ◌∙◌}
+use Rattle.std.proofs.Common.{◌≡◌, ℕ, [], true, false, Option, None, Some, is_none, option_map, unwrap_or, refl, ap, ◌∙◌}
 use Rattle.std.proofs.lemmas.Bool.{both_ways}
 use Rattle.std.proofs.lemmas.Option.{none-some}
 use Rattle.std.specs.FinMap.{get}
@@ -14,7 +14,7 @@ use Rattle.generations.proofs.BootLemmas.{boot_same}
 use Rattle.generations.proofs.GoalLemmas.{goal_law, goal_names}
 use Rattle.generations.proofs.PointLemmas.{links_stay}
 use Rattle.generations.proofs.SetLaws.{generation_of}
-use Rattle.host_trait.specs.World.{Leaves, WorldState, seen, stage, with_leaf}
+use Rattle.host_trait.specs.World.{Leaves, WorldState, seen, with_leaf}
 use Rattle.host_trait.proofs.Places.{at_same}
 use Rattle.host_trait.proofs.Seen.{seen_at}
 use Rattle.switch_engine.specs.declared.command.Command.{Command}
@@ -24,8 +24,7 @@ use Rattle.switch_engine.specs.Moments.{record_world}
 use Rattle.switch_engine.specs.Rows.{default_if}
 use Rattle.switch_engine.proofs.GoalApart.{goal_not_stage}
 use Rattle.switch_names.specs.Names.{Name}
-use Rattle.switch_parts.specs.Store.{is_in_store}
-use Rattle.switch_parts.proofs.StoreLemmas.{store_content_kept}
+use Rattle.switch_parts.proofs.StoreLemmas.{store_content_kept, store_not_stage}
 
 -- the goal is recorded, where the profile goes back to a generation
 abbrev pub IsRecorded : Option Move → Leaves → Type 0
@@ -44,18 +43,11 @@ kept_recorded None w m is = tt
 kept_recorded (Some Set) w m is = tt
 kept_recorded (Some (Point n)) w m is = Recorded is
 
-stage_not_stored : is_in_store stage ≡ false
-unfolding is_in_store stage
-stage_not_stored = refl
-
-not_stage : (q : Name) → is_in_store q ≡ true → q ≢ stage
-not_stage q stored same = both_ways _ stage_not_stored (subst (λ x. is_in_store x ≡ true) same stored)
-
 pub kept_first : (moves : Option Move) (w m : WorldState) → get m.leaves profile ≡ get w.leaves profile → seen m ≡ seen w → IsGoalKept moves w.leaves m.leaves
 kept_first None w m same is = tt
 kept_first (Some Set) w m same is = tt
 kept_first (Some (Point n)) w m same is =
-    Unrecorded (store_content_kept w.leaves m.leaves (λ q stored. seen_at m w is q (not_stage q stored)) goal_place (seen_at m w is goal_place goal_not_stage)) same
+    Unrecorded (store_content_kept w.leaves m.leaves (λ q stored. seen_at m w is q (store_not_stage q stored)) goal_place (seen_at m w is goal_place goal_not_stage)) same
 
 -- where it is recorded it stays so while its place does
 pub recorded_same : (moves : Option Move) (r m : Leaves) → get m goal_place ≡ get r goal_place → IsRecorded moves r → IsRecorded moves m

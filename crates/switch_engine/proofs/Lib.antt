@@ -25,7 +25,6 @@ pub mod ResolveLemmas
 pub mod ShortLemmas
 pub mod SourceLemmas
 pub mod StepLeaves
-pub mod StoreApart
 pub mod SwitchLemmas
 pub mod SwitchedIf
 pub mod UnderwayLemmas

@@ -16,11 +16,9 @@ use Rattle.etc_clean.specs.Etc.{static_name}
 use Rattle.etc_clean.specs.Names.{is_in_etc, place}
 use Rattle.etc_farm.specs.FarmPart.{fixed_places, owns_farm, reads_farm}
 use Rattle.host_trait.specs.World.{is_in_line, is_path, stage}
-use Rattle.owed_plan.specs.Store.{IsInStore}
 use Rattle.switch_engine.proofs.ActivationApart.{fails}
 use Rattle.switch_names.specs.Names.{Name}
-use Rattle.switch_names.specs.Path.{is_below}
-use Rattle.switch_parts.proofs.LeafLemmas.{none_among, none_near, not_below, not_line}
+use Rattle.switch_parts.proofs.LeafLemmas.{none_among, none_near, not_line}
 use Rattle.unit_stage.specs.Owned.{owned_places, owns_units, reads_units, unit_places}
 use Rattle.unit_stage.proofs.OwnedLemmas.{units_open}
 
@@ -108,8 +106,8 @@ pub menu_fails : (test : Name → Bool) → ((rest : Name) → test (menu_path r
 menu_fails test each q own = subst (λ x. test x ≡ false) (sym (owned_begins q own)) (each (drop 12 q))
 
 units_apart : (rest : Name) → reads_units (menu_path rest) ≡ false
-unfolding stage units_open
-units_apart rest = or_from _ _ (or_from _ _ refl (none_near (menu_path rest) unit_places refl)) (not_below (menu_path rest) (codes "nix/store") refl)
+unfolding stage units_open is_in_store
+units_apart rest = or_from _ _ (or_from _ _ refl (none_near (menu_path rest) unit_places refl)) refl
 
 accounts_apart : (rest : Name) → reads_accounts (menu_path rest) ≡ false
 unfolding stage accounts_open is_in_store
@@ -125,7 +123,7 @@ activation_unread q own = or_from _ _ (menu_fails reads_accounts accounts_apart 
 pub switch_unread : (q : Name) → owns_boot q ≡ true → reads_units q || (reads_accounts q || reads_farm q) ≡ false
 switch_unread q own = or_from _ _ (menu_fails reads_units units_apart q own) (activation_unread q own)
 
--- ---- no place of it is the stage, or lies in the store
+-- ---- no place of it is the stage
 
 stage_apart : (rest : Name) → is_path (menu_path rest) stage ≡ false
 unfolding stage
@@ -133,12 +131,3 @@ stage_apart rest = refl
 
 pub menu_not_stage : (q : Name) → owns_boot q ≡ true → q ≢ stage
 menu_not_stage q own same = both_ways _ (menu_fails (λ p. is_path p stage) stage_apart q own) (subst (λ x. is_path x stage ≡ true) (sym same) (nat_list_eq_equiv.refl stage))
-
-store_apart : (rest : Name) → is_below (menu_path rest) (codes "nix/store") ≡ false
-store_apart rest = not_below (menu_path rest) (codes "nix/store") refl
-
-pub menu_not_in_store : (q : Name) → IsInStore q → owns_boot q ≡ false
-menu_not_in_store q inside = elim (cases_Bool (owns_boot q)) [
-  | inl own ↦ absurd (both_ways _ (menu_fails (λ p. is_below p (codes "nix/store")) store_apart q own) inside)
-  | inr none ↦ none
-]

@@ -1,5 +1,5 @@
 -- What a command does is a part of a switch, whichever of its parts it has.
-use Rattle.std.proofs.Common.{◌≡◌, Bool, true, false, ◌||◌, codes, Option, None, Some, refl, sym, ap, ◌∙◌, inl, inr}
+use Rattle.std.proofs.Common.{◌≡◌, Bool, true, false, ◌||◌, Option, None, Some, refl, sym, ap, ◌∙◌, inl, inr}
 use Rattle.std.proofs.lemmas.Bool.{both_ways, cases_Bool, or_from}
 use Rattle.accounts_stage.specs.AccountsPart.{reads_accounts}
 use Rattle.accounts_stage.specs.Places.{owns_accounts}
@@ -17,7 +17,7 @@ use Rattle.generations.specs.declared.moving.Move.TheVariants.{Set}
 use Rattle.generations.specs.GoalPart.{owns_goal, reads_goal}
 use Rattle.generations.proofs.GoalPartLemmas.{goal_is}
 use Rattle.generations.specs.ProfilePart.{owns_profile, reads_profile}
-use Rattle.generations.proofs.ProfileApart.{owned_fails}
+use Rattle.generations.proofs.ProfileApart.{owned_fails, store_unowned as profile_not_in_store}
 use Rattle.host_trait.specs.World.{Leaves, stage}
 use Rattle.owed_plan.specs.Store.{IsInStore}
 use Rattle.switch_engine.specs.Commands.{is_back}
@@ -25,15 +25,16 @@ use Rattle.switch_engine.specs.Rows.{default_if, default_part, gens_to, goal_by,
 use Rattle.switch_engine.proofs.ActivationApart.{activation_apart, not_owns_store, profile_unread, profile_path}
 use Rattle.boot_entries.proofs.DefaultLemmas.{default_part_law}
 use Rattle.boot_entries.proofs.GensLemmas.{gens_after_law}
+use Rattle.boot_entries.proofs.OwnLemmas.{store_unowned as menu_not_in_store}
 use Rattle.switch_engine.proofs.GoalApart.{activation_unread_goal, default_unread_goal, goal_not_in_store, goal_unread_activation, goal_unread_default, goal_unread_switch, switch_unread_goal}
-use Rattle.switch_engine.proofs.MenuApart.{activation_unread, menu_not_in_store, menu_unread, menu_unread_activation, switch_unread as menu_apart}
+use Rattle.switch_engine.proofs.MenuApart.{activation_unread, menu_unread, menu_unread_activation, switch_unread as menu_apart}
 use Rattle.activation_stage.proofs.ActivationLemmas.{activation_part_law}
-use Rattle.switch_engine.proofs.StoreApart.{store_not_owned}
 use Rattle.switch_names.specs.Names.{Name}
 use Rattle.switch_names.specs.SystemName.{IsSystemPath}
 use Rattle.switch_parts.specs.Part.{AreParted, IsPart, no_part}
-use Rattle.switch_parts.proofs.LeafLemmas.{none_among, none_near, not_below}
+use Rattle.switch_parts.proofs.LeafLemmas.{none_among, none_near}
 use Rattle.switch_parts.proofs.Parts.{both_part}
+use Rattle.switch_parts.specs.Store.{is_in_store}
 use Rattle.unit_stage.specs.Owned.{owned_places, owns_units, reads_units, unit_places}
 use Rattle.unit_stage.specs.Units.{units_part}
 use Rattle.unit_stage.proofs.OwnedLemmas.{not_owns_store as units_not_in_store, units_open}
@@ -70,8 +71,8 @@ switch_unread q own = elim (cases_Bool (owns_units q)) [
 ]
 
 units_apart : (rest : Name) → reads_units (profile_path rest) ≡ false
-unfolding stage units_open
-units_apart rest = or_from _ _ (or_from _ _ refl (none_near (profile_path rest) unit_places refl)) (not_below (profile_path rest) (codes "nix/store") refl)
+unfolding stage units_open is_in_store
+units_apart rest = or_from _ _ (or_from _ _ refl (none_near (profile_path rest) unit_places refl)) refl
 
 profile_apart : (q : Name) → owns_profile q ≡ true → reads_units q || (reads_accounts q || reads_farm q) ≡ false
 profile_apart q own = or_from _ _ (owned_fails reads_units units_apart q own) (activation_apart q own)
@@ -150,7 +151,7 @@ switch_not_in_store : (q : Name) → IsInStore q → owns_units q || (owns_accou
 switch_not_in_store q inside = or_from _ _ (units_not_in_store q inside) (not_owns_store q inside)
 
 moved_not_in_store : (q : Name) → IsInStore q → (owns_profile q || owns_boot q) || owns_goal q ≡ false
-moved_not_in_store q inside = or_from _ _ (or_from _ _ (store_not_owned q inside) (menu_not_in_store q inside)) (goal_not_in_store q inside)
+moved_not_in_store q inside = or_from _ _ (or_from _ _ (profile_not_in_store q inside) (menu_not_in_store q inside)) (goal_not_in_store q inside)
 
 pub not_in_store : (start_up switches : Bool) (moves : Option Move) (system : Name) (owners : OwnerIds) (gens : Gens) (q : Name) → IsInStore q → (parts start_up switches moves system owners gens).owns q ≡ false
 not_in_store start_up true (Some move) system owners gens q inside = or_from _ _ (switch_not_in_store q inside) (moved_not_in_store q inside)

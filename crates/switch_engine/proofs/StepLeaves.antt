@@ -2,7 +2,7 @@
 use Rattle.std.proofs.Common.{◌≡◌, ◌≢◌, ◌↔◌, ◌||◌, ◌<◌, ◌^◌, arith, Bool, IsSome, true, false, Option, None, Some, option_map, List, ℕ, [], ◌++◌, refl, sym, ap, subst, ◌∙◌, inl, inr, ⊎_elim}
 use Rattle.std.proofs.lemmas.Bool.{both_ways, cases_Bool, or_left, or_right}
 use Rattle.std.proofs.lemmas.List.{append-nil}
-use Rattle.std.specs.Cmp.Lexicographic.{nat_list_eq_equiv, same_text}
+use Rattle.std.specs.Cmp.Lexicographic.{nat_list_eq_equiv}
 use Rattle.std.specs.FinMap.{get}
 use Rattle.etc_manifest.specs.Owners.{OwnerIds}
 use Rattle.boot_entries.specs.BootDefault.{boot_default_in, boot_default_part}
@@ -41,15 +41,15 @@ use Rattle.boot_entries.proofs.MenuLemmas.{menu_begins_law, menu_law, menu_stays
 use Rattle.switch_engine.proofs.MovedPart.{default_in}
 use Rattle.switch_engine.proofs.MenuApart.{menu_not_stage}
 use Rattle.switch_engine.proofs.PartsLemmas.{are_parted, goal_parted, switch_if_is}
-use Rattle.switch_engine.proofs.GoalApart.{goal_not_stage, goal_owned, goal_unread_default}
+use Rattle.switch_engine.proofs.GoalApart.{goal_not_in_store, goal_not_stage, goal_owned, goal_unread_default}
 use Rattle.switch_engine.proofs.GoalKeptLemmas.{IsGoalKept, IsMoveToBy, kept_first, kept_recorded, recorded_at}
 use Rattle.switch_engine.proofs.SwitchLemmas.{switch_part_moment}
 use Rattle.switch_engine.proofs.SwitchedIf.{IsSwitchMomentIf, IsSwitchedIf}
 use Rattle.switch_names.specs.Names.{Name}
 use Rattle.switch_names.specs.SystemName.{IsSystemPath}
 use Rattle.switch_parts.specs.Part.{IsAtEnd, IsFree, IsPartMoment, IsOnly, final_leaf}
-use Rattle.switch_parts.specs.Store.{is_in_store}
 use Rattle.switch_parts.proofs.Parts.{false_by, first_free, first_moment, second_moment}
+use Rattle.switch_parts.proofs.StoreLemmas.{store_not_stage}
 use Rattle.unit_stage.specs.End.{IsBrought, entries_of}
 use Rattle.unit_stage.specs.Order.{IsOrderedAt}
 use Rattle.unit_stage.specs.Plan.{IsOwedBy}
@@ -262,23 +262,6 @@ set_names None system named w m to free step = seen_names w m step
 
 -- ---- nothing but the goal has changed
 
-goal_stored : is_in_store goal_place ≡ false
-unfolding is_in_store goal_place
-goal_stored = refl
-
-stage_stored : is_in_store stage ≡ false
-unfolding is_in_store stage
-stage_stored = refl
-
-goal_not_stored : (q : Name) → is_in_store q ≡ true → owns_goal q ≡ false
-goal_not_stored q stored = elim (cases_Bool (owns_goal q)) [
-  | inl own ↦ absurd (both_ways _ goal_stored (subst (λ x. is_in_store x ≡ true) (same_text q goal_place (sym own)) stored))
-  | inr other ↦ other
-]
-
-stored_not_stage : (q : Name) → is_in_store q ≡ true → q ≢ stage
-stored_not_stage q stored same = both_ways _ stage_stored (subst (λ x. is_in_store x ≡ true) same stored)
-
 module _ (w m : WorldState) (only : IsOnly (goal_part false) w m) where
   not_the_goal : (q : Name) → owns_profile q || owns_boot q ≡ true → owns_goal q ≡ false
   not_the_goal q own = false_by (owns_goal q) (reads_goal q) (λ is. (goal_is false).reads_own q is) (goal_unread_default q own)
@@ -293,7 +276,7 @@ module _ (w m : WorldState) (only : IsOnly (goal_part false) w m) where
   goal_names_same = names_by w m (goal_profile profile profile_owned) (λ n. goal_profile (link_path n) (link_owned n))
 
   pub goal_store : IsSameStore m.leaves w.leaves
-  goal_store q stored = sym (only.leaves q (goal_not_stored q stored) (stored_not_stage q stored))
+  goal_store q stored = sym (only.leaves q (goal_not_in_store q stored) (store_not_stage q stored))
 
 -- what is named at a moment is named at each at which the profile is the same
 pub names_then : (to : Option Name) (w u m : WorldState) → NamesOneOf to w u → SameNames u m → NamesOneOf to w m

@@ -1,5 +1,5 @@
 -- Where the work of a command's parts has come to a moment, the command is underway.
-use Rattle.std.proofs.Common.{◌≡◌, ◌≢◌, ◌↔◌, ◌&&◌, ℕ, Bool, true, false, cond, ◌++◌, List, [], length, nat_lt, unwrap_or, codes, append_assoc, Option, None, Some, is_none, option_map, refl, sym, ap, subst, ◌∙◌}
+use Rattle.std.proofs.Common.{◌≡◌, ◌≢◌, ◌↔◌, ◌&&◌, ℕ, Bool, true, false, cond, List, [], length, nat_lt, unwrap_or, Option, None, Some, is_none, option_map, refl, sym, ap, subst, ◌∙◌}
 use Rattle.std.proofs.lemmas.Bool.{both_ways}
 use Rattle.std.specs.FinMap.{get}
 use Rattle.activation_stage.specs.ActivationPart.{activation_part}
@@ -13,7 +13,7 @@ use Rattle.host_trait.specs.declared.manager_state.ManagerState.{ManagerState}
 use Rattle.host_trait.specs.States.{state_of}
 use Rattle.host_trait.specs.World.{Leaves, WorldState, content_of, stage}
 use Rattle.owed_log.specs.Lengths.{AreOwedShort}
-use Rattle.owed_plan.specs.Store.{AreSameInStore, IsInStore}
+use Rattle.owed_plan.specs.Store.{AreSameInStore}
 use Rattle.owed_plan.proofs.StoreLemmas.{content_same}
 use Rattle.switch_engine.specs.declared.command.Command.{Command}
 use Rattle.switch_engine.specs.declared.row.Row.{Row}
@@ -25,16 +25,13 @@ use Rattle.leaf_limits.specs.Limits.{is_long, leaf_max}
 use Rattle.switch_engine.specs.Lengths.{too_long_by}
 use Rattle.activation_stage.proofs.ActivationLemmas.{owners_law}
 use Rattle.boot_entries.proofs.DefaultLemmas.{default_stays_law}
+use Rattle.boot_entries.proofs.OwnLemmas.{version_stored}
 use Rattle.switch_engine.proofs.ShortLemmas.{owed_short, parts_little, version_short}
 use Rattle.switch_engine.proofs.PartsLemmas.{gens_to_law, not_in_store, parts_are}
-use Rattle.switch_engine.proofs.StoreApart.{store_not_stage}
 use Rattle.tree_put.specs.First.{first_in_the_way}
 use Rattle.tree_put.proofs.FirstLemmas.{none_as_listed}
 use Rattle.switch_names.specs.Names.{Name}
-use Rattle.switch_names.specs.Path.{is_below}
-use Rattle.switch_names.specs.SystemName.{IsSystemPath, store_folder, store_name}
-use Rattle.switch_names.proofs.Below.{below_front}
-use Rattle.switch_names.proofs.StorePaths.{IsStorePath-from_named, store_path_is}
+use Rattle.switch_names.specs.SystemName.{IsSystemPath}
 use Rattle.switch_names.proofs.Outcomes.{option_or_parts, option_or_nothing, none_mapped}
 use Rattle.switch_parts.specs.declared.refusal.Refusal.{Refusal}
 use Rattle.switch_parts.specs.declared.refusal.Refusal.TheVariants.{InTheWay, NoSystem}
@@ -42,6 +39,7 @@ use Rattle.switch_engine.proofs.LongLemmas.{none_refused, unless}
 use Rattle.switch_parts.specs.Limits.{long_refusal}
 use Rattle.switch_parts.specs.Part.{IsFree, IsPartMoment, IsPart, final_leaf}
 use Rattle.switch_parts.proofs.Parts.{ends_alike, first_free}
+use Rattle.switch_parts.proofs.StoreLemmas.{store_not_stage}
 use Rattle.unit_stage.specs.Owes.{HasGoneOn, IsSteadyWorld}
 use Rattle.unit_stage.specs.Units.{AreUnitsUnderway, units_part}
 use Rattle.unit_stage.proofs.GoneOnLemmas.{no_call}
@@ -92,17 +90,6 @@ has_a_system command leaves none = (unless (lacks_system command leaves) (missin
 pub free_command : (command : Command) (leaves : Leaves) → refusal command leaves ≡ None → IsFreeCommand command leaves
 free_command command leaves none =
     free_by (row command leaves).start_up (row command leaves).switches (row command leaves).moves (new_system command leaves) leaves (unless (lacks_system command leaves) (missing command) (system_refusal None command leaves) none).1
-
--- ---- the file that each system has
-
-version_inside : (system : Name) → IsSystemPath system → IsInStore (version_path system)
-unfolding version_path
-version_inside system named =
-    let path : system ≡ store_folder ++ store_name system =
-    subst (λ p. p ≡ store_folder ++ store_name p) named.same (store_path_is _ (IsStorePath-from_named system named.no_fault).begins) in
-    ap (λ p. is_below p (codes "nix/store"))
-    (ap (λ p. p ++ codes "/nixos-version") path ∙ append_assoc store_folder (store_name system) (codes "/nixos-version"))
-    ∙ below_front (codes "nix/store") (store_name system ++ codes "/nixos-version")
 
 -- ---- what a moment keeps for the units
 
@@ -223,8 +210,8 @@ module _ (command : Command) (w m : WorldState) (on : (row command w.leaves).cha
 
   still_free : IsSteadyFor command w → IsFreeBy start_up switches moves system m.leaves
   still_free steady = record {
-    version = ap is_none (content_same m.leaves w.leaves same_store (version_path system) (version_inside system named)) ∙ free.version;
-    short = ap (λ (content : Option (List ℕ)). nat_lt leaf_max (length (unwrap_or content []))) (content_same m.leaves w.leaves same_store (version_path system) (version_inside system named)) ∙ free.short;
+    version = ap is_none (content_same m.leaves w.leaves same_store (version_path system) (version_stored system named)) ∙ free.version;
+    short = ap (λ (content : Option (List ℕ)). nat_lt leaf_max (length (unwrap_or content []))) (content_same m.leaves w.leaves same_store (version_path system) (version_stored system named)) ∙ free.short;
     owed = short_by start_up switches moves system (owners_after system w.leaves) (gens_to moves system w.leaves) w m free.parts moment steady free.owed;
     parts = free_owners start_up system w m switches moves moment (free_gens start_up system w m switches moves moment (parts_is.stays_free w m moment.keeps free.parts));
   }

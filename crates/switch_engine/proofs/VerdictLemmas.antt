@@ -15,9 +15,9 @@ use Rattle.switch_engine.specs.Final.{AreFinalUnits, IsEndOf, IsFinalOf, LeavesF
 use Rattle.switch_engine.specs.Owing.{IsUnderway}
 use Rattle.switch_engine.specs.Rows.{gens_to, part_of}
 use Rattle.switch_engine.proofs.PartsLemmas.{not_in_store}
-use Rattle.switch_engine.proofs.StoreApart.{store_not_stage}
 use Rattle.switch_names.specs.Names.{Name}
 use Rattle.switch_names.specs.SystemName.{IsSystemPath}
+use Rattle.switch_parts.proofs.StoreLemmas.{store_not_stage}
 use Rattle.unit_defs.specs.Units.{text_of}
 use Rattle.unit_stage.specs.End.{AreEndStates}
 use Rattle.unit_stage.proofs.EndLemmas.{one_end}

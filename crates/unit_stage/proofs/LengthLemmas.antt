@@ -1,5 +1,5 @@
 -- Contents that are too long, and what is refused for them.
-use Rattle.std.proofs.Common.{◌≡◌, ◌⊎◌, ◌||◌, ◌++◌, Bool, true, codes, ℕ, List, nat_lt, length, [], Option, None, Some, option_map, unwrap_or, sym, ap, ◌∙◌, inl, inr}
+use Rattle.std.proofs.Common.{◌≡◌, ◌⊎◌, ◌||◌, ◌++◌, Bool, true, ℕ, List, nat_lt, length, [], Option, None, Some, option_map, unwrap_or, sym, ap, ◌∙◌, inl, inr}
 use Rattle.std.proofs.lemmas.Bool.{or_cases, or_left, or_right}
 use Rattle.std.proofs.lemmas.List.Folds.{list_any-append}
 use Rattle.host_trait.specs.World.{Leaves}
@@ -8,11 +8,11 @@ use Rattle.leaf_limits.specs.Limits.{AreTaken, is_long, leaf_max, long_past}
 use Rattle.owed_plan.specs.Store.{AreSameInStore, IsInStore, IsOldInStore}
 use Rattle.owed_plan.proofs.StoreLemmas.{content_same, files_same}
 use Rattle.switch_names.specs.Names.{Name, has, is_name}
-use Rattle.switch_names.proofs.Below.{below_both}
 use Rattle.switch_names.proofs.Outcomes.{none_mapped, option_or_parts}
 use Rattle.switch_parts.specs.declared.refusal.Refusal.TheVariants.{TooMany}
 use Rattle.switch_parts.specs.declared.refusal.What.TheVariants.{LeafBytes}
 use Rattle.switch_parts.specs.Limits.{too_many}
+use Rattle.switch_parts.proofs.StoreLemmas.{store_below}
 use Rattle.unit_defs.specs.declared.part.FilePart.{FilePart}
 use Rattle.unit_defs.specs.Taken.{AreShort, NotesLong, takes_units}
 use Rattle.unit_defs.proofs.NotingLemmas.{both_noted}
@@ -56,7 +56,7 @@ module _ (leaves other : Leaves) (same : AreSameInStore leaves other) where
   new_taken : (system : Name) → IsInStore system → (q : Name) → takes_units leaves system q ≡ true → (takes_units other system q ≡ true) × IsInStore q
   new_taken system inside q taken = (
     sym (taken_by_files leaves other system (λ unit. ap (option_map (λ (part : FilePart). part.text)) (files_same leaves other same system inside unit)) q) ∙ taken,
-    below_both q system (codes "nix/store") (taken_below leaves system q taken) inside,
+    store_below q system (taken_below leaves system q taken) inside,
   )
 
   old_taken : (old : Option Name) → IsOldInStore old → (q : Name) → takes_old leaves old q ≡ true → (takes_old other old q ≡ true) × IsInStore q

@@ -1,5 +1,5 @@
 -- The places that the units' part owns and looks at.
-use Rattle.std.proofs.Common.{◌≡◌, ◌≢◌, ◌||◌, ◌∷◌, Bool, not, true, false, List, [], codes, map, refl, sym, ap, subst, ◌∙◌, inl, inr}
+use Rattle.std.proofs.Common.{◌≡◌, ◌≢◌, ◌||◌, ◌∷◌, Bool, not, true, false, List, [], map, refl, sym, ap, subst, ◌∙◌, inl, inr}
 use Rattle.std.proofs.lemmas.Bool.{both_ways, cases_Bool, or_left, or_right}
 use Rattle.std.specs.Cmp.Lexicographic.{same_text}
 use Rattle.std.specs.FinMap.{get}
@@ -11,8 +11,8 @@ use Rattle.owed_lists.specs.Lists.{place_of, reloads_place, restarts_place, star
 use Rattle.owed_log.specs.Places.{log_place}
 use Rattle.owed_plan.specs.Store.{AreSameInStore, IsInStore}
 use Rattle.switch_names.specs.Names.{Name}
-use Rattle.switch_names.specs.Path.{is_below}
 use Rattle.switch_parts.specs.Leaves.{is_among, is_near}
+use Rattle.switch_parts.specs.Store.{is_in_store}
 use Rattle.switch_parts.proofs.LeafLemmas.{none_among}
 use Rattle.tree_put.specs.declared.written_place.WrittenPlace.{WrittenPlace}
 use Rattle.unit_stage.specs.Laws.{AreSameBeside}
@@ -28,7 +28,7 @@ unfolding current_place log_place reloads_place restarts_place starts_place
 units_open = tt
 
 pub not_reads_stage : reads_units stage ≡ false
-unfolding stage units_open
+unfolding stage units_open is_in_store
 not_reads_stage = refl
 
 -- an owned place isn't the stage
@@ -45,11 +45,11 @@ not_owned test q is all = elim (cases_Bool (owns_units q)) [
 -- ---- the store
 
 pub reads_store : (q : Name) → IsInStore q → reads_units q ≡ true
-reads_store q inside = or_right (owns_units q || is_near unit_places q) (is_below q (codes "nix/store")) inside
+reads_store q inside = or_right (owns_units q || is_near unit_places q) (is_in_store q) inside
 
 pub not_owns_store : (q : Name) → IsInStore q → owns_units q ≡ false
-unfolding units_open
-not_owns_store q inside = not_owned (λ x. is_below x (codes "nix/store")) q inside refl
+unfolding units_open is_in_store
+not_owns_store q inside = not_owned is_in_store q inside refl
 
 pub same_store : (w m : WorldState) → AreSameBeside w m → AreSameInStore m.leaves w.leaves
 same_store w m same q inside = same q (reads_store q inside) (not_owns_store q inside)
@@ -64,7 +64,7 @@ pub record IsWritten (at : Name) : Type 0 where
 pub same_line : (at : Name) → IsWritten at → (w m : WorldState) → AreSameBeside w m → (q : Name) → is_in_line q at ≡ true → get m.leaves q ≡ get w.leaves q
 same_line at is w m same q line =
     same q
-    (or_left (owns_units q || is_near unit_places q) (is_below q (codes "nix/store")) (or_right (owns_units q) (is_near unit_places q) (is.near q line)))
+    (or_left (owns_units q || is_near unit_places q) (is_in_store q) (or_right (owns_units q) (is_near unit_places q) (is.near q line)))
     (not_owned (λ x. is_in_line x at) q line is.apart)
 
 -- what is in line with one of some places is near them

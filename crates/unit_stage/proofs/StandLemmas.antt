@@ -1,5 +1,5 @@
 -- What stands at the places of the units' part, step by step.
-use Rattle.std.proofs.Common.{◌≡◌, ◌≢◌, ◌∷◌, ℕ, true, false, List, [], take, Option, Some, codes, refl, sym, ap, subst, ◌∙◌, inl, inr}
+use Rattle.std.proofs.Common.{◌≡◌, ◌≢◌, ◌∷◌, ℕ, true, false, List, [], take, Option, Some, refl, sym, ap, subst, ◌∙◌, inl, inr}
 use Rattle.std.proofs.lemmas.Bool.{both_ways}
 use Rattle.std.specs.FinMap.{get}
 use Rattle.std.specs.List.{flat_map, list_any}
@@ -27,7 +27,8 @@ use Rattle.owed_log.proofs.MomentLemmas.{cleared_law}
 use Rattle.owed_plan.specs.declared.duty.Duty.{Duty}
 use Rattle.owed_plan.specs.Store.{AreSameInStore, IsInStore}
 use Rattle.switch_names.specs.Names.{Name, is_name}
-use Rattle.switch_names.specs.Path.{is_below}
+use Rattle.switch_parts.specs.Store.{is_in_store}
+use Rattle.switch_parts.proofs.StoreLemmas.{store_not_stage}
 use Rattle.unit_stage.specs.Acts.{performed, with_calls}
 use Rattle.unit_stage.specs.Steps.{AreSameUnits, HasLogFor, with_all_given, with_cleared, with_current, with_given, with_loaded}
 use Rattle.unit_stage.specs.System.{current_place, system_leaf}
@@ -73,15 +74,11 @@ list_current Starts = refl
 list_current Restarts = refl
 list_current Reloads = refl
 
-stage_not_stored : is_below stage (codes "nix/store") ≡ false
-unfolding stage
-stage_not_stored = refl
-
 pub stored_not_stage : (q : Name) → IsInStore q → q ≢ stage
-stored_not_stage q inside same = both_ways _ stage_not_stored (subst (λ x. is_below x (codes "nix/store") ≡ true) same inside)
+stored_not_stage q inside = store_not_stage q inside
 
-current_not_stored : is_below current_place (codes "nix/store") ≡ false
-unfolding current_place
+current_not_stored : is_in_store current_place ≡ false
+unfolding current_place is_in_store
 current_not_stored = refl
 
 -- ---- the link
@@ -107,7 +104,7 @@ module _ (system : Name) (v : WorldState) where
   }
 
   not_current : (q : Name) → IsInStore q → eq_by_cmp bytes_cmp q current_place ≡ false
-  not_current q inside = other_of q current_place (λ same. both_ways _ current_not_stored (subst (λ x. is_below x (codes "nix/store") ≡ true) same inside))
+  not_current q inside = other_of q current_place (λ same. both_ways _ current_not_stored (subst (λ x. is_in_store x ≡ true) same inside))
 
   pub store_beside : AreSameInStore (with_current system v).leaves v.leaves
   store_beside q inside = get_other v.leaves current_place q (system_leaf system) (not_current q inside)

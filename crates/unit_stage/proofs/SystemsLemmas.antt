@@ -1,5 +1,5 @@
 -- The systems and the lists at the moments of a switch of the units.
-use Rattle.std.proofs.Common.{◌≡◌, ◌∷◌, ℕ, List, Option, None, Some, is_none, codes, cond, option_and_then, refl, ap, subst, ◌∙◌}
+use Rattle.std.proofs.Common.{◌≡◌, ◌∷◌, ℕ, List, Option, None, Some, is_none, cond, option_and_then, refl, ap, subst, ◌∙◌}
 use Rattle.std.specs.FinMap.{get}
 use Rattle.generations.specs.Places.{target_of}
 use Rattle.host_trait.specs.declared.leaf.LeafKind.{LeafKind}
@@ -10,10 +10,11 @@ use Rattle.owed_plan.specs.Systems.{systems_at}
 use Rattle.owed_plan.proofs.StoreLemmas.{leaf_same, systems_law}
 use Rattle.switch_names.specs.declared.name_fault.NameFault.{NameFault}
 use Rattle.switch_names.specs.Names.{Name}
-use Rattle.switch_names.specs.Path.{is_below, slash}
+use Rattle.switch_names.specs.Path.{slash}
 use Rattle.switch_names.specs.SystemName.{IsSystemPath, store_name, system_fault, system_path, named_system}
-use Rattle.switch_names.proofs.Below.{below_front}
 use Rattle.switch_names.proofs.StorePaths.{IsStorePath-from_named, NamesSystem-with_slash, store_path_is}
+use Rattle.switch_parts.specs.Store.{is_in_store}
+use Rattle.switch_parts.proofs.StoreLemmas.{store_begins}
 use Rattle.unit_stage.specs.Laws.{AreSameBeside}
 use Rattle.unit_stage.specs.System.{IsSystem, current_place, current_system, system_leaf}
 use Rattle.unit_stage.proofs.OwnedLemmas.{same_store}
@@ -22,7 +23,7 @@ use Rattle.unit_stage.proofs.OwnedLemmas.{same_store}
 named_inside : (text : List ℕ) → system_fault text ≡ None → IsInStore (system_path text)
 named_inside text none =
     let path = store_path_is (system_path text) (IsStorePath-from_named text none).begins in
-    ap (λ p. is_below p (codes "nix/store")) path ∙ below_front (codes "nix/store") (store_name (system_path text))
+    ap is_in_store path ∙ store_begins (store_name (system_path text))
 
 text_inside : (text : List ℕ) → IsOldInStore (named_system text)
 text_inside text = by (system_fault text) refl

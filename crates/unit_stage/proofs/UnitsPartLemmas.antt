@@ -1,5 +1,5 @@
 -- What is about the units is a part of a switch.
-use Rattle.std.proofs.Common.{◌≡◌, ◌||◌, true, codes, List, Some, refl, sym, subst, ◌∙◌, Bool, inl}
+use Rattle.std.proofs.Common.{◌≡◌, ◌||◌, true, List, Some, refl, sym, subst, ◌∙◌, Bool, inl}
 use Rattle.std.proofs.lemmas.Bool.{both_ways, or_left}
 use Rattle.std.specs.FinMap.{get}
 use Rattle.host_trait.specs.World.{WorldState}
@@ -11,9 +11,9 @@ use Rattle.owed_log.specs.Places.{log_place}
 use Rattle.owed_log.specs.Standing.{AreListsAt}
 use Rattle.owed_log.specs.Writing.{IsWriteFor}
 use Rattle.switch_names.specs.Names.{Name}
-use Rattle.switch_names.specs.Path.{is_below}
 use Rattle.switch_parts.specs.Leaves.{is_near}
 use Rattle.switch_parts.specs.Part.{IsOnly, IsSameFor}
+use Rattle.switch_parts.specs.Store.{is_in_store}
 use Rattle.unit_stage.specs.Laws.{AreSameBeside, UnitMomentLaw, UnitsPartLaw}
 use Rattle.owed_plan.specs.declared.owed.Owed.{Owed}
 use Rattle.unit_stage.specs.Order.{IsOrderedAt}
@@ -56,7 +56,7 @@ kept_then start_up system w v m one then = record {
 -- ---- where nothing has changed
 
 pub reads_own : (q : Name) → owns_units q ≡ true → reads_units q ≡ true
-reads_own q own = or_left (owns_units q || is_near unit_places q) (is_below q (codes "nix/store")) (or_left (owns_units q) (is_near unit_places q) own)
+reads_own q own = or_left (owns_units q || is_near unit_places q) (is_in_store q) (or_left (owns_units q) (is_near unit_places q) own)
 
 module _ (start_up : Bool) (system : Name) (w m : WorldState) (is_system : IsSystem system) (same : IsSameFor (units_part start_up system) w m) where
   same_beside : AreSameBeside w m

@@ -1,10 +1,10 @@
 -- The places that the units' part of a switch owns: NixOS manual, "What happens during a system switch?".
-use Rattle.std.specs.Prelude.{◌||◌, Bool, true, false, List, ◌∷◌, codes, map}
+use Rattle.std.specs.Prelude.{◌||◌, Bool, true, false, List, ◌∷◌, map}
 use Rattle.host_trait.specs.World.{stage}
 use Rattle.owed_log.specs.Places.{log_place, old_places}
 use Rattle.switch_names.specs.Names.{Name}
-use Rattle.switch_names.specs.Path.{is_below}
 use Rattle.switch_parts.specs.Leaves.{is_among, is_near}
+use Rattle.switch_parts.specs.Store.{is_in_store}
 use Rattle.tree_put.specs.declared.written_place.WrittenPlace.{WrittenPlace}
 use Rattle.tree_put.specs.WrittenPlace.{written}
 use Rattle.unit_stage.specs.System.{current_place}
@@ -27,4 +27,4 @@ unit_places = written false stage ∷ written false current_place ∷ list_place
 
 -- what is looked at: these places, what could be in their way, and the store, where the systems lie
 abbrev pub reads_units : Name → Bool
-reads_units q = owns_units q || is_near unit_places q || is_below q (codes "nix/store")
+reads_units q = owns_units q || is_near unit_places q || is_in_store q
