@@ -44,6 +44,7 @@ use Rattle.tree_put.specs.Written.{WritesOnly}
 use Rattle.switch_parts.specs.Leaves.{is_among}
 use Rattle.switch_parts.proofs.LeafLemmas.{each_among}
 use Rattle.switch_parts.proofs.Parts.{first_free, first_moment, is_final, moment_then, only_beside, only_first, only_then, second_free, second_moment}
+use Rattle.switch_parts.proofs.StoreLemmas.{store_not_stage}
 use Rattle.unit_stage.specs.Acts.{CanPerform, IsPerforming, performed, with_calls}
 use Rattle.unit_stage.specs.Laws.{AreSameBeside}
 use Rattle.unit_stage.specs.Order.{ArrangesStarts}
@@ -60,7 +61,7 @@ use Rattle.unit_stage.proofs.SameLemmas.{same_bringing, units_seen, units_then}
 use Rattle.unit_stage.proofs.ComeLemmas.{recorded_alone}
 use Rattle.unit_stage.proofs.GivenLemmas.{Ended, ended, log_for, no_listed}
 use Rattle.unit_stage.proofs.ListsLemmas.{alone_same}
-use Rattle.unit_stage.proofs.StandLemmas.{all_given_manager, same_lists_of, stored_not_stage}
+use Rattle.unit_stage.proofs.StandLemmas.{all_given_manager, same_lists_of}
 use Rattle.unit_stage.proofs.StepLemmas.{all_taken, manager_seen}
 use Rattle.unit_stage.proofs.SystemsLemmas.{is_system}
 use Rattle.unit_stage.proofs.TableLemmas.{all_entered, can_rest, final_states, given_all, ready}
@@ -179,8 +180,8 @@ module _ (start_up : Bool) (system : Name) (named : IsSystemPath system) (owed :
       alone_ready =
           alone_same stopped_world.leaves v.leaves
           (λ q inside.
-          at_ready.only.leaves q (or_from _ _ (not_owns_store q inside) (not_activated q (reads_store q inside))) (stored_not_stage q inside)
-          ∙ sym (lists_elsewhere write w q (not_owns_store q inside) (stored_not_stage q inside)))
+          at_ready.only.leaves q (or_from _ _ (not_owns_store q inside) (not_activated q (reads_store q inside))) (store_not_stage q inside)
+          ∙ sym (lists_elsewhere write w q (not_owns_store q inside) (store_not_stage q inside)))
           (same_lists_of stopped_world v units_ready) (lists_of owed)
           (recorded_alone system owed order w write stopped.1 (are_named start_up system is_owed.0 owed w is_owed.1 stopped.1.counted))
 

@@ -31,6 +31,7 @@ use Rattle.owed_plan.specs.Calls.{duty, listed_calls, reload_act, stop_calls}
 use Rattle.owed_plan.specs.Law.{lists_of}
 use Rattle.owed_plan.specs.Owed.{sockets_first}
 use Rattle.switch_names.specs.Names.{Name, has}
+use Rattle.switch_parts.proofs.StoreLemmas.{store_not_stage}
 use Rattle.unit_decide.specs.Facts.{unit_kind}
 use Rattle.owed_plan.specs.Store.{AreSameInStore}
 use Rattle.unit_stage.specs.Acts.{IsPerforming, performed, with_calls}
@@ -44,7 +45,7 @@ use Rattle.unit_stage.proofs.GivenLemmas.{alone_at, alone_end, given_after, give
 use Rattle.unit_stage.proofs.ListsLemmas.{AreListLeaves, leaves_same, lists_same}
 use Rattle.unit_stage.proofs.OwnedLemmas.{not_owns_store, reads_store}
 use Rattle.unit_stage.proofs.RecordLemmas.{IsClearing, clears, record_leaves}
-use Rattle.unit_stage.proofs.StandLemmas.{Stand, all_given_current, all_given_manager, alone_stands, cleared_current, current_alone, current_here, record_current, recorded_current, same_lists_of, same_stands, stored_not_stage}
+use Rattle.unit_stage.proofs.StandLemmas.{Stand, all_given_current, all_given_manager, alone_stands, cleared_current, current_alone, current_here, record_current, recorded_current, same_lists_of, same_stands}
 
 -- ---- calls, split at one of them
 
@@ -366,10 +367,10 @@ pub has_come : (system : Name) (owed : Owed) (order : List Name) (w m : WorldSta
     HasCome system owed order w m
 has_come system owed order w m named beside (IsUnitMoment.Stopping write is u step same) =
     come_same system owed order w u m (stop_step system owed order w write is (named is.counted) u step) same
-    (λ q inside. beside q (reads_store q inside) (not_owns_store q inside) ∙ sym (stop_elsewhere write (stop_calls owed) w u q (not_owns_store q inside) (stored_not_stage q inside) step))
+    (λ q inside. beside q (reads_store q inside) (not_owns_store q inside) ∙ sym (stop_elsewhere write (stop_calls owed) w u q (not_owns_store q inside) (store_not_stage q inside) step))
 has_come system owed order w m named beside (IsUnitMoment.Bringing write is u step same) =
     come_same system owed order w u m (bring_step system owed order w write is (named is.counted) u step) same
     (λ q inside.
     beside q (reads_store q inside) (not_owns_store q inside)
     ∙ sym (bring_elsewhere q (not_owns_store q inside) (listed_calls owed order (state_of w.manager.states)) system (with_stops write (stop_calls owed) w) u step
-    ∙ lists_elsewhere write w q (not_owns_store q inside) (stored_not_stage q inside)))
+    ∙ lists_elsewhere write w q (not_owns_store q inside) (store_not_stage q inside)))

@@ -22,13 +22,14 @@ use Rattle.owed_plan.specs.Law.{lists_of}
 use Rattle.owed_plan.specs.Store.{AreSameInStore}
 use Rattle.owed_plan.proofs.StoreLemmas.{leaf_same}
 use Rattle.switch_names.specs.Names.{Name, has, is_name}
+use Rattle.switch_parts.proofs.StoreLemmas.{store_not_stage}
 use Rattle.unit_stage.specs.Acts.{with_calls}
 use Rattle.unit_stage.specs.Laws.{AreSameBeside}
 use Rattle.unit_stage.specs.Steps.{IsBringStep, IsClearingMoment, IsGiveMoment, IsListMoment, IsStopStep, IsUnitMoment, give_order, with_cleared, with_current, with_given, with_loaded, with_stops}
 use Rattle.unit_stage.proofs.ElsewhereLemmas.{bring_elsewhere, leaves_performing, lists_elsewhere, stop_elsewhere}
 use Rattle.unit_stage.proofs.ListsLemmas.{AreSameLists}
 use Rattle.unit_stage.proofs.OwnedLemmas.{not_owns_store, reads_store}
-use Rattle.unit_stage.proofs.StandLemmas.{lists_beside, same_lists_of, store_beside, stored_not_stage}
+use Rattle.unit_stage.proofs.StandLemmas.{lists_beside, same_lists_of, store_beside}
 
 -- ---- the places
 
@@ -126,7 +127,7 @@ module _ (calls : Which → List Duty) where
 pub unit_short : (system : Name) (owed : Owed) (order : List Name) (w m : WorldState) → log_length (lists_of owed) ≤ leaf_max → AreSameBeside w m → IsUnitMoment system owed order w m → AreOwedShort w.leaves → AreOwedShort m.leaves
 unit_short system owed order w m fits beside (IsUnitMoment.Stopping write is u step same) short =
     short_same u.leaves m.leaves
-    (λ q inside. beside q (reads_store q inside) (not_owns_store q inside) ∙ sym (stop_elsewhere write (stop_calls owed) w u q (not_owns_store q inside) (stored_not_stage q inside) step))
+    (λ q inside. beside q (reads_store q inside) (not_owns_store q inside) ∙ sym (stop_elsewhere write (stop_calls owed) w u q (not_owns_store q inside) (store_not_stage q inside) step))
     (same_lists_of u m same) (stop_short (lists_of owed) write w is.prepared fits short (stop_calls owed) u step)
 unit_short system owed order w m fits beside (IsUnitMoment.Bringing write is u step same) short =
     let calls = listed_calls owed order (state_of w.manager.states) in
@@ -134,5 +135,5 @@ unit_short system owed order w m fits beside (IsUnitMoment.Bringing write is u s
     short_same u.leaves m.leaves
     (λ q inside.
     beside q (reads_store q inside) (not_owns_store q inside)
-    ∙ sym (bring_elsewhere q (not_owns_store q inside) calls system v u step ∙ lists_elsewhere write w q (not_owns_store q inside) (stored_not_stage q inside)))
+    ∙ sym (bring_elsewhere q (not_owns_store q inside) calls system v u step ∙ lists_elsewhere write w q (not_owns_store q inside) (store_not_stage q inside)))
     (same_lists_of u m same) (bring_short calls system v u (recorded_room (lists_of owed) write w is.prepared fits short) step)

@@ -6,7 +6,7 @@ use Rattle.std.specs.List.{flat_map, list_any}
 use Rattle.std.specs.Ordering.{eq_by_cmp}
 use Rattle.host_trait.specs.Change.{IsMoment}
 use Rattle.host_trait.specs.declared.leaf.LeafKind.{LeafKind}
-use Rattle.host_trait.specs.World.{Leaves, WorldState, bytes_cmp, seen, stage}
+use Rattle.host_trait.specs.World.{Leaves, WorldState, bytes_cmp, seen}
 use Rattle.host_trait.proofs.NameOrder.{name_itself}
 use Rattle.host_trait.proofs.Places.{at_same}
 use Rattle.host_trait.proofs.Seen.{other_of, seen_at}
@@ -28,7 +28,6 @@ use Rattle.owed_plan.specs.declared.duty.Duty.{Duty}
 use Rattle.owed_plan.specs.Store.{AreSameInStore, IsInStore}
 use Rattle.switch_names.specs.Names.{Name, is_name}
 use Rattle.switch_parts.specs.Store.{is_in_store}
-use Rattle.switch_parts.proofs.StoreLemmas.{store_not_stage}
 use Rattle.unit_stage.specs.Acts.{performed, with_calls}
 use Rattle.unit_stage.specs.Steps.{AreSameUnits, HasLogFor, with_all_given, with_cleared, with_current, with_given, with_loaded}
 use Rattle.unit_stage.specs.System.{current_place, system_leaf}
@@ -73,9 +72,6 @@ unfolding current_place starts_place restarts_place reloads_place
 list_current Starts = refl
 list_current Restarts = refl
 list_current Reloads = refl
-
-pub stored_not_stage : (q : Name) → IsInStore q → q ≢ stage
-stored_not_stage q inside = store_not_stage q inside
 
 current_not_stored : is_in_store current_place ≡ false
 unfolding current_place is_in_store
