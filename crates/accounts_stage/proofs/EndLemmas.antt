@@ -1,8 +1,9 @@
 -- What stands after puts: at the places that are put the last leaf, and elsewhere what stood.
-use Rattle.std.proofs.Common.{◌≡◌, ℕ, true, false, [], take, Option, None, Some, refl, ap, ◌∙◌}
-use Rattle.std.proofs.lemmas.Bool.{or_parts}
+use Rattle.std.proofs.Common.{◌≡◌, ℕ, true, false, List, [], ◌∷◌, length, take, Option, None, Some, refl, sym, ap, ◌∙◌, arith}
+use Rattle.std.proofs.lemmas.Bool.{and_parts}
+use Rattle.std.proofs.lemmas.List.{take_all}
 use Rattle.std.specs.FinMap.{get}
-use Rattle.std.specs.List.{AllByRecursion}
+use Rattle.std.specs.List.{AllByRecursion, list_all}
 use Rattle.std.specs.Ordering.{eq_by_cmp}
 use Rattle.host_trait.specs.declared.leaf.LeafKind.{LeafKind}
 use Rattle.host_trait.specs.World.{WorldState, bytes_cmp, seen}
@@ -18,39 +19,29 @@ use Rattle.tree_put.proofs.SequenceLemmas.{all_take, puts_manager}
 use Rattle.accounts_stage.specs.AccountsPart.{accounts_part, end_by, merged_in, puts_by}
 use Rattle.accounts_stage.specs.Files.{account_puts, merged_end}
 use Rattle.accounts_stage.specs.Laws.{AccountsEndLaw}
-use Rattle.accounts_stage.specs.Places.{account_names, gids_place, group_place, groups_place, owns_accounts, passwd_place, shadow_place, uids_place, users_place}
-use Rattle.accounts_stage.proofs.OwnLemmas.{not_stage, owned_read}
+use Rattle.accounts_stage.specs.Places.{account_names, owns_accounts}
+use Rattle.accounts_stage.specs.Puts.{AreAtAccounts}
+use Rattle.accounts_stage.proofs.OwnLemmas.{accounts_open, not_stage, other_owned, owned_read}
 
 -- ---- the puts of a merge
 
+-- each is at a place of accounts
+at_accounts : (m : Merged) → AreAtAccounts (account_puts m)
+unfolding accounts_open account_puts
+at_accounts m = refl
+
+elsewhere_by : (q : Name) → owns_accounts q ≡ false → (puts : List LeafPut) → AreAtAccounts puts → AreElsewhere q puts
+elsewhere_by q none [] at = tt
+elsewhere_by q none (put ∷ puts) at =
+    let parts = and_parts (owns_accounts put.at) (list_all (λ (other : LeafPut). owns_accounts other.at) puts) at in
+    (other_path q put.at (other_owned q put.at none parts.0), elsewhere_by q none puts parts.1)
+
 -- what isn't a place of accounts is put nowhere
 pub puts_elsewhere : (m : Merged) (q : Name) → owns_accounts q ≡ false → AreElsewhere q (account_puts m)
-unfolding account_names account_puts
-puts_elsewhere m q none =
-    let group = or_parts _ _ none in
-    let passwd = or_parts _ _ group.1 in
-    let shadow = or_parts _ _ passwd.1 in
-    let groups = or_parts _ _ shadow.1 in
-    let users = or_parts _ _ groups.1 in
-    let gids = or_parts _ _ users.1 in
-    let uids = or_parts _ _ gids.1 in
-    let users_other = other_path q users_place users.0 in
-    let groups_other = other_path q groups_place groups.0 in (
-      users_other,
-      (
-        groups_other,
-        (
-          other_path q uids_place uids.0,
-          (
-            other_path q gids_place gids.0,
-            (other_path q group_place group.0, (other_path q passwd_place passwd.0, (other_path q shadow_place shadow.0, (users_other, (groups_other, tt))))),
-          ),
-        ),
-      ),
-    )
+puts_elsewhere m q none = elsewhere_by q none (account_puts m) (at_accounts m)
 
 each_end : (m : Merged) (old : Name → Option LeafKind) → AllByRecursion (λ p. left_by (account_puts m) p (old p) ≡ merged_end m p) account_names
-unfolding left_by account_puts account_names group_place passwd_place shadow_place groups_place users_place gids_place uids_place
+unfolding left_by account_puts accounts_open
 each_end m old = (refl, (refl, (refl, (refl, (refl, (refl, (refl, tt)))))))
 
 -- after all of them each place has its end: of two puts at one place the last counts
@@ -72,13 +63,10 @@ only_puts system merged k w m is = record {
   manager = λ calls. ap (λ (x : WorldState). x.manager) is ∙ puts_manager (take k (puts_by merged)) w;
 }
 
-all_puts : (m : Merged) → account_puts m ≡ take 9 (account_puts m)
-unfolding account_puts
-all_puts m = refl
-
 end_only : (system : Name) (merged : Option Merged) (w v : WorldState) → seen v ≡ seen (with_puts (puts_by merged) w) → IsOnly (accounts_part system) w v
-end_only system None w v is = only_puts system None 0 w v is
-end_only system (Some m) w v is = only_puts system (Some m) 9 w v (is ∙ ap (λ puts. seen (with_puts puts w)) (all_puts m))
+end_only system merged w v is =
+    only_puts system merged (length (puts_by merged)) w v
+    (is ∙ ap (λ puts. seen (with_puts puts w)) (sym (take_all (length (puts_by merged)) (puts_by merged) (omega arith))))
 
 end_left : (merged : Option Merged) (w : WorldState) (q : Name) → owns_accounts q ≡ true → left_by (puts_by merged) q (get w.leaves q) ≡ end_by merged w.leaves q
 unfolding left_by

@@ -29,9 +29,9 @@ use Rattle.accounts_stage.specs.AccountsPart.{accounts_end, accounts_long, accou
 use Rattle.accounts_stage.specs.Lengths.{accounts_too_long, texts_long}
 use Rattle.accounts_stage.specs.Refusals.{declared_refusal, maps_refusal, merging_refusal, refusal_of, table_refusal, wrong_table}
 use Rattle.accounts_stage.specs.Rows.{rows_too_many, texts_past}
-use Rattle.accounts_stage.specs.Places.{account_names, account_places, gids_place, group_place, groups_place, owns_accounts, passwd_place, shadow_place, spec_path, uids_place, users_place}
+use Rattle.accounts_stage.specs.Places.{account_places, gids_place, group_place, groups_place, owns_accounts, passwd_place, shadow_place, spec_path, uids_place, users_place}
 use Rattle.accounts_stage.specs.Standing.{bytes_at, declared_by, declared_of, ids_of, memory_in, names_in, remembered_of, stored_in, tables_in}
-use Rattle.accounts_stage.proofs.OwnLemmas.{near_read, owned_read, reads_own, spec_stored, store_read}
+use Rattle.accounts_stage.proofs.OwnLemmas.{accounts_open, near_read, owned_read, reads_own, spec_stored, store_read}
 use Rattle.accounts_stage.proofs.WayLemmas.{AreReadAlike, all_free, each_free, same_way}
 
 -- ---- what is read is the same where the store is
@@ -52,31 +52,31 @@ abbrev pub HaveSameContents : Leaves → Leaves → Type 0
 HaveSameContents w m = (q : Name) → owns_accounts q ≡ true → content_of m q ≡ content_of w q
 
 pub own_group : owns_accounts group_place ≡ true
-unfolding account_names group_place passwd_place shadow_place groups_place users_place gids_place uids_place
+unfolding accounts_open
 own_group = refl
 
 pub own_passwd : owns_accounts passwd_place ≡ true
-unfolding account_names group_place passwd_place shadow_place groups_place users_place gids_place uids_place
+unfolding accounts_open
 own_passwd = refl
 
 pub own_shadow : owns_accounts shadow_place ≡ true
-unfolding account_names group_place passwd_place shadow_place groups_place users_place gids_place uids_place
+unfolding accounts_open
 own_shadow = refl
 
 pub own_groups : owns_accounts groups_place ≡ true
-unfolding account_names group_place passwd_place shadow_place groups_place users_place gids_place uids_place
+unfolding accounts_open
 own_groups = refl
 
 pub own_users : owns_accounts users_place ≡ true
-unfolding account_names group_place passwd_place shadow_place groups_place users_place gids_place uids_place
+unfolding accounts_open
 own_users = refl
 
 pub own_gids : owns_accounts gids_place ≡ true
-unfolding account_names group_place passwd_place shadow_place groups_place users_place gids_place uids_place
+unfolding accounts_open
 own_gids = refl
 
 pub own_uids : owns_accounts uids_place ≡ true
-unfolding account_names group_place passwd_place shadow_place groups_place users_place gids_place uids_place
+unfolding accounts_open
 own_uids = refl
 
 module _ (w m : Leaves) (same : HaveSameContents w m) where

@@ -1,13 +1,13 @@
 -- The places of accounts, and what setting accounts looks at.
-use Rattle.std.proofs.Common.{◌≡◌, ◌≢◌, ◌||◌, true, false, ◌++◌, codes, drop, refl, sym, subst, inl, inr}
-use Rattle.std.proofs.lemmas.Bool.{both_ways, cases_Bool, or_left, or_right}
-use Rattle.std.specs.Cmp.Lexicographic.{nat_list_eq_equiv}
-use Rattle.std.specs.List.{AllByRecursion}
+use Rattle.std.proofs.Common.{◌≡◌, ◌≢◌, ◌||◌, Bool, not, true, false, List, [], ◌∷◌, ◌++◌, codes, drop, refl, sym, ap, subst, ◌∙◌, inl, inr}
+use Rattle.std.proofs.lemmas.Bool.{and_parts, both_ways, cases_Bool, or_left, or_parts, or_right}
+use Rattle.std.specs.Cmp.Lexicographic.{nat_list_eq_equiv, same_text}
+use Rattle.std.specs.List.{AllByRecursion, list_all, list_any}
 use Rattle.switch_names.specs.Names.{Name}
 use Rattle.switch_names.specs.SystemName.{IsSystemPath}
 use Rattle.host_trait.specs.World.{is_in_line, is_path, stage}
 use Rattle.switch_parts.specs.Leaves.{is_near}
-use Rattle.switch_parts.proofs.LeafLemmas.{each_among}
+use Rattle.switch_parts.proofs.LeafLemmas.{none_among}
 use Rattle.tree_put.specs.declared.written_place.WrittenPlace.{WrittenPlace}
 use Rattle.switch_parts.specs.Store.{is_in_store}
 use Rattle.switch_parts.proofs.StoreLemmas.{store_is, system_stored}
@@ -31,7 +31,7 @@ near_read q is = or_right (owns_accounts q) (is_in_store q || is_near account_pl
 -- ---- the stage
 
 pub stage_unread : reads_accounts stage ≡ false
-unfolding stage account_names table_places memory_places group_place passwd_place shadow_place groups_place users_place gids_place uids_place is_in_store
+unfolding stage accounts_open is_in_store
 stage_unread = refl
 
 pub not_stage : (q : Name) → reads_accounts q ≡ true → q ≢ stage
@@ -44,18 +44,22 @@ pub spec_stored : (system : Name) → IsSystemPath system → is_in_store (spec_
 unfolding spec_path
 spec_stored system named = system_stored system (codes "/users-groups.json") named
 
-each_not_stored : AllByRecursion (λ p. (rest : Name) → is_path (codes "nix/store/" ++ rest) p ≡ false) account_names
-unfolding account_names group_place passwd_place shadow_place groups_place users_place gids_place uids_place
-each_not_stored = ((λ rest. refl), ((λ rest. refl), ((λ rest. refl), ((λ rest. refl), ((λ rest. refl), ((λ rest. refl), ((λ rest. refl), tt)))))))
-
 -- and is no place of accounts
 pub store_apart : (at q : Name) → owns_accounts at ≡ true → is_in_store q ≡ true → is_path q at ≡ false
-store_apart at q own is = subst (λ p. is_path p at ≡ false) (sym (store_is q is)) (each_among (λ p. (rest : Name) → is_path (codes "nix/store/" ++ rest) p ≡ false) account_names each_not_stored at own (drop 10 q))
+unfolding accounts_open
+store_apart at q own is = subst (λ p. is_path p at ≡ false) (sym (store_is q is)) (none_among (is_path (codes "nix/store/" ++ drop 10 q)) account_names refl at own)
 
 pub store_unowned : (q : Name) → is_in_store q ≡ true → owns_accounts q ≡ false
 store_unowned q is = elim (cases_Bool (owns_accounts q)) [
   | inl own ↦ absurd (both_ways _ (store_apart q q own is) (nat_list_eq_equiv.refl q))
   | inr none ↦ none
+]
+
+-- a path that is no place of accounts is none of them
+pub other_owned : (q at : Name) → owns_accounts q ≡ false → owns_accounts at ≡ true → is_path q at ≡ false
+other_owned q at none own = elim (cases_Bool (is_path q at)) [
+  | inl is ↦ absurd (both_ways _ none (ap owns_accounts (same_text q at (sym is)) ∙ own))
+  | inr other ↦ other
 ]
 
 -- ---- each of the places
@@ -64,35 +68,23 @@ store_unowned q is = elim (cases_Bool (owns_accounts q)) [
 abbrev pub IsApart : Name → Type 0
 IsApart at = AllByRecursion (λ (place : WrittenPlace). is_in_line at place.at ≡ false) account_places
 
-each_apart : AllByRecursion IsApart account_names
-unfolding account_names table_places memory_places stage group_place passwd_place shadow_place groups_place users_place gids_place uids_place
-each_apart = (
-  (refl, (refl, (refl, (refl, (refl, (refl, (refl, (refl, tt)))))))),
-  (
-    (refl, (refl, (refl, (refl, (refl, (refl, (refl, (refl, tt)))))))),
-    (
-      (refl, (refl, (refl, (refl, (refl, (refl, (refl, (refl, tt)))))))),
-      (
-        (refl, (refl, (refl, (refl, (refl, (refl, (refl, (refl, tt)))))))),
-        (
-          (refl, (refl, (refl, (refl, (refl, (refl, (refl, (refl, tt)))))))),
-          (
-            (refl, (refl, (refl, (refl, (refl, (refl, (refl, (refl, tt)))))))),
-            (
-              (refl, (refl, (refl, (refl, (refl, (refl, (refl, (refl, tt)))))))),
-              tt,
-            ),
-          ),
-        ),
-      ),
-    ),
-  ),
-)
+-- a test that fails at any of some places fails at each
+pub none_any : (test : WrittenPlace → Bool) (places : List WrittenPlace) → list_any test places ≡ false → AllByRecursion (λ place. test place ≡ false) places
+none_any test [] none = tt
+none_any test (place ∷ places) none = let parts = or_parts (test place) (list_any test places) none in (parts.0, none_any test places parts.1)
 
 pub apart : (at : Name) → owns_accounts at ≡ true → IsApart at
-apart at own = each_among IsApart account_names each_apart at own
+unfolding accounts_open stage
+apart at own = none_any (λ place. is_in_line at place.at) account_places (none_among (is_near account_places) account_names refl at own)
 
 -- each place that is read before it is written is one of accounts
 pub reads_own : AllByRecursion (λ (place : WrittenPlace). place.is_read ≡ true → owns_accounts place.at ≡ true) account_places
-unfolding account_names table_places memory_places stage group_place passwd_place shadow_place groups_place users_place gids_place uids_place
-reads_own = ((λ is. refl), ((λ is. refl), ((λ is. refl), ((λ is. absurd (cc)), ((λ is. refl), ((λ is. refl), ((λ is. refl), ((λ is. refl), tt))))))))
+unfolding accounts_open stage
+reads_own = each account_places refl
+  where
+    each : (places : List WrittenPlace) → list_all (λ (place : WrittenPlace). not place.is_read || owns_accounts place.at) places ≡ true →
+        AllByRecursion (λ (place : WrittenPlace). place.is_read ≡ true → owns_accounts place.at ≡ true) places
+    each [] all = tt
+    each (place ∷ places) all =
+        let parts = and_parts (not place.is_read || owns_accounts place.at) (list_all (λ (other : WrittenPlace). not other.is_read || owns_accounts other.at) places) all in
+        (λ is. sym (ap (λ b. not b || owns_accounts place.at) is) ∙ parts.0, each places parts.1)

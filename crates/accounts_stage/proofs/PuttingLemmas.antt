@@ -1,5 +1,5 @@
 -- The puts of accounts, one after the other.
-use Rattle.std.proofs.Common.{◌≡◌, ◌&&◌, ◌||◌, not, Bool, true, false, List, [], ◌∷◌, ◌++◌, Option, None, Some, Ok, Err, append_assoc, refl, sym, ap, ◌∙◌, inl, inr}
+use Rattle.std.proofs.Common.{◌≡◌, ◌&&◌, ◌||◌, not, Bool, true, false, List, [], ◌∷◌, ◌++◌, map, Option, None, Some, Ok, Err, append_assoc, refl, sym, ap, ◌∙◌, inl, inr}
 use Rattle.std.proofs.lemmas.Bool.{and_parts, both_ways, cases_Bool, not-true}
 use Rattle.std.proofs.lemmas.Option.{none-some}
 use Rattle.std.specs.Cmp.Lexicographic.{same_text}
@@ -16,6 +16,7 @@ use Rattle.switch_parts.proofs.LongLemmas.{long_after}
 use Rattle.tree_put.specs.Put.{AreApart}
 use Rattle.tree_put.specs.WrittenPlace.{in_the_way}
 use Rattle.tree_put.proofs.WayLemmas.{all_clear}
+use Rattle.tree_put.specs.declared.written_place.WrittenPlace.{WrittenPlace}
 use Rattle.account_text.specs.declared.tables.Tables.{Tables}
 use Rattle.users_merge.specs.declared.declared_names.Declared.{Declared}
 use Rattle.users_merge.specs.declared.merged.Merged as answered
@@ -29,7 +30,8 @@ use Rattle.tree_put.specs.declared.leaf_put.LeafPut.{LeafPut}
 use Rattle.tree_put.specs.Sequence.{ArePutsApart, CanPutAll, with_puts}
 use Rattle.tree_put.proofs.SequenceLemmas.{apart_by, clear_after, stage_after}
 use Rattle.accounts_stage.specs.Files.{account_puts, ids_puts, names_puts, nine_puts, table_puts}
-use Rattle.accounts_stage.specs.Places.{account_names, account_places, gids_place, group_place, groups_place, memory_places, owns_accounts, passwd_place, shadow_place, table_places, uids_place, users_place}
+use Rattle.accounts_stage.specs.Places.{account_names, account_places, owns_accounts}
+use Rattle.accounts_stage.proofs.OwnLemmas.{accounts_open}
 use Rattle.accounts_stage.specs.Plan.{IsAccountsPlanOf, IsAnswerOf, IsMergePlanned}
 use Rattle.accounts_stage.specs.AccountsPart.{accounts_long, merged_by, puts_by, puts_of, tables_by}
 use Rattle.accounts_stage.specs.Puts.{AreAtAccounts, answer_puts, first_planned, first_puts, last_planned}
@@ -42,7 +44,7 @@ abbrev is_apart : List Name → Name → Bool
 is_apart names p = (not (is_path p stage) && not (is_in_line p stage)) && (not (is_in_line stage p) && list_all (λ q. not (is_in_line p q)) names)
 
 all_apart : list_all (is_apart account_names) account_names ≡ true
-unfolding account_names group_place passwd_place shadow_place groups_place users_place gids_place uids_place stage
+unfolding accounts_open stage
 all_apart = refl
 
 all_among : (test : Name → Bool) (names : List Name) → list_all test names ≡ true → (q : Name) → is_among names q ≡ true → test q ≡ true
@@ -65,14 +67,14 @@ module _ (p : Name) (own : owns_accounts p ≡ true) where
 -- ---- what is put
 
 pub first_at_places : (answer : answered.Merged) → AreAtAccounts (first_puts answer)
-unfolding account_names group_place passwd_place shadow_place groups_place users_place gids_place uids_place
+unfolding accounts_open
 first_at_places answer = refl
 
 pub names_at_places : (names : Declared) → AreAtAccounts (names_puts names)
-unfolding account_names group_place passwd_place shadow_place groups_place users_place gids_place uids_place
+unfolding accounts_open
 names_at_places names = refl
 
--- the nine puts are those before the names that are declared now, and then these
+-- the puts are those before the names that are declared now, and then these
 pub answer_parts : (answer : answered.Merged) (first last : List LeafPut) → first ≡ first_puts answer → last ≡ names_puts answer.declared → answer_puts answer ≡ first ++ last
 unfolding answer_puts
 answer_parts answer first last is_first is_last = λ i. sym is_first i ++ sym is_last i
@@ -144,14 +146,20 @@ record CanPutAccounts (w : WorldState) : Type 0 where
   pub stage : IsClear w.leaves stage
   pub places : (q : Name) → owns_accounts q ≡ true → IsClear w.leaves q
 
+clear_names : (w : WorldState) (places : List WrittenPlace) → AllByRecursion (λ (place : WrittenPlace). IsClear w.leaves place.at) places →
+    AllByRecursion (IsClear w.leaves) (map (λ (place : WrittenPlace). place.at) places)
+clear_names w [] clear = tt
+clear_names w (place ∷ places) clear = (clear.0, clear_names w places clear.1)
+
+-- the stage and each place of accounts are told
+told_names : List Name
+told_names = map (λ (place : WrittenPlace). place.at) account_places
+
 way_clear : (w : WorldState) → in_the_way account_places w.leaves ≡ None → CanPutAccounts w
-unfolding table_places memory_places account_names
+unfolding accounts_open stage told_names
 way_clear w none =
-    let clear = all_clear w.leaves account_places none in
-    record {
-      stage = clear.1.1.1.0;
-      places = each_among (IsClear w.leaves) account_names (clear.0, (clear.1.0, (clear.1.1.0, (clear.1.1.1.1.0, (clear.1.1.1.1.1.0, (clear.1.1.1.1.1.1.0, (clear.1.1.1.1.1.1.1.0, tt)))))));
-    }
+    let clear = each_among (IsClear w.leaves) told_names (clear_names w account_places (all_clear w.leaves account_places none)) in
+    record { stage = clear stage refl; places = λ q own. clear q (all_among (is_among told_names) account_names refl q own) }
 
 each_at : (puts : List LeafPut) → AreAtAccounts puts → AllByRecursion (λ (put : LeafPut). owns_accounts put.at ≡ true) puts
 each_at [] at = tt

@@ -1,6 +1,6 @@
 -- Setting accounts writes no leaf that stands.
-use Rattle.std.proofs.Common.{◌≡◌, ◌++◌, ◌||◌, Bool, true, false, cond, List, [], ◌∷◌, Option, None, Some, refl, sym, ap, subst, ◌∙◌, inl, inr}
-use Rattle.std.proofs.lemmas.Bool.{cases_Bool, or_parts}
+use Rattle.std.proofs.Common.{◌≡◌, ◌++◌, true, false, cond, List, [], ◌∷◌, Option, None, Some, refl, sym, ap, subst, ◌∙◌, inl, inr}
+use Rattle.std.proofs.lemmas.Bool.{cases_Bool}
 use Rattle.std.specs.FinMap.{get}
 use Rattle.std.specs.List.{AllByRecursion}
 use Rattle.host_trait.specs.Leaf.{open_file}
@@ -23,8 +23,10 @@ use Rattle.users_merge.specs.Stored.{Merged}
 use Rattle.accounts_stage.specs.AccountsPart.{accounts_part, end_by, merged_in, puts_by, puts_of}
 use Rattle.accounts_stage.specs.Files.{account_puts, closed_file, merged_end, names_text}
 use Rattle.accounts_stage.specs.OnTheWay.{first_by, merged_first, names_first}
-use Rattle.accounts_stage.specs.Places.{account_names, gids_place, group_place, groups_place, owns_accounts, passwd_place, shadow_place, uids_place, users_place}
+use Rattle.accounts_stage.specs.Places.{account_names, groups_place, owns_accounts, users_place}
 use Rattle.accounts_stage.proofs.EndLemmas.{puts_elsewhere}
+use Rattle.accounts_stage.proofs.FrameLemmas.{own_groups, own_users}
+use Rattle.accounts_stage.proofs.OwnLemmas.{accounts_open, other_owned}
 
 -- the leaf of a place's end is put there last, and only the names of old before it
 record IsPutSo (m : Merged) (q : Name) : Type 0 where
@@ -33,7 +35,7 @@ record IsPutSo (m : Merged) (q : Name) : Type 0 where
   pub puts : leaves_put (account_puts m) q ≡ merged_first m q ++ leaf ∷ []
 
 each_put : (m : Merged) → AllByRecursion (IsPutSo m) account_names
-unfolding account_puts account_names group_place passwd_place shadow_place groups_place users_place gids_place uids_place
+unfolding account_puts accounts_open
 each_put m = (
   record { leaf = open_file (group_text (group_rows m)); end = refl; puts = refl },
   (
@@ -87,19 +89,10 @@ set_quiet system w v wrote = record {
 }
 
 -- nothing is put on the way where nothing is owned
-parts_of : (a b c d e f : Bool) → (a || (b || (c || (d || (e || f))))) ≡ false → (d ≡ false) × (e ≡ false)
-parts_of a b c d e f none =
-    let rest = or_parts d (e || f) (or_parts c (d || (e || f)) (or_parts b (c || (d || (e || f))) (or_parts a (b || (c || (d || (e || f)))) none).1).1).1 in
-    (rest.0, (or_parts e f rest.1).0)
-
 merged_none : (m : Merged) (q : Name) → owns_accounts q ≡ false → merged_first m q ≡ []
-unfolding account_names
 merged_none m q none =
-    let others =
-    parts_of (is_path q group_place) (is_path q passwd_place) (is_path q shadow_place) (is_path q groups_place) (is_path q users_place)
-    (is_path q gids_place || (is_path q uids_place || false)) none in
-    ap (λ b. cond b (open_file (names_text m.all_users) ∷ []) (cond (is_path q groups_place) (open_file (names_text m.all_groups) ∷ []) [])) others.1
-    ∙ ap (λ b. cond b (open_file (names_text m.all_groups) ∷ []) []) others.0
+    ap (λ b. cond b (open_file (names_text m.all_users) ∷ []) (cond (is_path q groups_place) (open_file (names_text m.all_groups) ∷ []) [])) (other_owned q users_place none own_users)
+    ∙ ap (λ b. cond b (open_file (names_text m.all_groups) ∷ []) []) (other_owned q groups_place none own_groups)
 
 none_by : (merged : Option Merged) (q : Name) → owns_accounts q ≡ false → first_by merged q ≡ []
 none_by None q none = refl

@@ -1,17 +1,19 @@
 -- Where the contents that stand and the files that are put are within the limit, they are after each put: the contents, and the files that are put again.
 use Rattle.std.proofs.Common.{◌≡◌, ℕ, ◌||◌, ◌++◌, Bool, true, false, List, [], ◌∷◌, map, Option, None, Some, inl, inr, refl, sym, ap, subst, ◌∙◌}
-use Rattle.std.proofs.lemmas.Bool.{cases_Bool}
+use Rattle.std.proofs.lemmas.Bool.{cases_Bool, or_cases}
 use Rattle.std.specs.Cmp.Lexicographic.{same_text}
 use Rattle.std.specs.FinMap.{insert}
 use Rattle.host_trait.specs.Leaf.{open_file}
 use Rattle.host_trait.specs.declared.leaf.LeafKind.{LeafKind}
 use Rattle.host_trait.specs.declared.leaf.LeafKind.TheVariants.{File}
 use Rattle.host_trait.specs.World.{Leaves, WorldState, content_of, file_bytes, is_path, with_leaf}
+use Rattle.host_trait.proofs.NameOrder.{name_exact}
 use Rattle.leaf_limits.specs.Limits.{content_past}
-use Rattle.switch_names.specs.Names.{Name, has}
+use Rattle.switch_names.specs.Names.{Name, has, is_name}
 use Rattle.switch_names.proofs.Outcomes.{none_mapped, option_or_nothing, option_or_parts}
 use Rattle.switch_parts.specs.declared.refusal.Refusal.{Refusal}
 use Rattle.switch_parts.specs.declared.refusal.What.TheVariants.{LeafBytes}
+use Rattle.switch_parts.specs.Leaves.{is_among}
 use Rattle.switch_parts.specs.Limits.{too_many}
 use Rattle.switch_parts.specs.Puts.{long_among, long_put}
 use Rattle.switch_parts.proofs.LeafLemmas.{each_among}
@@ -27,15 +29,14 @@ use Rattle.users_merge.proofs.NameLemmas.{has-append}
 use Rattle.users_merge.proofs.NameOrderLemmas.{ordered_has}
 use Rattle.users_merge.proofs.OrderedLemmas.{ordered_same}
 use Rattle.accounts_stage.specs.Files.{account_puts, names_text}
-use Rattle.accounts_stage.specs.Lengths.{account_texts, accounts_too_long, texts_long}
-use Rattle.accounts_stage.specs.Places.{account_names, gids_place, group_place, groups_place, owns_accounts, passwd_place, shadow_place, spec_path, uids_place, users_place}
-use Rattle.accounts_stage.proofs.FrameLemmas.{own_gids, own_group, own_groups, own_passwd, own_shadow, own_uids, own_users}
+use Rattle.accounts_stage.specs.Lengths.{account_texts, accounts_too_long, takes_accounts, texts_long}
+use Rattle.accounts_stage.specs.Places.{gids_place, group_place, groups_place, owns_accounts, passwd_place, shadow_place, spec_path, taken_names, uids_place, users_place}
 use Rattle.accounts_stage.proofs.FreeLemmas.{IsFilePut, each_file}
 use Rattle.accounts_stage.proofs.ReadLemmas.{IsContentAfter, content_after, put_of}
 
--- each content at a place of accounts is within the limit
+-- each content that is taken at a place of accounts is within the limit
 abbrev pub AreShort : (Name → Option (List ℕ)) → Type 0
-AreShort content = (q : Name) → owns_accounts q ≡ true → content_past (content q) ≡ None
+AreShort content = (q : Name) → is_among taken_names q ≡ true → content_past (content q) ≡ None
 
 -- each file that a merge puts is
 abbrev pub ArePutsShort : Merged → Type 0
@@ -45,7 +46,7 @@ ArePutsShort m = (put : Put) → long_put (put_of m put) ≡ None
 
 -- where no content that is taken is too long, none at a place of accounts is, nor the one that a system declares
 pub are_short : (system : Name) (leaves : Leaves) → accounts_too_long system leaves ≡ None → AreShort (content_of leaves) × (content_past (content_of leaves (spec_path system)) ≡ None)
-unfolding account_names
+unfolding taken_names
 are_short system leaves none =
     let group = option_or_parts _ _ (none_mapped (Refusal.TooMany LeafBytes) (texts_long (account_texts system leaves)) none) in
     let passwd = option_or_parts _ _ group.1 in
@@ -54,22 +55,32 @@ are_short system leaves none =
     let groups = option_or_parts _ _ spec.1 in
     let users = option_or_parts _ _ groups.1 in
     let gids = option_or_parts _ _ users.1 in (
-      each_among (λ q. content_past (content_of leaves q) ≡ None) account_names
+      each_among (λ q. content_past (content_of leaves q) ≡ None) taken_names
           (group.0, (passwd.0, (shadow.0, (groups.0, (users.0, (gids.0, (gids.1, tt))))))),
       spec.0,
     )
 
+-- and so none that is taken is
+pub taken_short : (system : Name) (leaves : Leaves) → accounts_too_long system leaves ≡ None → (q : Name) → takes_accounts system q ≡ true → content_past (content_of leaves q) ≡ None
+taken_short system leaves none q taken =
+    let short = are_short system leaves none in
+    elim (or_cases (is_name q (spec_path system)) (is_among taken_names q) taken) [
+      | inl spec ↦ ap (λ p. content_past (content_of leaves p)) (name_exact q (spec_path system) spec) ∙ short.1
+      | inr owned ↦ short.0 q owned
+    ]
+
 -- and the other way round
 pub none_too_long : (system : Name) (leaves : Leaves) → AreShort (content_of leaves) → content_past (content_of leaves (spec_path system)) ≡ None → accounts_too_long system leaves ≡ None
+unfolding taken_names group_place passwd_place shadow_place groups_place users_place gids_place uids_place
 none_too_long system leaves short spec =
     ap (too_many LeafBytes)
-    (option_or_nothing (content_past (content_of leaves group_place)) _ (short group_place own_group)
-    (option_or_nothing (content_past (content_of leaves passwd_place)) _ (short passwd_place own_passwd)
-    (option_or_nothing (content_past (content_of leaves shadow_place)) _ (short shadow_place own_shadow)
+    (option_or_nothing (content_past (content_of leaves group_place)) _ (short group_place refl)
+    (option_or_nothing (content_past (content_of leaves passwd_place)) _ (short passwd_place refl)
+    (option_or_nothing (content_past (content_of leaves shadow_place)) _ (short shadow_place refl)
     (option_or_nothing (content_past (content_of leaves (spec_path system))) _ spec
-    (option_or_nothing (content_past (content_of leaves groups_place)) _ (short groups_place own_groups)
-    (option_or_nothing (content_past (content_of leaves users_place)) _ (short users_place own_users)
-    (option_or_nothing (content_past (content_of leaves gids_place)) _ (short gids_place own_gids) (short uids_place own_uids))))))))
+    (option_or_nothing (content_past (content_of leaves groups_place)) _ (short groups_place refl)
+    (option_or_nothing (content_past (content_of leaves users_place)) _ (short users_place refl)
+    (option_or_nothing (content_past (content_of leaves gids_place)) _ (short gids_place refl) (short uids_place refl))))))))
 
 -- ---- the files that are put
 

@@ -4,7 +4,7 @@ use Rattle.std.proofs.lemmas.Map.Text.{is_eq-slice_cmp}
 use Rattle.switch_names.specs.Names.{Name, has, is_name}
 use Rattle.switch_parts.specs.Leaves.{is_among}
 use Rattle.accounts_stage.specs.Lengths.{takes_accounts}
-use Rattle.accounts_stage.specs.Places.{account_names, gids_place, group_place, groups_place, passwd_place, shadow_place, spec_path, uids_place, users_place}
+use Rattle.accounts_stage.specs.Places.{gids_place, group_place, groups_place, passwd_place, shadow_place, spec_path, taken_names, uids_place, users_place}
 
 -- a place is added to some
 pub added : (old new are : List Name) (at place : Name) → new ≡ old ++ at ∷ [] → at ≡ place → old ≡ are → new ≡ are ++ place ∷ []
@@ -20,5 +20,5 @@ pub takes_these :
     (system : Name) (places : List Name) →
     places ≡ spec_path system ∷ group_place ∷ passwd_place ∷ shadow_place ∷ groups_place ∷ users_place ∷ gids_place ∷ uids_place ∷ [] →
     (q : Name) → has places q ≡ takes_accounts system q
-unfolding account_names
-takes_these system places are q = ap (λ (ps : List Name). has ps q) are ∙ ap (λ b. is_name q (spec_path system) || b) (same_among account_names q)
+unfolding taken_names
+takes_these system places are q = ap (λ (ps : List Name). has ps q) are ∙ ap (λ b. is_name q (spec_path system) || b) (same_among taken_names q)

@@ -7,14 +7,15 @@ use Rattle.leaf_limits.specs.Limits.{content_past, leaf_max}
 use Rattle.switch_names.specs.Names.{Name, is_name}
 use Rattle.switch_parts.specs.declared.refusal.Refusal.{Refusal}
 use Rattle.switch_parts.specs.declared.refusal.What.TheVariants.{LeafBytes}
+use Rattle.switch_parts.specs.Leaves.{is_among}
 use Rattle.switch_parts.specs.Limits.{too_many}
 use Rattle.accounts_stage.specs.declared.judging.AccountTexts.{AccountTexts}
-use Rattle.accounts_stage.specs.Places.{owns_accounts, spec_path}
+use Rattle.accounts_stage.specs.Places.{spec_path, taken_names}
 use Rattle.accounts_stage.specs.Standing.{memory_in, texts_in}
 
 -- setting the accounts of a system takes the content at a place: its specification, and what stands of accounts
 abbrev pub takes_accounts : Name → Name → Bool
-takes_accounts system q = is_name q (spec_path system) || owns_accounts q
+takes_accounts system q = is_name q (spec_path system) || is_among taken_names q
 
 -- the texts that are read before anything is judged: those
 abbrev pub account_texts : Name → Leaves → AccountTexts

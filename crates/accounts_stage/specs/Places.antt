@@ -46,7 +46,11 @@ uids_place = codes "var/lib/nixos/uid-map"
 unfoldable pub spec_path : Name → Name
 spec_path system = system ++ codes "/users-groups.json"
 
--- all places of accounts, in byte order
+-- the places of accounts whose contents are taken, in byte order
+unfoldable pub taken_names : List Name
+taken_names = group_place ∷ passwd_place ∷ shadow_place ∷ groups_place ∷ users_place ∷ gids_place ∷ uids_place ∷ []
+
+-- all places of accounts
 unfoldable pub account_names : List Name
 account_names = group_place ∷ passwd_place ∷ shadow_place ∷ groups_place ∷ users_place ∷ gids_place ∷ uids_place ∷ []
 

@@ -3,8 +3,7 @@ use Rattle.std.proofs.Common.{◌≡◌, ◌||◌, ℕ, Bool, true, false, cond,
 use Rattle.std.proofs.lemmas.Bool.{and_parts, or_cases, or_left, or_right}
 use Rattle.accounts_stage.specs.AccountsPart.{accounts_part}
 use Rattle.accounts_stage.specs.Lengths.{accounts_too_long, takes_accounts}
-use Rattle.accounts_stage.specs.Places.{owns_accounts, spec_path}
-use Rattle.accounts_stage.proofs.ShortLemmas.{are_short}
+use Rattle.accounts_stage.proofs.ShortLemmas.{taken_short}
 use Rattle.accounts_stage.specs.Refusals.{refusal_of}
 use Rattle.accounts_stage.specs.Standing.{declared_by}
 use Rattle.activation_stage.specs.ActivationPart.{activation_in}
@@ -57,11 +56,7 @@ module _ (start_up : Bool) (moves : Option Move) (system : Name) (named : IsSyst
   -- nothing that is read of accounts is
   accounts_short : (accounts_part system).refusal leaves ≡ None → (q : Name) → takes_accounts system q ≡ true → is_long leaves q ≡ false
   accounts_short none q taken =
-      let short = are_short system leaves (option_or_parts (refusal_of leaves (declared_by system leaves)) (accounts_too_long system leaves) none).1 in
-      not_long (content_of leaves q) (elim (or_cases (is_name q (spec_path system)) (owns_accounts q) taken) [
-        | inl spec ↦ ap (λ p. content_past (content_of leaves p)) (name_exact q (spec_path system) spec) ∙ short.1
-        | inr owned ↦ short.0 q owned
-      ])
+      not_long (content_of leaves q) (taken_short system leaves (option_or_parts (refusal_of leaves (declared_by system leaves)) (accounts_too_long system leaves) none).1 q taken)
 
   -- nothing that is read for a switch is, where nothing that is read of what is owed is
   switch_short : AreOwedShort leaves → (switch_in start_up system leaves).refusal leaves ≡ None → (q : Name) → takes_switch true system leaves q ≡ true → is_long leaves q ≡ false
