@@ -22,7 +22,7 @@ use Rattle.switch_names.specs.Names.{Name}
 use Rattle.unit_stage.specs.declared.unit_plan.UnitPlan.{UnitPlan}
 use Rattle.unit_defs.specs.Units.{text_of}
 use Rattle.unit_stage.specs.Order.{AreOrderedAt}
-use Rattle.unit_stage.specs.Plan.{IsPlannedIn, IsUnitPlanOf, owed_of}
+use Rattle.unit_stage.specs.Plan.{IsPlannedIn, IsUnitPlanOf}
 use Rattle.unit_stage.specs.System.{current_system}
 use Rattle.std.proofs.lemmas.Bool.{both_ways}
 use Rattle.unit_stage.proofs.OrderLemmas.{one_in_order}
@@ -49,7 +49,7 @@ one_unit_report start_up number system w one other is also =
     owed = same_planned start_up w system is.lists also.lists is.owed also.owed is.planned also.planned
 
     ordered : is.ordered ≡ also.ordered
-    ordered = one_in_order (text_of w.leaves system) also.owed.starts is.ordered also.ordered (subst (λ (o : Owed). AreOrderedAt w.leaves system o is.ordered) owed is.in_order) also.in_order
+    ordered = one_in_order (text_of w.leaves system) also.owed.lists.starts is.ordered also.ordered (subst (λ (o : Owed). AreOrderedAt w.leaves system o is.ordered) owed is.in_order) also.in_order
 
     told : is.activation ≡ also.activation
     told = one_report system w.leaves is.activation also.activation is.is_activation also.is_activation
@@ -69,18 +69,18 @@ if_ok_as (Ok x) holds Q weaker = weaker x holds
 if_ok_as (Err e) holds Q weaker = tt
 
 unit_report_is : (start_up : Bool) (system : Name) (w : WorldState) (plan : UnitPlan) (number : Option ℕ) (told text : List ℕ) → IsUnitPlanOf start_up system w plan → IsActivationReport system w.leaves told →
-    text ≡ report_of plan.from system number plan.duties plan.left told plan.ordered.cycles → IsUnitReport start_up number system w text
+    text ≡ report_of plan.from system number plan.duties plan.owed.left told plan.ordered.cycles → IsUnitReport start_up number system w text
 unit_report_is start_up system w plan number told text is is_told same = record {
   lists = is.lists;
-  owed = owed_of plan;
+  owed = plan.owed;
   planned = is.planned;
   ordered = plan.ordered;
   in_order = is.in_order;
   activation = told;
   is_activation = is_told;
   is_text = same
-      ∙ ap (λ from. report_of from system number plan.duties plan.left told plan.ordered.cycles) is.from
-      ∙ ap (λ duties. report_of (current_system w.leaves) system number duties plan.left told plan.ordered.cycles) is.duties;
+      ∙ ap (λ from. report_of from system number plan.duties plan.owed.left told plan.ordered.cycles) is.from
+      ∙ ap (λ duties. report_of (current_system w.leaves) system number duties plan.owed.left told plan.ordered.cycles) is.duties;
 }
 
 -- the number of a plan is that of its world
@@ -92,7 +92,7 @@ number_is moves system w (Some plan) planned = ap Some planned.1.number ∙ sym 
 switch_reported : (start_up switches : Bool) (system : Name) (w : WorldState) (plan : Option SwitchPlan) (nothing : UnitPlan) (number : Option ℕ) (text : List ℕ) → IsSwitchPlanned start_up switches system w plan → switches ≡ true →
     ((planned : ActivationPlan) → option_map (λ (switch : SwitchPlan). switch.activation) plan ≡ Some planned → IsActivationPlanOf system w.leaves planned →
     (told : List ℕ) × IsActivationReport system w.leaves told
-    × (text ≡ report_of (units_in plan nothing).from system number (units_in plan nothing).duties (units_in plan nothing).left told (units_in plan nothing).ordered.cycles)) → IsReportBy start_up switches number system w text
+    × (text ≡ report_of (units_in plan nothing).from system number (units_in plan nothing).duties (units_in plan nothing).owed.left told (units_in plan nothing).ordered.cycles)) → IsReportBy start_up switches number system w text
 switch_reported start_up switches system w None nothing number text off on same = absurd (both_ways switches off on)
 switch_reported start_up switches system w (Some plan) nothing number text planned on same =
     let told = same plan.activation refl planned.2 in
@@ -102,7 +102,7 @@ switch_reported start_up switches system w (Some plan) nothing number text plann
 abbrev pub IsTold : Plan → List ℕ → Type 0
 IsTold plan text = (leaves : Leaves) (planned : ActivationPlan) → activation_of plan ≡ Some planned → IsActivationPlanOf plan.row.system leaves planned →
     (told : List ℕ) × IsActivationReport plan.row.system leaves told
-    × (text ≡ report_of (units_of plan).from plan.row.system (number_of plan) (units_of plan).duties (units_of plan).left told (units_of plan).ordered.cycles)
+    × (text ≡ report_of (units_of plan).from plan.row.system (number_of plan) (units_of plan).duties (units_of plan).owed.left told (units_of plan).ordered.cycles)
 
 -- the report of a row is that of its command
 abbrev IsReportOf : Row → WorldState → List ℕ → Type 0

@@ -25,7 +25,6 @@ use Rattle.host_trait.specs.declared.leaf.LeafKind.TheVariants.{Link}
 use Rattle.host_trait.specs.World.{Leaves, WorldState, seen, stage, with_leaf}
 use Rattle.owed_plan.specs.declared.owed.Owed.{Owed}
 use Rattle.unit_stage.specs.Plan as unit_plans
-use Rattle.unit_stage.specs.Plan.{owed_of}
 use Rattle.switch_engine.specs.declared.command.Command.{Command}
 use Rattle.switch_engine.specs.declared.row.Row.{Row}
 use Rattle.switch_engine.specs.Commands.{brought_by, brought_to, goes_back, if_so, moved_by, new_system, row, switched_by}
@@ -141,7 +140,7 @@ module _ (command : Command) (w : WorldState) (on : (row command w.leaves).chang
   its_system = (row command w.leaves).system
 
   abbrev nothing : Owed
-  nothing = owed_of unit_plans.no_units
+  nothing = unit_plans.no_units.owed
 
   carried : IsCarriedFrom command nothing [] w
   carried = record {

@@ -143,7 +143,7 @@ fn write_generation(alloc: Global, out: &mut Vec<u8>, number: Option<u32>) -> Re
 /// Writes the two systems, the generation where the profile is moved, the stops, and the changed units
 /// that get nothing.
 fn write_front(alloc: Global, out: &mut Vec<u8>, plan: &Plan) -> Result<(), AllocError>
-    ensures { OnOk result (out.new.items ≡ out.old.items ++ report_front (units_of plan.now).from plan.now.row.system (number_of plan.now) (units_of plan.now).duties (units_of plan.now).left) }
+    ensures { OnOk result (out.new.items ≡ out.old.items ++ report_front (units_of plan.now).from plan.now.row.system (number_of plan.now) (units_of plan.now).duties (units_of plan.now).owed.left) }
 {
     write_line(out, "from", system_text(plan.from()))?;
     write_line(out, "to", plan.to().as_str())?;
@@ -173,7 +173,7 @@ fn write_activated(
 fn unit_report(alloc: Global, plan: &Plan) -> Result<Bytes, AllocError>
     ensures { IfOk result (λ text. (leaves : Leaves) (planned : ActivationPlan) → activation_of plan.now ≡ Some planned → IsActivationPlanOf plan.now.row.system leaves planned
         → (told : List ℕ) × IsActivationReport plan.now.row.system leaves told
-        × (text ≡ report_of (units_of plan.now).from plan.now.row.system (number_of plan.now) (units_of plan.now).duties (units_of plan.now).left told (units_of plan.now).ordered.cycles)) }
+        × (text ≡ report_of (units_of plan.now).from plan.now.row.system (number_of plan.now) (units_of plan.now).duties (units_of plan.now).owed.left told (units_of plan.now).ordered.cycles)) }
 {
     let mut out = Vec::new(alloc);
     write_front(alloc, &mut out, plan)?;

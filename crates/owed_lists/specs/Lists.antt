@@ -10,23 +10,11 @@ use Rattle.log_text.specs.declared.lists.Which.{Which}
 use Rattle.log_text.specs.declared.lists.Which.TheVariants.{Starts, Restarts, Reloads}
 use Rattle.log_text.specs.Lists.{list_names}
 
--- where the units to start stand
-unfoldable pub starts_place : List ℕ
-starts_place = codes "run/nixos/start-list"
-
--- where the units to restart stand
-unfoldable pub restarts_place : List ℕ
-restarts_place = codes "run/nixos/restart-list"
-
--- where the units to reload stand
-unfoldable pub reloads_place : List ℕ
-reloads_place = codes "run/nixos/reload-list"
-
--- the place of a list
-abbrev pub place_of : Which → List ℕ
-place_of Starts = starts_place
-place_of Restarts = restarts_place
-place_of Reloads = reloads_place
+-- where the units of a list stand
+unfoldable pub place_of : Which → List ℕ
+place_of Starts = codes "run/nixos/start-list"
+place_of Restarts = codes "run/nixos/restart-list"
+place_of Reloads = codes "run/nixos/reload-list"
 
 -- the unit names among the lines of a content: a content that isn't there has none
 abbrev pub names_in : Option (List ℕ) → List (List ℕ)

@@ -8,7 +8,7 @@ use std::alloc::{AllocError, Global};
 use switch_names::Path;
 
 /// The place of a list.
-#[tactic(auto, unfolding(crate::specs::Lists::starts_place, crate::specs::Lists::restarts_place, crate::specs::Lists::reloads_place))]
+#[tactic(auto, unfolding(crate::specs::Lists::place_of))]
 pub fn list_path(alloc: Global, which: Which) -> Result<Path, AllocError>
     ensures { IfOk result (λ path. path ≡ place_of which) }
 {

@@ -1,5 +1,5 @@
 -- What is left alone where lists are recorded, and where one is cleared.
-use Rattle.std.proofs.Common.{◌≡◌, ◌≢◌, ◌⊎◌, ◌++◌, rules, ℕ, false, cond, List, [], ◌∷◌, length, take, Option, None, Some, refl, sym, ap, ◌∙◌, inl, inr}
+use Rattle.std.proofs.Common.{◌≡◌, ◌≢◌, rules, ℕ, false, cond, List, [], ◌∷◌, length, take, Option, None, Some, refl, ap, ◌∙◌, inl, inr}
 use Rattle.std.specs.FinMap.{get, gets, remove}
 use Rattle.std.specs.List.{list_any}
 use Rattle.host_trait.specs.Change.{Change, IsMiddle, IsMoment, finished}

@@ -13,7 +13,7 @@ use Rattle.host_trait.proofs.Sound.{get_other}
 use Rattle.log_text.specs.declared.lists.Which.{Which}
 use Rattle.log_text.specs.declared.lists.Which.TheVariants.{Starts, Restarts, Reloads}
 use Rattle.log_text.specs.Lists.{record_order}
-use Rattle.owed_lists.specs.Lists.{place_of, reloads_place, restarts_place, starts_place}
+use Rattle.owed_lists.specs.Lists.{place_of}
 use Rattle.switch_names.specs.Names.{Name, is_name}
 use Rattle.tree_put.specs.Put.{AreApart}
 use Rattle.tree_put.specs.Sequence.{without_places}
@@ -41,7 +41,7 @@ apart_from q other = among record_order
     among (which ∷ order) (suc count) = λ i. other which i || among order count i
 
 is_other : (which : Which) → is_name log_place (place_of which) ≡ false
-unfolding log_place starts_place restarts_place reloads_place
+unfolding log_place place_of
 is_other Starts = refl
 is_other Restarts = refl
 is_other Reloads = refl
@@ -64,7 +64,7 @@ pub store_no_stage : (target p : Name) → store_place target ≡ Some p → p �
 store_no_stage target p is same = inside_no_stage (drop (length (codes "/nix/store/")) target) (sym (store_place_begins target p is) ∙ same)
 
 inside_other : (rest : List ℕ) (which : Which) → is_name (codes "nix/store/" ++ rest) (place_of which) ≡ false
-unfolding starts_place restarts_place reloads_place
+unfolding place_of
 inside_other rest Starts = refl
 inside_other rest Restarts = refl
 inside_other rest Reloads = refl

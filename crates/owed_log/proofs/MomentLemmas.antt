@@ -1,5 +1,5 @@
 -- The lists at each moment of a record, and of a list's clearing.
-use Rattle.std.proofs.Common.{◌≡◌, ◌≢◌, ◌⊎◌, ◌<◌, ◌++◌, ◌||◌, zero, suc, ℕ, Bool, true, false, cond, List, [], ◌∷◌, drop, length, map, take, Option, None, Some, is_some, length-append, refl, sym, ap, subst, ◌∙◌, inl, inr, arith}
+use Rattle.std.proofs.Common.{◌≡◌, ◌⊎◌, ◌<◌, ◌++◌, ◌||◌, zero, suc, ℕ, Bool, true, false, cond, List, [], ◌∷◌, drop, length, map, take, Option, None, Some, is_some, length-append, refl, sym, ap, subst, ◌∙◌, inl, inr, arith}
 use Rattle.std.proofs.lemmas.Bool.{both_ways}
 use Rattle.std.proofs.lemmas.List.{take_all}
 use Rattle.std.specs.FinMap.{get}
@@ -18,7 +18,7 @@ use Rattle.log_text.specs.Lists.{AreInOrder, AreLists, block_of, blocks_of, list
 use Rattle.log_text.specs.Log.{IsLog, block_text, log_text}
 use Rattle.log_text.proofs.TornLemmas.{block_some, clear_law}
 use Rattle.log_text.proofs.WhichLemmas.{no_names}
-use Rattle.owed_lists.specs.Lists.{AreListsOf, IsListOf, place_of, reloads_place, restarts_place, starts_place}
+use Rattle.owed_lists.specs.Lists.{AreListsOf, IsListOf, place_of}
 use Rattle.switch_names.specs.Names.{Name, is_name}
 use Rattle.tree_put.specs.Sequence.{IsRemoving, without_places}
 use Rattle.tree_put.proofs.LeftLemmas.{gone_at}
@@ -52,7 +52,7 @@ kept_list count u at list apart is = subst (λ (o : Option (List ℕ)). IsListOf
 
 -- a place of theirs is one of them
 old_listed : (which : Which) → list_any (is_name (place_of which)) old_places ≡ true
-unfolding starts_place restarts_place reloads_place
+unfolding place_of
 old_listed Starts = refl
 old_listed Restarts = refl
 old_listed Reloads = refl
@@ -71,7 +71,7 @@ both_empty true = refl
 both_empty false = refl
 
 one_emptied : (other which : Which) (rest : Bool) (lists : Lists) → cond rest [] (list_names (with_list lists other []) which) ≡ cond (is_name (place_of which) (place_of other) || rest) [] (list_names lists which)
-unfolding starts_place restarts_place reloads_place
+unfolding place_of
 one_emptied Starts Starts rest lists = both_empty rest
 one_emptied Restarts Restarts rest lists = both_empty rest
 one_emptied Reloads Reloads rest lists = both_empty rest

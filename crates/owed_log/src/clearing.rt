@@ -52,6 +52,6 @@ pub fn clear<T: Tree>(alloc: Global, host: &mut T, which: Which) -> Result<(), H
 {
     match which {
         Which::Starts => remove_log(alloc, host),
-        Which::Restarts | Which::Reloads => append_block(alloc, host, which),
+        other => append_block(alloc, host, other),
     }
 }

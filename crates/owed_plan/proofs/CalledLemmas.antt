@@ -1,8 +1,6 @@
 -- At each moment of the calls after the link, what is owed is what the first world owed.
 use Rattle.std.proofs.Common.{◌≡◌, ◌≢◌, ◌⊎◌, Bool, true, false, IsTrue, List, if◌then◌else◌, refl, sym, ap, subst, ◌∙◌, inl, inr}
-use Rattle.std.proofs.lemmas.Bool.{cases_Bool, false_from_ne_true, or_cases, or_left, or_right}
-use Rattle.host_trait.specs.declared.entry.Act.{Act}
-use Rattle.host_trait.specs.declared.entry.Act.TheVariants as acts
+use Rattle.std.proofs.lemmas.Bool.{cases_Bool, false_from_ne_true}
 use Rattle.host_trait.specs.declared.unit_state.State.{State}
 use Rattle.host_trait.specs.declared.unit_state.State.TheVariants.{Active, Inactive, Failed}
 use Rattle.log_text.specs.declared.lists.Lists.{Lists}
@@ -11,10 +9,10 @@ use Rattle.log_text.specs.declared.lists.Which.TheVariants as kinds
 use Rattle.log_text.specs.Lists.{list_names}
 use Rattle.owed_plan.specs.declared.owed.Owed.{Owed}
 use Rattle.owed_plan.specs.Called.{AfterLinkLaw, AreCalled, IsCalled, IsDone, IsGiven, IsLeftOf, OwesUnit}
-use Rattle.owed_plan.specs.FinalStates.{brought_by, is_brought}
+use Rattle.owed_plan.specs.FinalStates.{brought_by}
 use Rattle.owed_plan.specs.Law.{IsSound, stopped}
-use Rattle.owed_plan.specs.Lists.{act_of, owed_names}
-use Rattle.owed_plan.specs.Owed.{Decides, IsOwed, IsOwedAct, Reloads, Restarts, Starts, Stops, has_live}
+use Rattle.owed_plan.specs.Lists.{Debt, OnList, ToStop, is_listed, is_put, is_renewed, owed_names, renews}
+use Rattle.owed_plan.specs.Owed.{Decides, IsBySelf, IsDue, IsForOthers, IsOwed, Stops, Waits, has_live}
 use Rattle.owed_plan.specs.Pull.{IsRoot, Running, Pending, Pulled}
 use Rattle.owed_plan.specs.Steady.{IsSteady}
 use Rattle.owed_plan.specs.Systems.{IsDefined, Systems, Texts, systems_of}
@@ -26,8 +24,9 @@ use Rattle.unit_decide.specs.Decision.{decide}
 use Rattle.unit_decide.specs.Kinds.{is_kind}
 use Rattle.unit_decide.proofs.TableLemmas.{settled_nothing, socket_start_service, target_barred, target_marked, target_not_reloaded, target_not_restarted, target_from_test, target_same, undefined_nothing}
 use Rattle.unit_defs.specs.Pull.{FromRoot, FromWant}
-use Rattle.owed_plan.proofs.CoreLemmas.{owed_defined, owed_listed, start_pulled}
+use Rattle.owed_plan.proofs.CoreLemmas.{owed_again, owed_defined, owed_listed, start_pulled}
 use Rattle.owed_plan.proofs.FinalLemmas.{final_active, final_brought, final_by, final_down, final_of, final_to_bring}
+use Rattle.owed_plan.proofs.KindLemmas.{listed_on, on_list, on_renewing, put_elim, renewed_listed, renewed_on, renewed_other, starts_or_other}
 use Rattle.owed_plan.proofs.PrefixLemmas.{was_active}
 use Rattle.owed_plan.proofs.SteadyLemmas.{no_target}
 use Rattle.unit_decide.proofs.FactsLemmas.{self_same}
@@ -36,10 +35,6 @@ is_state_active : (state : State) → (state ≡ Active) ⊎ (state ≢ Active)
 is_state_active Active = inl refl
 is_state_active Inactive = inr (λ e. absurd cc)
 is_state_active Failed = inr (λ e. absurd cc)
-
--- a unit that is brought is on one of these lists
-brought_either : (owed : Owed) (unit : Name) → is_brought owed unit ≡ true → (has owed.starts unit ≡ true) ⊎ (has owed.reloads unit ≡ true)
-brought_either owed unit brought = or_cases (has owed.starts unit) (has owed.reloads unit) brought
 
 -- what is left of a list is on it
 still_listed : (names left : List Name) (IsDone : Name → Type 0) (unit : Name) → IsLeftOf names left IsDone → has left unit ≡ true → has names unit ≡ true
@@ -96,39 +91,53 @@ module _ (old new : Texts) (wants : Name → List Name) (states now : Name → S
   abbrev then_ : Name → State
   then_ = stopped owed.stops states
 
-  owes : (act : Act) (unit : Name) → has (owed_names owed act) unit ≡ true → IsOwedAct before states lists act unit
-  owes act unit = ((is_owed act).exact unit).0
+  owes : (debt : Debt) (unit : Name) → has (owed_names owed debt) unit ≡ true → IsDue before states lists debt unit
+  owes debt unit = ((is_owed debt).exact unit).0
 
-  listed : (act : Act) (unit : Name) → IsOwedAct before states lists act unit → has (owed_names owed act) unit ≡ true
-  listed act unit = ((is_owed act).exact unit).1
+  listed : (debt : Debt) (unit : Name) → IsDue before states lists debt unit → has (owed_names owed debt) unit ≡ true
+  listed debt unit = ((is_owed debt).exact unit).1
 
   -- what is left of a list was owed
-  listed_before : (which : Which) (unit : Name) → has (list_names kept which) unit ≡ true → IsOwedAct before states lists (act_of which) unit
-  listed_before which unit found = owes (act_of which) unit (still_listed (owed_names owed (act_of which)) (list_names kept which) _ unit (called.kept_lists which) found)
+  listed_before : (which : Which) (unit : Name) → has (list_names kept which) unit ≡ true → Waits before states lists which unit
+  listed_before which unit found = owes (OnList which) unit (still_listed (list_names owed.lists which) (list_names kept which) _ unit (called.kept_lists which) found)
+
+  -- a unit on one of the lists is owed that
+  waits_for : (unit : Name) → is_listed owed.lists unit ≡ true → (which : Which) × Waits before states lists which unit
+  waits_for unit found = let one = on_list owed.lists unit found in (one.0, owes (OnList one.0) unit one.1)
 
   -- a unit that is up after the stops was so, and isn't stopped
   up_before : (unit : Name) → then_ unit ≡ Active → (Stops before states lists unit → ⊥) × (states unit ≡ Active)
   up_before unit active =
       let was = was_active (has owed.stops unit) (states unit) (then_ unit) refl active in
-      ((λ stops. was.0 (listed acts.Stop unit stops)), was.1)
+      ((λ stops. was.0 (listed ToStop unit stops)), was.1)
+
+  -- a target on a list is started
+  target_starts : (unit : Name) → (before.facts unit).kind ≡ Target → is_listed owed.lists unit ≡ true → Waits before states lists kinds.Starts unit
+  target_starts unit target found =
+      let one = waits_for unit found in
+      elim (starts_or_other one.0) [
+        | inl starts ↦ subst (λ which. Waits before states lists which unit) starts one.1
+        | inr other ↦ absurd (no_target before states lists steady one.0 other unit target one.1)
+      ]
+
+  no_target_renewed : (unit : Name) → (before.facts unit).kind ≡ Target → is_renewed owed.lists unit ≡ true → ⊥
+  no_target_renewed unit target found =
+      let one = on_renewing owed.lists unit found in
+      no_target before states lists steady one.0 (renewed_other one.0 one.1) unit target (owes (OnList one.0) unit one.2)
 
   -- a target that is up was so after the stops, or has been started
   target_up : (unit : Name) → (before.facts unit).kind ≡ Target → now unit ≡ Active →
-      (then_ unit ≡ Active) ⊎ (Starts before states lists unit × (then_ unit ≢ Active) × (now unit ≡ to unit))
+      (then_ unit ≡ Active) ⊎ (Waits before states lists kinds.Starts unit × (then_ unit ≢ Active) × (now unit ≡ to unit))
   target_up unit target active = by (called.units unit)
     where
-      by : IsCalled owed unit (to unit) (then_ unit) (now unit) → (then_ unit ≡ Active) ⊎ (Starts before states lists unit × (then_ unit ≢ Active) × (now unit ≡ to unit))
+      by : IsCalled owed unit (to unit) (then_ unit) (now unit) → (then_ unit ≡ Active) ⊎ (Waits before states lists kinds.Starts unit × (then_ unit ≢ Active) × (now unit ≡ to unit))
       by (IsCalled.NotYet same) = inl (sym same ∙ active)
-      by (IsCalled.Brought brought down is) =
-          elim (brought_either owed unit brought) [
-            | inl starts ↦ inr (owes acts.Start unit starts, down, is)
-            | inr reloads ↦ absurd (no_target before states lists steady kinds.Reloads (λ e. absurd cc) unit target (owes acts.Reload unit reloads))
-          ]
-      by (IsCalled.Restarted restarts is) = absurd (no_target before states lists steady kinds.Restarts (λ e. absurd cc) unit target (owes acts.Restart unit restarts))
-      by (IsCalled.Halfway restarts is) = absurd (no_target before states lists steady kinds.Restarts (λ e. absurd cc) unit target (owes acts.Restart unit restarts))
+      by (IsCalled.Brought brought down is) = inr (target_starts unit target brought, down, is)
+      by (IsCalled.Renewed renewed is) = absurd (no_target_renewed unit target renewed)
+      by (IsCalled.Halfway renewed is) = absurd (no_target_renewed unit target renewed)
 
   -- what is stopped again is a target that has been started, and is started again
-  stopped_again : (unit : Name) → Stops later now kept unit → Starts before states lists unit × (then_ unit ≢ Active) × (now unit ≡ to unit) × Starts later now kept unit
+  stopped_again : (unit : Name) → Stops later now kept unit → Waits before states lists kinds.Starts unit × (then_ unit ≢ Active) × (now unit ≡ to unit) × Waits later now kept kinds.Starts unit
   stopped_again unit (Stops.ByStop decides) =
       let is = defined_target old new wants now kept unit Stop (λ e. absurd cc) decides in
       let row = row_before old new wants now kept unit Stop (has_live before states lists unit) (λ e. absurd cc) decides in
@@ -144,7 +153,7 @@ module _ (old new : Texts) (wants : Name → List Name) (states now : Name → S
       let row = row_before old new wants now kept unit StopStart (has_live before states lists unit) (λ e. absurd cc) decides in
       elim (target_up unit is.1 decides.active) [
         | inl up ↦ absurd ((up_before unit up).0 (Stops.ByStopStart (record { active = (up_before unit up).1; row = row })))
-        | inr started ↦ (started.0, started.1, started.2, Starts.ByStopStart decides)
+        | inr started ↦ (started.0, started.1, started.2, owed_again later now kept unit decides)
       ]
   stopped_again unit (Stops.BySocketStart decides) = absurd (no_socket_start old new wants now kept unit decides)
   stopped_again unit (Stops.ByService service activates active) = absurd (no_socket_start old new wants now kept service activates.0)
@@ -162,23 +171,38 @@ module _ (old new : Texts) (wants : Name → List Name) (states now : Name → S
   pull_within unit (FromRoot _ root) = root_pulled unit root
   pull_within unit (FromWant _ by reached wanted) = FromWant unit by (pull_within by reached) wanted
 
-  -- what is owed stays within what was
-  reloads_within : (unit : Name) → Reloads later now kept unit → Reloads before states lists unit
-  reloads_within unit (Reloads.ByReload decides) = absurd (no_reload old new wants now kept unit decides)
-  reloads_within unit (Reloads.ByReloadList listed defined) = listed_before kinds.Reloads unit listed
+  -- what a decision puts on a list was owed it
+  decided_within : (which : Which) (unit : Name) (decision : Decision) → is_put which decision ≡ true → Decides later now kept unit decision → Waits before states lists which unit
+  decided_within which unit decision puts decides =
+      put_elim (λ one made. Decides later now kept unit made → Waits before states lists one unit) (started_within unit) (λ decided. (stopped_again unit (Stops.ByStopStart decided)).0)
+      (λ decided. absurd (no_restart old new wants now kept unit decided)) (λ decided. absurd (no_reload old new wants now kept unit decided)) which decision puts decides
+    where
+      started_within : (unit : Name) → Decides later now kept unit Start → Waits before states lists kinds.Starts unit
+      started_within unit decides =
+          let is = defined_target old new wants now kept unit Start (λ e. absurd cc) decides in
+          elim (target_up unit is.1 decides.active) [
+            | inl up ↦
+                Waits.BySelf (IsBySelf.ByDecision Start refl (record { active = (up_before unit up).1; row = row_before old new wants now kept unit Start (has_live before states lists unit) (λ e. absurd cc) decides }))
+            | inr started ↦ started.0
+          ]
 
-  restarts_within : (unit : Name) → Restarts later now kept unit → Restarts before states lists unit
-  restarts_within unit (Restarts.ByRestart decides) = absurd (no_restart old new wants now kept unit decides)
-  restarts_within unit (Restarts.ByRestartList listed defined) = listed_before kinds.Restarts unit listed
+  by_self_within : (which : Which) (unit : Name) → IsBySelf later now kept which unit → Waits before states lists which unit
+  by_self_within which unit (IsBySelf.ByDecision decision puts decides) = decided_within which unit decision puts decides
+  by_self_within which unit (IsBySelf.ByList listed defined) = listed_before which unit listed
+
+  -- what is owed on another list than the starts was owed there
+  other_within : (which : Which) (unit : Name) → which ≢ kinds.Starts → Waits later now kept which unit → Waits before states lists which unit
+  other_within which unit other (Waits.BySelf by) = by_self_within which unit by
+  other_within which unit other (Waits.ForOthers starts by) = absurd (other starts)
 
   abbrev IsCalledUnit : Name → Type 0
-  IsCalledUnit unit = (which : Which) × IsOwedAct before states lists (act_of which) unit
+  IsCalledUnit unit = (which : Which) × Waits before states lists which unit
 
-  -- what was up and isn't, or is stopped again, was stopped, where it isn't restarted
-  down_stopped : (unit : Name) → (has owed.restarts unit ≡ true → ⊥) → (now unit ≡ Active → Stops later now kept unit) → states unit ≡ Active → Stops before states lists unit
+  -- what was up and isn't, or is stopped again, was stopped, where it isn't brought up anew
+  down_stopped : (unit : Name) → (is_renewed owed.lists unit ≡ true → ⊥) → (now unit ≡ Active → Stops later now kept unit) → states unit ≡ Active → Stops before states lists unit
   down_stopped unit none again active =
       elim (cases_Bool (has owed.stops unit)) [
-        | inl stops ↦ owes acts.Stop unit stops
+        | inl stops ↦ owes ToStop unit stops
         | inr stays ↦ absurd (up (ap (λ b. if b then Inactive else states unit) stays ∙ active))
       ]
     where
@@ -188,63 +212,52 @@ module _ (old new : Texts) (wants : Name → List Name) (states now : Name → S
           by : IsCalled owed unit (to unit) (then_ unit) (now unit) → ⊥
           by (IsCalled.NotYet same) = (stopped_again unit (again (same ∙ was))).1 was
           by (IsCalled.Brought brought down is) = down was
-          by (IsCalled.Restarted restarts is) = none restarts
-          by (IsCalled.Halfway restarts is) = none restarts
+          by (IsCalled.Renewed renewed is) = none renewed
+          by (IsCalled.Halfway renewed is) = none renewed
 
-  starts_within : (unit : Name) → Starts later now kept unit → IsCalledUnit unit
-  starts_within unit (Starts.ByStart decides) =
-      let is = defined_target old new wants now kept unit Start (λ e. absurd cc) decides in
-      elim (target_up unit is.1 decides.active) [
-        | inl up ↦ (kinds.Starts, Starts.ByStart (record { active = (up_before unit up).1; row = row_before old new wants now kept unit Start (has_live before states lists unit) (λ e. absurd cc) decides }))
-        | inr started ↦ (kinds.Starts, started.0)
-      ]
-  starts_within unit (Starts.ByStopStart decides) = (kinds.Starts, (stopped_again unit (Stops.ByStopStart decides)).0)
-  starts_within unit (Starts.ByService service activates) = absurd (no_socket_start old new wants now kept service activates.0)
-  starts_within unit (Starts.ByStartList listed defined) = (kinds.Starts, listed_before kinds.Starts unit listed)
-  starts_within unit (Starts.ByPull pulled again reloads restarts socketed) =
-      elim (cases_Bool (has owed.reloads unit)) [
-        | inl reload ↦ (kinds.Reloads, owes acts.Reload unit reload)
-        | inr no_reload ↦
-            elim (cases_Bool (has owed.restarts unit)) [
-              | inl restart ↦ (kinds.Restarts, owes acts.Restart unit restart)
-              | inr no_restart ↦ (
-                kinds.Starts,
-                Starts.ByPull (pull_within unit pulled) (down_stopped unit (λ e. cc (sym e ∙ no_restart)) again)
-                    (λ r. cc (sym (listed acts.Reload unit r) ∙ no_reload)) (λ r. cc (sym (listed acts.Restart unit r) ∙ no_restart)) socketed,
-              )
-            ]
+  -- what is owed on a list was owed something
+  waits_within : (which : Which) (unit : Name) → Waits later now kept which unit → IsCalledUnit unit
+  waits_within which unit (Waits.BySelf by) = (which, by_self_within which unit by)
+  waits_within which unit (Waits.ForOthers starts (IsForOthers.ByService service activates)) = absurd (no_socket_start old new wants now kept service activates.0)
+  waits_within which unit (Waits.ForOthers starts (IsForOthers.ByPull pulled again own socketed)) =
+      elim (cases_Bool (is_listed owed.lists unit)) [
+        | inl found ↦ waits_for unit found
+        | inr none ↦
+            let not_listed : is_listed owed.lists unit ≡ true → ⊥ = λ found. cc (sym found ∙ none) in (
+              kinds.Starts,
+              Waits.ForOthers refl
+                  (IsForOthers.ByPull (pull_within unit pulled) (down_stopped unit (λ renewed. not_listed (renewed_listed owed.lists unit renewed)) again)
+                  (λ one by. not_listed (listed_on owed.lists unit one (listed (OnList one) unit (Waits.BySelf by)))) socketed),
+            )
       ]
 
   units_within : (unit : Name) → OwesUnit later now kept unit → OwesUnit before states lists unit
-  units_within unit (acts.Stop, stops) = (acts.Start, (stopped_again unit stops).0)
-  units_within unit (acts.Reload, reloads) = (acts.Reload, reloads_within unit reloads)
-  units_within unit (acts.Restart, restarts) = (acts.Restart, restarts_within unit restarts)
-  units_within unit (acts.Start, starts) = let is = starts_within unit starts in (act_of is.0, is.1)
+  units_within unit (ToStop, stops) = (OnList kinds.Starts, (stopped_again unit stops).0)
+  units_within unit (OnList which, waits) = let is = waits_within which unit waits in (OnList is.0, is.1)
 
   -- what is owed nothing is as it was
   others_kept : (unit : Name) → ¬ OwesUnit before states lists unit → now unit ≡ states unit
   others_kept unit none = by (called.units unit)
     where
-      lacks : (act : Act) → has (owed_names owed act) unit ≡ true → ⊥
-      lacks act found = none (act, owes act unit found)
+      not_listed : is_listed owed.lists unit ≡ true → ⊥
+      not_listed found = let is = waits_for unit found in none (OnList is.0, is.1)
+
+      not_stopped : has owed.stops unit ≡ false
+      not_stopped = false_from_ne_true (has owed.stops unit) (λ found. none (ToStop, owes ToStop unit found))
 
       by : IsCalled owed unit (to unit) (then_ unit) (now unit) → now unit ≡ states unit
-      by (IsCalled.NotYet same) = same ∙ ap (λ b. if b then Inactive else states unit) (false_from_ne_true (has owed.stops unit) (lacks acts.Stop))
-      by (IsCalled.Brought brought down is) =
-          elim (brought_either owed unit brought) [
-            | inl starts ↦ absurd (lacks acts.Start starts)
-            | inr reloads ↦ absurd (lacks acts.Reload reloads)
-          ]
-      by (IsCalled.Restarted restarts is) = absurd (lacks acts.Restart restarts)
-      by (IsCalled.Halfway restarts is) = absurd (lacks acts.Restart restarts)
+      by (IsCalled.NotYet same) = same ∙ ap (λ b. if b then Inactive else states unit) not_stopped
+      by (IsCalled.Brought brought down is) = absurd (not_listed brought)
+      by (IsCalled.Renewed renewed is) = absurd (not_listed (renewed_listed owed.lists unit renewed))
+      by (IsCalled.Halfway renewed is) = absurd (not_listed (renewed_listed owed.lists unit renewed))
 
-  -- each duty is paid or owed
-  still_owed : (which : Which) (unit : Name) → has (list_names kept which) unit ≡ true → IsOwedAct later now kept (act_of which) unit
+  -- what a list stands for is paid or owed
+  still_owed : (which : Which) (unit : Name) → has (list_names kept which) unit ≡ true → Waits later now kept which unit
   still_owed which unit found = owed_listed later now kept which unit found (owed_defined before states lists sound which unit (listed_before which unit found))
 
-  owed_yet : (which : Which) (unit : Name) → IsOwedAct before states lists (act_of which) unit → IsTrue (is_paid unit) ⊎ IsOwedAct later now kept (act_of which) unit
+  owed_yet : (which : Which) (unit : Name) → Waits before states lists which unit → IsTrue (is_paid unit) ⊎ Waits later now kept which unit
   owed_yet which unit owes =
-      elim (done_or_left (owed_names owed (act_of which)) (list_names kept which) _ unit (called.kept_lists which) (listed (act_of which) unit owes)) [
+      elim (done_or_left (list_names owed.lists which) (list_names kept which) _ unit (called.kept_lists which) (listed (OnList which) unit owes)) [
         | inl done ↦ inl done.1
         | inr left ↦ inr (still_owed which unit left)
       ]
@@ -260,57 +273,67 @@ module _ (old new : Texts) (wants : Name → List Name) (states now : Name → S
   -- the final states, for what is owed at that moment
   module _ (next : Owed) (is_next : IsOwed later now kept next) (unit : Name) where
     abbrev final_first : Bool → Bool → State
-    final_first restarts brought = final_of restarts brought (then_ unit) (to unit)
+    final_first renewed brought = final_of renewed brought (then_ unit) (to unit)
 
     abbrev final_next : Bool → Bool → Bool → State
-    final_next restarts brought stops = final_of restarts brought (if stops then Inactive else now unit) (to unit)
+    final_next renewed brought stops = final_of renewed brought (if stops then Inactive else now unit) (to unit)
 
-    told : (act : Act) → has (owed_names next act) unit ≡ true → IsOwedAct later now kept act unit
-    told act = ((is_next act).exact unit).0
+    told : (debt : Debt) → has (owed_names next debt) unit ≡ true → IsDue later now kept debt unit
+    told debt = ((is_next debt).exact unit).0
 
-    next_called : is_brought next unit ≡ true → IsCalledUnit unit
-    next_called brought =
-        elim (brought_either next unit brought) [
-          | inl starts ↦ starts_within unit (told acts.Start starts)
-          | inr reloads ↦ (kinds.Reloads, reloads_within unit (told acts.Reload reloads))
-        ]
+    on_next : (which : Which) → Waits later now kept which unit → has (list_names next.lists which) unit ≡ true
+    on_next which = ((is_next (OnList which)).exact unit).1
 
-    next_restarts : has next.restarts unit ≡ true → has owed.restarts unit ≡ true
-    next_restarts restarts = listed acts.Restart unit (restarts_within unit (told acts.Restart restarts))
+    next_called : is_listed next.lists unit ≡ true → IsCalledUnit unit
+    next_called found = let one = on_list next.lists unit found in waits_within one.0 unit (told (OnList one.0) one.1)
+
+    next_renewed : is_renewed next.lists unit ≡ true → is_renewed owed.lists unit ≡ true
+    next_renewed found =
+        let one = on_renewing next.lists unit found in
+        renewed_on owed.lists unit one.0 one.1 (listed (OnList one.0) unit (other_within one.0 unit (renewed_other one.0 one.1) (told (OnList one.0) one.2)))
 
     next_stops : has next.stops unit ≡ true → then_ unit ≢ Active
-    next_stops stops = (stopped_again unit (told acts.Stop stops)).1
+    next_stops stops = (stopped_again unit (told ToStop stops)).1
 
-    next_again : has next.stops unit ≡ true → is_brought next unit ≡ true
-    next_again stops = or_left (has next.starts unit) (has next.reloads unit) (((is_next acts.Start).exact unit).1 (stopped_again unit (told acts.Stop stops)).3)
+    next_again : has next.stops unit ≡ true → is_listed next.lists unit ≡ true
+    next_again stops = listed_on next.lists unit kinds.Starts (on_next kinds.Starts (stopped_again unit (told ToStop stops)).3)
 
-    called_listed : IsCalledUnit unit → (is_brought owed unit ≡ true) ⊎ (has owed.restarts unit ≡ true)
-    called_listed (kinds.Starts, starts) = inl (or_left (has owed.starts unit) (has owed.reloads unit) (listed acts.Start unit starts))
-    called_listed (kinds.Reloads, reloads) = inl (or_right (has owed.starts unit) (has owed.reloads unit) (listed acts.Reload unit reloads))
-    called_listed (kinds.Restarts, restarts) = inr (listed acts.Restart unit restarts)
+    called_listed : IsCalledUnit unit → is_listed owed.lists unit ≡ true
+    called_listed is = listed_on owed.lists unit is.0 (listed (OnList is.0) unit is.1)
 
     -- what is done with, or listed yet
-    done_or_next : (which : Which) → has (owed_names owed (act_of which)) unit ≡ true → IsDone which owed unit (to unit) (then_ unit) (now unit) ⊎ (has (owed_names next (act_of which)) unit ≡ true)
+    done_or_next : (which : Which) → has (list_names owed.lists which) unit ≡ true → IsDone (renews which) kept owed unit (to unit) (then_ unit) (now unit) ⊎ (has (list_names next.lists which) unit ≡ true)
     done_or_next which found =
-        elim (done_or_left (owed_names owed (act_of which)) (list_names kept which) _ unit (called.kept_lists which) found) [
+        elim (done_or_left (list_names owed.lists which) (list_names kept which) _ unit (called.kept_lists which) found) [
           | inl done ↦ inl done.0
-          | inr left ↦ inr (((is_next (act_of which)).exact unit).1 (still_owed which unit left))
+          | inr left ↦ inr (on_next which (still_owed which unit left))
         ]
 
-    -- a unit that is restarted
-    restarted : has owed.restarts unit ≡ true → final_next (has next.restarts unit) (is_brought next unit) (has next.stops unit) ≡ to unit
-    restarted restarts =
-        elim (done_or_next kinds.Restarts restarts) [
-          | inl done ↦ final_brought (has next.restarts unit) (is_brought next unit) (has next.stops unit) (now unit) (to unit) done next_again
-          | inr again ↦ ap (λ r. final_next r (is_brought next unit) (has next.stops unit)) again
+    -- a unit that is brought up anew is so, or will be
+    is_or_renewed : is_renewed owed.lists unit ≡ true → (now unit ≡ to unit) ⊎ (is_renewed next.lists unit ≡ true)
+    is_or_renewed found =
+        let one = on_renewing owed.lists unit found in
+        elim (done_or_next one.0 one.2) [
+          | inl done ↦ elim (subst (λ b. IsDone b kept owed unit (to unit) (then_ unit) (now unit)) one.1 done) [
+            | inl is ↦ inl is
+            | inr still ↦ let later = on_renewing kept unit still in inr (renewed_on next.lists unit later.0 later.1 (on_next later.0 (still_owed later.0 unit later.2)))
+          ]
+          | inr again ↦ inr (renewed_on next.lists unit one.0 one.1 again)
         ]
 
-    module _ (none : has owed.restarts unit ≡ false) where
-      no_restart_owed : has owed.restarts unit ≡ true → ⊥
-      no_restart_owed e = cc (sym e ∙ none)
+    renewed_to : is_renewed owed.lists unit ≡ true → final_next (is_renewed next.lists unit) (is_listed next.lists unit) (has next.stops unit) ≡ to unit
+    renewed_to found =
+        elim (is_or_renewed found) [
+          | inl is ↦ final_brought (is_renewed next.lists unit) (is_listed next.lists unit) (has next.stops unit) (now unit) (to unit) is next_again
+          | inr again ↦ ap (λ r. final_next r (is_listed next.lists unit) (has next.stops unit)) again
+        ]
 
-      no_restart_next : has next.restarts unit ≡ false
-      no_restart_next = false_from_ne_true (has next.restarts unit) (λ e. no_restart_owed (next_restarts e))
+    module _ (none : is_renewed owed.lists unit ≡ false) where
+      not_renewed : is_renewed owed.lists unit ≡ true → ⊥
+      not_renewed e = cc (sym e ∙ none)
+
+      not_renewed_next : is_renewed next.lists unit ≡ false
+      not_renewed_next = false_from_ne_true (is_renewed next.lists unit) (λ e. not_renewed (next_renewed e))
 
       -- a unit that is up as it was
       still_up : then_ unit ≡ Active → now unit ≡ Active
@@ -319,31 +342,27 @@ module _ (old new : Texts) (wants : Name → List Name) (states now : Name → S
           by : IsCalled owed unit (to unit) (then_ unit) (now unit) → now unit ≡ Active
           by (IsCalled.NotYet same) = same ∙ up
           by (IsCalled.Brought brought down is) = absurd (down up)
-          by (IsCalled.Restarted restarts is) = absurd (no_restart_owed restarts)
-          by (IsCalled.Halfway restarts is) = absurd (no_restart_owed restarts)
+          by (IsCalled.Renewed renewed is) = absurd (not_renewed renewed)
+          by (IsCalled.Halfway renewed is) = absurd (not_renewed renewed)
 
-      kept_up : then_ unit ≡ Active → final_next false (is_brought next unit) (has next.stops unit) ≡ Active
+      kept_up : then_ unit ≡ Active → final_next false (is_listed next.lists unit) (has next.stops unit) ≡ Active
       kept_up up =
-          ap (final_next false (is_brought next unit)) (false_from_ne_true (has next.stops unit) (λ stops. next_stops stops up))
-          ∙ final_active (is_brought next unit) (now unit) (to unit) (still_up up)
+          ap (final_next false (is_listed next.lists unit)) (false_from_ne_true (has next.stops unit) (λ stops. next_stops stops up))
+          ∙ final_active (is_listed next.lists unit) (now unit) (to unit) (still_up up)
 
       given : IsGiven owed unit (to unit) (then_ unit) (now unit) → then_ unit ≢ Active → now unit ≡ to unit
-      given (inl restarts) down = absurd (no_restart_owed restarts)
+      given (inl renewed) down = absurd (not_renewed renewed)
       given (inr (inl up)) down = absurd (down up)
       given (inr (inr is)) down = is
 
       -- a unit that is to be brought to its state is so, or will be
-      is_or_comes : then_ unit ≢ Active → is_brought owed unit ≡ true → (now unit ≡ to unit) ⊎ (is_brought next unit ≡ true)
-      is_or_comes down brought =
-          elim (brought_either owed unit brought) [
-            | inl starts ↦ elim (done_or_next kinds.Starts starts) [
-              | inl done ↦ inl (given done down)
-              | inr again ↦ inr (or_left (has next.starts unit) (has next.reloads unit) again)
-            ]
-            | inr reloads ↦ elim (done_or_next kinds.Reloads reloads) [
-              | inl done ↦ inl (given done down)
-              | inr again ↦ inr (or_right (has next.starts unit) (has next.reloads unit) again)
-            ]
+      is_or_comes : then_ unit ≢ Active → is_listed owed.lists unit ≡ true → (now unit ≡ to unit) ⊎ (is_listed next.lists unit ≡ true)
+      is_or_comes down found =
+          let one = on_list owed.lists unit found in
+          let stays_up : renews one.0 ≡ false = false_from_ne_true (renews one.0) (λ renewed. not_renewed (renewed_on owed.lists unit one.0 renewed one.1)) in
+          elim (done_or_next one.0 one.1) [
+            | inl done ↦ inl (given (subst (λ b. IsDone b kept owed unit (to unit) (then_ unit) (now unit)) stays_up done) down)
+            | inr again ↦ inr (listed_on next.lists unit one.0 again)
           ]
 
       up_is_to : then_ unit ≢ Active → now unit ≡ Active → now unit ≡ to unit
@@ -352,58 +371,54 @@ module _ (old new : Texts) (wants : Name → List Name) (states now : Name → S
           by : IsCalled owed unit (to unit) (then_ unit) (now unit) → now unit ≡ to unit
           by (IsCalled.NotYet same) = absurd (down (sym same ∙ active))
           by (IsCalled.Brought brought was is) = is
-          by (IsCalled.Restarted restarts is) = is
-          by (IsCalled.Halfway restarts is) = absurd (no_restart_owed restarts)
+          by (IsCalled.Renewed renewed is) = is
+          by (IsCalled.Halfway renewed is) = absurd (not_renewed renewed)
 
-      comes_to : then_ unit ≢ Active → is_brought owed unit ≡ true → final_next false (is_brought next unit) (has next.stops unit) ≡ to unit
-      comes_to down brought =
-          elim (is_or_comes down brought) [
-            | inl is ↦ final_brought false (is_brought next unit) (has next.stops unit) (now unit) (to unit) is next_again
+      comes_to : then_ unit ≢ Active → is_listed owed.lists unit ≡ true → final_next false (is_listed next.lists unit) (has next.stops unit) ≡ to unit
+      comes_to down found =
+          elim (is_or_comes down found) [
+            | inl is ↦ final_brought false (is_listed next.lists unit) (has next.stops unit) (now unit) (to unit) is next_again
             | inr comes ↦ ap (λ b. final_next false b (has next.stops unit)) comes ∙ final_to_bring (has next.stops unit) (now unit) (to unit) (up_is_to down)
           ]
 
       -- a unit that isn't called
-      module _ (not_brought : is_brought owed unit ≡ false) where
+      module _ (not_listed : is_listed owed.lists unit ≡ false) where
         not_called : IsCalledUnit unit → ⊥
-        not_called is =
-            elim (called_listed is) [
-              | inl brought ↦ cc (sym brought ∙ not_brought)
-              | inr restarts ↦ no_restart_owed restarts
-            ]
+        not_called is = cc (sym (called_listed is) ∙ not_listed)
 
         untouched : now unit ≡ then_ unit
         untouched = by (called.units unit)
           where
             by : IsCalled owed unit (to unit) (then_ unit) (now unit) → now unit ≡ then_ unit
             by (IsCalled.NotYet same) = same
-            by (IsCalled.Brought brought was is) = absurd (cc (sym brought ∙ not_brought))
-            by (IsCalled.Restarted restarts is) = absurd (no_restart_owed restarts)
-            by (IsCalled.Halfway restarts is) = absurd (no_restart_owed restarts)
+            by (IsCalled.Brought brought was is) = absurd (cc (sym brought ∙ not_listed))
+            by (IsCalled.Renewed renewed is) = absurd (not_renewed renewed)
+            by (IsCalled.Halfway renewed is) = absurd (not_renewed renewed)
 
-        left_alone : final_next false (is_brought next unit) (has next.stops unit) ≡ then_ unit
+        left_alone : final_next false (is_listed next.lists unit) (has next.stops unit) ≡ then_ unit
         left_alone =
-            ap (λ b. final_next false b (has next.stops unit)) (false_from_ne_true (is_brought next unit) (λ e. not_called (next_called e)))
+            ap (λ b. final_next false b (has next.stops unit)) (false_from_ne_true (is_listed next.lists unit) (λ e. not_called (next_called e)))
             ∙ ap (final_next false false) (false_from_ne_true (has next.stops unit) (λ e. not_called (next_called (next_again e))))
             ∙ untouched
 
-      same_unrestarted : final_next false (is_brought next unit) (has next.stops unit) ≡ final_first false (is_brought owed unit)
-      same_unrestarted =
-          elim (cases_Bool (is_brought owed unit)) [
-            | inl brought ↦
+      same_unrenewed : final_next false (is_listed next.lists unit) (has next.stops unit) ≡ final_first false (is_listed owed.lists unit)
+      same_unrenewed =
+          elim (cases_Bool (is_listed owed.lists unit)) [
+            | inl found ↦
                 elim (is_state_active (then_ unit)) [
-                  | inl up ↦ kept_up up ∙ sym (final_active (is_brought owed unit) (then_ unit) (to unit) up)
-                  | inr down ↦ comes_to down brought ∙ sym (ap (final_first false) brought ∙ final_down (then_ unit) (to unit) down)
+                  | inl up ↦ kept_up up ∙ sym (final_active (is_listed owed.lists unit) (then_ unit) (to unit) up)
+                  | inr down ↦ comes_to down found ∙ sym (ap (final_first false) found ∙ final_down (then_ unit) (to unit) down)
                 ]
             | inr other ↦ left_alone other ∙ sym (ap (final_first false) other)
           ]
 
-    same_final : final_next (has next.restarts unit) (is_brought next unit) (has next.stops unit) ≡ final_first (has owed.restarts unit) (is_brought owed unit)
+    same_final : final_next (is_renewed next.lists unit) (is_listed next.lists unit) (has next.stops unit) ≡ final_first (is_renewed owed.lists unit) (is_listed owed.lists unit)
     same_final =
-        elim (cases_Bool (has owed.restarts unit)) [
-          | inl restarts ↦ restarted restarts ∙ sym (ap (λ r. final_first r (is_brought owed unit)) restarts)
+        elim (cases_Bool (is_renewed owed.lists unit)) [
+          | inl renewed ↦ renewed_to renewed ∙ sym (ap (λ r. final_first r (is_listed owed.lists unit)) renewed)
           | inr none ↦
-              ap (λ r. final_next r (is_brought next unit) (has next.stops unit)) (no_restart_next none) ∙ same_unrestarted none
-              ∙ sym (ap (λ r. final_first r (is_brought owed unit)) none)
+              ap (λ r. final_next r (is_listed next.lists unit) (has next.stops unit)) (not_renewed_next none) ∙ same_unrenewed none
+              ∙ sym (ap (λ r. final_first r (is_listed owed.lists unit)) none)
         ]
 
 pub after_link_law : AfterLinkLaw
@@ -412,9 +427,9 @@ after_link_law old new wants states now lists kept owed loaded bad is_paid sound
     record {
       pull = pull_within old new wants states now lists kept owed to is_paid sound steady is_owed called;
       final = λ next is_next unit.
-          final_by (has next.restarts unit) (is_brought next unit) (has next.stops unit) (now unit) (to unit)
+          final_by (is_renewed next.lists unit) (is_listed next.lists unit) (has next.stops unit) (now unit) (to unit)
           ∙ same_final old new wants states now lists kept owed to is_paid sound steady is_owed called next is_next unit
-          ∙ sym (final_by (has owed.restarts unit) (is_brought owed unit) (has owed.stops unit) (states unit) (to unit));
+          ∙ sym (final_by (is_renewed owed.lists unit) (is_listed owed.lists unit) (has owed.stops unit) (states unit) (to unit));
       owed_yet = owed_yet old new wants states now lists kept owed to is_paid sound steady is_owed called;
       units = units_within old new wants states now lists kept owed to is_paid sound steady is_owed called;
       others = others_kept old new wants states now lists kept owed to is_paid sound steady is_owed called;

@@ -1,5 +1,5 @@
 -- After some of the stops the same is owed.
-use Rattle.std.proofs.Common.{◌≡◌, ◌⊎◌, ◌&&◌, Bool, true, IsTrue, inl, inr, sym, ◌∙◌, ap}
+use Rattle.std.proofs.Common.{◌≡◌, ◌⊎◌, ◌&&◌, Bool, true, IsTrue, inl, inr, refl, sym, subst, ◌∙◌, ap}
 use Rattle.std.proofs.lemmas.Bool.{and_from, and_parts, or_cases, or_left, or_right}
 use Rattle.host_trait.specs.declared.unit_state.State.{State}
 use Rattle.host_trait.specs.declared.unit_state.State.TheVariants.{Active}
@@ -7,15 +7,16 @@ use Rattle.owed_plan.specs.Law.{IsSound, SameOwed}
 use Rattle.host_trait.specs.Manager.{is_active}
 use Rattle.host_trait.proofs.NameOrder.{passes_among}
 use Rattle.host_trait.proofs.StateMaps.{active_from_test}
-use Rattle.owed_plan.specs.Lists.{act_of, is_live, pending}
+use Rattle.owed_plan.specs.Lists.{is_live, pending}
 use Rattle.log_text.specs.declared.lists.Lists.{Lists}
 use Rattle.log_text.specs.declared.lists.Which.{Which}
 use Rattle.log_text.specs.declared.lists.Which.TheVariants as kinds
 use Rattle.log_text.specs.Lists.{list_names}
-use Rattle.owed_plan.specs.Owed.{Activates, Decides, IsOwedAct, Reloads, Restarts, Starts, Stops, has_live}
+use Rattle.owed_plan.specs.Owed.{Activates, Decides, IsBySelf, IsForOthers, Stops, Waits, has_live}
 use Rattle.owed_plan.specs.Pull.{IsRoot, Running, Pending, Pulled}
 use Rattle.unit_defs.specs.Pull.{FromRoot, FromWant}
 use Rattle.owed_plan.specs.Systems.{Systems, Counts, IsDefined}
+use Rattle.owed_plan.proofs.KindLemmas.{put_elim}
 use Rattle.owed_plan.proofs.NameLemmas.{any_more}
 use Rattle.owed_plan.proofs.PartLemmas.{IsPartly}
 use Rattle.switch_names.specs.declared.unit_kind.UnitKind.{UnitKind}
@@ -81,50 +82,51 @@ module _ (systems : Systems) (states : Name → State) (lists : Lists) where
   pulled_defined sound unit (FromRoot _ root) = root_defined unit root
   pulled_defined sound unit (FromWant _ by reached wanted) = sound.wanted by unit wanted
 
-  -- what is started, restarted or reloaded is defined
-  pub owed_defined : IsSound systems → (which : Which) (unit : Name) → IsOwedAct systems states lists (act_of which) unit → IsDefined systems unit
-  owed_defined sound kinds.Starts unit (Starts.ByStart decides) = start_defined (systems.facts unit) (has_live systems states lists unit) decides.row
-  owed_defined sound kinds.Starts unit (Starts.ByStopStart decides) = stop_start_defined (systems.facts unit) (has_live systems states lists unit) decides.row
-  owed_defined sound kinds.Starts unit (Starts.ByService service activates) = activates.1.1
-  owed_defined sound kinds.Starts unit (Starts.ByStartList listed defined) = defined
-  owed_defined sound kinds.Starts unit (Starts.ByPull pulled stops reloads restarts socketed) = pulled_defined sound unit pulled
-  owed_defined sound kinds.Restarts unit (Restarts.ByRestart decides) = restart_defined (systems.facts unit) (has_live systems states lists unit) decides.row
-  owed_defined sound kinds.Restarts unit (Restarts.ByRestartList listed defined) = defined
-  owed_defined sound kinds.Reloads unit (Reloads.ByReload decides) = reload_defined (systems.facts unit) (has_live systems states lists unit) decides.row
-  owed_defined sound kinds.Reloads unit (Reloads.ByReloadList listed defined) = defined
+  -- what is on a list is defined
+  pub owed_defined : IsSound systems → (which : Which) (unit : Name) → Waits systems states lists which unit → IsDefined systems unit
+  owed_defined sound which unit (Waits.BySelf (IsBySelf.ByDecision decision puts decides)) =
+      let facts = systems.facts unit in
+      let live = has_live systems states lists unit in
+      put_elim (λ one made. decide facts live ≡ made → IsDefined systems unit) (start_defined facts live) (stop_start_defined facts live) (restart_defined facts live) (reload_defined facts live) which decision puts decides.row
+  owed_defined sound which unit (Waits.BySelf (IsBySelf.ByList listed defined)) = defined
+  owed_defined sound which unit (Waits.ForOthers starts (IsForOthers.ByService service activates)) = activates.1.1
+  owed_defined sound which unit (Waits.ForOthers starts (IsForOthers.ByPull pulled stops own socketed)) = pulled_defined sound unit pulled
 
   -- what is listed and defined is owed
-  pub owed_listed : (which : Which) (unit : Name) → IsTrue (has (list_names lists which) unit) → IsDefined systems unit → IsOwedAct systems states lists (act_of which) unit
-  owed_listed kinds.Starts unit listed defined = Starts.ByStartList listed defined
-  owed_listed kinds.Restarts unit listed defined = Restarts.ByRestartList listed defined
-  owed_listed kinds.Reloads unit listed defined = Reloads.ByReloadList listed defined
+  pub owed_listed : (which : Which) (unit : Name) → IsTrue (has (list_names lists which) unit) → IsDefined systems unit → Waits systems states lists which unit
+  owed_listed which unit listed defined = Waits.BySelf (IsBySelf.ByList listed defined)
+
+  -- what is stopped to be started waits for a start
+  pub owed_again : (unit : Name) → Decides systems states lists unit StopStart → Waits systems states lists kinds.Starts unit
+  owed_again unit decides = Waits.BySelf (IsBySelf.ByDecision StopStart refl decides)
 
   -- a target that is started is pulled
-  pub start_pulled : IsSound systems → (unit : Name) → (systems.facts unit).kind ≡ Target → Starts systems states lists unit → Pulled systems states lists unit
-  start_pulled sound unit target (Starts.ByStart decides) =
+  pub start_pulled : IsSound systems → (unit : Name) → (systems.facts unit).kind ≡ Target → Waits systems states lists kinds.Starts unit → Pulled systems states lists unit
+  start_pulled sound unit target (Waits.BySelf (IsBySelf.ByDecision Start puts decides)) =
       let row = decides.row in
       let live = has_live systems states lists unit in
       FromRoot unit (Running (start_defined (systems.facts unit) live row) target decides.active (target_started (systems.facts unit) live row))
-  start_pulled sound unit target (Starts.ByStopStart decides) =
+  start_pulled sound unit target (Waits.BySelf (IsBySelf.ByDecision StopStart puts decides)) =
       let row = decides.row in
       let live = has_live systems states lists unit in
       FromRoot unit (Running (stop_start_defined (systems.facts unit) live row) target decides.active (target_stop_started (systems.facts unit) live target row))
-  start_pulled sound unit target (Starts.ByService service activates) = absurd (no_socket (systems.facts unit).kind target (sound.sockets service unit activates.1.0))
-  start_pulled sound unit target (Starts.ByStartList listed defined) = FromRoot unit (Pending defined target listed)
-  start_pulled sound unit target (Starts.ByPull pulled stops reloads restarts socketed) = pulled
+  start_pulled sound unit target (Waits.BySelf (IsBySelf.ByDecision decision puts decides)) = absurd cc
+  start_pulled sound unit target (Waits.BySelf (IsBySelf.ByList listed defined)) = FromRoot unit (Pending defined target listed)
+  start_pulled sound unit target (Waits.ForOthers starts (IsForOthers.ByService service activates)) = absurd (no_socket (systems.facts unit).kind target (sound.sockets service unit activates.1.0))
+  start_pulled sound unit target (Waits.ForOthers starts (IsForOthers.ByPull pulled stops own socketed)) = pulled
 
   -- a defined socket that is stopped is started again
-  stopped_socket_starts : (socket : Name) → IsDefined systems socket → (systems.facts socket).kind ≡ Socket → Stops systems states lists socket → Starts systems states lists socket
+  stopped_socket_starts : (socket : Name) → IsDefined systems socket → (systems.facts socket).kind ≡ Socket → Stops systems states lists socket → Waits systems states lists kinds.Starts socket
   stopped_socket_starts socket defined is (Stops.ByStop decides) =
       absurd (cc (sym decides.row ∙ socket_nothing (systems.facts socket) (has_live systems states lists socket) defined is))
-  stopped_socket_starts socket defined is (Stops.ByStopStart decides) = Starts.ByStopStart decides
+  stopped_socket_starts socket defined is (Stops.ByStopStart decides) = owed_again socket decides
   stopped_socket_starts socket defined is (Stops.BySocketStart decides) =
       absurd (cc (sym decides.row ∙ socket_nothing (systems.facts socket) (has_live systems states lists socket) defined is))
-  stopped_socket_starts socket defined is (Stops.ByService service activates active) = Starts.ByService service activates
+  stopped_socket_starts socket defined is (Stops.ByService service activates active) = Waits.ForOthers refl (IsForOthers.ByService service activates)
 
 module _ (systems : Systems) (states : Name → State) (lists : Lists) (later : Name → State) (kept : Lists) (sound : IsSound systems) (partly : IsPartly systems states lists later kept) where
   -- what is listed afterwards and defined was owed
-  pub listed_before : (which : Which) (unit : Name) → IsTrue (has (list_names kept which) unit) → IsDefined systems unit → IsOwedAct systems states lists (act_of which) unit
+  pub listed_before : (which : Which) (unit : Name) → IsTrue (has (list_names kept which) unit) → IsDefined systems unit → Waits systems states lists which unit
   listed_before which unit listed defined =
       elim (partly.from which unit listed) [
         | inl was ↦ owed_listed systems states lists which unit was defined
@@ -135,7 +137,7 @@ module _ (systems : Systems) (states : Name → State) (lists : Lists) (later : 
   root_stopped : (unit : Name) → IsDefined systems unit → (systems.facts unit).kind ≡ Target → IsTrue (systems.facts unit).may_start → Stops systems states lists unit → IsRoot systems later kept unit
   root_stopped unit defined target may (Stops.ByStop decides) =
       absurd (target_not_stopped (systems.facts unit) (has_live systems states lists unit) defined target may decides.row)
-  root_stopped unit defined target may (Stops.ByStopStart decides) = Pending defined target (partly.starts unit (Starts.ByStopStart decides))
+  root_stopped unit defined target may (Stops.ByStopStart decides) = Pending defined target (partly.starts unit (owed_again systems states lists unit decides))
   root_stopped unit defined target may (Stops.BySocketStart decides) =
       absurd (no_service (systems.facts unit).kind target (socket_start_service (systems.facts unit) (has_live systems states lists unit) decides.row))
   root_stopped unit defined target may (Stops.ByService service activates active) =
@@ -147,7 +149,7 @@ module _ (systems : Systems) (states : Name → State) (lists : Lists) (later : 
         | inl still ↦ Running defined target still may
         | inr stops ↦ root_stopped unit defined target may stops
       ]
-  root_kept unit (Pending defined target listed) = Pending defined target (partly.starts unit (Starts.ByStartList listed defined))
+  root_kept unit (Pending defined target listed) = Pending defined target (partly.starts unit (owed_listed systems states lists kinds.Starts unit listed defined))
 
   pull_to : (unit : Name) → Pulled systems states lists unit → Pulled systems later kept unit
   pull_to unit (FromRoot _ root) = FromRoot unit (root_kept unit root)
@@ -169,7 +171,7 @@ module _ (systems : Systems) (states : Name → State) (lists : Lists) (later : 
           | inl still ↦ live_from_active systems later kept socket still
           | inr stops ↦ live_from_pending systems later kept socket (partly.starts socket (stopped_socket_starts systems states lists socket defined is stops))
         ]
-        | inr listed ↦ live_from_pending systems later kept socket (partly.starts socket (Starts.ByStartList listed defined))
+        | inr listed ↦ live_from_pending systems later kept socket (partly.starts socket (owed_listed systems states lists kinds.Starts socket listed defined))
       ]
 
   has_live_kept : (unit : Name) → has_live systems states lists unit ≡ true → has_live systems later kept unit ≡ true
@@ -245,35 +247,42 @@ module _ (systems : Systems) (states : Name → State) (lists : Lists) (later : 
         | inr stops ↦ absurd (stays stops)
       ]
 
-  owed_to : (which : Which) (unit : Name) → IsOwedAct systems states lists (act_of which) unit → IsOwedAct systems later kept (act_of which) unit
-  owed_to kinds.Reloads unit (Reloads.ByReload decides) =
-      Reloads.ByReload (decides_to Reload reload_same unit (still_active unit (reload_not_stopped systems states lists unit sound decides) decides.active) decides)
-  owed_to kinds.Reloads unit (Reloads.ByReloadList listed defined) = Reloads.ByReloadList (partly.to kinds.Reloads unit listed defined) defined
-  owed_to kinds.Restarts unit (Restarts.ByRestart decides) =
-      Restarts.ByRestart (decides_to Restart restart_same unit (still_active unit (restart_not_stopped systems states lists unit sound decides) decides.active) decides)
-  owed_to kinds.Restarts unit (Restarts.ByRestartList listed defined) = Restarts.ByRestartList (partly.to kinds.Restarts unit listed defined) defined
-  owed_to kinds.Starts unit starts = Starts.ByStartList (partly.starts unit starts) (owed_defined systems states lists sound kinds.Starts unit starts)
+  -- what waits for a start is listed
+  on_starts : (which : Which) (unit : Name) → which ≡ kinds.Starts → Waits systems states lists kinds.Starts unit → IsBySelf systems later kept which unit
+  on_starts which unit starts waits =
+      subst (λ one. IsBySelf systems later kept one unit) (sym starts) (IsBySelf.ByList (partly.starts unit waits) (owed_defined systems states lists sound kinds.Starts unit waits))
 
-  owed_from : (which : Which) (unit : Name) → IsOwedAct systems later kept (act_of which) unit → IsOwedAct systems states lists (act_of which) unit
-  owed_from kinds.Reloads unit (Reloads.ByReload decides) = Reloads.ByReload (decides_from Reload reload_same unit decides)
-  owed_from kinds.Reloads unit (Reloads.ByReloadList listed defined) = listed_before kinds.Reloads unit listed defined
-  owed_from kinds.Restarts unit (Restarts.ByRestart decides) = Restarts.ByRestart (decides_from Restart restart_same unit decides)
-  owed_from kinds.Restarts unit (Restarts.ByRestartList listed defined) = listed_before kinds.Restarts unit listed defined
-  owed_from kinds.Starts unit (Starts.ByStart decides) = Starts.ByStart (decides_from Start start_same unit decides)
-  owed_from kinds.Starts unit (Starts.ByStopStart decides) = Starts.ByStopStart (stop_start_from unit decides)
-  owed_from kinds.Starts unit (Starts.ByService service activates) =
+  by_self_to : (which : Which) (unit : Name) → Waits systems states lists which unit → IsBySelf systems later kept which unit
+  by_self_to which unit (Waits.BySelf (IsBySelf.ByDecision decision puts decides)) =
+      put_elim (λ one made. Decides systems states lists unit made → IsBySelf systems later kept one unit) (λ decided. on_starts kinds.Starts unit refl (Waits.BySelf (IsBySelf.ByDecision Start refl decided)))
+      (λ decided. on_starts kinds.Starts unit refl (owed_again systems states lists unit decided))
+      (λ decided. IsBySelf.ByDecision Restart refl (decides_to Restart restart_same unit (still_active unit (restart_not_stopped systems states lists unit sound decided) decided.active) decided))
+      (λ decided. IsBySelf.ByDecision Reload refl (decides_to Reload reload_same unit (still_active unit (reload_not_stopped systems states lists unit sound decided) decided.active) decided)) which decision puts decides
+  by_self_to which unit (Waits.BySelf (IsBySelf.ByList listed defined)) = IsBySelf.ByList (partly.to which unit listed defined) defined
+  by_self_to which unit (Waits.ForOthers starts by) = on_starts which unit starts (Waits.ForOthers refl by)
+
+  owed_to : (which : Which) (unit : Name) → Waits systems states lists which unit → Waits systems later kept which unit
+  owed_to which unit waits = Waits.BySelf (by_self_to which unit waits)
+
+  owed_from : (which : Which) (unit : Name) → Waits systems later kept which unit → Waits systems states lists which unit
+  owed_from which unit (Waits.BySelf (IsBySelf.ByDecision decision puts decides)) =
+      put_elim (λ one made. Decides systems later kept unit made → Waits systems states lists one unit) (λ decided. Waits.BySelf (IsBySelf.ByDecision Start refl (decides_from Start start_same unit decided)))
+      (λ decided. owed_again systems states lists unit (stop_start_from unit decided)) (λ decided. Waits.BySelf (IsBySelf.ByDecision Restart refl (decides_from Restart restart_same unit decided)))
+      (λ decided. Waits.BySelf (IsBySelf.ByDecision Reload refl (decides_from Reload reload_same unit decided))) which decision puts decides
+  owed_from which unit (Waits.BySelf (IsBySelf.ByList listed defined)) = listed_before which unit listed defined
+  owed_from which unit (Waits.ForOthers starts (IsForOthers.ByService service activates)) =
       elim (live_either systems later kept unit activates.2) [
-        | inl active ↦ Starts.ByService service (activates_from service unit activates (partly.before unit active))
-        | inr listed ↦ listed_before kinds.Starts unit listed activates.1.1
+        | inl active ↦ Waits.ForOthers starts (IsForOthers.ByService service (activates_from service unit activates (partly.before unit active)))
+        | inr listed ↦ subst (λ one. Waits systems states lists one unit) (sym starts) (listed_before kinds.Starts unit listed activates.1.1)
       ]
-  owed_from kinds.Starts unit (Starts.ByStartList listed defined) = listed_before kinds.Starts unit listed defined
-  owed_from kinds.Starts unit (Starts.ByPull pulled stops reloads restarts socketed) =
-      Starts.ByPull (pull_from unit pulled)
+  owed_from which unit (Waits.ForOthers starts (IsForOthers.ByPull pulled stops own socketed)) =
+      Waits.ForOthers starts
+      (IsForOthers.ByPull (pull_from unit pulled)
       (λ active. elim (partly.after unit active) [
         | inl still ↦ stops_from unit (stops still)
         | inr stopped ↦ stopped
       ])
-      (λ reload. reloads (owed_to kinds.Reloads unit reload)) (λ restart. restarts (owed_to kinds.Restarts unit restart)) socketed
+      (λ one by. own one (by_self_to one unit (Waits.BySelf by))) socketed)
 
   -- the same is owed, but for what is stopped already
   pub same_owed : SameOwed systems states later lists kept

@@ -1,5 +1,5 @@
 -- Something is owed in each world.
-use Rattle.std.proofs.Common.{◌≡◌, ◌||◌, ◌&&◌, ◌++◌, ◌∷◌, Bool, true, false, List, Option, filter, flat_map, refl, ap, ◌∙◌, inl, inr}
+use Rattle.std.proofs.Common.{◌≡◌, ◌||◌, ◌&&◌, ◌++◌, ◌∷◌, Bool, true, false, List, Option, filter, flat_map, refl, sym, ap, subst, ◌∙◌, inl, inr}
 use Rattle.std.specs.List.{list_any}
 use Rattle.std.proofs.lemmas.Bool.{and_from, and_parts, or_cases, or_left, or_right}
 use Rattle.std.proofs.lemmas.List.Kept.{IsStrictlySortedBy-filter}
@@ -9,12 +9,16 @@ use Rattle.host_trait.specs.World.{Leaves, bytes_cmp}
 use Rattle.host_trait.proofs.NameOrder.{has_filter}
 use Rattle.host_trait.proofs.StateMaps.{active_from_test}
 use Rattle.log_text.specs.declared.lists.Lists.{Lists}
+use Rattle.log_text.specs.declared.lists.Which.{Which}
+use Rattle.log_text.specs.declared.lists.Which.TheVariants.{Starts}
+use Rattle.log_text.specs.Lists.{list_names, with_list}
+use Rattle.log_text.proofs.WhichLemmas.{lists_with, names_with}
 use Rattle.owed_lists.proofs.OrderLemmas.{has_ordered, ordered, ordered_sorted}
 use Rattle.owed_plan.specs.declared.deciding.UnitDecision.{UnitDecision}
 use Rattle.owed_plan.specs.declared.owed.Owed.{Owed}
-use Rattle.owed_plan.specs.Collected.{IsCollected, IsListBy, comes_up, defined}
-use Rattle.owed_plan.specs.Decisions.{Situation, decisions_of, is_reloaded, is_restarted, is_started, is_stopped, leaves, reloads, restarts, starts, stops}
-use Rattle.owed_plan.specs.Lists.{pending}
+use Rattle.owed_plan.specs.Collected.{AreBySelf, IsCollected, IsListBy, comes_up, defined, is_by_self}
+use Rattle.owed_plan.specs.Decisions.{Situation, decisions_of, is_stopped, leaves, puts, stops, wakes}
+use Rattle.owed_plan.specs.Lists.{is_put, pending}
 use Rattle.owed_plan.specs.Owed.{IsPlan}
 use Rattle.owed_plan.specs.Pull.{IsRoot, Running, Pending, Pulled}
 use Rattle.owed_plan.specs.Systems.{Systems, systems_at}
@@ -71,13 +75,6 @@ stop_named situation unit decision is =
       | inr live ↦ live_unit unit decision (filter_parts (λ socket. is_active (situation.states socket)) decision.live unit live).1
     ]
 
-start_named : (unit : Name) (decision : UnitDecision) → starts unit decision ≡ true → has (named_by decision) unit ≡ true
-start_named unit decision is =
-    elim (or_cases (is_started decision.decision && is_name unit decision.unit) (has decision.live unit) is) [
-      | inl own ↦ own_unit (is_started decision.decision) unit decision own
-      | inr live ↦ live_unit unit decision live
-    ]
-
 -- ---- what is owed
 
 module _ (systems : Systems) (states : UnitStates) (lists : Lists) where
@@ -105,17 +102,28 @@ module _ (systems : Systems) (states : UnitStates) (lists : Lists) where
     abbrev stops_test : Name → Bool
     stops_test unit = list_any (stops here unit) decided
 
-    abbrev reloads_test : Name → Bool
-    reloads_test unit = list_any (reloads unit) decided || has (defined here lists.reloads) unit
+    abbrev by_self_test : Which → Name → Bool
+    by_self_test = is_by_self here decided lists
 
-    abbrev restarts_test : Name → Bool
-    restarts_test unit = list_any (restarts unit) decided || has (defined here lists.restarts) unit
+    abbrev own_names : Which → List Name
+    own_names which = passing (concerned ++ list_names lists which) (by_self_test which)
+
+    abbrev own : Lists
+    own = lists_with own_names
+
+    by_selves : (which : Which) → IsListBy (own_names which) (by_self_test which)
+    by_selves which =
+        all_passing (concerned ++ list_names lists which) (by_self_test which)
+        (λ unit. given_or_listed (puts which unit) unit (list_names lists which) (λ decision. own_unit (is_put which decision.decision) unit decision))
+
+    are_own : AreBySelf here decided lists own
+    are_own which = subst (λ (names : List Name). IsListBy names (by_self_test which)) (sym (names_with own_names which)) (by_selves which)
 
     abbrev up_test : Name → Bool
-    up_test = comes_up here (passing concerned stops_test) (passing (concerned ++ lists.reloads) reloads_test) (passing (concerned ++ lists.restarts) restarts_test)
+    up_test = comes_up here (passing concerned stops_test) own
 
     abbrev starts_test : Name → Bool
-    starts_test unit = (list_any (starts unit) decided || has (defined here lists.starts) unit) || has (filter up_test pulled) unit
+    starts_test unit = (has own.starts unit || list_any (wakes unit) decided) || has (filter up_test pulled) unit
 
     abbrev left_test : Name → Bool
     left_test unit = list_any (leaves unit) decided
@@ -123,27 +131,27 @@ module _ (systems : Systems) (states : UnitStates) (lists : Lists) where
     abbrev owed : Owed
     owed = record {
       stops = passing concerned stops_test;
-      reloads = passing (concerned ++ lists.reloads) reloads_test;
-      restarts = passing (concerned ++ lists.restarts) restarts_test;
-      starts = passing ((concerned ++ lists.starts) ++ pulled) starts_test;
+      lists = with_list own Starts (passing ((own.starts ++ concerned) ++ pulled) starts_test);
       left = passing concerned left_test;
     }
 
-    starts_among : (unit : Name) → starts_test unit ≡ true → has ((concerned ++ lists.starts) ++ pulled) unit ≡ true
+    starts_among : (unit : Name) → starts_test unit ≡ true → has ((own.starts ++ concerned) ++ pulled) unit ≡ true
     starts_among unit is =
-        elim (or_cases (list_any (starts unit) decided || has (defined here lists.starts) unit) (has (filter up_test pulled) unit) is) [
-          | inl own ↦ in_first (concerned ++ lists.starts) pulled unit (given_or_listed (starts unit) unit lists.starts (start_named unit) own)
-          | inr pull ↦ in_second (concerned ++ lists.starts) pulled unit (filter_parts up_test pulled unit pull).1
+        elim (or_cases (has own.starts unit || list_any (wakes unit) decided) (has (filter up_test pulled) unit) is) [
+          | inl early ↦ elim (or_cases (has own.starts unit) (list_any (wakes unit) decided) early) [
+            | inl by_self ↦ in_first (own.starts ++ concerned) pulled unit (in_first own.starts concerned unit by_self)
+            | inr woken ↦ in_first (own.starts ++ concerned) pulled unit (in_second own.starts concerned unit (given (wakes unit) unit (live_unit unit) woken))
+          ]
+          | inr pull ↦ in_second (own.starts ++ concerned) pulled unit (filter_parts up_test pulled unit pull).1
         ]
 
     collected : IsCollected here decided lists pulled owed
     collected = record {
+      own = own;
+      are_own = are_own;
       stops = all_passing concerned stops_test (λ unit. given (stops here unit) unit (stop_named here unit));
-      reloads = all_passing (concerned ++ lists.reloads) reloads_test
-          (λ unit. given_or_listed (reloads unit) unit lists.reloads (λ decision. own_unit (is_reloaded decision.decision) unit decision));
-      restarts = all_passing (concerned ++ lists.restarts) restarts_test
-          (λ unit. given_or_listed (restarts unit) unit lists.restarts (λ decision. own_unit (is_restarted decision.decision) unit decision));
-      starts = all_passing ((concerned ++ lists.starts) ++ pulled) starts_test starts_among;
+      starts = all_passing ((own.starts ++ concerned) ++ pulled) starts_test starts_among;
+      others = refl;
       left = all_passing concerned left_test (λ unit. given (leaves unit) unit (λ decision. own_unit decision.is_left unit decision));
     }
 

@@ -18,9 +18,9 @@ pub mod PulledLemmas
 pub mod ReachLemmas
 pub mod RootLemmas
 pub mod SearchLemmas
-pub mod SetLemmas
 pub mod SteadyLemmas
 pub mod StoreLemmas
 pub mod SystemLemmas
+pub mod TableLemmas
 pub mod TargetLemmas
 pub mod WantedLemmas

@@ -1,20 +1,19 @@
 -- As the link moves the same is owed, but that no unit is stopped; stops leave the final states as they are.
-use Rattle.std.proofs.Common.{◌≡◌, ◌≢◌, ◌⊎◌, ◌||◌, ℕ, Bool, true, false, List, take, if◌then◌else◌, refl, sym, ap, ◌∙◌, inl, inr}
+use Rattle.std.proofs.Common.{◌≡◌, ◌≢◌, ◌⊎◌, ◌&&◌, ℕ, Bool, true, false, List, take, if◌then◌else◌, refl, sym, ap, ◌∙◌, inl, inr}
 use Rattle.std.specs.Cmp.{both_ways}
+use Rattle.std.specs.List.{list_any}
 use Rattle.std.proofs.lemmas.Bool.{cases_Bool}
-use Rattle.host_trait.specs.declared.entry.Act.{Act}
-use Rattle.host_trait.specs.declared.entry.Act.TheVariants as acts
 use Rattle.host_trait.specs.declared.entry.Bad.{Bad}
 use Rattle.host_trait.specs.declared.unit_state.State.{State}
 use Rattle.host_trait.specs.declared.unit_state.State.TheVariants.{Active, Inactive}
 use Rattle.log_text.specs.declared.lists.Lists.{Lists}
 use Rattle.log_text.specs.declared.lists.Which.{Which}
 use Rattle.log_text.specs.declared.lists.Which.TheVariants as kinds
-use Rattle.log_text.specs.Lists.{list_names}
+use Rattle.log_text.specs.Lists.{list_names, record_order}
 use Rattle.owed_plan.specs.declared.owed.Owed.{Owed}
-use Rattle.owed_plan.specs.Law.{AreStopped, IsRecorded, IsSound, lists_of, stopped}
-use Rattle.owed_plan.specs.Lists.{act_of, owed_names}
-use Rattle.owed_plan.specs.Owed.{Decides, IsOwed, IsOwedAct, Reloads, Restarts, Starts, Stops, has_live, stop_order}
+use Rattle.owed_plan.specs.Law.{AreStopped, IsRecorded, IsSound, stopped}
+use Rattle.owed_plan.specs.Lists.{Debt, OnList, ToStop, is_listed, is_renewed, owed_names, renews}
+use Rattle.owed_plan.specs.Owed.{Decides, IsBySelf, IsDue, IsForOthers, IsOwed, Stops, Waits, has_live, stop_order}
 use Rattle.owed_plan.specs.Pull.{IsRoot, Running, Pending, Pulled}
 use Rattle.owed_plan.specs.Systems.{IsDefined, Systems, Texts, systems_of}
 use Rattle.owed_plan.proofs.NameLemmas.{has-sockets_first, has-take}
@@ -22,14 +21,15 @@ use Rattle.owed_plan.proofs.PrefixLemmas.{law, was_active}
 use Rattle.switch_names.specs.declared.unit_kind.UnitKind.TheVariants.{Target}
 use Rattle.switch_names.specs.Names.{Name, has}
 use Rattle.unit_decide.specs.declared.decision.Decision.{Decision}
-use Rattle.unit_decide.specs.declared.decision.Decision.TheVariants.{Nothing, Start, Stop, StopStart}
+use Rattle.unit_decide.specs.declared.decision.Decision.TheVariants.{Nothing, Stop, StopStart}
 use Rattle.unit_decide.proofs.TableLemmas.{socket_start_service, target_not_stopped}
 use Rattle.unit_defs.specs.Pull.{FromRoot, FromWant}
-use Rattle.owed_plan.specs.FinalStates.{brought_by, final_state, is_brought}
+use Rattle.owed_plan.specs.FinalStates.{brought_by, final_state}
 use Rattle.owed_plan.specs.Linked.{LinkLaw, SameAfterLink, StopsFinalLaw}
-use Rattle.owed_plan.proofs.CalledLemmas.{no_reload, no_restart, no_socket_start, row_before}
-use Rattle.owed_plan.proofs.CoreLemmas.{owed_defined, owed_listed, start_pulled, stops_active}
+use Rattle.owed_plan.proofs.CalledLemmas.{no_socket_start, row_before}
+use Rattle.owed_plan.proofs.CoreLemmas.{owed_again, owed_defined, owed_listed, start_pulled, stops_active}
 use Rattle.owed_plan.proofs.FinalLemmas.{final_by, final_of}
+use Rattle.owed_plan.proofs.KindLemmas.{put_something}
 
 module _ (old new : Texts) (wants : Name → List Name) (states : Name → State) (lists : Lists) (owed : Owed) (sound : IsSound (systems_of old new wants)) (is_owed : IsOwed (systems_of old new wants) states lists owed) where
   abbrev first : Systems
@@ -42,25 +42,23 @@ module _ (old new : Texts) (wants : Name → List Name) (states : Name → State
   then_ = stopped owed.stops states
 
   abbrev kept : Lists
-  kept = lists_of owed
+  kept = owed.lists
 
-  owes : (act : Act) (unit : Name) → has (owed_names owed act) unit ≡ true → IsOwedAct first states lists act unit
-  owes act unit = ((is_owed act).exact unit).0
+  owes : (debt : Debt) (unit : Name) → has (owed_names owed debt) unit ≡ true → IsDue first states lists debt unit
+  owes debt unit = ((is_owed debt).exact unit).0
 
-  on_list : (which : Which) (unit : Name) → IsOwedAct first states lists (act_of which) unit → has (list_names kept which) unit ≡ true
-  on_list kinds.Starts unit = ((is_owed acts.Start).exact unit).1
-  on_list kinds.Restarts unit = ((is_owed acts.Restart).exact unit).1
-  on_list kinds.Reloads unit = ((is_owed acts.Reload).exact unit).1
+  on_list : (which : Which) (unit : Name) → Waits first states lists which unit → has (list_names kept which) unit ≡ true
+  on_list which unit = ((is_owed (OnList which)).exact unit).1
 
   up_before : (unit : Name) → then_ unit ≡ Active → (Stops first states lists unit → ⊥) × (states unit ≡ Active)
   up_before unit active =
       let was = was_active (has owed.stops unit) (states unit) (then_ unit) refl active in
-      ((λ stops. was.0 (((is_owed acts.Stop).exact unit).1 stops)), was.1)
+      ((λ stops. was.0 (((is_owed ToStop).exact unit).1 stops)), was.1)
 
   up_or_stopped : (unit : Name) → states unit ≡ Active → (then_ unit ≡ Active) ⊎ Stops first states lists unit
   up_or_stopped unit active =
       elim (cases_Bool (has owed.stops unit)) [
-        | inl stops ↦ inr (owes acts.Stop unit stops)
+        | inl stops ↦ inr (owes ToStop unit stops)
         | inr stays ↦ inl (ap (λ b. if b then Inactive else states unit) stays ∙ active)
       ]
 
@@ -77,13 +75,13 @@ module _ (old new : Texts) (wants : Name → List Name) (states : Name → State
   no_stops unit (Stops.BySocketStart decides) = no_socket_start old new wants then_ kept unit decides
   no_stops unit (Stops.ByService service activates active) = no_socket_start old new wants then_ kept service activates.0
 
-  owed_to : (which : Which) (unit : Name) → IsOwedAct first states lists (act_of which) unit → IsOwedAct after then_ kept (act_of which) unit
-  owed_to which unit owed_act = owed_listed after then_ kept which unit (on_list which unit owed_act) (owed_defined first states lists sound which unit owed_act)
+  by_self_to : (which : Which) (unit : Name) → Waits first states lists which unit → IsBySelf after then_ kept which unit
+  by_self_to which unit waits = IsBySelf.ByList (on_list which unit waits) (owed_defined first states lists sound which unit waits)
 
   -- a root that is stopped is on the start list
   root_stopped : (unit : Name) → IsDefined first unit → (first.facts unit).kind ≡ Target → (first.facts unit).may_start ≡ true → Stops first states lists unit → IsRoot after then_ kept unit
   root_stopped unit defined target may (Stops.ByStop decides) = absurd (target_not_stopped (first.facts unit) (has_live first states lists unit) defined target may decides.row)
-  root_stopped unit defined target may (Stops.ByStopStart decides) = Pending defined target (on_list kinds.Starts unit (Starts.ByStopStart decides))
+  root_stopped unit defined target may (Stops.ByStopStart decides) = Pending defined target (on_list kinds.Starts unit (owed_again first states lists unit decides))
   root_stopped unit defined target may (Stops.BySocketStart decides) =
       absurd (let service = socket_start_service (first.facts unit) (has_live first states lists unit) decides.row in cc (sym target ∙ service))
   root_stopped unit defined target may (Stops.ByService service activates active) = absurd (let socket = sound.sockets service unit activates.1.0 in cc (sym target ∙ socket))
@@ -94,7 +92,7 @@ module _ (old new : Texts) (wants : Name → List Name) (states : Name → State
         | inl up ↦ Running defined target up may
         | inr stops ↦ root_stopped unit defined target may stops
       ]
-  root_kept unit (Pending defined target listed) = Pending defined target (on_list kinds.Starts unit (Starts.ByStartList listed defined))
+  root_kept unit (Pending defined target listed) = Pending defined target (on_list kinds.Starts unit (owed_listed first states lists kinds.Starts unit listed defined))
 
   pull_to : (unit : Name) → Pulled first states lists unit → Pulled after then_ kept unit
   pull_to unit (FromRoot _ root) = FromRoot unit (root_kept unit root)
@@ -102,34 +100,31 @@ module _ (old new : Texts) (wants : Name → List Name) (states : Name → State
 
   root_pulled : (unit : Name) → IsRoot after then_ kept unit → Pulled first states lists unit
   root_pulled unit (Running defined target active may) = FromRoot unit (Running defined target (up_before unit active).1 may)
-  root_pulled unit (Pending defined target listed) = start_pulled first states lists sound unit target (owes acts.Start unit listed)
+  root_pulled unit (Pending defined target listed) = start_pulled first states lists sound unit target (owes (OnList kinds.Starts) unit listed)
 
   pull_from : (unit : Name) → Pulled after then_ kept unit → Pulled first states lists unit
   pull_from unit (FromRoot _ root) = root_pulled unit root
   pull_from unit (FromWant _ by reached wanted) = FromWant unit by (pull_from by reached) wanted
 
-  owed_from : (which : Which) (unit : Name) → IsOwedAct after then_ kept (act_of which) unit → IsOwedAct first states lists (act_of which) unit
-  owed_from kinds.Reloads unit (Reloads.ByReload decides) = absurd (no_reload old new wants then_ kept unit decides)
-  owed_from kinds.Reloads unit (Reloads.ByReloadList listed defined) = owes acts.Reload unit listed
-  owed_from kinds.Restarts unit (Restarts.ByRestart decides) = absurd (no_restart old new wants then_ kept unit decides)
-  owed_from kinds.Restarts unit (Restarts.ByRestartList listed defined) = owes acts.Restart unit listed
-  owed_from kinds.Starts unit (Starts.ByStart decides) = Starts.ByStart (decided unit Start (λ e. absurd cc) decides)
-  owed_from kinds.Starts unit (Starts.ByStopStart decides) = Starts.ByStopStart (decided unit StopStart (λ e. absurd cc) decides)
-  owed_from kinds.Starts unit (Starts.ByService service activates) = absurd (no_socket_start old new wants then_ kept service activates.0)
-  owed_from kinds.Starts unit (Starts.ByStartList listed defined) = owes acts.Start unit listed
-  owed_from kinds.Starts unit (Starts.ByPull pulled again reloads restarts socketed) =
-      Starts.ByPull (pull_from unit pulled)
+  owed_from : (which : Which) (unit : Name) → Waits after then_ kept which unit → Waits first states lists which unit
+  owed_from which unit (Waits.BySelf (IsBySelf.ByDecision decision puts decides)) =
+      Waits.BySelf (IsBySelf.ByDecision decision puts (decided unit decision (put_something which decision puts) decides))
+  owed_from which unit (Waits.BySelf (IsBySelf.ByList listed defined)) = owes (OnList which) unit listed
+  owed_from which unit (Waits.ForOthers starts (IsForOthers.ByService service activates)) = absurd (no_socket_start old new wants then_ kept service activates.0)
+  owed_from which unit (Waits.ForOthers starts (IsForOthers.ByPull pulled again own socketed)) =
+      Waits.ForOthers starts
+      (IsForOthers.ByPull (pull_from unit pulled)
       (λ active. elim (up_or_stopped unit active) [
         | inl up ↦ absurd (no_stops unit (again up))
         | inr stops ↦ stops
       ])
-      (λ r. reloads (owed_to kinds.Reloads unit r)) (λ r. restarts (owed_to kinds.Restarts unit r)) socketed
+      (λ one by. own one (by_self_to one unit (Waits.BySelf by))) socketed)
 
   same_after : SameAfterLink first after states then_ lists kept
   same_after = record {
     pull = λ unit. (pull_from unit, pull_to unit);
     stops = no_stops;
-    others = λ which unit. (owed_from which unit, owed_to which unit);
+    others = λ which unit. (owed_from which unit, λ waits. Waits.BySelf (by_self_to which unit waits));
   }
 
 pub link_law : LinkLaw
@@ -158,23 +153,23 @@ module _ (systems : Systems) (states later : Name → State) (lists kept : Lists
   same_down =
       let all = law systems states later lists kept owed count sound is_owed are_stopped is_recorded in
       same_stopped taken (has owed.stops unit) (has next.stops unit) (states unit) (later unit) (are_stopped unit) taken_owed
-      (λ found. ((is_owed acts.Stop).exact unit).1 ((all.stops unit).0 (((is_next acts.Stop).exact unit).0 found)).0)
-      (λ found active. ((is_next acts.Stop).exact unit).1 ((all.stops unit).1 (((is_owed acts.Stop).exact unit).0 found, active)))
-      (λ found. stops_active systems states lists unit (((is_owed acts.Stop).exact unit).0 found))
+      (λ found. ((is_owed ToStop).exact unit).1 ((all.stops unit).0 (((is_next ToStop).exact unit).0 found)).0)
+      (λ found active. ((is_next ToStop).exact unit).1 ((all.stops unit).1 (((is_owed ToStop).exact unit).0 found, active)))
+      (λ found. stops_active systems states lists unit (((is_owed ToStop).exact unit).0 found))
 
-  same_listed : (which : Which) → has (owed_names next (act_of which)) unit ≡ has (owed_names owed (act_of which)) unit
+  same_listed : (which : Which) → has (list_names next.lists which) unit ≡ has (list_names owed.lists which) unit
   same_listed which =
       let all = law systems states later lists kept owed count sound is_owed are_stopped is_recorded in
-      both_ways (has (owed_names next (act_of which)) unit) (has (owed_names owed (act_of which)) unit)
-      (λ found. ((is_owed (act_of which)).exact unit).1 ((all.others which unit).0 (((is_next (act_of which)).exact unit).0 found)))
-      (λ found. ((is_next (act_of which)).exact unit).1 ((all.others which unit).1 (((is_owed (act_of which)).exact unit).0 found)))
+      both_ways (has (list_names next.lists which) unit) (has (list_names owed.lists which) unit)
+      (λ found. ((is_owed (OnList which)).exact unit).1 ((all.others which unit).0 (((is_next (OnList which)).exact unit).0 found)))
+      (λ found. ((is_next (OnList which)).exact unit).1 ((all.others which unit).1 (((is_owed (OnList which)).exact unit).0 found)))
 
   stops_final : (loaded : List ℕ) (bad : List Bad) → final_state next loaded bad later unit ≡ final_state owed loaded bad states unit
   stops_final loaded bad =
       let to = brought_by loaded bad unit in
-      final_by (has next.restarts unit) (is_brought next unit) (has next.stops unit) (later unit) to
-      ∙ (λ i. final_of (same_listed kinds.Restarts i) (same_listed kinds.Starts i || same_listed kinds.Reloads i) (same_down i) to)
-      ∙ sym (final_by (has owed.restarts unit) (is_brought owed unit) (has owed.stops unit) (states unit) to)
+      final_by (is_renewed next.lists unit) (is_listed next.lists unit) (has next.stops unit) (later unit) to
+      ∙ (λ i. final_of (list_any (λ which. renews which && same_listed which i) record_order) (list_any (λ which. same_listed which i) record_order) (same_down i) to)
+      ∙ sym (final_by (is_renewed owed.lists unit) (is_listed owed.lists unit) (has owed.stops unit) (states unit) to)
 
 pub stops_final_law : StopsFinalLaw
 stops_final_law systems states later lists kept owed count sound is_owed are_stopped is_recorded next is_next loaded bad unit =

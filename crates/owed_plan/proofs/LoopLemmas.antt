@@ -1,8 +1,8 @@
 -- What a loop over items has found, with one item more.
-use Rattle.std.proofs.Common.{◌≡◌, ◌<◌, ◌+◌, ◌&&◌, ◌||◌, ◌++◌, ◌∷◌, [], ℕ, Bool, true, false, cond, List, filter, get_or, length, map, refl, sym, subst, take, ap, ◌∙◌}
+use Rattle.std.proofs.Common.{◌≡◌, ◌<◌, ◌+◌, ◌&&◌, ◌||◌, ◌++◌, ◌∷◌, [], ℕ, Bool, true, false, cond, List, filter, flat_map, get_or, length, map, refl, sym, subst, take, ap, ◌∙◌}
 use Rattle.std.specs.List.{list_any}
 use Rattle.std.specs.List.Sorted.{IsStrictlySortedBy}
-use Rattle.std.proofs.lemmas.List.{append-nil, map-append}
+use Rattle.std.proofs.lemmas.List.{append-nil, flat_map_more, map-append, take_more}
 use Rattle.std.proofs.lemmas.List.Elements.{filter_more}
 use Rattle.std.proofs.lemmas.List.Folds.{list_any_more}
 use Rattle.std.proofs.Math.Bool.{or_assoc, and-false}
@@ -47,6 +47,20 @@ module _ {X : Type 0} (p : X → Bool) (xs : List X) (i : ℕ) (x : X) where
   -- none passes so far, and neither does this one
   pub none_more : i < length xs → x ≡ get_or xs i x → p x ≡ false → list_any p (take i xs) ≡ false → list_any p (take (i + 1) xs) ≡ false
   none_more inside is fails was = list_any_more p xs i x inside ∙ ap (λ y. list_any p (take i xs) || p y) (sym is) ∙ (λ k. was k || fails k)
+
+  -- what was there and what the items so far give, with one item more
+  pub given_more :
+      (d : X) (start old new : Bool) → i < length xs → x ≡ get_or xs i d → old ≡ (start || list_any p (take i xs)) → new ≡ (old || p x) → new ≡ (start || list_any p (take (i + 1) xs))
+  given_more d start old new inside is was grown =
+      grown ∙ ap (λ b. b || p x) was ∙ or_assoc start (list_any p (take i xs)) (p x)
+      ∙ ap (λ b. start || b) (sym (list_any_more p xs i d inside ∙ ap (λ y. list_any p (take i xs) || p y) (sym is)))
+
+-- what is made of the items so far, with what is made of one item more at its end
+pub joined_more :
+    {X Y : Type 0} (f : X → List Y) (xs : List X) (i : ℕ) (d : X) (first old new : List Y) →
+    i < length xs → old ≡ first ++ flat_map f (take i xs) → new ≡ old ++ f (get_or xs i d) → new ≡ first ++ flat_map f (take (i + 1) xs)
+joined_more f xs i d first old new inside was grown =
+    grown ∙ ap (λ l. l ++ f (get_or xs i d)) was ∙ flat_map_more f first (take i xs) (get_or xs i d) ∙ ap (λ l. first ++ flat_map f l) (sym (take_more xs i d inside))
 
 -- the names of a set are a list by what the set has
 pub list_by : (names set : List Name) (test : Name → Bool) → names ≡ set → IsStrictlySortedBy bytes_cmp set → ((unit : Name) → has set unit ≡ test unit) → IsListBy names test

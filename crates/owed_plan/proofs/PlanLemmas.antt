@@ -1,27 +1,31 @@
 -- What is collected is what is owed.
-use Rattle.std.proofs.Common.{◌≡◌, ◌↔◌, ◌||◌, ◌&&◌, Bool, true, false, List, [], filter, not, if◌then◌else◌, refl, sym, ap, subst, ◌∙◌, inl, inr}
+use Rattle.std.proofs.Common.{◌≡◌, ◌≢◌, ◌↔◌, ◌||◌, ◌&&◌, Bool, true, false, List, [], filter, not, if◌then◌else◌, refl, sym, ap, subst, ◌∙◌, inl, inr}
 use Rattle.std.specs.List.{list_any}
 use Rattle.std.proofs.lemmas.Bool.{and_from, and_parts, false_from_ne_true, both_ways, not-true, not_from_false, or_cases, or_left, or_right}
-use Rattle.host_trait.specs.declared.entry.Act.TheVariants as acts
 use Rattle.host_trait.specs.States.{UnitStates, state_of}
 use Rattle.host_trait.specs.declared.unit_state.State.TheVariants.{Active}
 use Rattle.log_text.specs.declared.lists.Lists.{Lists}
-use Rattle.owed_plan.specs.Collected.{IsCollected, IsListBy, comes_up, defined, is_socketed}
+use Rattle.log_text.specs.declared.lists.Which.{Which}
+use Rattle.log_text.specs.declared.lists.Which.TheVariants.{Starts}
+use Rattle.log_text.specs.Lists.{list_names}
+use Rattle.owed_plan.specs.Collected.{IsCollected, IsListBy, comes_up, defined, is_by_self, is_socketed}
 use Rattle.host_trait.specs.Manager.{is_active}
-use Rattle.owed_plan.specs.Lists.{is_live}
-use Rattle.owed_plan.specs.Owed.{Activates, Decides, IsLeft, IsOwed, IsPlan, Reloads, Restarts, Starts, Stops, has_live}
+use Rattle.owed_plan.specs.Lists.{OnList, ToStop, is_listed, is_live, is_put}
+use Rattle.owed_plan.specs.Owed.{Activates, Decides, IsBySelf, IsForOthers, IsLeft, IsOwed, IsPlan, Stops, Waits, has_live}
 use Rattle.owed_plan.specs.Pull.{Pulled}
-use Rattle.owed_plan.specs.Decisions.{Situation, is_left, is_live_socket, is_nothing, is_reloaded, is_restarted, is_socket_started, is_started, is_stopped, leaves, live_sockets, reloads, restarts, decisions_of, starts, stops}
+use Rattle.owed_plan.specs.Decisions.{Situation, is_left, is_live_socket, is_nothing, is_socket_started, is_stopped, leaves, live_sockets, puts, decisions_of, stops, wakes}
 use Rattle.owed_plan.specs.Systems.{IsSocketed, Systems}
 use Rattle.owed_plan.specs.declared.owed.Owed.{Owed}
 use Rattle.owed_plan.specs.declared.deciding.UnitDecision.{UnitDecision}
 use Rattle.owed_plan.proofs.ActiveLemmas.{one_of, decision_from, decision_to}
+use Rattle.owed_plan.proofs.KindLemmas.{listed_on, on_list, starts_or_other}
+use Rattle.owed_plan.proofs.TableLemmas.{other_names}
 use Rattle.switch_names.specs.Names.{IsListOf, Name, has, is_name}
 use Rattle.switch_names.specs.declared.unit_kind.UnitKind.TheVariants.{Service, Target}
 use Rattle.unit_decide.specs.Decision.{decide}
 use Rattle.unit_decide.specs.Kinds.{is_kind, is_same}
 use Rattle.unit_decide.specs.declared.decision.Decision.{Decision}
-use Rattle.unit_decide.specs.declared.decision.Decision.TheVariants.{Nothing, Reload, Restart, SocketStart, Start, Stop, StopStart}
+use Rattle.unit_decide.specs.declared.decision.Decision.TheVariants.{Nothing, SocketStart, Stop, StopStart}
 use Rattle.unit_decide.specs.declared.facts.Facts.{Facts}
 use Rattle.unit_decide.proofs.TableLemmas.{service_from_test, socket_start_more}
 use Rattle.host_trait.proofs.NameOrder.{name_exact, name_itself, passes_among, has_filter}
@@ -34,14 +38,6 @@ situation_in systems states lists = record { systems = systems; states = state_o
 socket_start_from : (d : Decision) → is_socket_started d ≡ true → d ≡ SocketStart
 socket_start_from SocketStart is = refl
 socket_start_from _ is = absurd cc
-
-reload_from : (d : Decision) → is_reloaded d ≡ true → d ≡ Reload
-reload_from Reload is = refl
-reload_from _ is = absurd cc
-
-restart_from : (d : Decision) → is_restarted d ≡ true → d ≡ Restart
-restart_from Restart is = refl
-restart_from _ is = absurd cc
 
 nothing_from : (d : Decision) → is_nothing d ≡ true → d ≡ Nothing
 nothing_from Nothing is = refl
@@ -102,11 +98,6 @@ module _ (systems : Systems) (states : UnitStates) (lists : Lists) where
   stops_by by active SocketStart row is = Stops.BySocketStart (record { active = active; row = row })
   stops_by by active _ row is = absurd cc
 
-  starts_by : (by : Name) → state_of states by ≡ Active → (d : Decision) → decision_on by ≡ d → is_started d ≡ true → Starts systems (state_of states) lists by
-  starts_by by active Start row is = Starts.ByStart (record { active = active; row = row })
-  starts_by by active StopStart row is = Starts.ByStopStart (record { active = active; row = row })
-  starts_by by active _ row is = absurd cc
-
   abbrev here : Situation
   here = situation_in systems states lists
 
@@ -137,47 +128,29 @@ module _ (systems : Systems) (states : UnitStates) (lists : Lists) where
       (or_right (is_stopped (decision_on service) && is_name unit service) (has (filter (λ socket. is_active (state_of states socket)) (live_sockets here service)) unit)
       (filter_from (λ socket. is_active (state_of states socket)) (live_sockets here service) unit (ap is_active active) (live_to service unit activates)))
 
-  abbrev reload_test : Name → Bool
-  reload_test unit = given (reloads unit) || has (defined here lists.reloads) unit
+  -- ---- the units that are on a list by themselves
 
-  reloads_from : (unit : Name) → reload_test unit ≡ true → Reloads systems (state_of states) lists unit
-  reloads_from unit found =
-      elim (or_cases (given (reloads unit)) (has (defined here lists.reloads) unit) found) [
+  abbrev by_self_test : Which → Name → Bool
+  by_self_test = is_by_self here (decisions_of here states) lists
+
+  by_self_from : (which : Which) (unit : Name) → by_self_test which unit ≡ true → IsBySelf systems (state_of states) lists which unit
+  by_self_from which unit found =
+      elim (or_cases (given (puts which unit)) (has (defined here (list_names lists which)) unit) found) [
         | inl own ↦
-            let one = decision_from here states (reloads unit) own in
-            own_from is_reloaded (Reloads systems (state_of states) lists) unit one.0
-            (λ d row is. Reloads.ByReload (record { active = one.1; row = row ∙ reload_from d is })) one.2
+            let one = decision_from here states (puts which unit) own in
+            own_from (is_put which) (IsBySelf systems (state_of states) lists which) unit one.0
+            (λ d row is. IsBySelf.ByDecision d is (record { active = one.1; row = row })) one.2
         | inr listed ↦
-            let parts = filter_parts (λ name. (systems.facts name).in_new) lists.reloads unit listed in
-            Reloads.ByReloadList parts.1 parts.0
+            let parts = filter_parts (λ name. (systems.facts name).in_new) (list_names lists which) unit listed in
+            IsBySelf.ByList parts.1 parts.0
       ]
 
-  reloads_to : (unit : Name) → Reloads systems (state_of states) lists unit → reload_test unit ≡ true
-  reloads_to unit (Reloads.ByReload decides) =
-      or_left (given (reloads unit)) (has (defined here lists.reloads) unit) (decision_to here states (reloads unit) unit decides.active (own_to is_reloaded unit Reload decides.row refl))
-  reloads_to unit (Reloads.ByReloadList listed is) =
-      or_right (given (reloads unit)) (has (defined here lists.reloads) unit) (filter_from (λ name. (systems.facts name).in_new) lists.reloads unit is listed)
-
-  abbrev restart_test : Name → Bool
-  restart_test unit = given (restarts unit) || has (defined here lists.restarts) unit
-
-  restarts_from : (unit : Name) → restart_test unit ≡ true → Restarts systems (state_of states) lists unit
-  restarts_from unit found =
-      elim (or_cases (given (restarts unit)) (has (defined here lists.restarts) unit) found) [
-        | inl own ↦
-            let one = decision_from here states (restarts unit) own in
-            own_from is_restarted (Restarts systems (state_of states) lists) unit one.0
-            (λ d row is. Restarts.ByRestart (record { active = one.1; row = row ∙ restart_from d is })) one.2
-        | inr listed ↦
-            let parts = filter_parts (λ name. (systems.facts name).in_new) lists.restarts unit listed in
-            Restarts.ByRestartList parts.1 parts.0
-      ]
-
-  restarts_to : (unit : Name) → Restarts systems (state_of states) lists unit → restart_test unit ≡ true
-  restarts_to unit (Restarts.ByRestart decides) =
-      or_left (given (restarts unit)) (has (defined here lists.restarts) unit) (decision_to here states (restarts unit) unit decides.active (own_to is_restarted unit Restart decides.row refl))
-  restarts_to unit (Restarts.ByRestartList listed is) =
-      or_right (given (restarts unit)) (has (defined here lists.restarts) unit) (filter_from (λ name. (systems.facts name).in_new) lists.restarts unit is listed)
+  by_self_to : (which : Which) (unit : Name) → IsBySelf systems (state_of states) lists which unit → by_self_test which unit ≡ true
+  by_self_to which unit (IsBySelf.ByDecision d is decides) =
+      or_left (given (puts which unit)) (has (defined here (list_names lists which)) unit)
+      (decision_to here states (puts which unit) unit decides.active (own_to (is_put which) unit d decides.row is))
+  by_self_to which unit (IsBySelf.ByList listed is) =
+      or_right (given (puts which unit)) (has (defined here (list_names lists which)) unit) (filter_from (λ name. (systems.facts name).in_new) (list_names lists which) unit is listed)
 
   socketed_from : (unit : Name) → is_socketed systems unit ≡ true → IsSocketed systems unit
   socketed_from unit is =
@@ -222,93 +195,111 @@ module _ (systems : Systems) (states : UnitStates) (lists : Lists) where
   goes_up true h stops = stops refl
   goes_up false h stops = refl
 
-  module _ (pulled : List Name) (owed : Owed) (is_pulled : IsListOf pulled (Pulled systems (state_of states) lists)) (is : IsCollected here (decisions_of here states) lists pulled owed) where
-    abbrev up_test : Name → Bool
-    up_test = comes_up here owed.stops owed.reloads owed.restarts
+  -- ---- the lists
 
-    pull_from : (unit : Name) → has (filter up_test pulled) unit ≡ true → Starts systems (state_of states) lists unit
+  module _ (pulled : List Name) (owed : Owed) (is_pulled : IsListOf pulled (Pulled systems (state_of states) lists)) (is : IsCollected here (decisions_of here states) lists pulled owed) where
+    own_list : (which : Which) → IsListOf (list_names is.own which) (IsBySelf systems (state_of states) lists which)
+    own_list which = list_of (list_names is.own which) _ _ (is.are_own which) (λ unit. (by_self_from which unit, by_self_to which unit))
+
+    -- a unit that is on a list by itself is on one of the own lists
+    listed_from : (unit : Name) → is_listed is.own unit ≡ true → (which : Which) × IsBySelf systems (state_of states) lists which unit
+    listed_from unit found = let one = on_list is.own unit found in (one.0, ((own_list one.0).exact unit).0 one.1)
+
+    listed_to : (which : Which) (unit : Name) → IsBySelf systems (state_of states) lists which unit → is_listed is.own unit ≡ true
+    listed_to which unit by_self = listed_on is.own unit which (((own_list which).exact unit).1 by_self)
+
+    abbrev up_test : Name → Bool
+    up_test = comes_up here owed.stops is.own
+
+    pull_from : (unit : Name) → has (filter up_test pulled) unit ≡ true → IsForOthers systems (state_of states) lists unit
     pull_from unit found =
         let parts = filter_parts up_test pulled unit found in
-        let third = and_parts ((not (is_active (state_of states unit)) || has owed.stops unit) && not (has owed.reloads unit) && not (has owed.restarts unit)) (not (is_socketed systems unit)) parts.0 in
-        let second = and_parts ((not (is_active (state_of states unit)) || has owed.stops unit) && not (has owed.reloads unit)) (not (has owed.restarts unit)) third.0 in
-        let first = and_parts (not (is_active (state_of states unit)) || has owed.stops unit) (not (has owed.reloads unit)) second.0 in
-        Starts.ByPull ((is_pulled.exact unit).0 parts.1)
+        let second = and_parts ((not (is_active (state_of states unit)) || has owed.stops unit) && not (is_listed is.own unit)) (not (is_socketed systems unit)) parts.0 in
+        let first = and_parts (not (is_active (state_of states unit)) || has owed.stops unit) (not (is_listed is.own unit)) second.0 in
+        IsForOthers.ByPull ((is_pulled.exact unit).0 parts.1)
         (λ active.
         elim (or_cases (not (is_active (state_of states unit))) (has owed.stops unit) first.0) [
           | inl other ↦ absurd (both_ways (is_active (state_of states unit)) (not-true (is_active (state_of states unit)) other) (ap is_active active))
           | inr stopped ↦ stops_from unit (sym (is.stops.exact unit) ∙ stopped)
         ])
-        (λ reload. both_ways (has owed.reloads unit) (not-true (has owed.reloads unit) first.1) (is.reloads.exact unit ∙ reloads_to unit reload))
-        (λ restart. both_ways (has owed.restarts unit) (not-true (has owed.restarts unit) second.1) (is.restarts.exact unit ∙ restarts_to unit restart))
-        (λ socketed. both_ways (is_socketed systems unit) (not-true (is_socketed systems unit) third.1) (socketed_to unit socketed))
+        (λ which by_self. both_ways (is_listed is.own unit) (not-true (is_listed is.own unit) first.1) (listed_to which unit by_self))
+        (λ socketed. both_ways (is_socketed systems unit) (not-true (is_socketed systems unit) second.1) (socketed_to unit socketed))
 
-    pull_to : (unit : Name) → Pulled systems (state_of states) lists unit → (state_of states unit ≡ Active → Stops systems (state_of states) lists unit) → ¬ Reloads systems (state_of states) lists unit →
-        ¬ Restarts systems (state_of states) lists unit → ¬ IsSocketed systems unit → has (filter up_test pulled) unit ≡ true
-    pull_to unit reached stops reloads restarts socketed =
+    pull_to : (unit : Name) → Pulled systems (state_of states) lists unit → (state_of states unit ≡ Active → Stops systems (state_of states) lists unit) →
+        ((which : Which) → ¬ IsBySelf systems (state_of states) lists which unit) → ¬ IsSocketed systems unit → has (filter up_test pulled) unit ≡ true
+    pull_to unit reached stops by_self socketed =
         let first = goes_up (is_active (state_of states unit)) (has owed.stops unit) (λ active. is.stops.exact unit ∙ stops_to unit (stops (active_from_test (state_of states unit) active))) in
-        let reload = false_from_ne_true (has owed.reloads unit) (λ found. reloads (reloads_from unit (sym (is.reloads.exact unit) ∙ found))) in
-        let restart = false_from_ne_true (has owed.restarts unit) (λ found. restarts (restarts_from unit (sym (is.restarts.exact unit) ∙ found))) in
+        let listed = false_from_ne_true (is_listed is.own unit) (λ found. let one = listed_from unit found in by_self one.0 one.1) in
         let socket = false_from_ne_true (is_socketed systems unit) (λ found. socketed (socketed_from unit found)) in
-        let second = and_from (not (is_active (state_of states unit)) || has owed.stops unit) (not (has owed.reloads unit)) first (not_from_false (has owed.reloads unit) reload) in
-        let third = and_from ((not (is_active (state_of states unit)) || has owed.stops unit) && not (has owed.reloads unit)) (not (has owed.restarts unit)) second (not_from_false (has owed.restarts unit) restart) in
-        let last = and_from ((not (is_active (state_of states unit)) || has owed.stops unit) && not (has owed.reloads unit) && not (has owed.restarts unit)) (not (is_socketed systems unit)) third
+        let second = and_from (not (is_active (state_of states unit)) || has owed.stops unit) (not (is_listed is.own unit)) first (not_from_false (is_listed is.own unit) listed) in
+        let last = and_from ((not (is_active (state_of states unit)) || has owed.stops unit) && not (is_listed is.own unit)) (not (is_socketed systems unit)) second
         (not_from_false (is_socketed systems unit) socket) in
         filter_from up_test pulled unit last ((is_pulled.exact unit).1 reached)
 
-    abbrev own_starts : Name → Bool
-    own_starts unit = given (starts unit) || has (defined here lists.starts) unit
+    abbrev first_starts : Name → Bool
+    first_starts unit = has is.own.starts unit || given (wakes unit)
 
     abbrev start_test : Name → Bool
-    start_test unit = own_starts unit || has (filter up_test pulled) unit
+    start_test unit = first_starts unit || has (filter up_test pulled) unit
 
-    decision_starts : (unit : Name) → given (starts unit) ≡ true → Starts systems (state_of states) lists unit
-    decision_starts unit found =
-        let one = decision_from here states (starts unit) found in
-        elim (or_cases (is_started (decision_on one.0) && is_name unit one.0) (has (live_sockets here one.0) unit) one.2) [
-          | inl own ↦ own_from is_started (Starts systems (state_of states) lists) unit one.0 (starts_by one.0 one.1) own
-          | inr socket ↦ Starts.ByService one.0 (live_from one.0 unit one.1 socket)
-        ]
+    woken_from : (unit : Name) → given (wakes unit) ≡ true → IsForOthers systems (state_of states) lists unit
+    woken_from unit found = let one = decision_from here states (wakes unit) found in IsForOthers.ByService one.0 (live_from one.0 unit one.1 one.2)
 
-    starts_from : (unit : Name) → start_test unit ≡ true → Starts systems (state_of states) lists unit
+    starts_from : (unit : Name) → start_test unit ≡ true → Waits systems (state_of states) lists Starts unit
     starts_from unit found =
-        elim (or_cases (own_starts unit) (has (filter up_test pulled) unit) found) [
-          | inl early ↦ elim (or_cases (given (starts unit)) (has (defined here lists.starts) unit) early) [
-            | inl own ↦ decision_starts unit own
-            | inr listed ↦
-                let parts = filter_parts (λ name. (systems.facts name).in_new) lists.starts unit listed in
-                Starts.ByStartList parts.1 parts.0
+        elim (or_cases (first_starts unit) (has (filter up_test pulled) unit) found) [
+          | inl early ↦ elim (or_cases (has is.own.starts unit) (given (wakes unit)) early) [
+            | inl own ↦ Waits.BySelf (((own_list Starts).exact unit).0 own)
+            | inr woken ↦ Waits.ForOthers refl (woken_from unit woken)
           ]
-          | inr reached ↦ pull_from unit reached
+          | inr reached ↦ Waits.ForOthers refl (pull_from unit reached)
         ]
 
-    decision_to_start : (unit : Name) → given (starts unit) ≡ true → start_test unit ≡ true
-    decision_to_start unit own = or_left (own_starts unit) (has (filter up_test pulled) unit) (or_left (given (starts unit)) (has (defined here lists.starts) unit) own)
+    others_to : (unit : Name) → IsForOthers systems (state_of states) lists unit → start_test unit ≡ true
+    others_to unit (IsForOthers.ByService service activates) =
+        or_left (first_starts unit) (has (filter up_test pulled) unit)
+        (or_right (has is.own.starts unit) (given (wakes unit)) (decision_to here states (wakes unit) service activates.0.active (live_to service unit activates)))
+    others_to unit (IsForOthers.ByPull reached stops by_self socketed) =
+        or_right (first_starts unit) (has (filter up_test pulled) unit) (pull_to unit reached stops by_self socketed)
 
-    own_start : (unit : Name) (d : Decision) → Decides systems (state_of states) lists unit d → is_started d ≡ true → start_test unit ≡ true
-    own_start unit d decides started =
-        decision_to_start unit (decision_to here states (starts unit) unit decides.active
-        (or_left (is_started (decision_on unit) && is_name unit unit) (has (live_sockets here unit) unit) (own_to is_started unit d decides.row started)))
+    starts_to : (unit : Name) → Waits systems (state_of states) lists Starts unit → start_test unit ≡ true
+    starts_to unit (Waits.BySelf by_self) =
+        or_left (first_starts unit) (has (filter up_test pulled) unit) (or_left (has is.own.starts unit) (given (wakes unit)) (((own_list Starts).exact unit).1 by_self))
+    starts_to unit (Waits.ForOthers same others) = others_to unit others
 
-    starts_to : (unit : Name) → Starts systems (state_of states) lists unit → start_test unit ≡ true
-    starts_to unit (Starts.ByStart decides) = own_start unit Start decides refl
-    starts_to unit (Starts.ByStopStart decides) = own_start unit StopStart decides refl
-    starts_to unit (Starts.ByService service activates) =
-        decision_to_start unit (decision_to here states (starts unit) service activates.0.active
-        (or_right (is_started (decision_on service) && is_name unit service) (has (live_sockets here service) unit) (live_to service unit activates)))
-    starts_to unit (Starts.ByStartList listed new) =
-        or_left (own_starts unit) (has (filter up_test pulled) unit)
-        (or_right (given (starts unit)) (has (defined here lists.starts) unit) (filter_from (λ name. (systems.facts name).in_new) lists.starts unit new listed))
-    starts_to unit (Starts.ByPull reached stops reloads restarts socketed) =
-        or_right (own_starts unit) (has (filter up_test pulled) unit) (pull_to unit reached stops reloads restarts socketed)
+    -- what waits on another list is on it by itself
+    other_waits : (which : Which) → which ≢ Starts → (unit : Name) → Waits systems (state_of states) lists which unit → IsBySelf systems (state_of states) lists which unit
+    other_waits which other unit (Waits.BySelf by_self) = by_self
+    other_waits which other unit (Waits.ForOthers same others) = absurd (other same)
+
+    abbrev IsWaited : Which → Type 0
+    IsWaited which = IsListOf (list_names owed.lists which) (Waits systems (state_of states) lists which)
+
+    starts_waited : IsWaited Starts
+    starts_waited = list_of owed.lists.starts _ _ is.starts (λ unit. (starts_from unit, starts_to unit))
+
+    other_waited : (which : Which) → which ≢ Starts → IsWaited which
+    other_waited which other =
+        subst (λ (names : List Name). IsListOf names (Waits systems (state_of states) lists which))
+        (sym (ap (λ (all : Lists). list_names all which) is.others ∙ other_names is.own owed.lists.starts which other))
+        (record {
+          sorted = (own_list which).sorted;
+          exact = λ unit. (λ found. Waits.BySelf (((own_list which).exact unit).0 found), λ waits. ((own_list which).exact unit).1 (other_waits which other unit waits));
+        })
+
+    waited : (which : Which) → IsWaited which
+    waited which =
+        elim (starts_or_other which) [
+          | inl same ↦ subst IsWaited (sym same) starts_waited
+          | inr other ↦ other_waited which other
+        ]
 
     pub is_plan : IsPlan systems (state_of states) lists owed
     is_plan = record { is_owed = is_owed; left = list_of owed.left _ _ is.left (λ unit. (left_from unit, left_to unit)) }
       where
         is_owed : IsOwed systems (state_of states) lists owed
-        is_owed acts.Stop = list_of owed.stops _ _ is.stops (λ unit. (stops_from unit, stops_to unit))
-        is_owed acts.Reload = list_of owed.reloads _ _ is.reloads (λ unit. (reloads_from unit, reloads_to unit))
-        is_owed acts.Restart = list_of owed.restarts _ _ is.restarts (λ unit. (restarts_from unit, restarts_to unit))
-        is_owed acts.Start = list_of owed.starts _ _ is.starts (λ unit. (starts_from unit, starts_to unit))
+        is_owed ToStop = list_of owed.stops _ _ is.stops (λ unit. (stops_from unit, stops_to unit))
+        is_owed (OnList which) = waited which
 
 -- what waits for a start by a set does so by the list
 seen : (systems : Systems) (states : UnitStates) (lists : Lists) (waiting : List Name) → ((unit : Name) → has waiting unit ≡ has lists.starts unit) →

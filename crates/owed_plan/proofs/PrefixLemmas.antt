@@ -1,16 +1,16 @@
 -- A beginning of the stops in their order, with the lists recorded, is such a part.
 use Rattle.std.proofs.Common.{◌≡◌, ◌⊎◌, ℕ, Bool, true, false, not, List, filter, take, if◌then◌else◌, inl, inr, refl, sym, ap, subst, ◌∙◌}
 use Rattle.std.proofs.lemmas.Bool.{and_from, and_parts}
-use Rattle.host_trait.specs.declared.entry.Act.TheVariants.{Start, Stop}
 use Rattle.host_trait.specs.declared.unit_state.State.{State}
 use Rattle.host_trait.specs.declared.unit_state.State.TheVariants.{Active, Inactive}
 use Rattle.host_trait.proofs.NameOrder.{has_filter}
 use Rattle.owed_plan.specs.Law.{AreStopped, IsRecorded, Law}
 use Rattle.log_text.specs.declared.lists.Lists.{Lists}
+use Rattle.log_text.specs.declared.lists.Which.TheVariants.{Starts}
 use Rattle.log_text.specs.Lists.{list_names}
 use Rattle.owed_plan.specs.declared.owed.Owed.{Owed}
-use Rattle.owed_plan.specs.Lists.{act_of, owed_names}
-use Rattle.owed_plan.specs.Owed.{IsOwed, IsOwedAct, Stops, stop_order}
+use Rattle.owed_plan.specs.Lists.{OnList, ToStop}
+use Rattle.owed_plan.specs.Owed.{IsOwed, Stops, Waits, stop_order}
 use Rattle.owed_plan.specs.Systems.{Systems}
 use Rattle.owed_plan.proofs.CoreLemmas.{owed_listed, same_owed}
 use Rattle.owed_plan.proofs.NameLemmas.{has-sockets_first, has-take, take_two}
@@ -59,7 +59,7 @@ module _ (systems : Systems) (states later : Name → State) (lists kept : Lists
 
   taken_stops : (unit : Name) → has taken unit ≡ true → Stops systems states lists unit
   taken_stops unit found =
-      ((is_owed Stop).exact unit).0 (sym (has-sockets_first (λ u. (systems.facts u).kind) owed.stops unit) ∙ has-take count (stop_order systems owed.stops) unit found)
+      ((is_owed ToStop).exact unit).0 (sym (has-sockets_first (λ u. (systems.facts u).kind) owed.stops unit) ∙ has-take count (stop_order systems owed.stops) unit found)
 
   before : (unit : Name) → later unit ≡ Active → states unit ≡ Active
   before unit active = (was_active (has taken unit) (states unit) (later unit) (are_stopped unit) active).1
@@ -78,7 +78,7 @@ module _ (systems : Systems) (states later : Name → State) (lists kept : Lists
         | inr found ↦
             absurd
             ((was_active (has taken socket) (states socket) (later socket) (are_stopped socket) active).0
-            (sockets_first systems owed.stops count service socket is_service is_socket (((is_owed Stop).exact socket).1 stops) found))
+            (sockets_first systems owed.stops count service socket is_service is_socket (((is_owed ToStop).exact socket).1 stops) found))
       ]
 
   pub is_partly : IsPartly systems states lists later kept
@@ -86,11 +86,11 @@ module _ (systems : Systems) (states later : Name → State) (lists kept : Lists
     before = before;
     after = after;
     order = order;
-    starts = λ unit starts. subst (λ names. has names unit ≡ true) (sym is_recorded.starts) (((is_owed Start).exact unit).1 starts);
+    starts = λ unit starts. subst (λ names. has names unit ≡ true) (sym is_recorded.starts) (((is_owed (OnList Starts)).exact unit).1 starts);
     from = λ which.
-        listed_from (IsOwedAct systems states lists (act_of which)) (list_names lists which) (owed_names owed (act_of which)) (list_names kept which) (λ unit. ((is_owed (act_of which)).exact unit).0) (is_recorded.others which);
+        listed_from (Waits systems states lists which) (list_names lists which) (list_names owed.lists which) (list_names kept which) (λ unit. ((is_owed (OnList which)).exact unit).0) (is_recorded.others which);
     to = λ which unit listed defined.
-        listed_to (list_names lists which) (owed_names owed (act_of which)) (list_names kept which) unit (λ was. ((is_owed (act_of which)).exact unit).1 (owed_listed systems states lists which unit was defined)) (is_recorded.others which) listed;
+        listed_to (list_names lists which) (list_names owed.lists which) (list_names kept which) unit (λ was. ((is_owed (OnList which)).exact unit).1 (owed_listed systems states lists which unit was defined)) (is_recorded.others which) listed;
   }
 
 pub law : Law

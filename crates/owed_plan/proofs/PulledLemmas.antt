@@ -1,5 +1,5 @@
 -- What is pulled by the texts of the new system is what is pulled in both systems.
-use Rattle.std.proofs.Common.{◌≡◌, Bool, true, false, IsTrue, List, [], Option, None, Some, is_some, option_and_then, if◌then◌else◌, refl, ap, ◌∙◌}
+use Rattle.std.proofs.Common.{◌≡◌, Bool, true, false, IsTrue, List, [], Option, None, is_some, option_and_then, if◌then◌else◌, refl, ap, ◌∙◌}
 use Rattle.std.specs.Option.{option_or}
 use Rattle.host_trait.specs.declared.unit_state.State.{State}
 use Rattle.log_text.specs.declared.lists.Lists.{Lists}

@@ -4,6 +4,8 @@ use Rattle.std.specs.List.{list_any}
 use Rattle.host_trait.specs.States.{UnitStates, listed_states, state_of}
 use Rattle.host_trait.specs.declared.unit_state.State.{State}
 use Rattle.host_trait.specs.Manager.{is_active}
+use Rattle.log_text.specs.declared.lists.Which.{Which}
+use Rattle.owed_plan.specs.Lists.{is_put}
 use Rattle.owed_plan.specs.Systems.{Systems, systems_in}
 use Rattle.owed_plan.specs.declared.known.Inputs.{Inputs}
 use Rattle.owed_plan.specs.declared.deciding.UnitDecision.{UnitDecision}
@@ -12,7 +14,7 @@ use Rattle.switch_names.specs.declared.unit_kind.UnitKind.TheVariants.{Target}
 use Rattle.unit_decide.specs.Decision.{decide}
 use Rattle.unit_decide.specs.Kinds.{is_kind, is_same}
 use Rattle.unit_decide.specs.declared.decision.Decision.{Decision}
-use Rattle.unit_decide.specs.declared.decision.Decision.TheVariants.{Nothing, Reload, Restart, SocketStart, Start, Stop, StopStart}
+use Rattle.unit_decide.specs.declared.decision.Decision.TheVariants.{Nothing, SocketStart, Stop, StopStart}
 use Rattle.unit_decide.specs.declared.facts.Facts.{Facts}
 
 -- the systems, the states of the units, and whether a unit waits for a start
@@ -36,26 +38,10 @@ is_stopped StopStart = true
 is_stopped SocketStart = true
 is_stopped decision = false
 
--- the decision is to start the unit itself, whether or not it is stopped first
-abbrev pub is_started : Decision → Bool
-is_started Start = true
-is_started StopStart = true
-is_started decision = false
-
 -- the decision is to stop the unit and to start its live sockets
 abbrev pub is_socket_started : Decision → Bool
 is_socket_started SocketStart = true
 is_socket_started decision = false
-
--- the decision is to reload the unit
-abbrev pub is_reloaded : Decision → Bool
-is_reloaded Reload = true
-is_reloaded decision = false
-
--- the decision is to restart the unit
-abbrev pub is_restarted : Decision → Bool
-is_restarted Restart = true
-is_restarted decision = false
 
 -- the decision is to leave the unit as it is
 abbrev pub is_nothing : Decision → Bool
@@ -96,17 +82,13 @@ decisions_of situation states = map (λ one. decision_of situation one.unit) (fi
 abbrev pub stops : Situation → Name → UnitDecision → Bool
 stops situation unit decided = is_stopped decided.decision && is_name unit decided.unit || has (filter (λ socket. is_active (situation.states socket)) decided.live) unit
 
--- what is decided starts the unit: the unit that it is decided on, or one of its live sockets
-abbrev pub starts : Name → UnitDecision → Bool
-starts unit decided = is_started decided.decision && is_name unit decided.unit || has decided.live unit
+-- what is decided puts the unit on a list: it is the one that it is decided on
+abbrev pub puts : Which → Name → UnitDecision → Bool
+puts which unit decided = is_put which decided.decision && is_name unit decided.unit
 
--- what is decided reloads the unit
-abbrev pub reloads : Name → UnitDecision → Bool
-reloads unit decided = is_reloaded decided.decision && is_name unit decided.unit
-
--- what is decided restarts the unit
-abbrev pub restarts : Name → UnitDecision → Bool
-restarts unit decided = is_restarted decided.decision && is_name unit decided.unit
+-- what is decided starts the unit for another: it is one of the live sockets of that
+abbrev pub wakes : Name → UnitDecision → Bool
+wakes unit decided = has decided.live unit
 
 -- what is decided leaves the unit, which has changed, as it is
 abbrev pub leaves : Name → UnitDecision → Bool

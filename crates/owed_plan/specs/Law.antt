@@ -7,8 +7,7 @@ use Rattle.log_text.specs.declared.lists.Lists.{Lists}
 use Rattle.log_text.specs.declared.lists.Which.{Which}
 use Rattle.log_text.specs.Lists.{list_names}
 use Rattle.owed_plan.specs.declared.owed.Owed.{Owed}
-use Rattle.owed_plan.specs.Lists.{act_of, owed_names}
-use Rattle.owed_plan.specs.Owed.{IsOwed, IsOwedAct, Stops, stop_order}
+use Rattle.owed_plan.specs.Owed.{IsOwed, Stops, Waits, stop_order}
 use Rattle.owed_plan.specs.Pull.{Pulled}
 use Rattle.owed_plan.specs.Systems.{Systems, IsDefined}
 use Rattle.switch_names.specs.declared.unit_kind.UnitKind.TheVariants.{Socket}
@@ -18,14 +17,10 @@ use Rattle.switch_names.specs.Names.{Name, has}
 abbrev pub stopped : List Name → (Name → State) → Name → State
 stopped units states unit = if has units unit then Inactive else states unit
 
--- the lists of what is owed, as they are recorded
-abbrev pub lists_of : Owed → Lists
-lists_of owed = record { starts = owed.starts; restarts = owed.restarts; reloads = owed.reloads }
-
 -- the start list is the owed one, each of the others is the owed one or still the old
 pub record IsRecorded (owed : Owed) (old new : Lists) : Type 0 where
-  pub starts : new.starts ≡ owed.starts
-  pub others : (which : Which) → (list_names new which ≡ list_names old which) ⊎ (list_names new which ≡ owed_names owed (act_of which))
+  pub starts : new.starts ≡ owed.lists.starts
+  pub others : (which : Which) → (list_names new which ≡ list_names old which) ⊎ (list_names new which ≡ list_names owed.lists which)
 
 -- units are paired with sockets, and what is wanted is defined
 pub record IsSound (systems : Systems) : Type 0 where
@@ -36,7 +31,7 @@ pub record IsSound (systems : Systems) : Type 0 where
 pub record SameOwed (systems : Systems) (states later : Name → State) (lists kept : Lists) : Type 0 where
   pub pull : (unit : Name) → Pulled systems later kept unit ↔ Pulled systems states lists unit
   pub stops : (unit : Name) → Stops systems later kept unit ↔ (Stops systems states lists unit × (later unit ≡ Active))
-  pub others : (which : Which) (unit : Name) → IsOwedAct systems later kept (act_of which) unit ↔ IsOwedAct systems states lists (act_of which) unit
+  pub others : (which : Which) (unit : Name) → Waits systems later kept which unit ↔ Waits systems states lists which unit
 
 -- the first so many of the stops have been made
 abbrev pub AreStopped : Systems → Owed → ℕ → (Name → State) → (Name → State) → Type 0

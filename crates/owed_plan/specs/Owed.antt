@@ -1,19 +1,20 @@
 -- What a switch owes the units: NixOS manual, "Unit handling".
 use Rattle.std.specs.Prelude.{◌≡◌, ◌&&◌, ◌++◌, Bool, false, IsTrue, List, filter, not}
 use Rattle.std.specs.List.{list_any}
-use Rattle.host_trait.specs.declared.entry.Act.{Act}
-use Rattle.host_trait.specs.declared.entry.Act.TheVariants as acts
 use Rattle.host_trait.specs.declared.unit_state.State.{State}
 use Rattle.host_trait.specs.declared.unit_state.State.TheVariants.{Active}
-use Rattle.owed_plan.specs.Lists.{is_live, owed_names, pending}
+use Rattle.owed_plan.specs.Lists.{Debt, OnList, ToStop, is_live, is_put, owed_names}
 use Rattle.log_text.specs.declared.lists.Lists.{Lists}
+use Rattle.log_text.specs.declared.lists.Which.{Which}
+use Rattle.log_text.specs.declared.lists.Which.TheVariants.{Starts}
+use Rattle.log_text.specs.Lists.{list_names}
 use Rattle.owed_plan.specs.Pull.{Pulled}
 use Rattle.owed_plan.specs.Systems.{Systems, Counts, IsDefined, IsSocketed}
 use Rattle.owed_plan.specs.declared.owed.Owed.{Owed}
 use Rattle.switch_names.specs.declared.unit_kind.UnitKind.{UnitKind}
 use Rattle.switch_names.specs.declared.unit_kind.UnitKind.TheVariants.{Socket, Target}
 use Rattle.unit_decide.specs.declared.decision.Decision.{Decision}
-use Rattle.unit_decide.specs.declared.decision.Decision.TheVariants.{Nothing, Reload, Restart, SocketStart, Start, Stop, StopStart}
+use Rattle.unit_decide.specs.declared.decision.Decision.TheVariants.{Nothing, SocketStart, Stop, StopStart}
 use Rattle.unit_decide.specs.Decision.{decide}
 use Rattle.unit_decide.specs.Kinds.{is_kind, is_same}
 use Rattle.switch_names.specs.Names.{IsListOf, Name, has}
@@ -40,31 +41,27 @@ pub data Stops (systems : Systems) (states : Name → State) (lists : Lists) (un
   BySocketStart : Decides systems states lists unit SocketStart → Stops systems states lists unit
   ByService : (service : Name) → Activates systems states lists service unit → states unit ≡ Active → Stops systems states lists unit
 
--- what is reloaded: by its own decision, or what is listed and defined
-pub data Reloads (systems : Systems) (states : Name → State) (lists : Lists) (unit : Name) : Type 0 where
-  ByReload : Decides systems states lists unit Reload → Reloads systems states lists unit
-  ByReloadList : IsTrue (has lists.reloads unit) → IsDefined systems unit → Reloads systems states lists unit
+-- a unit is on a list by itself: by its own decision, or it is listed and defined
+pub data IsBySelf (systems : Systems) (states : Name → State) (lists : Lists) (which : Which) (unit : Name) : Type 0 where
+  ByDecision : (decision : Decision) → IsTrue (is_put which decision) → Decides systems states lists unit decision → IsBySelf systems states lists which unit
+  ByList : IsTrue (has (list_names lists which) unit) → IsDefined systems unit → IsBySelf systems states lists which unit
 
--- what is restarted: by its own decision, or what is listed and defined
-pub data Restarts (systems : Systems) (states : Name → State) (lists : Lists) (unit : Name) : Type 0 where
-  ByRestart : Decides systems states lists unit Restart → Restarts systems states lists unit
-  ByRestartList : IsTrue (has lists.restarts unit) → IsDefined systems unit → Restarts systems states lists unit
+-- a unit is started for others: a live socket for its service, or what is pulled, neither stays up nor is on a list by itself, and
+-- isn't left to a socket
+pub data IsForOthers (systems : Systems) (states : Name → State) (lists : Lists) (unit : Name) : Type 0 where
+  ByService : (service : Name) → Activates systems states lists service unit → IsForOthers systems states lists unit
+  ByPull : Pulled systems states lists unit → (states unit ≡ Active → Stops systems states lists unit) → ((which : Which) → ¬ IsBySelf systems states lists which unit) →
+      ¬ IsSocketed systems unit → IsForOthers systems states lists unit
 
--- what is started: by its own decision, a live socket for its service, what is listed and defined, or what is pulled and neither stays up nor comes up otherwise
-pub data Starts (systems : Systems) (states : Name → State) (lists : Lists) (unit : Name) : Type 0 where
-  ByStart : Decides systems states lists unit Start → Starts systems states lists unit
-  ByStopStart : Decides systems states lists unit StopStart → Starts systems states lists unit
-  ByService : (service : Name) → Activates systems states lists service unit → Starts systems states lists unit
-  ByStartList : IsTrue (has (pending lists) unit) → IsDefined systems unit → Starts systems states lists unit
-  ByPull : Pulled systems states lists unit → (states unit ≡ Active → Stops systems states lists unit) → ¬ Reloads systems states lists unit →
-      ¬ Restarts systems states lists unit → ¬ IsSocketed systems unit → Starts systems states lists unit
+-- a unit is owed what those of a list wait for: it is on the list by itself, or it is started for others
+pub data Waits (systems : Systems) (states : Name → State) (lists : Lists) (which : Which) (unit : Name) : Type 0 where
+  BySelf : IsBySelf systems states lists which unit → Waits systems states lists which unit
+  ForOthers : which ≡ Starts → IsForOthers systems states lists unit → Waits systems states lists which unit
 
--- the unit is owed an act of this kind
-abbrev pub IsOwedAct : Systems → (Name → State) → Lists → Act → Name → Type 0
-IsOwedAct systems states lists acts.Stop unit = Stops systems states lists unit
-IsOwedAct systems states lists acts.Reload unit = Reloads systems states lists unit
-IsOwedAct systems states lists acts.Restart unit = Restarts systems states lists unit
-IsOwedAct systems states lists acts.Start unit = Starts systems states lists unit
+-- the unit is owed this
+abbrev pub IsDue : Systems → (Name → State) → Lists → Debt → Name → Type 0
+IsDue systems states lists ToStop unit = Stops systems states lists unit
+IsDue systems states lists (OnList which) unit = Waits systems states lists which unit
 
 -- a changed unit that both systems define, that stays up, and that gets nothing
 pub record IsLeft (systems : Systems) (states : Name → State) (lists : Lists) (unit : Name) : Type 0 where
@@ -74,11 +71,11 @@ pub record IsLeft (systems : Systems) (states : Name → State) (lists : Lists) 
   pub in_new : IsDefined systems unit
   pub changed : is_same (systems.facts unit).outcome ≡ false
 
--- the lists have exactly what is owed of each kind
+-- the stops and the lists have exactly the units that are owed each
 abbrev pub IsOwed : Systems → (Name → State) → Lists → Owed → Type 0
-IsOwed systems states lists owed = (act : Act) → IsListOf (owed_names owed act) (IsOwedAct systems states lists act)
+IsOwed systems states lists owed = (debt : Debt) → IsListOf (owed_names owed debt) (IsDue systems states lists debt)
 
--- the lists have exactly what is owed, and exactly the units that are left
+-- what is owed, and exactly the units that are left
 pub record IsPlan (systems : Systems) (states : Name → State) (lists : Lists) (owed : Owed) : Type 0 where
   pub is_owed : IsOwed systems states lists owed
   pub left : IsListOf owed.left (IsLeft systems states lists)

@@ -3,11 +3,11 @@ use Rattle.std.specs.Prelude.{◌≡◌, ◌≢◌, ◌&&◌, Bool, IsFalse, IsT
 use Rattle.std.specs.List.{list_any}
 use Rattle.host_trait.specs.declared.unit_state.State.{State}
 use Rattle.owed_plan.specs.Law.{AfterStops}
-use Rattle.owed_plan.specs.Lists.{pending}
+use Rattle.owed_plan.specs.Lists.{is_starts, pending}
 use Rattle.log_text.specs.declared.lists.Lists.{Lists}
 use Rattle.log_text.specs.declared.lists.Which.{Which}
 use Rattle.log_text.specs.declared.lists.Which.TheVariants.{Starts}
-use Rattle.log_text.specs.Lists.{list_names}
+use Rattle.log_text.specs.Lists.{list_names, record_order}
 use Rattle.owed_plan.specs.Pull.{Pulled}
 use Rattle.owed_plan.specs.Systems.{Systems, IsDefined}
 use Rattle.switch_names.specs.declared.unit_kind.UnitKind.TheVariants.{Target}
@@ -23,7 +23,7 @@ abbrev pub IsStoppedForGood : Systems → Name → Type 0
 IsStoppedForGood systems unit =
     IsDefined systems unit × ((systems.facts unit).kind ≡ Target) × IsTrue (systems.facts unit).stop_on_reconfiguration × IsFalse (systems.facts unit).may_start
 
--- no target that is stopped for good is pulled or waits for a start, and no target waits for a restart or a reload
+-- no target that is stopped for good is pulled or waits for a start, and none is on another list
 pub record IsSteady (systems : Systems) (states : Name → State) (lists : Lists) : Type 0 where
   pub pull : (unit : Name) → Pulled systems states lists unit → ¬ IsStoppedForGood systems unit
   pub starts : (unit : Name) → IsTrue (has (pending lists) unit) → ¬ IsStoppedForGood systems unit
@@ -41,10 +41,14 @@ has_for_good new unit = is_stopped_for_good (facts_of None (found_in new unit) u
 abbrev pub is_target : Name → Bool
 is_target unit = is_kind (unit_kind unit) Target
 
--- no target that is stopped for good is pulled or waits for a start, and no target waits for a restart or a reload, told by tests
+-- another list than that of the starts has a target
+abbrev pub has_target : Lists → Which → Bool
+has_target lists which = not (is_starts which) && list_any is_target (list_names lists which)
+
+-- no target that is stopped for good is pulled or waits for a start, and none is on another list, told by tests
 abbrev pub is_steady : List Unit → Lists → List Name → Bool
 is_steady new lists pulled =
-    not (list_any (has_for_good new) pulled) && not (list_any (has_for_good new) (pending lists)) && not (list_any is_target lists.restarts) && not (list_any is_target lists.reloads)
+    not (list_any (has_for_good new) pulled) && not (list_any (has_for_good new) (pending lists)) && not (list_any (has_target lists) record_order)
 
 -- after some of the stops, and with the lists recorded, what was steady is so still
 abbrev pub SteadyLaw : Type 0

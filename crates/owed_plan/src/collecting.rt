@@ -1,15 +1,19 @@
-//! What a decision or a list adds to a set of units.
-ghost use Rattle.std.specs.Prelude.{◌≡◌, ◌&&◌, ◌||◌, List, ℕ, OnOk, filter};
-ghost use Rattle.owed_plan.specs.Collected.{defined};
+//! What is decided, what is listed and what is pulled, as the units that are owed something.
+ghost use Rattle.std.specs.Prelude.{◌≡◌, ◌&&◌, ◌||◌, List, ℕ, IfOk, OnOk, filter};
+ghost use Rattle.std.specs.List.{list_any};
+ghost use Rattle.owed_plan.specs.Collected.{AreBySelf, IsListBy, comes_up, defined, is_by_self};
 ghost use Rattle.host_trait.specs.Manager.{is_active};
-ghost use Rattle.owed_plan.specs.Decisions.{is_reloaded, is_restarted, is_started, is_stopped, reloads, restarts, situation_of, starts, stops};
+ghost use Rattle.owed_plan.specs.Decisions.{is_stopped, leaves, puts, situation_of, stops, wakes};
+ghost use Rattle.owed_plan.specs.Lists.{is_listed, is_put};
 ghost use Rattle.switch_names.specs.Names.{has, is_name};
 
 use crate::deciding::UnitDecision;
 use crate::known::Inputs;
+use crate::touched::{Touched, add_pulled};
 use host_trait::UnitSet;
+use log_text::{Lists, RECORD_ORDER, Which};
 use std::alloc::{AllocError, Global};
-use switch_names::UnitName;
+use switch_names::{Listed, UnitName};
 use unit_decide::Decision;
 
 /// Whether a unit is stopped, whether or not it is started then.
@@ -22,25 +26,15 @@ fn is_stopped(decision: Decision) -> bool
     )
 }
 
-/// Whether a unit is itself started, whether or not it is stopped first.
-fn is_started(decision: Decision) -> bool
-    ensures { result ≡ is_started decision }
+/// Whether a decision puts its unit on a list.
+fn is_put(which: Which, decision: Decision) -> bool
+    ensures { result ≡ is_put which decision }
 {
-    matches!(decision, Decision::Start | Decision::StopStart)
-}
-
-/// Whether a unit is reloaded.
-fn is_reloaded(decision: Decision) -> bool
-    ensures { result ≡ is_reloaded decision }
-{
-    matches!(decision, Decision::Reload)
-}
-
-/// Whether a unit is restarted.
-fn is_restarted(decision: Decision) -> bool
-    ensures { result ≡ is_restarted decision }
-{
-    matches!(decision, Decision::Restart)
+    match which {
+        Which::Starts => matches!(decision, Decision::Start | Decision::StopStart),
+        Which::Restarts => matches!(decision, Decision::Restart),
+        Which::Reloads => matches!(decision, Decision::Reload),
+    }
 }
 
 /// Adds a name to a set, where it is to be there.
@@ -74,7 +68,7 @@ fn add_active(
 }
 
 /// Adds those of some names that the new system defines.
-pub fn add_defined(
+fn add_defined(
     alloc: Global,
     known: Inputs<'_>,
     set: &mut UnitSet,
@@ -89,7 +83,7 @@ pub fn add_defined(
 }
 
 /// Adds what a decision stops: its unit, and the Active ones of the sockets to which the unit is left.
-pub fn add_stops(
+fn add_stops(
     alloc: Global,
     known: Inputs<'_>,
     set: &mut UnitSet,
@@ -101,36 +95,127 @@ pub fn add_stops(
     add_active(alloc, known, set, decided.live.as_slice())
 }
 
-/// Adds what a decision starts: its unit, and the live sockets to which the unit is left.
-pub fn add_starts(
+/// The units that these decisions stop.
+pub fn decided_stops(
     alloc: Global,
-    set: &mut UnitSet,
-    decided: &UnitDecision,
-) -> Result<(), AllocError>
-    ensures { OnOk result ((unit : List ℕ) → has set.new unit ≡ (has set.old unit || starts unit decided.now)) }
+    known: Inputs<'_>,
+    decisions: &[UnitDecision],
+) -> Result<UnitSet, AllocError>
+    ensures { IfOk result (λ set. (unit : List ℕ) → has set unit ≡ list_any (stops (situation_of known.entry) unit) decisions.now) }
 {
-    add_if(alloc, set, &decided.unit, is_started(decided.decision))?;
-    set.insert_all(alloc, decided.live.as_slice())
+    let mut set = UnitSet::new(alloc);
+    for decided in decisions {
+        add_stops(alloc, known, &mut set, decided)?;
+    }
+    Ok(set)
 }
 
-/// Adds what a decision reloads.
-pub fn add_reloads(
+/// The changed units that these decisions leave as they are, in byte order.
+pub fn decided_left(
     alloc: Global,
-    set: &mut UnitSet,
-    decided: &UnitDecision,
-) -> Result<(), AllocError>
-    ensures { OnOk result ((unit : List ℕ) → has set.new unit ≡ (has set.old unit || reloads unit decided.now)) }
+    decisions: &[UnitDecision],
+) -> Result<Listed<UnitName>, AllocError>
+    ensures { IfOk result (λ names. IsListBy names (λ unit. list_any (leaves unit) decisions.now)) }
 {
-    add_if(alloc, set, &decided.unit, is_reloaded(decided.decision))
+    let mut set = UnitSet::new(alloc);
+    for decided in decisions {
+        add_if(alloc, &mut set, &decided.unit, decided.is_left)?;
+    }
+    set.into_names(alloc)
 }
 
-/// Adds what a decision restarts.
-pub fn add_restarts(
+/// Adds the units that these decisions put on a list.
+fn add_put(
     alloc: Global,
     set: &mut UnitSet,
-    decided: &UnitDecision,
+    decisions: &[UnitDecision],
+    which: Which,
 ) -> Result<(), AllocError>
-    ensures { OnOk result ((unit : List ℕ) → has set.new unit ≡ (has set.old unit || restarts unit decided.now)) }
+    ensures { OnOk result ((unit : List ℕ) → has set.new unit ≡ (has set.old unit || list_any (puts which unit) decisions.now)) }
 {
-    add_if(alloc, set, &decided.unit, is_restarted(decided.decision))
+    for decided in decisions {
+        add_if(alloc, set, &decided.unit, is_put(which, decided.decision))?;
+    }
+    Ok(())
+}
+
+/// Adds the live sockets to which these decisions leave units.
+fn add_woken(alloc: Global, set: &mut UnitSet, decisions: &[UnitDecision]) -> Result<(), AllocError>
+    ensures { OnOk result ((unit : List ℕ) → has set.new unit ≡ (has set.old unit || list_any (wakes unit) decisions.now)) }
+{
+    for decided in decisions {
+        set.insert_all(alloc, decided.live.as_slice())?;
+    }
+    Ok(())
+}
+
+/// The units that are on a list by themselves, in byte order: those that these decisions put there, and those that are listed and
+/// defined.
+fn by_self(
+    alloc: Global,
+    known: Inputs<'_>,
+    decisions: &[UnitDecision],
+    lists: &Lists,
+    which: Which,
+) -> Result<Listed<UnitName>, AllocError>
+    ensures { IfOk result (λ names. IsListBy names (is_by_self (situation_of known.entry) decisions.now lists.now which)) }
+{
+    let mut set = UnitSet::new(alloc);
+    add_put(alloc, &mut set, decisions, which)?;
+    add_defined(alloc, known, &mut set, lists.of(which).as_slice())?;
+    set.into_names(alloc)
+}
+
+/// The units that are on each list by themselves.
+pub fn all_by_self(
+    alloc: Global,
+    known: Inputs<'_>,
+    decisions: &[UnitDecision],
+    lists: &Lists,
+) -> Result<Lists, AllocError>
+    ensures { IfOk result (AreBySelf (situation_of known.entry) decisions.now lists.now) }
+{
+    let starts = by_self(alloc, known, decisions, lists, Which::Starts)?;
+    let restarts = by_self(alloc, known, decisions, lists, Which::Restarts)?;
+    let reloads = by_self(alloc, known, decisions, lists, Which::Reloads)?;
+    Ok(Lists {
+        starts,
+        restarts,
+        reloads,
+    })
+}
+
+/// The units that are on any of these lists.
+fn listed(alloc: Global, lists: &Lists) -> Result<UnitSet, AllocError>
+    ensures { IfOk result (λ set. (unit : List ℕ) → has set unit ≡ is_listed lists.now unit) }
+{
+    let mut set = UnitSet::new(alloc);
+    for which in RECORD_ORDER {
+        set.insert_all(alloc, lists.of(which).as_slice())?;
+    }
+    Ok(set)
+}
+
+/// The units to start, in byte order: those that are so by themselves, the live sockets to which the decisions leave units, and
+/// what is pulled and comes up by no other way.
+pub fn all_starts(
+    alloc: Global,
+    known: Inputs<'_>,
+    decisions: &[UnitDecision],
+    stops: &UnitSet,
+    own: &Lists,
+    pulled: &[UnitName],
+) -> Result<Listed<UnitName>, AllocError>
+    ensures { IfOk result (λ names. IsListBy names (λ unit. (has own.now.starts unit || list_any (wakes unit) decisions.now)
+        || has (filter (comes_up (situation_of known.entry) stops.now own.now) pulled.now) unit)) }
+{
+    let listed = listed(alloc, own)?;
+    let touched = Touched {
+        stops,
+        listed: &listed,
+    };
+    let mut set = UnitSet::of(alloc, own.starts.as_slice())?;
+    add_woken(alloc, &mut set, decisions)?;
+    add_pulled(alloc, known, touched, &mut set, pulled)?;
+    set.into_names(alloc)
 }

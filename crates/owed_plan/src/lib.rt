@@ -11,12 +11,11 @@ pub mod laws;
 mod owed;
 mod planning;
 mod pulling;
-mod sets;
 mod steady;
 mod targets;
 mod touched;
 
-pub use duty::{Duty, calls};
+pub use duty::{Duty, GIVE_ORDER, calls};
 pub use edges::order_edges;
 pub use owed::Owed;
 pub use planning::plan;

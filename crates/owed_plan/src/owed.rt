@@ -1,7 +1,4 @@
 //! What a switch owes the units.
-ghost use Rattle.std.specs.Prelude.{◌≡◌};
-ghost use Rattle.owed_plan.specs.Law.{lists_of};
-
 use log_text::Lists;
 use switch_names::{Listed, UnitName};
 
@@ -11,35 +8,10 @@ use switch_names::{Listed, UnitName};
 pub struct Owed {
     /// The units to stop.
     pub stops: Listed<UnitName>,
-    /// The units to reload.
-    pub reloads: Listed<UnitName>,
-    /// The units to restart.
-    pub restarts: Listed<UnitName>,
-    /// The units to start.
-    pub starts: Listed<UnitName>,
+    /// The units of the lists that are recorded: those to start, to restart and to reload.
+    pub lists: Lists,
     /// The changed units that get nothing.
     pub left: Listed<UnitName>,
-}
-
-impl Owed {
-    /// The units to stop, the lists that are recorded, and the changed units that get nothing.
-    pub fn into_lists(self) -> (Listed<UnitName>, Lists, Listed<UnitName>)
-        ensures { result ≡ (self.stops, lists_of self, self.left) }
-    {
-        let Owed {
-            stops,
-            reloads,
-            restarts,
-            starts,
-            left,
-        } = self;
-        let recorded = Lists {
-            starts,
-            restarts,
-            reloads,
-        };
-        (stops, recorded, left)
-    }
 }
 
 /// One call: a derived drop is proved anew in each function that lets one go.
@@ -47,9 +19,7 @@ impl Drop for Owed {
     fn drop(self) {
         let Owed {
             stops: _,
-            reloads: _,
-            restarts: _,
-            starts: _,
+            lists: _,
             left: _,
         } = self;
     }

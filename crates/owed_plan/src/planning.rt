@@ -8,12 +8,12 @@ ghost use Rattle.owed_plan.specs.Pull.{Pulled};
 ghost use Rattle.owed_plan.specs.Systems.{systems_in};
 ghost use Rattle.switch_names.specs.Names.{IsListOf};
 
+use crate::collecting::{all_by_self, all_starts, decided_left, decided_stops};
 use crate::deciding::{UnitDecision, decide_units};
 use crate::known::Inputs;
 use crate::owed::Owed;
-use crate::sets::OwedSets;
 use host_trait::{States, UnitSet};
-use log_text::Lists;
+use log_text::{Block, Lists, Which};
 use std::alloc::{AllocError, Global};
 use switch_names::{Listed, UnitName};
 use unit_defs::Defs;
@@ -28,11 +28,19 @@ fn collect(
 ) -> Result<Owed, AllocError>
     ensures { IfOk result (IsCollected (situation_of known.entry) decisions.now lists.now pulled.now) }
 {
-    let mut sets = OwedSets::new(alloc);
-    sets.add_decided(alloc, known, decisions)?;
-    sets.add_listed(alloc, known, lists)?;
-    sets.add_pulled(alloc, known, pulled)?;
-    sets.into_owed(alloc)
+    let stops = decided_stops(alloc, known, decisions)?;
+    let left = decided_left(alloc, decisions)?;
+    let mut lists = all_by_self(alloc, known, decisions, lists)?;
+    let starts = all_starts(alloc, known, decisions, &stops, &lists, pulled)?;
+    lists.set(Block {
+        which: Which::Starts,
+        names: starts,
+    });
+    Ok(Owed {
+        stops: stops.into_names(alloc)?,
+        lists,
+        left,
+    })
 }
 
 /// What a switch from one system to another owes the units, given their states, the lists that a

@@ -2,13 +2,15 @@
 ghost use Rattle.std.specs.Prelude.{◌≡◌, ◌↔◌, IsTrue, List};
 ghost use Rattle.std.specs.List.{list_any};
 ghost use Rattle.host_trait.specs.declared.unit_state.State.{State};
+ghost use Rattle.log_text.specs.Lists.{record_order};
+ghost use Rattle.owed_plan.specs.Lists.{is_starts};
 ghost use Rattle.owed_plan.specs.Pull.{Pulled};
-ghost use Rattle.owed_plan.specs.Steady.{IsSteady, has_for_good, is_steady, is_stopped_for_good, is_target};
+ghost use Rattle.owed_plan.specs.Steady.{IsSteady, has_for_good, has_target, is_steady, is_stopped_for_good, is_target};
 ghost use Rattle.owed_plan.specs.Systems.{systems_in};
 ghost use Rattle.switch_names.specs.Names.{IsListOf, Name};
 ghost use Rattle.unit_defs.specs.declared.unit.Unit.{Unit};
 
-use log_text::Lists;
+use log_text::{Lists, RECORD_ORDER, Which};
 use switch_names::{Listed, UnitName};
 use unit_decide::Facts;
 use unit_defs::Defs;
@@ -55,14 +57,34 @@ fn any_target(units: &[UnitName]) -> bool
     units.iter().any(|unit| is_target(unit))
 }
 
-/// Whether no such target is pulled or waits for a start, and no target for a restart or a reload.
+/// Whether a list is that of the starts.
+fn is_starts(which: Which) -> bool
+    ensures { result ≡ is_starts which }
+{
+    matches!(which, Which::Starts)
+}
+
+/// Whether another list than that of the starts has a target.
+fn has_target(lists: &Lists, which: Which) -> bool
+    ensures { result ≡ has_target lists.now which }
+{
+    !is_starts(which) && any_target(lists.of(which).as_slice())
+}
+
+/// Whether any of the lists but that of the starts has a target.
+fn any_has_target(lists: &Lists) -> bool
+    ensures { result ≡ list_any (has_target lists.now) record_order }
+{
+    RECORD_ORDER.iter().any(|which| has_target(lists, *which))
+}
+
+/// Whether no such target is pulled or waits for a start, and no target is on another list.
 fn is_steady_by(new: &Defs, lists: &Lists, pulled: &[UnitName]) -> bool
     ensures { result ≡ is_steady new.now lists.now pulled.now }
 {
     !any_for_good(new, pulled)
         && !any_for_good(new, lists.starts.as_slice())
-        && !any_target(lists.restarts.as_slice())
-        && !any_target(lists.reloads.as_slice())
+        && !any_has_target(lists)
 }
 
 /// Whether the marks of the targets of the new system and the lists that a switch which was cut has
@@ -70,7 +92,7 @@ fn is_steady_by(new: &Defs, lists: &Lists, pulled: &[UnitName]) -> bool
 /// ends as one that isn't.
 ///
 /// They do where a target that is stopped at each switch and may not be started is pulled or waits for
-/// a start, and where a target waits for a restart or a reload.
+/// a start, and where a target is on another list.
 /// Source: NixOS manual, "Unit handling".
 pub fn is_steady(new: &Defs, lists: &Lists, pulled: &Listed<UnitName>) -> bool
     ensures { (old : List Unit) (states : Name → State) → IsListOf pulled.now (Pulled (systems_in old new.now) states lists.now)

@@ -1,7 +1,7 @@
 //! The pulled units that come up by no other way.
 ghost use Rattle.std.specs.Prelude.{◌≡◌, ◌&&◌, ◌||◌, List, ℕ, IfOk, OnOk, filter, not};
 ghost use Rattle.host_trait.specs.Manager.{is_active};
-ghost use Rattle.owed_plan.specs.Collected.{comes_up};
+ghost use Rattle.owed_plan.specs.Collected.{comes_up_by};
 ghost use Rattle.owed_plan.specs.Decisions.{situation_of};
 ghost use Rattle.switch_names.specs.Names.{has};
 
@@ -11,12 +11,11 @@ use host_trait::UnitSet;
 use std::alloc::{AllocError, Global};
 use switch_names::UnitName;
 
-/// The units that are stopped, reloaded and restarted.
+/// The units that are stopped, and those that are on a list by themselves.
 #[derive(Clone, Copy)]
 pub struct Touched<'a> {
     pub stops: &'a UnitSet,
-    pub reloads: &'a UnitSet,
-    pub restarts: &'a UnitSet,
+    pub listed: &'a UnitSet,
 }
 
 impl Touched<'_> {
@@ -28,21 +27,14 @@ impl Touched<'_> {
         known.is_active(unit) && !is_stopped
     }
 
-    /// Whether a unit comes up by a reload or a restart.
-    fn comes_otherwise(self, unit: &UnitName) -> bool
-        ensures { result ≡ (has self.entry.reloads.now unit.now || has self.entry.restarts.now unit.now) }
-    {
-        self.reloads.contains(unit) || self.restarts.contains(unit)
-    }
-
     /// Whether a pulled unit is to be started: it neither stays up nor comes up otherwise.
     fn comes_up(self, alloc: Global, known: Inputs<'_>, unit: &UnitName) -> Result<bool, AllocError>
-        ensures { IfOk result (λ is. is ≡ comes_up (situation_of known.entry) self.entry.stops.now self.entry.reloads.now self.entry.restarts.now unit.now) }
+        ensures { IfOk result (λ is. is ≡ comes_up_by (situation_of known.entry) self.entry.stops.now (has self.entry.listed.now) unit.now) }
     {
         if self.stays_up(known, unit) {
             return Ok(false);
         }
-        if self.comes_otherwise(unit) {
+        if self.listed.contains(unit) {
             return Ok(false);
         }
         Ok(!known.is_socketed(alloc, unit)?)
@@ -58,7 +50,7 @@ pub fn add_pulled(
     pulled: &[UnitName],
 ) -> Result<(), AllocError>
     ensures { OnOk result ((unit : List ℕ) → has set.new unit ≡ (has set.old unit
-        || has (filter (comes_up (situation_of known.entry) touched.entry.stops.now touched.entry.reloads.now touched.entry.restarts.now) pulled.now) unit)) }
+        || has (filter (comes_up_by (situation_of known.entry) touched.entry.stops.now (has touched.entry.listed.now)) pulled.now) unit)) }
 {
     for unit in pulled {
         let is_started = touched.comes_up(alloc, known, unit)?;

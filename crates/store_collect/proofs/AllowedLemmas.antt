@@ -11,7 +11,7 @@ use Rattle.host_trait.specs.World.{WorldState, is_in_line, is_path, seen, stage}
 use Rattle.host_trait.proofs.Fronts.{begins}
 use Rattle.host_trait.proofs.Seen.{clear_seen}
 use Rattle.host_trait.proofs.Sound.{not_in_line}
-use Rattle.owed_lists.specs.Lists.{reloads_place, restarts_place, starts_place}
+use Rattle.owed_lists.specs.Lists.{place_of}
 use Rattle.owed_log.specs.Places.{log_place}
 use Rattle.leaf_limits.specs.Limits.{long_past}
 use Rattle.leaf_limits.proofs.PastLemmas.{past_first}
@@ -67,7 +67,7 @@ run_beside rest apart = record {
 }
 
 all_beside : AllByRecursion IsBeside unfinished_places
-unfolding log_place starts_place restarts_place reloads_place goal_place loader_path
+unfolding log_place place_of goal_place loader_path
 all_beside = (
   run_beside (codes "owed-log") refl,
   (run_beside (codes "start-list") refl, (run_beside (codes "restart-list") refl, (run_beside (codes "reload-list") refl, (run_beside (codes "rollback-goal") refl, tt)))),

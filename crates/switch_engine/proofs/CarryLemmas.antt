@@ -72,7 +72,7 @@ use Rattle.unit_stage.specs.declared.unit_plan.UnitPlan.{UnitPlan}
 use Rattle.unit_stage.specs.End.{AreEndStates}
 use Rattle.unit_stage.specs.Order.{IsOrderedAt}
 use Rattle.unit_stage.specs.Owned.{reads_units}
-use Rattle.unit_stage.specs.Plan.{IsOwedBy, owed_of}
+use Rattle.unit_stage.specs.Plan.{IsOwedBy}
 use Rattle.unit_stage.proofs.EndLemmas.{one_end}
 use Rattle.unit_stage.proofs.OwnedLemmas.{not_reads_stage}
 use Rattle.unit_stage.proofs.SystemsLemmas.{is_system}
@@ -93,11 +93,11 @@ pub record IsCarriedFrom (command : Command) (owed : Owed) (order : List Name) (
 -- ---- what a plan says
 
 module _ (start_up switches : Bool) (system : Name) (w : WorldState) (nothing : UnitPlan) where
-  owed_planned : (plan : Option SwitchPlan) → IsSwitchPlanned start_up switches system w plan → switches ≡ true → IsOwedBy start_up system w (owed_of (units_in plan nothing))
+  owed_planned : (plan : Option SwitchPlan) → IsSwitchPlanned start_up switches system w plan → switches ≡ true → IsOwedBy start_up system w (units_in plan nothing).owed
   owed_planned None off on = absurd (both_ways _ off on)
   owed_planned (Some plan) (switched, planned, activated) on = (planned.lists, record { listed = planned.planned.listed; is_owed = planned.planned.planned.is_owed })
 
-  order_planned : (plan : Option SwitchPlan) → IsSwitchPlanned start_up switches system w plan → switches ≡ true → IsOrderedAt w.leaves system (owed_of (units_in plan nothing)) (units_in plan nothing).ordered.units
+  order_planned : (plan : Option SwitchPlan) → IsSwitchPlanned start_up switches system w plan → switches ≡ true → IsOrderedAt w.leaves system (units_in plan nothing).owed (units_in plan nothing).ordered.units
   order_planned None off on = absurd (both_ways _ off on)
   order_planned (Some plan) (switched, planned, activated) on = (plan.units.ordered, planned.in_order, refl)
 
@@ -106,7 +106,7 @@ module _ (plan : Plan) (w : WorldState) (is : IsPlanOf w plan) (changes : IsQuer
   pub planned_parts : ArePlanned (row plan.command w.leaves) w plan
   planned_parts = subst (λ (r : Row). ArePlanned r w plan) is.resolved is.planned
 
-  pub carried_from : IsCarriedFrom plan.command (owed_of (units_of plan)) (units_of plan).ordered.units w
+  pub carried_from : IsCarriedFrom plan.command (units_of plan).owed (units_of plan).ordered.units w
   carried_from = record {
     on = changes_on plan.command w.leaves changes;
     has = has_a_system plan.command w.leaves (refused_by_leaves_law plan.command w is.not_refused);
@@ -144,16 +144,16 @@ can_set moves system named w r (Some plan) planned only free = record {
 
 -- a planned switch of the units can be made where the profile has been set
 pub can_switch : (start_up switches : Bool) (system : Name) → IsSystemPath system → (w u : WorldState) (plan : Option SwitchPlan) (nothing : UnitPlan) → IsSwitchPlanned start_up switches system w plan →
-    u.manager ≡ w.manager → (switches ≡ true → IsOwedBy start_up system u (owed_of (units_in plan nothing))) → (switches ≡ true → IsOrderedAt u.leaves system (owed_of (units_in plan nothing)) (units_in plan nothing).ordered.units) →
+    u.manager ≡ w.manager → (switches ≡ true → IsOwedBy start_up system u (units_in plan nothing).owed) → (switches ≡ true → IsOrderedAt u.leaves system (units_in plan nothing).owed (units_in plan nothing).ordered.units) →
     (switches ≡ true → (lists : Lists) (write : LogWrite) → IsWriteFor w.leaves lists write → IsWriteFor u.leaves lists write) → IsSameFor (activation_in system w.leaves) w u → IsFree (part_if switches (switch_in start_up system u.leaves)) u.leaves → CanSwitchBy system plan u
 can_switch start_up switches system named w u None nothing planned manager is_owed is_ordered written same free = tt
 can_switch start_up switches system named w u (Some plan) nothing (on, of_units, of_activation) manager is_owed is_ordered written same free = record {
   named = named;
   start_up = start_up;
   is_owed = is_owed on;
-  write = written on plan.units.recorded plan.units.write of_units.write;
+  write = written on plan.units.owed.lists plan.units.write of_units.write;
   in_order = is_ordered on;
-  duties = of_units.duties ∙ ap (λ (k : ManagerState). calls_of (owed_of plan.units) plan.units.ordered.units (state_of k.states)) (sym manager);
+  duties = of_units.duties ∙ ap (λ (k : ManagerState). calls_of plan.units.owed plan.units.ordered.units (state_of k.states)) (sym manager);
   planned = activation_plan_law system w u plan.activation named same of_activation;
   free = subst (λ b. IsFree (part_if b (switch_in start_up system u.leaves)) u.leaves) on free;
 }
@@ -183,7 +183,7 @@ pub verdict : (start_up switches : Bool) (system : Name) (plan : Option SwitchPl
 verdict start_up switches system None nothing w u v outcome off same end states failed none =
     subst (λ b. IsTrue outcome.failed ↔ LeavesFailedAt start_up (if_so b system) w) (sym off) (λ is. absurd (both_ways _ (ap (λ (o : Outcome). o.failed) (none refl)) is), λ left. absurd left)
 verdict start_up switches system (Some plan) nothing w u v outcome planned same end states failed none =
-    let owed = owed_of plan.units in
+    let owed = plan.units.owed in
     let is_owed = owed_planned start_up switches system w nothing (Some plan) planned planned.0 in
     let says = left_failed system owed plan.units.ordered.units w v plan.units.defs outcome.states planned.1.defs (states refl) (brought_from system owed plan.units.ordered.units w u v same end.units) in
     subst (λ b. IsTrue outcome.failed ↔ LeavesFailedAt start_up (if_so b system) w) (sym planned.0) (

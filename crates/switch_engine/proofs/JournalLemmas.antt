@@ -15,13 +15,13 @@ use Rattle.log_text.specs.declared.lists.Which.TheVariants.{Starts}
 use Rattle.owed_log.specs.declared.log_write.LogWrite.{LogWrite}
 use Rattle.owed_log.specs.Writing.{recorded}
 use Rattle.owed_log.proofs.BesideLemmas.{clearing_manager, record_manager, recorded_manager}
-use Rattle.owed_plan.specs.Calls.{listed_calls, stop_calls}
+use Rattle.owed_plan.specs.Calls.{give_order, listed_calls, stop_calls}
 use Rattle.owed_plan.specs.declared.duty.Duty.{Duty}
 use Rattle.owed_plan.specs.declared.owed.Owed.{Owed}
 use Rattle.switch_engine.specs.declared.command.Command.{Command}
 use Rattle.switch_engine.specs.Commands.{brought_to, if_so, row}
 use Rattle.switch_engine.specs.Final.{AreEntries, HasBegunToEnter}
-use Rattle.switch_engine.specs.Moments.{AreStopped, IsSwitchMoment}
+use Rattle.switch_engine.specs.Moments.{HasStopped, IsSwitchMoment}
 use Rattle.switch_engine.proofs.SwitchedIf.{IsSwitchMomentIf}
 use Rattle.switch_names.specs.Names.{Name}
 use Rattle.tree_put.specs.Sequence.{with_puts}
@@ -31,7 +31,7 @@ use Rattle.unit_stage.specs.Acts.IsPerforming.{After, Within}
 use Rattle.unit_stage.specs.End.{entries_of}
 use Rattle.unit_stage.specs.Order.{IsOrderedAt}
 use Rattle.unit_stage.specs.Plan.{IsOwedBy}
-use Rattle.unit_stage.specs.Steps.{IsBringStep, IsClearingMoment, IsGiveMoment, IsListMoment, IsStopStep, give_order, with_given, with_loaded, with_stops}
+use Rattle.unit_stage.specs.Steps.{IsBringStep, IsClearingMoment, IsGiveMoment, IsListMoment, IsStopStep, with_given, with_loaded, with_stops}
 use Rattle.unit_stage.specs.Steps.IsBringStep.{Giving, Linked, Waiting}
 use Rattle.unit_stage.specs.System.{definitions_of}
 use Rattle.unit_stage.proofs.CallLemmas.{entered, performed-append}
@@ -152,7 +152,7 @@ module _ (system : Name) (owed : Owed) (order : List Name) (w : WorldState) wher
         ∙ append_assoc w.manager.journal stop_entries (map (entry_of (definitions_of system)) some.made);
   }
 
-  stopped_manager : (u : WorldState) → AreStopped owed w u → u.manager ≡ stopped
+  stopped_manager : (u : WorldState) → HasStopped owed w u → u.manager ≡ stopped
   stopped_manager u is = manager_seen u (with_stops is.0 stops w) is.2 ∙ ap (performed stops) (recorded_manager is.0 w)
 
   grown_stopped : (m : WorldState) → m.manager ≡ stopped → HasGrown (entries_of system owed order w) w.manager m.manager

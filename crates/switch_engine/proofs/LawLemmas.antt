@@ -3,7 +3,6 @@ use Rattle.std.proofs.Common.{◌≡◌, ◌⊎◌, ◌&&◌, ◌++◌, Bool, tr
 use Rattle.std.proofs.lemmas.Bool.{both_ways}
 use Rattle.generations.specs.declared.moving.Move.{Move}
 use Rattle.generations.specs.declared.moving.Move.TheVariants.{Point, Set}
-use Rattle.host_trait.specs.declared.entry.Act.{Act}
 use Rattle.host_trait.specs.declared.entry.Entry.{Entry}
 use Rattle.host_trait.specs.States.{UnitStates, state_of}
 use Rattle.host_trait.specs.World.{WorldState}
@@ -15,6 +14,7 @@ use Rattle.switch_engine.specs.Moments.{HasComeBack, HasComeBackIn, IsMomentOf, 
 use Rattle.switch_engine.specs.Owing.{IsOver, IsSteadyFor, IsUnderway}
 use Rattle.switch_engine.specs.Rows.{refusal}
 use Rattle.switch_names.specs.Names.{Name}
+use Rattle.owed_plan.specs.Lists.{Debt}
 use Rattle.unit_stage.specs.End.{entries_of}
 use Rattle.unit_stage.specs.Owes.{HasEntered, HasGoneOn, IsPaidTo, OwesTo}
 use Rattle.unit_stage.proofs.EndLemmas.{left_alone}
@@ -70,7 +70,7 @@ begins_moment command w none = record {
 
 -- a switch of the units has entered what pays all that it owed
 abbrev HasPaid : Bool → Option Name → WorldState → WorldState → Type 0
-HasPaid start_up to first w = (since : HasEntered start_up to first w) × ((act : Act) (unit : Name) → OwesTo start_up to first act unit → IsPaidTo to act unit since.entered)
+HasPaid start_up to first w = (since : HasEntered start_up to first w) × ((debt : Debt) (unit : Name) → OwesTo start_up to first debt unit → IsPaidTo to debt unit since.entered)
 
 module _ (command : Command) (first w : WorldState) (before : IsUnderway command first w) where
   abbrev start_up : Bool
@@ -96,10 +96,10 @@ module _ (command : Command) (first w : WorldState) (before : IsUnderway command
       record {
         final = (before.same_end v).0 after.final;
         since = entered_on start_up to first w v before.gone_on then.0;
-        paid = λ act unit owed. ⊎_elim
-            (paid_before to act unit before.gone_on.since.entered then.0.entered)
-            (λ still. paid_since to act unit before.gone_on.since.entered then.0.entered (then.1 act unit still))
-            (before.gone_on.paid_or_owed act unit owed);
+        paid = λ debt unit owed. ⊎_elim
+            (paid_before to debt unit before.gone_on.since.entered then.0.entered)
+            (λ still. paid_since to debt unit before.gone_on.since.entered then.0.entered (then.1 debt unit still))
+            (before.gone_on.paid_or_owed debt unit owed);
       }
 
 -- ---- the end of a run
@@ -124,7 +124,7 @@ has_paid start_up false system w v entries final none journal = (
     owed_alone = tt;
     others = λ unit other. ap (λ (states : UnitStates). state_of states unit) final.0;
   },
-  λ act unit owes. absurd owes,
+  λ debt unit owes. absurd owes,
 )
 
 -- a run that has come to its end is over

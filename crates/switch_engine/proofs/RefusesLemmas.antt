@@ -15,17 +15,17 @@ use Rattle.switch_parts.specs.declared.refusal.Refusal.{Refusal}
 use Rattle.switch_parts.specs.declared.refusal.Refusal.TheVariants.{NoSystem}
 use Rattle.switch_parts.specs.Limits.{long_refusal}
 use Rattle.switch_parts.proofs.LongLemmas.{long_parts}
-use Rattle.unit_stage.proofs.LogLemmas.{one_log_law, some_log_law, steady_log_law}
+use Rattle.unit_stage.proofs.LogLemmas.{one_length_law, some_length_law, steady_log_law}
 
 -- ---- the log, with a switch of the units or without one
 
 pub one_log_to : (start_up : Bool) (to : Option Name) (w : WorldState) (one other : Option TooLong) → IsLongLogTo start_up to w one → IsLongLogTo start_up to w other → one ≡ other
 one_log_to start_up None w one other first second = first ∙ sym second
-one_log_to start_up (Some system) w one other first second = one_log_law start_up w system one other first second
+one_log_to start_up (Some system) w one other first second = one_length_law start_up w system one other first second
 
 pub some_log_to : (start_up : Bool) (to : Option Name) (w : WorldState) → (log : Option TooLong) × IsLongLogTo start_up to w log
 some_log_to start_up None w = (None, refl)
-some_log_to start_up (Some system) w = some_log_law start_up w system
+some_log_to start_up (Some system) w = some_length_law start_up w system
 
 pub steady_log_to : (start_up : Bool) (to : Option Name) (w : WorldState) → IsSteadyTo start_up to w → IsLongLogTo start_up to w None
 steady_log_to start_up None w steady = refl

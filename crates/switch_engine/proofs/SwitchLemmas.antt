@@ -1,9 +1,9 @@
 -- All steps of a switch of the units, one after the other: each is a moment of its parts, and the last leaves them at their ends.
-use Rattle.std.proofs.Common.{◌≡◌, Bool, true, false, cond, ◌∷◌, ◌||◌, List, length, None, Some, refl, sym, ap, subst, ◌∙◌, inl, inr}
+use Rattle.std.proofs.Common.{◌≡◌, Bool, true, false, cond, ◌∷◌, ◌||◌, List, [], length, map, None, Some, refl, sym, ap, subst, ◌∙◌, inl, inr}
 use Rattle.std.proofs.lemmas.Bool.{both_ways, cases_Bool, or_from}
 use Rattle.std.specs.Cmp.Lexicographic.{same_text}
 use Rattle.std.specs.FinMap.{get}
-use Rattle.std.specs.List.{flat_map}
+use Rattle.std.specs.List.{AllByRecursion, flat_map}
 use Rattle.activation_stage.specs.ActivationPart.{CanActivate, IsActivating, IsActivationPlanOf, activation_in, activation_part}
 use Rattle.activation_stage.specs.declared.activation_plan.ActivationPlan.{ActivationPlan}
 use Rattle.activation_stage.specs.Owners.{owners_after}
@@ -17,17 +17,17 @@ use Rattle.host_trait.specs.States.{state_of}
 use Rattle.host_trait.specs.World.{WorldState, is_path, seen}
 use Rattle.host_trait.proofs.Seen.{seen_at}
 use Rattle.log_text.specs.declared.lists.Which.{Which}
-use Rattle.log_text.specs.declared.lists.Which.TheVariants.{Starts, Restarts, Reloads}
+use Rattle.log_text.specs.Lists.{record_order}
+use Rattle.owed_lists.specs.Lists.{place_of}
 use Rattle.owed_log.specs.declared.log_write.LogWrite.{LogWrite}
 use Rattle.owed_log.specs.Laws.{AreAlone}
 use Rattle.owed_log.specs.Places.{log_place, old_places}
 use Rattle.owed_log.specs.Writing.{IsWriteFor, recorded}
 use Rattle.owed_log.proofs.BesideLemmas.{recorded_manager}
-use Rattle.owed_plan.specs.Calls.{listed_calls, stop_calls}
+use Rattle.owed_plan.specs.Calls.{give_order, listed_calls, stop_calls}
 use Rattle.owed_plan.specs.declared.duty.Duty.{Duty}
 use Rattle.owed_plan.specs.declared.owed.Owed.{Owed}
-use Rattle.owed_plan.specs.Law.{lists_of}
-use Rattle.switch_engine.specs.Moments.{AreStopped, HasActivated, IsSwitchMoment, IsSwitched}
+use Rattle.switch_engine.specs.Moments.{HasStopped, HasActivated, IsSwitchMoment, IsSwitched}
 use Rattle.switch_engine.specs.Quiet.{IsQuietSwitch}
 use Rattle.switch_engine.specs.Rows.{switch_in, switched_leaf}
 use Rattle.switch_engine.proofs.ActivationApart.{definitions_end, definitions_owned, units_parted}
@@ -50,7 +50,7 @@ use Rattle.unit_stage.specs.Laws.{AreSameBeside}
 use Rattle.unit_stage.specs.Order.{ArrangesStarts}
 use Rattle.unit_stage.specs.Owned.{owns_units}
 use Rattle.unit_stage.specs.Plan.{IsOwedBy}
-use Rattle.unit_stage.specs.Steps.{AreSameUnits, CanBring, IsBringMoment, IsBringStep, IsStopMoment, IsStopStep, IsUnitMoment, give_order, with_brought, with_loaded, with_stops}
+use Rattle.unit_stage.specs.Steps.{AreSameUnits, CanBring, IsBringMoment, IsBringStep, IsStopMoment, IsStopStep, IsUnitMoment, with_brought, with_loaded, with_stops}
 use Rattle.unit_stage.specs.System.{IsSystem, current_place, definitions_of, system_leaf}
 use Rattle.unit_stage.specs.Units.{AreUnitsKept, units_part}
 use Rattle.unit_stage.proofs.CallLemmas.{same_bad, same_loaded}
@@ -62,7 +62,7 @@ use Rattle.unit_stage.proofs.ComeLemmas.{recorded_alone}
 use Rattle.unit_stage.proofs.GivenLemmas.{Ended, ended, log_for, no_listed}
 use Rattle.unit_stage.proofs.ListsLemmas.{alone_same}
 use Rattle.unit_stage.proofs.StandLemmas.{all_given_manager, same_lists_of}
-use Rattle.unit_stage.proofs.StepLemmas.{all_taken, manager_seen}
+use Rattle.unit_stage.proofs.StepLemmas.{all_taken, given_then, manager_seen}
 use Rattle.unit_stage.proofs.SystemsLemmas.{is_system}
 use Rattle.unit_stage.proofs.TableLemmas.{all_entered, can_rest, final_states, given_all, ready}
 use Rattle.unit_stage.proofs.UnitsPartLemmas.{unit_moment_law, units_part_law}
@@ -109,7 +109,7 @@ module _ (start_up : Bool) (system : Name) (named : IsSystemPath system) (owed :
 
   -- ---- the stops
 
-  stop_units : (write : LogWrite) → IsWriteFor w.leaves (lists_of owed) write → (m : WorldState) → IsStopMoment write (stop_calls owed) w m → IsPartMoment units w m
+  stop_units : (write : LogWrite) → IsWriteFor w.leaves owed.lists write → (m : WorldState) → IsStopMoment write (stop_calls owed) w m → IsPartMoment units w m
   stop_units write is_write m moment =
       let u = moment.0 in
       unit_moment_law start_up system owed order w m system_is is_owed arranges (IsUnitMoment.Stopping write is_write u moment.1 (units_seen u m moment.2)) (record {
@@ -117,10 +117,10 @@ module _ (start_up : Bool) (system : Name) (named : IsSystemPath system) (owed :
         manager = λ never. absurd (both_ways true never refl);
       })
 
-  stop_moment : (write : LogWrite) → IsWriteFor w.leaves (lists_of owed) write → (m : WorldState) → IsStopMoment write (stop_calls owed) w m → IsPartMoment whole w m
+  stop_moment : (write : LogWrite) → IsWriteFor w.leaves owed.lists write → (m : WorldState) → IsStopMoment write (stop_calls owed) w m → IsPartMoment whole w m
   stop_moment write is_write m moment = first_moment units activation units_is activation_is (units_parted start_up system owners) w m (stop_units write is_write m moment)
 
-  module _ (u : WorldState) (stopped : AreStopped owed w u) where
+  module _ (u : WorldState) (stopped : HasStopped owed w u) where
     abbrev write : LogWrite
     write = stopped.0
 
@@ -176,13 +176,13 @@ module _ (start_up : Bool) (system : Name) (named : IsSystemPath system) (owed :
       ready_manager = units_ready.manager ∙ ap (performed (stop_calls owed)) (recorded_manager write w)
 
       -- what is owed stands as it was recorded
-      alone_ready : AreAlone v.leaves (lists_of owed)
+      alone_ready : AreAlone v.leaves owed.lists
       alone_ready =
           alone_same stopped_world.leaves v.leaves
           (λ q inside.
           at_ready.only.leaves q (or_from _ _ (not_owns_store q inside) (not_activated q (reads_store q inside))) (store_not_stage q inside)
           ∙ sym (lists_elsewhere write w q (not_owns_store q inside) (store_not_stage q inside)))
-          (same_lists_of stopped_world v units_ready) (lists_of owed)
+          (same_lists_of stopped_world v units_ready) owed.lists
           (recorded_alone system owed order w write stopped.1 (are_named start_up system is_owed.0 owed w is_owed.1 stopped.1.counted))
 
       -- ---- the system comes into use
@@ -236,7 +236,7 @@ module _ (start_up : Bool) (system : Name) (named : IsSystemPath system) (owed :
               log = log_for owed order states v.leaves alone_ready;
               can_call =
                   subst (λ (manager : ManagerState). CanPerform (flat_map listed give_order) (loading (definitions_of system) manager)) (sym ready_manager)
-                  (can_rest owed (definitions_of system) w.manager order);
+                  (can_rest owed (definitions_of system) w.manager order arranges);
             })
 
         pub bringing : (m : WorldState) → IsBringMoment system calls v m → IsSwitchMoment system owed order w m
@@ -246,10 +246,10 @@ module _ (start_up : Bool) (system : Name) (named : IsSystemPath system) (owed :
 
         module _ (d : WorldState) (brought : seen d ≡ seen (with_brought system calls v)) where
           last_step : IsBringing d
-          last_step = (with_brought system listed v, IsBringStep.Giving (inr (inr (inr refl))), brought ∙ (λ i. seen (with_brought system (same i) v)))
+          last_step = (with_brought system listed v, IsBringStep.Giving (given_then listed give_order [] (with_loaded system v) (with_brought system listed v) refl), brought ∙ (λ i. seen (with_brought system (same i) v)))
 
           at_end : Ended system d.leaves
-          at_end = ended system calls v d (lists_of owed) (λ which other none. no_listed owed order states which other (sym (are which) ∙ none)) alone_ready can_bring brought
+          at_end = ended system calls v d owed.lists (λ which other none. no_listed owed order states which other (sym (are which) ∙ none)) alone_ready can_bring brought
 
           -- an owned place is at its end
           owned_end : (q : Name) → owns_units q ≡ true → get d.leaves q ≡ cond (is_path q current_place) (Some (system_leaf system)) None
@@ -261,9 +261,12 @@ module _ (start_up : Bool) (system : Name) (named : IsSystemPath system) (owed :
                 ∙ sym (ap (λ b. cond b (Some (system_leaf system)) None) other)
           ]
             where
+              no_lists : (order : List Which) → AllByRecursion (λ p. get d.leaves p ≡ None) (map place_of order)
+              no_lists [] = tt
+              no_lists (which ∷ order) = (at_end.old which, no_lists order)
+
               none_stands : is_among (log_place ∷ old_places) q ≡ true → get d.leaves q ≡ None
-              none_stands among =
-                  each_among (λ p. get d.leaves p ≡ None) (log_place ∷ old_places) (at_end.log, (at_end.old Starts, (at_end.old Restarts, (at_end.old Reloads, tt)))) q among
+              none_stands among = each_among (λ p. get d.leaves p ≡ None) (log_place ∷ old_places) (at_end.log, no_lists record_order) q among
 
           -- a place of the activation is at the end that it had from the beginning
           activated_end : (q : Name) → owns_units q ≡ false → activation.owns q ≡ true → get d.leaves q ≡ activation.end w.leaves q

@@ -8,7 +8,6 @@ use Rattle.switch_engine.specs.Moments.{IsSwitchMoment, IsSwitched}
 use Rattle.switch_engine.specs.Plan.{IsSwitchPlanned, units_in}
 use Rattle.switch_names.specs.Names.{Name}
 use Rattle.unit_stage.specs.declared.unit_plan.UnitPlan.{UnitPlan}
-use Rattle.unit_stage.specs.Plan.{owed_of}
 
 -- a moment of a switch of the units, where they are switched
 abbrev pub IsSwitchMomentIf : Bool → Name → Owed → List Name → WorldState → WorldState → Type 0
@@ -28,11 +27,11 @@ switches_same start_up switches system w (Some plan) planned = sym planned.0
 module _ (start_up switches : Bool) (system : Name) (w : WorldState) (nothing : UnitPlan) where
   -- what is planned of a switch is a switch of the row
   pub moment_planned : (plan : Option SwitchPlan) → IsSwitchPlanned start_up switches system w plan → (u m : WorldState) → IsSwitchMomentBy system plan u m →
-      IsSwitchMomentIf switches system (owed_of (units_in plan nothing)) (units_in plan nothing).ordered.units u m
-  moment_planned None off u m same = subst (λ b. IsSwitchMomentIf b system (owed_of nothing) nothing.ordered.units u m) (sym off) same
-  moment_planned (Some plan) planned u m moment = subst (λ b. IsSwitchMomentIf b system (owed_of plan.units) plan.units.ordered.units u m) (sym planned.0) moment
+      IsSwitchMomentIf switches system (units_in plan nothing).owed (units_in plan nothing).ordered.units u m
+  moment_planned None off u m same = subst (λ b. IsSwitchMomentIf b system nothing.owed nothing.ordered.units u m) (sym off) same
+  moment_planned (Some plan) planned u m moment = subst (λ b. IsSwitchMomentIf b system plan.units.owed plan.units.ordered.units u m) (sym planned.0) moment
 
   pub end_planned : (plan : Option SwitchPlan) → IsSwitchPlanned start_up switches system w plan → (u v : WorldState) → IsSwitchedBy system plan u v →
-      IsSwitchedIf switches system (owed_of (units_in plan nothing)) (units_in plan nothing).ordered.units u v
-  end_planned None off u v same = subst (λ b. IsSwitchedIf b system (owed_of nothing) nothing.ordered.units u v) (sym off) same
-  end_planned (Some plan) planned u v end = subst (λ b. IsSwitchedIf b system (owed_of plan.units) plan.units.ordered.units u v) (sym planned.0) end
+      IsSwitchedIf switches system (units_in plan nothing).owed (units_in plan nothing).ordered.units u v
+  end_planned None off u v same = subst (λ b. IsSwitchedIf b system nothing.owed nothing.ordered.units u v) (sym off) same
+  end_planned (Some plan) planned u v end = subst (λ b. IsSwitchedIf b system plan.units.owed plan.units.ordered.units u v) (sym planned.0) end

@@ -27,7 +27,6 @@ use Rattle.switch_engine.proofs.SwitchedIf.{IsSwitchMomentIf, IsSwitchedIf, end_
 use Rattle.switch_engine.proofs.WayOfSwitch.{leads_both}
 use Rattle.switch_names.specs.Names.{Name}
 use Rattle.tree_put.specs.Written.{WritesOnly}
-use Rattle.unit_stage.specs.Plan.{owed_of}
 
 -- the units have been switched where the profile was moved before, or needn't be
 record HasSwitched (moves : Option Move) (switches : Bool) (system : Name) (owed : Owed) (order : List Name) (w v : WorldState) : Type 0 where
@@ -74,7 +73,7 @@ module _ (plan : Plan) (changes : IsQuery plan.command → ⊥) {a : HostState} 
   planned_moves = moves_of plan.boot_default
 
   abbrev owed : Owed
-  owed = owed_of (units_of plan)
+  owed = (units_of plan).owed
 
   abbrev order : List Name
   order = (units_of plan).ordered.units

@@ -19,9 +19,8 @@ use Rattle.owed_log.proofs.MomentLemmas.{prepared_law}
 use Rattle.owed_plan.specs.Calls.{calls_of}
 use Rattle.owed_plan.specs.declared.duty.Duty.{Duty}
 use Rattle.owed_plan.specs.declared.owed.Owed.{Owed}
-use Rattle.owed_plan.specs.Law.{lists_of}
 use Rattle.switch_engine.specs.Carried.{CanSwitch}
-use Rattle.switch_engine.specs.Moments.{AreStopped, HasActivated, IsSwitchMoment, IsSwitched}
+use Rattle.switch_engine.specs.Moments.{HasStopped, HasActivated, IsSwitchMoment, IsSwitched}
 use Rattle.switch_engine.specs.Quiet.{IsQuietSwitch}
 use Rattle.switch_engine.proofs.PlaceLemmas.{all_clear}
 use Rattle.switch_engine.proofs.SwitchLemmas.{bringing, can_activate, can_bring, switched, switched_quietly}
@@ -32,7 +31,6 @@ use Rattle.unit_stage.specs.Acts.{CanPerform}
 use Rattle.unit_stage.specs.declared.unit_plan.UnitPlan.{UnitPlan}
 use Rattle.unit_stage.specs.Order.{ArrangesStarts}
 use Rattle.unit_stage.specs.Owned.{owns_units}
-use Rattle.unit_stage.specs.Plan.{owed_of}
 use Rattle.unit_stage.specs.PlanCalls.{AreCallsOf}
 use Rattle.unit_stage.specs.Steps.{CanBring, IsBringMoment, IsStopMoment, with_brought, with_stops}
 use Rattle.unit_stage.specs.Units.{units_part}
@@ -56,22 +54,22 @@ can_write w lists (Put text) free prepared = free
 -- the world in which the system can come into use
 record IsReady (system : Name) (owed : Owed) (w v : WorldState) : Type 0 where
   stopped : WorldState
-  came : AreStopped owed w stopped
+  came : HasStopped owed w stopped
   activated : HasActivated system stopped v
 
 -- the same world, and what was written on the way to it
 record IsReadyQuietly (system : Name) (owed : Owed) (w v : WorldState) : Type 0 where
   stopped : WorldState
-  came : AreStopped owed w stopped
+  came : HasStopped owed w stopped
   before : WritesOnly owns_units w stopped
   activated : HasActivated system stopped v
   quiet : ActivatesQuietly system stopped v
 
 module _ (system : Name) (plan : UnitPlan) (activation : ActivationPlan) (write : LogWrite) (stops : List Duty) (calls : Which → List Duty) (is_write : write ≡ plan.write)
-    (are : (states : Name → State) → plan.duties ≡ calls_of (owed_of plan) plan.ordered.units states → AreCallsOf (owed_of plan) plan.ordered.units states stops calls)
+    (are : (states : Name → State) → plan.duties ≡ calls_of plan.owed plan.ordered.units states → AreCallsOf plan.owed plan.ordered.units states stops calls)
     {a : HostState} (can : Told a (CanSwitch system plan activation)) where
   abbrev owed : Owed
-  owed = owed_of plan
+  owed = plan.owed
 
   abbrev order : List Name
   order = plan.ordered.units
@@ -82,13 +80,13 @@ module _ (system : Name) (plan : UnitPlan) (activation : ActivationPlan) (write 
   calls_at : (w : WorldState) → a.world ≡ Some w → AreCallsOf owed order (state_of w.manager.states) stops calls
   calls_at w is = are (state_of w.manager.states) (can.has w is).duties
 
-  write_at : (w : WorldState) → a.world ≡ Some w → IsWriteFor w.leaves (lists_of owed) write
-  write_at w is = subst (IsWriteFor w.leaves (lists_of owed)) (sym is_write) (can.has w is).write
+  write_at : (w : WorldState) → a.world ≡ Some w → IsWriteFor w.leaves owed.lists write
+  write_at w is = subst (IsWriteFor w.leaves owed.lists) (sym is_write) (can.has w is).write
 
   pub write_can : Told a (CanWrite write)
   write_can = told_as can (CanWrite write) (λ w is known.
       let clear = all_clear w.leaves (first_free (units_part known.start_up system) (activation_in system w.leaves) w.leaves known.free).way in
-      can_write w (lists_of owed) write (record { stage = clear.stage; place = clear.log }) (write_at w is).prepared)
+      can_write w owed.lists write (record { stage = clear.stage; place = clear.log }) (write_at w is).prepared)
 
   pub stops_can : Told a (λ w. CanPerform stops w.manager)
   stops_can = told_as can (λ w. CanPerform stops w.manager) (λ w is known. subst (λ calls. CanPerform calls w.manager) (sym (calls_at w is).are_stops) (can_stops owed w.manager))
@@ -101,8 +99,8 @@ module _ (system : Name) (plan : UnitPlan) (activation : ActivationPlan) (write 
     first_way = passes_as stop_way (IsSwitchMoment system owed order) stop_as
 
     module _ (stopped : Comes a b (with_stops write stops)) where
-      came : Leads a b (AreStopped owed)
-      came = leads_as stopped (AreStopped owed) (λ w u is is_u. (write, write_at w is, is_u ∙ (λ i. seen (with_stops write ((calls_at w is).are_stops i) w))))
+      came : Leads a b (HasStopped owed)
+      came = leads_as stopped (HasStopped owed) (λ w u is is_u. (write, write_at w is, is_u ∙ (λ i. seen (with_stops write ((calls_at w is).are_stops i) w))))
 
       pub activation_can : Told b (CanActivate system activation)
       activation_can =
@@ -143,7 +141,7 @@ module _ (system : Name) (plan : UnitPlan) (activation : ActivationPlan) (write 
               Leads a d (IsQuietSwitch system)
           ends_quietly brought before quiet after =
               leads_then
-              (leads_then (leads_both came before (λ w u. AreStopped owed w u × WritesOnly owns_units w u) (λ w u came writes. (came, writes)))
+              (leads_then (leads_both came before (λ w u. HasStopped owed w u × WritesOnly owns_units w u) (λ w u came writes. (came, writes)))
               (leads_both (leads_both activate_way.tells activated (HasActivated system) (λ u v moment end. record { moment = moment; end = end })) quiet (λ u v. HasActivated system u v × ActivatesQuietly system u v)
               (λ u v done quiet. (done, quiet)))
               (IsReadyQuietly system owed) (λ w u v is is_u first second. record { stopped = u; came = first.0; before = first.1; activated = second.0; quiet = second.1 }))

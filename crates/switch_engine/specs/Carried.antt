@@ -21,7 +21,7 @@ use Rattle.switch_parts.specs.Part.{IsFree}
 use Rattle.tree_put.specs.Put.{CanPut}
 use Rattle.unit_stage.specs.declared.unit_plan.UnitPlan.{UnitPlan}
 use Rattle.unit_stage.specs.Order.{IsOrderedAt}
-use Rattle.unit_stage.specs.Plan.{IsOwedBy, owed_of}
+use Rattle.unit_stage.specs.Plan.{IsOwedBy}
 
 -- the move of the profile, where one is planned
 abbrev pub moves_of : Option BootDefaultPlan → Option Move
@@ -42,10 +42,10 @@ CanMakeBy system plan w = IfSome plan (λ plan. CanMakeDefault system plan w)
 pub record CanSwitch (system : Name) (plan : UnitPlan) (activation : ActivationPlan) (w : WorldState) : Type 0 where
   pub named : IsSystemPath system
   pub start_up : Bool
-  pub is_owed : IsOwedBy start_up system w (owed_of plan)
-  pub write : IsWriteFor w.leaves plan.recorded plan.write
-  pub in_order : IsOrderedAt w.leaves system (owed_of plan) plan.ordered.units
-  pub duties : plan.duties ≡ calls_of (owed_of plan) plan.ordered.units (state_of w.manager.states)
+  pub is_owed : IsOwedBy start_up system w plan.owed
+  pub write : IsWriteFor w.leaves plan.owed.lists plan.write
+  pub in_order : IsOrderedAt w.leaves system plan.owed plan.ordered.units
+  pub duties : plan.duties ≡ calls_of plan.owed plan.ordered.units (state_of w.manager.states)
   pub planned : IsActivationPlanOf system w.leaves activation
   pub free : IsFree (switch_in start_up system w.leaves) w.leaves
 
@@ -55,11 +55,11 @@ CanSwitchBy system plan w = IfSome plan (λ plan. CanSwitch system plan.units pl
 
 -- a moment of a switch of the units, where one is planned
 abbrev pub IsSwitchMomentBy : Name → Option SwitchPlan → WorldState → WorldState → Type 0
-IsSwitchMomentBy system plan u m = where_some (m ≡ u) (λ plan. IsSwitchMoment system (owed_of plan.units) plan.units.ordered.units u m) plan
+IsSwitchMomentBy system plan u m = where_some (m ≡ u) (λ plan. IsSwitchMoment system plan.units.owed plan.units.ordered.units u m) plan
 
 -- the world that a switch of the units leaves, where one is planned
 abbrev pub IsSwitchedBy : Name → Option SwitchPlan → WorldState → WorldState → Type 0
-IsSwitchedBy system plan u v = where_some (v ≡ u) (λ plan. IsSwitched system (owed_of plan.units) plan.units.ordered.units u v) plan
+IsSwitchedBy system plan u v = where_some (v ≡ u) (λ plan. IsSwitched system plan.units.owed plan.units.ordered.units u v) plan
 
 -- the world without the goal, where the profile is moved
 abbrev pub cleared_by : Option Move → WorldState → WorldState

@@ -15,7 +15,6 @@ use Rattle.owed_log.specs.declared.log_write.LogWrite.{LogWrite}
 use Rattle.owed_log.specs.Writing.{IsWriteFor}
 use Rattle.owed_plan.specs.Calls.{listed_calls, stop_calls}
 use Rattle.owed_plan.specs.declared.owed.Owed.{Owed}
-use Rattle.owed_plan.specs.Law.{lists_of}
 use Rattle.switch_engine.specs.declared.command.Command.{Command}
 use Rattle.switch_engine.specs.Commands.{brought_to, moved_by, new_system, row, set_to}
 use Rattle.switch_engine.specs.Final.{IsEndOf, IsEntering}
@@ -30,8 +29,8 @@ use Rattle.unit_stage.specs.Plan.{IsOwedBy}
 use Rattle.unit_stage.specs.Steps.{IsBringMoment, IsStopMoment, with_stops}
 
 -- but for the stage, the world in which what is owed is recorded, and units have been stopped
-abbrev pub AreStopped : Owed → WorldState → WorldState → Type 0
-AreStopped owed w u = (write : LogWrite) × IsWriteFor w.leaves (lists_of owed) write × (seen u ≡ seen (with_stops write (stop_calls owed) w))
+abbrev pub HasStopped : Owed → WorldState → WorldState → Type 0
+HasStopped owed w u = (write : LogWrite) × IsWriteFor w.leaves owed.lists write × (seen u ≡ seen (with_stops write (stop_calls owed) w))
 
 -- an activation has come to its end, which is its last moment
 pub record HasActivated (system : Name) (u v : WorldState) : Type 0 where
@@ -41,9 +40,9 @@ pub record HasActivated (system : Name) (u v : WorldState) : Type 0 where
 -- A moment of a switch of the units is one of three: what is owed is being recorded and units stopped, the accounts are being
 -- set and /etc is being made, or the system comes into use and units are reloaded, restarted and, in this order, started.
 pub data IsSwitchMoment (system : Name) (owed : Owed) (order : List Name) (w m : WorldState) : Type 0 where
-  Stopping : (write : LogWrite) → IsWriteFor w.leaves (lists_of owed) write → IsStopMoment write (stop_calls owed) w m → IsSwitchMoment system owed order w m
-  Activating : (u : WorldState) → AreStopped owed w u → IsActivating system u m → IsSwitchMoment system owed order w m
-  Bringing : (u v : WorldState) → AreStopped owed w u → HasActivated system u v →
+  Stopping : (write : LogWrite) → IsWriteFor w.leaves owed.lists write → IsStopMoment write (stop_calls owed) w m → IsSwitchMoment system owed order w m
+  Activating : (u : WorldState) → HasStopped owed w u → IsActivating system u m → IsSwitchMoment system owed order w m
+  Bringing : (u v : WorldState) → HasStopped owed w u → HasActivated system u v →
       IsBringMoment system (listed_calls owed order (state_of w.manager.states)) v m → IsSwitchMoment system owed order w m
 
 -- the world that a switch of the units leaves: each place is at its end, and so is each unit

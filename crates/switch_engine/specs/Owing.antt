@@ -1,6 +1,5 @@
 -- What a command owes each unit, and a run of it that is underway: NixOS manual, "Unit handling".
 use Rattle.std.specs.Prelude.{◌≡◌, ◌↔◌, Bool, Option, None, IfSome}
-use Rattle.host_trait.specs.declared.entry.Act.{Act}
 use Rattle.host_trait.specs.World.{WorldState}
 use Rattle.leaf_limits.specs.declared.too_long.TooLong.{TooLong}
 use Rattle.leaf_limits.specs.Limits.{first_long}
@@ -12,12 +11,13 @@ use Rattle.switch_engine.specs.Presence.{where_some}
 use Rattle.switch_engine.specs.Rows.{parts_in, refusal, refusal_by, refusal_with}
 use Rattle.switch_names.specs.Names.{Name}
 use Rattle.switch_parts.specs.declared.refusal.Refusal.{Refusal}
+use Rattle.owed_plan.specs.Lists.{Debt}
 use Rattle.unit_stage.specs.Owes.{HasEntered, HasGoneOn, IsPaidTo, IsSteadyWorld, OwesTo}
 use Rattle.unit_stage.specs.Plan.{IsLongLog}
 
--- a command owes a unit of a world an act of this kind
-abbrev pub OwesAct : Command → WorldState → Act → Name → Type 0
-OwesAct command w act unit = OwesTo (row command w.leaves).start_up (switched_to command w.leaves) w act unit
+-- a command owes a unit of a world this
+abbrev pub OwesDebt : Command → WorldState → Debt → Name → Type 0
+OwesDebt command w debt unit = OwesTo (row command w.leaves).start_up (switched_to command w.leaves) w debt unit
 
 -- a steady world, as far as a switch of the units looks at it
 abbrev pub IsSteadyTo : Bool → Option Name → WorldState → Type 0
@@ -59,4 +59,4 @@ pub record IsUnderway (command : Command) (first w : WorldState) : Type 0 where
 pub record IsOver (command : Command) (first w : WorldState) : Type 0 where
   pub final : IsFinalOf command first w
   pub since : HasEntered (row command first.leaves).start_up (switched_to command first.leaves) first w
-  pub paid : (act : Act) (unit : Name) → OwesAct command first act unit → IsPaidTo (switched_to command first.leaves) act unit since.entered
+  pub paid : (debt : Debt) (unit : Name) → OwesDebt command first debt unit → IsPaidTo (switched_to command first.leaves) debt unit since.entered

@@ -11,7 +11,6 @@ ghost use Rattle.switch_engine.specs.Final.{HasFailed, IsEndOf, LeavesFailed};
 ghost use Rattle.switch_engine.specs.Moments.{IsClearStep, IsMomentOf, IsRecordStep, IsDefaultStep, IsSwitchMoment, IsSwitched, record_world, default_world};
 ghost use Rattle.switch_engine.specs.Plan.{IsPlanOf, IsSound, units_of};
 ghost use Rattle.switch_engine.specs.Quiet.{IsQuietCommand, IsQuietSwitch, is_not_quiet};
-ghost use Rattle.unit_stage.specs.Plan.{owed_of};
 ghost use Rattle.tree_put.specs.Put.{CanPut, IsOldOrNew};
 ghost use Rattle.tree_put.specs.Written.{WritesOnly};
 ghost use Rattle.unit_stage.specs.System.{system_leaf};
@@ -83,9 +82,9 @@ fn switch_units<H: Manager>(
     requires can { Told (H.host host.old) (CanSwitch system.now plan.now activation.now) }
     requires filled { IsFilled plan.now.write }
     requires current { current.now ≡ system_leaf system.now }
-    ensures ok { OnOk result (Leads (H.host host.old) (H.host host.new) (IsSwitched system.now (owed_of plan.now) plan.now.ordered.units)) }
+    ensures ok { OnOk result (Leads (H.host host.old) (H.host host.new) (IsSwitched system.now plan.now.owed plan.now.ordered.units)) }
     ensures quiet { OnOk result (Leads (H.host host.old) (H.host host.new) (IsQuietSwitch system.now)) }
-    ensures moments { Passes (H.host host.old) (H.host host.new) (IsSwitchMoment system.now (owed_of plan.now) plan.now.ordered.units) }
+    ensures moments { Passes (H.host host.old) (H.host host.new) (IsSwitchMoment system.now plan.now.owed plan.now.ordered.units) }
     ensures cause { HasCause (H.host host.old) (H.host host.new) result }
 {
     let calls = calls_of(plan);
@@ -107,11 +106,11 @@ fn carry_switch<H: Manager>(
     requires can { Told (H.host host.old) (CanSwitch system.now plan.now activation.now) }
     requires filled { IsFilled plan.now.write }
     requires current { current.now ≡ system_leaf system.now }
-    ensures ok { OnOk result (Leads (H.host host.old) (H.host host.new) (IsSwitched system.now (owed_of plan.now) plan.now.ordered.units)) }
+    ensures ok { OnOk result (Leads (H.host host.old) (H.host host.new) (IsSwitched system.now plan.now.owed plan.now.ordered.units)) }
     ensures quiet { OnOk result (Leads (H.host host.old) (H.host host.new) (IsQuietSwitch system.now)) }
     ensures states { IfOk result (λ outcome. Told (H.host host.new) (λ v. outcome.states ≡ v.manager.states)) }
     ensures failed { IfOk result (λ outcome. IsTrue outcome.failed ↔ HasFailed plan.now.defs outcome.states) }
-    ensures moments { Passes (H.host host.old) (H.host host.new) (IsSwitchMoment system.now (owed_of plan.now) plan.now.ordered.units) }
+    ensures moments { Passes (H.host host.old) (H.host host.new) (IsSwitchMoment system.now plan.now.owed plan.now.ordered.units) }
     ensures cause { HasCause (H.host host.old) (H.host host.new) result }
 {
     switch_units(alloc, host, system, plan, activation, current)?;

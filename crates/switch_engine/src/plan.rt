@@ -143,7 +143,7 @@ impl Plan {
 
     /// The changed units that get nothing, in byte order.
     pub fn left(&self) -> &Listed<UnitName>
-        ensures { result.now ≡ (units_of self.now).left }
+        ensures { result.now ≡ (units_of self.now).owed.left }
     {
         self.units().left()
     }

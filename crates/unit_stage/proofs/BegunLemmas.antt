@@ -1,7 +1,6 @@
 -- Where nothing has changed that the units' part looks at, a switch of the units is underway.
 use Rattle.std.proofs.Common.{◌≡◌, ◌||◌, Some, sym, ap, subst, ◌∙◌, Bool}
 use Rattle.std.specs.FinMap.{get}
-use Rattle.host_trait.specs.declared.entry.Act.{Act}
 use Rattle.host_trait.specs.declared.manager_state.ManagerState.{ManagerState}
 use Rattle.host_trait.specs.declared.unit_state.State.{State}
 use Rattle.host_trait.specs.States.{state_of}
@@ -11,7 +10,8 @@ use Rattle.owed_log.specs.Lengths.{AreOwedShort}
 use Rattle.owed_log.specs.Standing.{AreListsAt}
 use Rattle.owed_plan.specs.declared.owed.Owed.{Owed}
 use Rattle.owed_plan.specs.FinalStates.{final_state}
-use Rattle.owed_plan.specs.Owed.{IsOwed, IsOwedAct}
+use Rattle.owed_plan.specs.Lists.{Debt}
+use Rattle.owed_plan.specs.Owed.{IsDue, IsOwed}
 use Rattle.owed_plan.specs.Steady.{IsSteady}
 use Rattle.owed_plan.specs.Systems.{Systems, systems_at}
 use Rattle.switch_names.specs.Names.{Name, has}
@@ -74,14 +74,14 @@ module _ (start_up : Bool) (system : Name) (is_system : IsSystem system) (w m : 
         subst (λ (x : ManagerState). P after (state_of x.states)) (sym manager)
         (subst (λ (s : Systems). P s (state_of w.manager.states)) (sym systems) holds)
 
-  owes_before : (act : Act) (unit : Name) → Owes start_up system m act unit → Owes start_up system w act unit
-  owes_before act unit (lists, listed, owing) = (lists, listed_before lists listed, holds_before (λ (s : Systems) (states : Name → State). IsOwedAct s states lists act unit) owing)
+  owes_before : (debt : Debt) (unit : Name) → Owes start_up system m debt unit → Owes start_up system w debt unit
+  owes_before debt unit (lists, listed, owing) = (lists, listed_before lists listed, holds_before (λ (s : Systems) (states : Name → State). IsDue s states lists debt unit) owing)
 
-  owes_after : (act : Act) (unit : Name) → Owes start_up system w act unit → Owes start_up system m act unit
-  owes_after act unit (lists, listed, owing) = (lists, listed_after lists listed, holds_after (λ (s : Systems) (states : Name → State). IsOwedAct s states lists act unit) owing)
+  owes_after : (debt : Debt) (unit : Name) → Owes start_up system w debt unit → Owes start_up system m debt unit
+  owes_after debt unit (lists, listed, owing) = (lists, listed_after lists listed, holds_after (λ (s : Systems) (states : Name → State). IsDue s states lists debt unit) owing)
 
   unit_before : (unit : Name) → OwesUnit start_up system m unit → OwesUnit start_up system w unit
-  unit_before unit (act, owes) = (act, owes_before act unit owes)
+  unit_before unit (debt, owes) = (debt, owes_before debt unit owes)
 
   owed_before : (owed : Owed) → IsOwedBy start_up system m owed → IsOwedBy start_up system w owed
   owed_before owed (lists, is) =

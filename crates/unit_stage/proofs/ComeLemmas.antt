@@ -1,22 +1,23 @@
 -- How far a switch of the units has come, by what stands and what was called.
-use Rattle.std.proofs.Common.{◌≡◌, ◌≢◌, ◌⊎◌, ◌&&◌, ◌++◌, ◌∷◌, ℕ, zero, suc, Bool, true, false, not, List, [], Option, Some, map, take, drop, length, if◌then◌else◌, arith, refl, sym, ap, subst, ◌∙◌, inl, inr}
-use Rattle.std.proofs.lemmas.List.{append-nil, take-append-drop, take_all}
+use Rattle.std.proofs.Common.{◌≡◌, ◌≢◌, ◌⊎◌, ◌++◌, ◌∷◌, ℕ, zero, suc, true, false, List, [], Option, Some, map, take, drop, length, refl, sym, ap, subst, ◌∙◌, inl, inr}
+use Rattle.std.proofs.lemmas.Bool.{cases_Bool}
+use Rattle.std.proofs.lemmas.List.{append-nil, take-append-drop, take-map}
 use Rattle.std.proofs.lemmas.List.Concat.{flat_map-append}
 use Rattle.std.proofs.Math.Seq.{take-length}
 use Rattle.std.specs.FinMap.{get}
 use Rattle.std.specs.List.{AllByRecursion, flat_map, slice_get}
 use Rattle.host_trait.specs.declared.entry.Act.{Act}
-use Rattle.host_trait.specs.declared.entry.Act.TheVariants.{Stop, Reload, Restart, Start}
+use Rattle.host_trait.specs.declared.entry.Act.TheVariants.{Stop, Restart}
 use Rattle.host_trait.specs.declared.leaf.LeafKind.{LeafKind}
 use Rattle.host_trait.specs.declared.manager_state.ManagerState.{ManagerState}
-use Rattle.host_trait.specs.Manager.{halted, is_active, loading}
+use Rattle.host_trait.specs.Manager.{halted, loading}
 use Rattle.host_trait.specs.States.{state_of}
 use Rattle.host_trait.specs.Change.{IsMoment}
 use Rattle.host_trait.specs.World.{IsFileAt, Leaves, WorldState, with_manager}
 use Rattle.log_text.specs.declared.lists.Lists.{Lists}
-use Rattle.log_text.specs.declared.lists.Which.TheVariants.{Starts, Restarts, Reloads}
+use Rattle.log_text.specs.declared.lists.Which.TheVariants.{Starts}
 use Rattle.log_text.specs.declared.lists.Which.{Which}
-use Rattle.log_text.specs.Lists.{AreCounted, AreInOrder, AreLists, blocks_of, list_names, lists_after, no_lists, with_list}
+use Rattle.log_text.specs.Lists.{AreCounted, AreInOrder, AreLists, block_of, list_names, lists_after, no_lists, record_order, with_list}
 use Rattle.owed_log.specs.declared.log_write.LogWrite.{LogWrite}
 use Rattle.owed_log.specs.Laws.{AreAlone, CanClear}
 use Rattle.owed_log.specs.Places.{log_place}
@@ -27,21 +28,23 @@ use Rattle.owed_log.proofs.ListLemmas.{one_lists, some_lists}
 use Rattle.owed_log.proofs.MomentLemmas.{record_law, recorded_law}
 use Rattle.owed_plan.specs.declared.duty.Duty.{Duty}
 use Rattle.owed_plan.specs.declared.owed.Owed.{Owed}
-use Rattle.owed_plan.specs.Calls.{duty, listed_calls, reload_act, stop_calls}
-use Rattle.owed_plan.specs.Law.{lists_of}
+use Rattle.owed_plan.specs.Calls.{act_on, duty, give_order, listed_calls, stop_calls}
+use Rattle.owed_plan.specs.Law.{IsRecorded, stopped}
+use Rattle.owed_plan.specs.Lists.{renews}
 use Rattle.owed_plan.specs.Owed.{sockets_first}
-use Rattle.switch_names.specs.Names.{Name, has}
+use Rattle.switch_names.specs.Names.{Name}
 use Rattle.switch_parts.proofs.StoreLemmas.{store_not_stage}
 use Rattle.unit_decide.specs.Facts.{unit_kind}
 use Rattle.owed_plan.specs.Store.{AreSameInStore}
 use Rattle.unit_stage.specs.Acts.{IsPerforming, performed, with_calls}
 use Rattle.unit_stage.specs.Laws.{AreSameBeside}
-use Rattle.unit_stage.specs.Steps.{AreSameUnits, HasLogFor, IsBringStep, IsGiveMoment, IsListMoment, IsStopStep, IsUnitMoment, give_order, with_all_given, with_current, with_loaded, with_stops}
+use Rattle.unit_stage.specs.Steps.{AreSameUnits, HasLogFor, IsBringStep, IsGiveMoment, IsListMoment, IsStopStep, IsUnitMoment, with_all_given, with_current, with_loaded, with_stops}
 use Rattle.unit_stage.specs.System.{current_place, definitions_of, system_leaf}
 use Rattle.unit_stage.proofs.CallLemmas.{performed-append}
-use Rattle.unit_stage.proofs.CallingLemmas.{IsCalling, lists_left, lists_without}
+use Rattle.unit_stage.proofs.CallingLemmas.{IsCalling, lists_without}
 use Rattle.unit_stage.proofs.ElsewhereLemmas.{bring_elsewhere, lists_elsewhere, own_current, stop_elsewhere}
-use Rattle.unit_stage.proofs.GivenLemmas.{alone_at, alone_end, given_after, given_before, log_at, log_for, no_listed, turn_split, world_at}
+use Rattle.unit_stage.proofs.GivenLemmas.{alone_at, alone_end, in_some_turn, log_at, log_for, no_listed, stands, without_more, world_at}
+use Rattle.unit_stage.proofs.ListCallLemmas.{IsActBy, act_by, given_after, given_before, is_restart, no_restart, set_list, turn_split}
 use Rattle.unit_stage.proofs.ListsLemmas.{AreListLeaves, leaves_same, lists_same}
 use Rattle.unit_stage.proofs.OwnedLemmas.{not_owns_store, reads_store}
 use Rattle.unit_stage.proofs.RecordLemmas.{IsClearing, clears, record_leaves}
@@ -58,10 +61,6 @@ one_of_all : (P : Duty → Type 0) (calls : List Duty) (count : ℕ) (call : Dut
 one_of_all P [] count call all is = absurd cc
 one_of_all P (first ∷ calls) zero call all is = let same : first ≡ call = cc in subst P same all.0
 one_of_all P (first ∷ calls) (suc count) call all is = one_of_all P calls count call all.1 is
-
-abbrev is_restart : Act → Bool
-is_restart Restart = true
-is_restart act = false
 
 all_of : (P : Duty → Type 0) (act : Name → Act) (names : List Name) → ((unit : Name) → P (duty (act unit) unit)) → AllByRecursion P (map (λ unit. duty (act unit) unit) names)
 all_of P act [] each = tt
@@ -83,8 +82,30 @@ list_step which (call ∷ rest) x u log (inr moment) = inr (moment, λ other. lo
 -- ---- how far
 
 -- the names of a list are the old ones, or those that are owed
-abbrev pub IsOldOrOwed : List Name → List Name → List Name → Type 0
-IsOldOrOwed old owed now = (now ≡ old) ⊎ (now ≡ owed)
+abbrev IsOldOrOwed : Lists → Lists → Lists → Which → Type 0
+IsOldOrOwed old owed now which = (list_names now which ≡ list_names old which) ⊎ (list_names now which ≡ list_names owed which)
+
+-- so they are where blocks of what is owed are recorded
+recorded_so : (old owed : Lists) (which : Which) (order : List Which) (now : Lists) → IsOldOrOwed old owed now which →
+    IsOldOrOwed old owed (lists_after now (map (λ one. block_of one (list_names owed one)) order)) which
+recorded_so old owed which [] now is = is
+recorded_so old owed which (one ∷ order) now is =
+    recorded_so old owed which order (with_list now one (list_names owed one))
+    (elim (set_list now one (list_names owed one) which) [
+      | inl same ↦ elim is [
+        | inl before ↦ inl (same ∙ before)
+        | inr given ↦ inr (same ∙ given)
+      ]
+      | inr set ↦ inr (set.0 ∙ ap (list_names owed) set.1)
+    ])
+
+-- the starts are the first that are recorded
+starts_first : (old owed : Lists) (order : List Which) → (lists_after old (map (λ one. block_of one (list_names owed one)) (Starts ∷ order))).starts ≡ owed.starts
+starts_first old owed order =
+    elim (recorded_so (with_list old Starts owed.starts) owed Starts order (with_list old Starts owed.starts) (inl refl)) [
+      | inl same ↦ same
+      | inr same ↦ same
+    ]
 
 -- a manager is as another one, but for what is loaded
 pub record IsLike (like manager : ManagerState) : Type 0 where
@@ -101,8 +122,7 @@ ready system owed w = loading (definitions_of system) (performed (stop_calls owe
 pub data HasCome (system : Name) (owed : Owed) (order : List Name) (w m : WorldState) : Type 0 where
   Begun : get m.leaves current_place ≡ get w.leaves current_place → AreListLeaves w.leaves m.leaves → ((lists : Lists) → AreListsAt w.leaves lists → AreListsAt m.leaves lists) → m.manager ≡ w.manager →
       HasCome system owed order w m
-  Stopping : (count : ℕ) (old : Lists) (to_restart to_reload : List Name) → AreListsAt w.leaves old → IsOldOrOwed old.restarts owed.restarts to_restart → IsOldOrOwed old.reloads owed.reloads to_reload →
-      Stand w.leaves m.leaves (get w.leaves current_place) (lists_left owed.starts to_restart to_reload) → m.manager ≡ performed (take count (stop_calls owed)) w.manager → HasCome system owed order w m
+  Stopping : (count : ℕ) (old kept : Lists) → AreListsAt w.leaves old → IsRecorded owed old kept → Stand w.leaves m.leaves (get w.leaves current_place) kept → m.manager ≡ performed (take count (stop_calls owed)) w.manager → HasCome system owed order w m
   Bringing : (made rest : List Duty) (kept : Lists) (like : ManagerState) → flat_map (listed_calls owed order (state_of w.manager.states)) give_order ≡ made ++ rest →
       IsCalling owed order (state_of w.manager.states) (ready system owed w) made like kept →
       like.bad ≡ (performed made (ready system owed w)).bad → like.journal ≡ (performed made (ready system owed w)).journal → IsLike like m.manager →
@@ -114,8 +134,8 @@ module _ (system : Name) (owed : Owed) (order : List Name) (w : WorldState) wher
   come_same u m (HasCome.Begun current leaves forth manager) same store =
       let lists = same_lists_of u m same in
       HasCome.Begun (same.leaves current_place own_current ∙ current) (leaves_same w.leaves u.leaves m.leaves lists leaves) (λ l are. lists_same u.leaves m.leaves store lists l (forth l are)) (same.manager ∙ manager)
-  come_same u m (HasCome.Stopping count old restart reload before old_restarts old_reloads stand manager) same store =
-      HasCome.Stopping count old restart reload before old_restarts old_reloads (same_stands w.leaves u m same store _ _ stand) (same.manager ∙ manager)
+  come_same u m (HasCome.Stopping count old kept before recorded stand manager) same store =
+      HasCome.Stopping count old kept before recorded (same_stands w.leaves u m same store _ _ stand) (same.manager ∙ manager)
   come_same u m (HasCome.Bringing made rest kept like prefix calling bad journal is stand) same store =
       HasCome.Bringing made rest kept like prefix calling bad journal
       (record {
@@ -125,9 +145,9 @@ module _ (system : Name) (owed : Owed) (order : List Name) (w : WorldState) wher
       })
       (same_stands w.leaves u m same store _ _ stand)
 
-module _ (system : Name) (owed : Owed) (order : List Name) (w : WorldState) (write : LogWrite) (is_write : IsWriteFor w.leaves (lists_of owed) write) (are : AreLists (lists_of owed)) where
+module _ (system : Name) (owed : Owed) (order : List Name) (w : WorldState) (write : LogWrite) (is_write : IsWriteFor w.leaves owed.lists write) (are : AreLists owed.lists) where
   abbrev lists : Lists
-  lists = lists_of owed
+  lists = owed.lists
 
   abbrev stops : List Duty
   stops = stop_calls owed
@@ -144,20 +164,20 @@ module _ (system : Name) (owed : Owed) (order : List Name) (w : WorldState) (wri
   -- ---- up to the last stop
 
   module _ (u : WorldState) (old now : Lists) (before : AreListsAt w.leaves old) (after : AreListsAt u.leaves now) (moment : IsRecordMoment write w u) where
-    -- the units to start are recorded, and these are on the other lists
-    recorded_so : (restart reload : List Name) → IsOldOrOwed old.restarts owed.restarts restart → IsOldOrOwed old.reloads owed.reloads reload → now ≡ lists_left owed.starts restart reload → HasCome system owed order w u
-    recorded_so restart reload restarts reloads is =
-        HasCome.Stopping 0 old restart reload before restarts reloads
-        (record { current = record_current write w u moment; listed = subst (AreListsAt u.leaves) is after; written = record_leaves lists w write is_write.prepared u moment })
-        (record_manager write w u moment)
-
     in_order : AreInOrder old lists now → HasCome system owed order w u
     in_order (zero, is) =
         HasCome.Begun (record_current write w u moment) (record_leaves lists w write is_write.prepared u moment) (λ l at. subst (AreListsAt u.leaves) (is ∙ one_lists w.leaves old l before at) after)
         (record_manager write w u moment)
-    in_order (suc zero, is) = recorded_so old.restarts old.reloads (inl refl) (inl refl) is
-    in_order (suc (suc zero), is) = recorded_so owed.restarts old.reloads (inr refl) (inl refl) is
-    in_order (suc (suc (suc count)), is) = recorded_so owed.restarts owed.reloads (inr refl) (inr refl) (is ∙ ap (lists_after old) (take_all (suc (suc (suc count))) (blocks_of lists) (omega arith)))
+    in_order (suc count, is) =
+        HasCome.Stopping 0 old now before
+        (record {
+          starts = ap (λ (l : Lists). l.starts) here ∙ starts_first old lists (take count (drop 1 record_order));
+          others = λ which. subst (λ (l : Lists). IsOldOrOwed old lists l which) (sym here) (recorded_so old lists which (Starts ∷ take count (drop 1 record_order)) old (inl refl));
+        })
+        (record { current = record_current write w u moment; listed = after; written = record_leaves lists w write is_write.prepared u moment }) (record_manager write w u moment)
+      where
+        here : now ≡ lists_after old (map (λ which. block_of which (list_names lists which)) (Starts ∷ take count (drop 1 record_order)))
+        here = is ∙ ap (lists_after old) (take-map (λ which. block_of which (list_names lists which)) (suc count) record_order)
 
   recording : (u : WorldState) → IsRecordMoment write w u → HasCome system owed order w u
   recording u moment =
@@ -177,7 +197,7 @@ module _ (system : Name) (owed : Owed) (order : List Name) (w : WorldState) (wri
   stopped_come : (count : ℕ) (u : WorldState) → u.leaves ≡ (recorded write w).leaves → u.manager ≡ performed (take count stops) w.manager → HasCome system owed order w u
   stopped_come count u same manager =
       let old = some_lists w.leaves in
-      HasCome.Stopping count old.0 owed.restarts owed.reloads old.1 (inr refl) (inr refl) (subst (λ (leaves : Leaves). Stand w.leaves leaves old_link lists) (sym same) recorded_stands) manager
+      HasCome.Stopping count old.0 lists old.1 (record { starts = refl; others = λ which. inr refl }) (subst (λ (leaves : Leaves). Stand w.leaves leaves old_link lists) (sym same) recorded_stands) manager
 
   stopping : (u : WorldState) → IsPerforming stops (recorded write w) u → HasCome system owed order w u
   stopping u (IsPerforming.After count is) =
@@ -248,9 +268,7 @@ module _ (system : Name) (owed : Owed) (order : List Name) (w : WorldState) (wri
   can_clear which file = file (λ same. cc same)
 
   next_left : (which : Which) → with_list (left which) which [] ≡ lists_without lists (given_before which ++ which ∷ [])
-  next_left Starts = refl
-  next_left Restarts = refl
-  next_left Reloads = refl
+  next_left which = without_more lists (given_before which) which
 
   next_made : (which : Which) → before which ++ listed which ≡ flat_map listed (given_before which ++ which ∷ []) ++ []
   next_made which =
@@ -267,12 +285,12 @@ module _ (system : Name) (owed : Owed) (order : List Name) (w : WorldState) (wri
       HasCome.Bringing made more (lists_without lists done) u.manager prefix (IsCalling.Calling done which part rest split are manager refl) (ap (λ (y : ManagerState). y.bad) manager)
       (ap (λ (y : ManagerState). y.journal) manager) (itself u.manager) stand
 
-  at_half : (u : WorldState) (part rest : List Duty) (unit : Name) → listed Restarts ≡ part ++ duty Restart unit ∷ rest → u.manager ≡ halted unit (performed (before Restarts ++ part) then_ready) →
-      StandsLinked u.leaves (left Restarts) → HasCome system owed order w u
-  at_half u part rest unit split manager stand =
-      let made = before Restarts ++ part in
-      HasCome.Bringing made ((duty Restart unit ∷ rest) ++ after Restarts) (left Restarts) u.manager (turn_split listed Restarts part (duty Restart unit ∷ rest) split)
-      (IsCalling.Halfway (given_before Restarts) part rest unit (λ same. cc same, tt) split refl manager refl) (ap (λ (y : ManagerState). y.bad) manager) (ap (λ (y : ManagerState). y.journal) manager)
+  at_half : (which : Which) (u : WorldState) (part rest : List Duty) (unit : Name) → renews which ≡ true → listed which ≡ part ++ duty Restart unit ∷ rest → u.manager ≡ halted unit (performed (before which ++ part) then_ready) →
+      StandsLinked u.leaves (left which) → HasCome system owed order w u
+  at_half which u part rest unit renewing split manager stand =
+      let made = before which ++ part in
+      HasCome.Bringing made ((duty Restart unit ∷ rest) ++ after which) (left which) u.manager (turn_split listed which part (duty Restart unit ∷ rest) split)
+      (IsCalling.Halfway (given_before which) which part rest unit renewing (stands lists which) split refl manager refl) (ap (λ (y : ManagerState). y.bad) manager) (ap (λ (y : ManagerState). y.journal) manager)
       (itself u.manager) stand
 
   -- what stands in a world with the same leaves
@@ -287,26 +305,24 @@ module _ (system : Name) (owed : Owed) (order : List Name) (w : WorldState) (wri
 
   -- ---- the moments
 
-  -- there is no restart among the calls of another list
-  no_restart : (which : Which) → which ≢ Restarts → AllByRecursion (λ call. is_restart call.act ≡ false) (listed which)
-  no_restart Restarts other = absurd (other refl)
-  no_restart Starts other = all_of (λ call. is_restart call.act ≡ false) (λ u. Start) order (λ unit. refl)
-  no_restart Reloads other =
-      all_of (λ call. is_restart call.act ≡ false) (reload_act (state_of w.manager.states) owed.stops) owed.reloads (λ unit. either (is_active (state_of w.manager.states unit) && not (has owed.stops unit)))
-    where
-      either : (b : Bool) → is_restart (if b then Reload else Start) ≡ false
-      either true = refl
-      either false = refl
+  -- there is no restart among the calls of a list that brings no unit up anew
+  no_restarts : (which : Which) → renews which ≡ false → AllByRecursion (λ call. is_restart call.act ≡ false) (listed which)
+  no_restarts which stays =
+      let states = state_of w.manager.states in
+      all_of (λ call. is_restart call.act ≡ false) (act_on which states owed.stops) (list_names (with_list owed.lists Starts order) which)
+      (λ unit. no_restart (stopped owed.stops states unit) (act_on which states owed.stops unit) (subst (λ b. IsActBy b (stopped owed.stops states unit) (act_on which states owed.stops unit)) stays (act_by which states owed.stops unit)))
 
   within : (which : Which) (u : WorldState) (count : ℕ) (unit : Name) → slice_get (listed which) count ≡ Some (duty Restart unit) →
       u ≡ with_manager (halted unit (performed (take count (listed which)) (turn which).manager)) (turn which) → HasCome system owed order w u
-  within Starts u count unit there is = absurd (none_within (listed Starts) count unit (no_restart Starts (λ same. cc same)) there)
-  within Reloads u count unit there is = absurd (none_within (listed Reloads) count unit (no_restart Reloads (λ same. cc same)) there)
-  within Restarts u count unit there is =
-      let part = take count (listed Restarts) in
-      at_half u part (drop (suc count) (listed Restarts)) unit (split_one (listed Restarts) count (duty Restart unit) there)
-      (ap (λ (y : WorldState). y.manager) is ∙ ap (halted unit) (manager_turn Restarts part))
-      (stands_as u (with_manager (halted unit (performed part (turn Restarts).manager)) (turn Restarts)) (left Restarts) is (current_turn Restarts) (alone_turn Restarts))
+  within which u count unit there is =
+      elim (cases_Bool (renews which)) [
+        | inr stays ↦ absurd (none_within (listed which) count unit (no_restarts which stays) there)
+        | inl renewing ↦
+            let part = take count (listed which) in
+            at_half which u part (drop (suc count) (listed which)) unit renewing (split_one (listed which) count (duty Restart unit) there)
+            (ap (λ (y : WorldState). y.manager) is ∙ ap (halted unit) (manager_turn which part))
+            (stands_as u (with_manager (halted unit (performed part (turn which).manager)) (turn which)) (left which) is (current_turn which) (alone_turn which))
+      ]
 
   calling : (which : Which) (u : WorldState) → IsPerforming (listed which) (turn which) u → HasCome system owed order w u
   calling which u (IsPerforming.Within count unit there is) = within which u count unit there is
@@ -336,16 +352,21 @@ module _ (system : Name) (owed : Owed) (order : List Name) (w : WorldState) (wri
     | inr (cut, file) ↦ in_clearing which u cut file
   ]
 
-  giving : (u : WorldState) → IsGiveMoment listed give_order x u → HasCome system owed order w u
-  giving u (inl moment) = in_list Reloads u moment
-  giving u (inr (inl moment)) = in_list Restarts u moment
-  giving u (inr (inr (inl moment))) = in_list Starts u moment
-  giving u (inr (inr (inr is))) =
+  -- all is given
+  given : (u : WorldState) → u ≡ with_all_given listed give_order x → HasCome system owed order w u
+  given u is =
       let all = flat_map listed give_order in
       let end = with_all_given listed give_order x in
       at_calls u all [] give_order Starts [] (listed Starts) refl (sym (append-nil all)) (sym (append-nil all))
       (ap (λ (y : WorldState). y.manager) is ∙ all_given_manager listed give_order x ∙ ap (performed all) manager_x)
       (stands_as u end no_lists is (all_given_current listed give_order x ∙ current_x) (alone_end listed x lists alone_x no_calls has_log))
+
+  giving : (u : WorldState) → IsGiveMoment listed give_order x u → HasCome system owed order w u
+  giving u moment =
+      elim (in_some_turn listed x u moment) [
+        | inl (which, part) ↦ in_list which u part
+        | inr is ↦ given u is
+      ]
 
   bring_step : (u : WorldState) → IsBringStep system listed v u → HasCome system owed order w u
   bring_step u (IsBringStep.Waiting is) =
@@ -353,7 +374,7 @@ module _ (system : Name) (owed : Owed) (order : List Name) (w : WorldState) (wri
   bring_step u (IsBringStep.Linked is) =
       let manager : u.manager ≡ performed stops w.manager = ap (λ (y : WorldState). y.manager) is ∙ manager_v in
       HasCome.Bringing [] (flat_map listed give_order) lists then_ready refl
-      (IsCalling.Calling [] Reloads [] (listed Reloads) refl refl refl refl) refl refl
+      (IsCalling.Calling [] Starts [] (listed Starts) refl refl refl refl) refl refl
       (record {
         states = ap (λ (y : ManagerState). y.states) manager;
         bad = ap (λ (y : ManagerState). y.bad) manager;
@@ -363,7 +384,7 @@ module _ (system : Name) (owed : Owed) (order : List Name) (w : WorldState) (wri
   bring_step u (IsBringStep.Giving moment) = giving u moment
 
 -- each moment of a switch of the units
-pub has_come : (system : Name) (owed : Owed) (order : List Name) (w m : WorldState) → (AreCounted (lists_of owed) → AreLists (lists_of owed)) → AreSameBeside w m → IsUnitMoment system owed order w m →
+pub has_come : (system : Name) (owed : Owed) (order : List Name) (w m : WorldState) → (AreCounted owed.lists → AreLists owed.lists) → AreSameBeside w m → IsUnitMoment system owed order w m →
     HasCome system owed order w m
 has_come system owed order w m named beside (IsUnitMoment.Stopping write is u step same) =
     come_same system owed order w u m (stop_step system owed order w write is (named is.counted) u step) same

@@ -8,37 +8,38 @@ use Rattle.host_trait.proofs.Seen.{other_of}
 use Rattle.host_trait.proofs.Sound.{get_other}
 use Rattle.log_text.specs.declared.lists.Which.{Which}
 use Rattle.log_text.specs.declared.lists.Which.TheVariants.{Starts, Restarts, Reloads}
-use Rattle.owed_lists.specs.Lists.{place_of, reloads_place, restarts_place, starts_place}
+use Rattle.owed_lists.specs.Lists.{place_of}
 use Rattle.owed_log.specs.declared.log_write.LogWrite.{LogWrite}
 use Rattle.owed_log.specs.Places.{log_place, old_places}
 use Rattle.owed_log.specs.Writing.{IsRecordMoment, recorded}
 use Rattle.owed_log.proofs.BesideLemmas.{clearing_beside, record_beside, recorded_beside}
 use Rattle.owed_log.proofs.ContentLemmas.{apart_from}
 use Rattle.owed_plan.specs.declared.duty.Duty.{Duty}
+use Rattle.owed_plan.specs.Calls.{give_order}
 use Rattle.switch_names.specs.Names.{Name, is_name}
 use Rattle.unit_stage.specs.Acts.{IsPerforming, with_calls}
 use Rattle.unit_stage.specs.Owned.{owns_units}
-use Rattle.unit_stage.specs.Steps.{IsBringStep, IsClearingMoment, IsGiveMoment, IsListMoment, IsStopStep, give_order, with_cleared, with_given, with_loaded}
+use Rattle.unit_stage.specs.Steps.{IsBringStep, IsClearingMoment, IsGiveMoment, IsListMoment, IsStopStep, with_cleared, with_given, with_loaded}
 use Rattle.unit_stage.specs.System.{current_place, system_leaf}
 
 -- ---- the places
 
 pub own_current : owns_units current_place ≡ true
-unfolding current_place log_place reloads_place restarts_place starts_place
+unfolding current_place log_place place_of
 own_current = refl
 
 pub own_log : owns_units log_place ≡ true
-unfolding current_place log_place reloads_place restarts_place starts_place
+unfolding current_place log_place place_of
 own_log = refl
 
 pub own_list : (which : Which) → owns_units (place_of which) ≡ true
-unfolding current_place log_place reloads_place restarts_place starts_place
+unfolding current_place log_place place_of
 own_list Starts = refl
 own_list Restarts = refl
 own_list Reloads = refl
 
 pub stage_not_own : owns_units stage ≡ false
-unfolding current_place log_place reloads_place restarts_place starts_place stage
+unfolding current_place log_place place_of stage
 stage_not_own = refl
 
 -- what isn't owned is another place than one that is

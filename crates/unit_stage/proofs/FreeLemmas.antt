@@ -1,13 +1,14 @@
 -- Nothing gets in the way of a switch of the units.
-use Rattle.std.proofs.Common.{◌≡◌, ◌⊎◌, ◌&&◌, ◌||◌, ◌∷◌, ℕ, Bool, true, false, cond, List, [], length, Option, None, Some, is_none, is_some, option_map, option_and_then, refl, ap, ◌∙◌, inl, inr}
+use Rattle.std.proofs.Common.{◌≡◌, ◌⊎◌, ◌&&◌, ◌||◌, ◌∷◌, ℕ, Bool, true, false, cond, List, [], length, map, Option, None, Some, is_none, is_some, option_map, option_and_then, refl, ap, ◌∙◌, inl, inr}
 use Rattle.std.proofs.lemmas.Bool.{or_parts}
 use Rattle.std.specs.FinMap.{get}
 use Rattle.std.specs.List.{AllByRecursion, find}
 use Rattle.host_trait.specs.declared.leaf.LeafKind.{LeafKind}
 use Rattle.host_trait.specs.declared.leaf.LeafKind.TheVariants.{File, Link}
 use Rattle.host_trait.specs.World.{Leaves, WorldState, file_bytes, is_in_line, leaf_content, stage}
-use Rattle.log_text.specs.declared.lists.Which.TheVariants.{Starts, Restarts, Reloads}
-use Rattle.owed_lists.specs.Lists.{reloads_place, restarts_place, starts_place}
+use Rattle.log_text.specs.declared.lists.Which.{Which}
+use Rattle.log_text.specs.Lists.{record_order}
+use Rattle.owed_lists.specs.Lists.{place_of}
 use Rattle.owed_log.specs.Places.{log_place}
 use Rattle.leaf_limits.specs.Counts.{past, units_max}
 use Rattle.generations.specs.Places.{target_of}
@@ -102,6 +103,10 @@ module _ (system : Name) (w m : WorldState) (same : AreSameBeside w m) where
   -- ---- what is free
 
   module _ (are : AreListLeaves w.leaves m.leaves) where
+    lists_free : (order : List Which) → AllByRecursion (λ place. is_in_the_way w.leaves place ≡ false) (map (written true) (map place_of order)) → AllByRecursion (λ place. is_in_the_way m.leaves place ≡ false) (map (written true) (map place_of order))
+    lists_free [] was = tt
+    lists_free (which ∷ order) was = (list_free (place_of which) (list_written which) (are.old which) was.0, lists_free order was.1)
+
     way_free : find (is_in_the_way w.leaves) unit_places ≡ None → find (is_in_the_way m.leaves) unit_places ≡ None
     way_free none =
         let was = all_free (is_in_the_way w.leaves) unit_places none in
@@ -111,13 +116,7 @@ module _ (system : Name) (w m : WorldState) (same : AreSameBeside w m) where
             place_free current_place current_written was.1.0,
             (
               list_free log_place log_written are.log was.1.1.0,
-              (
-                list_free starts_place (list_written Starts) (are.old Starts) was.1.1.1.0,
-                (
-                  list_free restarts_place (list_written Restarts) (are.old Restarts) was.1.1.1.1.0,
-                  (list_free reloads_place (list_written Reloads) (are.old Reloads) was.1.1.1.1.1.0, tt),
-                ),
-              ),
+              lists_free record_order was.1.1.1,
             ),
           ),
         )

@@ -1,17 +1,14 @@
 -- What is left once all is given, and what the calls of a list need.
-use Rattle.std.proofs.Common.{◌≡◌, ◌≢◌, ◌++◌, ◌∷◌, List, [], None, Some, map, refl, sym, ap, subst, ◌∙◌}
-use Rattle.std.proofs.lemmas.List.{append_assoc}
-use Rattle.std.proofs.lemmas.List.Concat.{flat_map-append}
+use Rattle.std.proofs.Common.{◌≡◌, ◌≢◌, ◌⊎◌, ◌++◌, ◌∷◌, List, [], None, Some, map, refl, sym, ap, subst, ◌∙◌, inl, inr}
 use Rattle.std.specs.FinMap.{get}
 use Rattle.std.specs.List.{AllByRecursion, flat_map}
 use Rattle.host_trait.specs.declared.entry.Act.{Act}
-use Rattle.host_trait.specs.declared.entry.Act.TheVariants.{Restart}
 use Rattle.host_trait.specs.declared.unit_state.State.{State}
 use Rattle.host_trait.specs.World.{Leaves, WorldState, seen}
 use Rattle.host_trait.proofs.Seen.{get_removed_here, seen_at}
 use Rattle.log_text.specs.declared.lists.Lists.{Lists}
 use Rattle.log_text.specs.declared.lists.Which.{Which}
-use Rattle.log_text.specs.declared.lists.Which.TheVariants.{Starts, Restarts, Reloads}
+use Rattle.log_text.specs.declared.lists.Which.TheVariants.{Starts}
 use Rattle.log_text.specs.Lists.{list_names, no_lists, with_list}
 use Rattle.owed_lists.specs.Lists.{place_of}
 use Rattle.owed_log.specs.Laws.{AreAlone, NoneOld}
@@ -20,18 +17,19 @@ use Rattle.owed_log.proofs.ContentLemmas.{log_other}
 use Rattle.owed_log.proofs.MomentLemmas.{file_law}
 use Rattle.owed_plan.specs.declared.duty.Duty.{Duty}
 use Rattle.owed_plan.specs.declared.owed.Owed.{Owed}
-use Rattle.owed_plan.specs.Calls.{duty, listed_calls, reload_act}
-use Rattle.owed_plan.specs.Law.{lists_of}
+use Rattle.owed_plan.specs.Calls.{act_on, duty, give_order, listed_calls}
 use Rattle.switch_names.specs.Names.{Name}
+use Rattle.owed_plan.proofs.TableLemmas.{other_names}
 use Rattle.unit_stage.specs.Acts.{CanPerform}
-use Rattle.unit_stage.specs.Steps.{CanBring, HasLogFor, give_order, with_all_given, with_brought, with_given, with_loaded}
+use Rattle.unit_stage.specs.Steps.{CanBring, HasLogFor, IsGiveMoment, IsListMoment, with_all_given, with_brought, with_given, with_loaded}
 use Rattle.unit_stage.specs.System.{current_place, system_leaf}
 use Rattle.unit_stage.proofs.CallingLemmas.{lists_without}
 use Rattle.unit_stage.proofs.ElsewhereLemmas.{own_current}
+use Rattle.unit_stage.proofs.ListCallLemmas.{AllTurns, AreOthers, are_others, at_turn, before_starts, by_turns, given_before, no_starts, set_list}
 use Rattle.unit_stage.proofs.OwnedLemmas.{owned_not_stage}
 use Rattle.unit_stage.proofs.RecordLemmas.{list_other}
 use Rattle.unit_stage.proofs.StandLemmas.{all_given_current, current_alone, current_here, given_alone, given_manager, loaded_log}
-use Rattle.unit_stage.proofs.StepLemmas.{can_first, can_then, given_log, log_as}
+use Rattle.unit_stage.proofs.StepLemmas.{can_first, can_then, given_log, log_as, one_more_given}
 
 -- ---- calls and their list
 
@@ -40,10 +38,8 @@ no_names act [] is = refl
 no_names act (name ∷ names) is = absurd cc
 
 -- without calls a list has no names; in place of those of the units to start an order has its calls
-pub no_listed : (owed : Owed) (order : List Name) (states : Name → State) (which : Which) → which ≢ Starts → listed_calls owed order states which ≡ [] → list_names (lists_of owed) which ≡ []
-no_listed owed order states Starts other is = absurd (other refl)
-no_listed owed order states Restarts other is = no_names (λ unit. Restart) owed.restarts is
-no_listed owed order states Reloads other is = no_names (reload_act states owed.stops) owed.reloads is
+pub no_listed : (owed : Owed) (order : List Name) (states : Name → State) (which : Which) → which ≢ Starts → listed_calls owed order states which ≡ [] → list_names owed.lists which ≡ []
+no_listed owed order states which other is = sym (other_names owed.lists order which other) ∙ no_names (act_on which states owed.stops) (list_names (with_list owed.lists Starts order) which) is
 
 -- where names of a list have calls the log is a file
 log_by : (leaves : Leaves) (lists : Lists) → AreAlone leaves lists → (which : Which) (act : Name → Act) (names : List Name) → list_names lists which ≡ names → HasLogFor which (map (λ unit. duty (act unit) unit) names) leaves
@@ -52,10 +48,9 @@ log_by leaves lists alone which act [] is = tt
 log_by leaves lists alone which act (name ∷ names) is =
     file_law leaves lists alone (λ none. let no : name ∷ names ≡ [] = sym is ∙ ap (λ (l : Lists). list_names l which) none in cc no)
 
-pub log_for : (owed : Owed) (order : List Name) (states : Name → State) (leaves : Leaves) → AreAlone leaves (lists_of owed) → (which : Which) → HasLogFor which (listed_calls owed order states which) leaves
+pub log_for : (owed : Owed) (order : List Name) (states : Name → State) (leaves : Leaves) → AreAlone leaves owed.lists → (which : Which) → HasLogFor which (listed_calls owed order states which) leaves
 log_for owed order states leaves alone Starts = tt
-log_for owed order states leaves alone Restarts = log_by leaves (lists_of owed) alone Restarts (λ unit. Restart) owed.restarts refl
-log_for owed order states leaves alone Reloads = log_by leaves (lists_of owed) alone Reloads (reload_act states owed.stops) owed.reloads refl
+log_for owed order states leaves alone which = log_by leaves owed.lists alone which (act_on which states owed.stops) (list_names owed.lists which) refl
 
 -- ---- the calls of a list after those of others
 
@@ -74,39 +69,27 @@ module _ (calls : Which → List Duty) where
 
 -- ---- the turn of a list
 
--- the lists that are given before one, and those after it
-abbrev pub given_before : Which → List Which
-given_before Reloads = []
-given_before Restarts = Reloads ∷ []
-given_before Starts = Reloads ∷ Restarts ∷ []
+-- until its turn a list stands
+stands_by : (which : Which) (done : List Which) (lists : Lists) → AllByRecursion (λ one. (one ≢ which) × (one ≢ Starts)) done → list_names (lists_without lists done) which ≡ list_names lists which
+stands_by which [] lists all = refl
+stands_by which (one ∷ done) lists all =
+    stands_by which done (with_list lists one []) all.1 ∙ elim (set_list lists one [] which) [
+      | inl same ↦ same
+      | inr set ↦ absurd (all.0.0 set.1)
+    ]
 
-abbrev pub given_after : Which → List Which
-given_after Reloads = Restarts ∷ Starts ∷ []
-given_after Restarts = Starts ∷ []
-given_after Starts = []
+pub stands : (lists : Lists) (which : Which) → list_names (lists_without lists (given_before which)) which ≡ list_names lists which
+stands lists which = stands_by which (given_before which) lists (at_turn AreOthers are_others which)
 
-in_turn : (which : Which) → give_order ≡ given_before which ++ which ∷ given_after which
-in_turn Reloads = refl
-in_turn Restarts = refl
-in_turn Starts = refl
+-- what holds of some lists and one more holds of that
+last_of : (P : Which → Type 0) (done : List Which) (which : Which) → AllByRecursion P (done ++ which ∷ []) → P which
+last_of P [] which all = all.0
+last_of P (one ∷ done) which all = last_of P done which all.1
 
--- all calls, split among those of one list
-pub turn_split : (calls : Which → List Duty) (which : Which) (part rest : List Duty) → calls which ≡ part ++ rest →
-    flat_map calls give_order ≡ (flat_map calls (given_before which) ++ part) ++ (rest ++ flat_map calls (given_after which))
-turn_split calls which part rest split =
-    let first = flat_map calls (given_before which) in let last = flat_map calls (given_after which) in
-    ap (flat_map calls) (in_turn which) ∙ flat_map-append calls (given_before which) (which ∷ given_after which)
-    ∙ ap (λ cs. first ++ (cs ++ last)) split ∙ ap (λ cs. first ++ cs) (append_assoc part rest last) ∙ sym (append_assoc first part (rest ++ last))
-
--- until its turn a list stands, and that of the starts is then the last
-stands : (lists : Lists) (which : Which) → list_names (lists_without lists (given_before which)) which ≡ list_names lists which
-stands lists Reloads = refl
-stands lists Restarts = refl
-stands lists Starts = refl
-
-last_one : (lists : Lists) (which : Which) → which ≡ Starts → with_list (lists_without lists (given_before which)) which [] ≡ no_lists
-last_one lists Starts is = refl
-last_one lists which is = absurd (cc is)
+-- lists that are cleared, and then one more
+pub without_more : (lists : Lists) (done : List Which) (which : Which) → with_list (lists_without lists done) which [] ≡ lists_without lists (done ++ which ∷ [])
+without_more lists [] which = refl
+without_more lists (one ∷ done) which = without_more (with_list lists one []) done which
 
 -- a list that has no names is as it is without
 same_without : (lists : Lists) (which : Which) → list_names lists which ≡ [] → with_list lists which [] ≡ lists
@@ -119,28 +102,55 @@ module _ (calls : Which → List Duty) (x : WorldState) where
   world_at which = with_all_given calls (given_before which) x
 
   module _ (lists : Lists) (alone : AreAlone x.leaves lists) (none : (which : Which) → which ≢ Starts → calls which ≡ [] → list_names lists which ≡ []) (log : (which : Which) → HasLogFor which (calls which) x.leaves) where
+    -- where lists are given one after the other, the log is a file for each that has calls, and the lists that are left stand alone
+    module _ (done : List Which) (others : AllByRecursion (λ one. one ≢ Starts) done) (which : Which) where
+      log_then : HasLogFor which (calls which) (with_all_given calls done x).leaves
+      log_then = log_next calls done others which (calls which) x (log which)
+
+      alone_then : list_names (lists_without lists done) which ≡ list_names lists which → (which ≡ Starts → with_list (lists_without lists done) which [] ≡ no_lists) → AreAlone (with_all_given calls done x).leaves (lists_without lists done) →
+          AreAlone (with_given which (calls which) (with_all_given calls done x)).leaves (with_list (lists_without lists done) which [])
+      alone_then same last here =
+          let left = lists_without lists done in
+          given_alone which (calls which) (with_all_given calls done x) left here (λ other empty. same_without left which (same ∙ none which other empty)) last log_then
+
+    -- so they do at each turn
+    alone_turns : (done left : List Which) → AllTurns AreOthers done left → AreAlone (with_all_given calls done x).leaves (lists_without lists done) →
+        AllTurns (λ before _ _. AreAlone (with_all_given calls before x).leaves (lists_without lists before)) done left
+    alone_turns done [] turns here = tt
+    alone_turns done (which ∷ []) turns here = (here, tt)
+    alone_turns done (which ∷ (next ∷ left)) turns here =
+        let other = (last_of (λ one. (one ≢ next) × (one ≢ Starts)) done which turns.1.0).1 in
+        let given = alone_then done (no_starts which done turns.0) which (stands_by which done lists turns.0) (λ starts. absurd (other starts)) here in (
+          here,
+          alone_turns (done ++ which ∷ []) (next ∷ left) turns.1
+              (subst (AreAlone (with_all_given calls (done ++ which ∷ []) x).leaves) (without_more lists done which)
+              (subst (λ (y : WorldState). AreAlone y.leaves (with_list (lists_without lists done) which [])) (one_more_given calls done which x) given)),
+        )
+
     pub log_at : (which : Which) → HasLogFor which (calls which) (world_at which).leaves
-    log_at Reloads = log Reloads
-    log_at Restarts = log_next calls (given_before Restarts) (λ same. cc same, tt) Restarts (calls Restarts) x (log Restarts)
-    log_at Starts = tt
-
-    alone_after : (which : Which) → AreAlone (world_at which).leaves (lists_without lists (given_before which)) →
-        AreAlone (with_given which (calls which) (world_at which)).leaves (with_list (lists_without lists (given_before which)) which [])
-    alone_after which here =
-        let left = lists_without lists (given_before which) in
-        given_alone which (calls which) (world_at which) left here (λ other empty. same_without left which (stands lists which ∙ none which other empty)) (last_one lists which) (log_at which)
-
-    alone_then : AreAlone (world_at Restarts).leaves (lists_without lists (given_before Restarts))
-    alone_then = alone_after Reloads alone
+    log_at which = log_then (given_before which) (before_starts which) which
 
     -- the lists that are left stand alone at each turn, and in the end there are none
     pub alone_at : (which : Which) → AreAlone (world_at which).leaves (lists_without lists (given_before which))
-    alone_at Reloads = alone
-    alone_at Restarts = alone_then
-    alone_at Starts = alone_after Restarts alone_then
+    alone_at = at_turn (λ before _ _. AreAlone (with_all_given calls before x).leaves (lists_without lists before)) (alone_turns [] give_order are_others alone)
 
     pub alone_end : AreAlone (with_all_given calls give_order x).leaves no_lists
-    alone_end = alone_after Starts (alone_at Starts)
+    alone_end = alone_then (given_before Starts) (before_starts Starts) Starts (stands lists Starts) (λ starts. refl) (alone_at Starts)
+
+  -- a moment of the calls that are left is one of a list's at its turn, or all is given
+  some_turn : (Q : Type 0) (u : WorldState) (done left : List Which) → AllTurns (λ before which _. IsListMoment which (calls which) (with_all_given calls before x) u → Q) done left →
+      (u ≡ with_all_given calls left (with_all_given calls done x) → Q) → IsGiveMoment calls left (with_all_given calls done x) u → Q
+  some_turn Q u done [] turns end is = end is
+  some_turn Q u done (which ∷ left) turns end (inl moment) = turns.0 moment
+  some_turn Q u done (which ∷ left) turns end (inr later) =
+      let more = one_more_given calls done which x in
+      some_turn Q u (done ++ which ∷ []) left turns.1 (λ is. end (is ∙ ap (with_all_given calls left) (sym more))) (subst (λ y. IsGiveMoment calls left y u) more later)
+
+  pub in_some_turn : (u : WorldState) → IsGiveMoment calls give_order x u → ((which : Which) × IsListMoment which (calls which) (world_at which) u) ⊎ (u ≡ with_all_given calls give_order x)
+  in_some_turn u moment =
+      some_turn (((which : Which) × IsListMoment which (calls which) (world_at which) u) ⊎ (u ≡ with_all_given calls give_order x)) u [] give_order
+      (by_turns (λ before which _. IsListMoment which (calls which) (with_all_given calls before x) u → ((which : Which) × IsListMoment which (calls which) (world_at which) u) ⊎ (u ≡ with_all_given calls give_order x))
+      (λ which part. inl (which, part))) (λ is. inr is) moment
 
 -- ---- the end
 

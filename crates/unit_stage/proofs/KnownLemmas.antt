@@ -7,7 +7,7 @@ use Rattle.host_trait.specs.World.{WorldState}
 use Rattle.log_text.specs.declared.lists.Lists.{Lists}
 use Rattle.owed_plan.specs.Calls.{calls_of}
 use Rattle.owed_plan.specs.declared.owed.Owed.{Owed}
-use Rattle.owed_plan.specs.Owed.{IsOwed, IsOwedAct, IsPlan}
+use Rattle.owed_plan.specs.Owed.{IsDue, IsOwed, IsPlan}
 use Rattle.owed_plan.specs.Steady.{IsSteady}
 use Rattle.owed_plan.specs.Systems.{Systems, systems_at, systems_in}
 use Rattle.owed_plan.proofs.SystemLemmas.{systems_same}
@@ -18,12 +18,12 @@ use Rattle.unit_stage.specs.declared.known.Known.{Known}
 use Rattle.unit_stage.specs.declared.unit_plan.UnitPlan.{UnitPlan}
 use Rattle.switch_parts.specs.declared.plan_fault.PlanFault.{PlanFault}
 use Rattle.unit_stage.specs.Known.{IsKnownOf, IsKnownSteady, IsPlanBy, OwesKnown}
-use Rattle.unit_stage.specs.Owes.{FitThrice, IsSteadyWorld, OwesUnit}
-use Rattle.unit_stage.specs.Plan.{IsUnitPlanOf, owed_of}
+use Rattle.unit_stage.specs.Owes.{FitInEach, IsSteadyWorld, OwesUnit}
+use Rattle.unit_stage.specs.Plan.{IsUnitPlanOf}
 use Rattle.unit_stage.specs.Room.{is_owed}
 use Rattle.unit_stage.specs.System.{current_system}
 use Rattle.unit_stage.proofs.OrderLemmas.{defs_in_order}
-use Rattle.unit_stage.proofs.RoomLemmas.{act_owed, is_owed_act, union_list, union_of}
+use Rattle.unit_stage.proofs.RoomLemmas.{is_due, due_among, union_list, union_of}
 use Rattle.unit_stage.proofs.WaitingLemmas.{same_waiting}
 
 pub same_fault : {T : Type 0} (x y : PlanFault) → IsErrOf {T = T} (Err x) y → x ≡ y
@@ -32,20 +32,20 @@ same_fault x y e = cc
 -- the plan by what is known of a world is the plan of that world
 pub plan_is : (start_up : Bool) (system : List ℕ) (w : WorldState) (known : Known) (plan : UnitPlan) → IsKnownOf start_up system w known → IsPlanBy known plan → IsUnitPlanOf start_up system w plan
 plan_is start_up system w known plan is by =
-    let states : IsPlan (systems_in known.old.defs known.new) (state_of w.manager.states) known.units.lists (owed_of plan) =
-    subst (λ (states : UnitStates). IsPlan (systems_in known.old.defs known.new) (state_of states) known.units.lists (owed_of plan)) is.units.states by.owed in
+    let states : IsPlan (systems_in known.old.defs known.new) (state_of w.manager.states) known.units.lists plan.owed =
+    subst (λ (states : UnitStates). IsPlan (systems_in known.old.defs known.new) (state_of states) known.units.lists plan.owed) is.units.states by.owed in
     record {
       from = by.from ∙ is.old.name;
       defs = subst (λ (units : List Unit). AreDefsOf w.leaves system units) (sym by.defs) is.new;
       lists = known.units.lists;
       planned = record {
         listed = is.units.lists;
-        planned = subst (λ (systems : Systems). IsPlan systems (state_of w.manager.states) known.units.lists (owed_of plan))
+        planned = subst (λ (systems : Systems). IsPlan systems (state_of w.manager.states) known.units.lists plan.owed)
             (systems_same w.leaves (current_system w.leaves) system known.old.defs known.new is.old.defs is.new) states;
       };
       write = by.write w.leaves is.units.log;
-      in_order = defs_in_order w.leaves system known.new (owed_of plan) plan.ordered is.new by.in_order;
-      duties = by.duties ∙ ap (λ (states : UnitStates). calls_of (owed_of plan) plan.ordered.units (state_of states)) is.units.states;
+      in_order = defs_in_order w.leaves system known.new plan.owed plan.ordered is.new by.in_order;
+      duties = by.duties ∙ ap (λ (states : UnitStates). calls_of plan.owed plan.ordered.units (state_of states)) is.units.states;
     }
 
 -- ---- whether it is steady
@@ -59,15 +59,15 @@ module _ (known : Known) where
 
   -- what is told of the marks and of the room is so by what is known
   pub known_told : (owed : Owed) (marks room both : Bool) → IsOwed systems states known.units.lists owed → IsTrue marks ↔ IsSteady systems states known.units.lists →
-      ((names : List Name) → IsListOf names (λ unit. IsTrue (is_owed owed unit)) → IsTrue room ↔ FitThrice names) → both ≡ (marks && room) → IsTrue both ↔ IsKnownSteady known
+      ((names : List Name) → IsListOf names (λ unit. IsTrue (is_owed owed unit)) → IsTrue room ↔ FitInEach names) → both ≡ (marks && room) → IsTrue both ↔ IsKnownSteady known
   known_told owed marks room both owes by_marks by_room is = (on, back)
     where
       to_owed : (names : List Name) → IsListOf names (OwesKnown known) → IsListOf names (λ unit. IsTrue (is_owed owed unit))
       to_owed names are = record {
         sorted = are.sorted;
         exact = λ unit. (
-          λ found. let owing = (are.exact unit).0 found in is_owed_act systems states known.units.lists owed owes unit owing.0 owing.1,
-          λ among. (are.exact unit).1 (act_owed systems states known.units.lists owed owes unit among),
+          λ found. let owing = (are.exact unit).0 found in due_among systems states known.units.lists owed owes unit owing.0 owing.1,
+          λ among. (are.exact unit).1 (is_due systems states known.units.lists owed owes unit among),
         );
       }
 
@@ -75,8 +75,8 @@ module _ (known : Known) where
       to_known names are = record {
         sorted = are.sorted;
         exact = λ unit. (
-          λ found. act_owed systems states known.units.lists owed owes unit ((are.exact unit).0 found),
-          λ owing. (are.exact unit).1 (is_owed_act systems states known.units.lists owed owes unit owing.0 owing.1),
+          λ found. is_due systems states known.units.lists owed owes unit ((are.exact unit).0 found),
+          λ owing. (are.exact unit).1 (due_among systems states known.units.lists owed owes unit owing.0 owing.1),
         );
       }
 
@@ -109,13 +109,13 @@ module _ (start_up : Bool) (system : List ℕ) (w : WorldState) (known : Known) 
     to_known holds = subst by_states (sym is.units.states) (subst by_systems (sym same_systems) holds)
 
   owes_there : (unit : Name) → OwesKnown known unit → OwesUnit start_up system w unit
-  owes_there unit (act, owing) = (act, (known.units.lists, is.units.lists, to_world (λ (s : Systems) (states : Name → State) (l : Lists). IsOwedAct s states l act unit) owing))
+  owes_there unit (debt, owing) = (debt, (known.units.lists, is.units.lists, to_world (λ (s : Systems) (states : Name → State) (l : Lists). IsDue s states l debt unit) owing))
 
   owes_by : (unit : Name) → OwesUnit start_up system w unit → OwesKnown known unit
-  owes_by unit (act, (others, listed, owing)) = (
-    act,
-    to_known (λ (s : Systems) (states : Name → State) (l : Lists). IsOwedAct s states l act unit)
-        (subst (λ (l : Lists). IsOwedAct (systems_at w.leaves (current_system w.leaves) system) (state_of w.manager.states) l act unit)
+  owes_by unit (debt, (others, listed, owing)) = (
+    debt,
+    to_known (λ (s : Systems) (states : Name → State) (l : Lists). IsDue s states l debt unit)
+        (subst (λ (l : Lists). IsDue (systems_at w.leaves (current_system w.leaves) system) (state_of w.manager.states) l debt unit)
         (same_waiting start_up w.leaves system others known.units.lists listed is.units.lists) owing),
   )
 

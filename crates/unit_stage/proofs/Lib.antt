@@ -14,6 +14,7 @@ pub mod GivenLemmas
 pub mod GoneOnLemmas
 pub mod KnownLemmas
 pub mod LengthLemmas
+pub mod ListCallLemmas
 pub mod ListsLemmas
 pub mod LogLemmas
 pub mod MomentLemmas

@@ -31,16 +31,16 @@ pub same_in_order : (one other : Texts) (starts : List Name) (ordered : Ordered)
 same_in_order one other starts ordered same are = subst (λ texts. AreInOrder texts starts ordered) (λ i. λ unit. same unit i) are
 
 -- what is kept of a system puts its starts in order as its leaves do
-pub defs_in_order : (leaves : Leaves) (system : Name) (new : List Unit) (owed : Owed) (ordered : Ordered) → AreDefsOf leaves system new → AreInOrder (found_in new) owed.starts ordered → AreOrderedAt leaves system owed ordered
-defs_in_order leaves system new owed ordered are = same_in_order (found_in new) (text_of leaves system) owed.starts ordered (found_same leaves system new are)
+pub defs_in_order : (leaves : Leaves) (system : Name) (new : List Unit) (owed : Owed) (ordered : Ordered) → AreDefsOf leaves system new → AreInOrder (found_in new) owed.lists.starts ordered → AreOrderedAt leaves system owed ordered
+defs_in_order leaves system new owed ordered are = same_in_order (found_in new) (text_of leaves system) owed.lists.starts ordered (found_same leaves system new are)
 
 -- trees with the same in the store order the starts alike
 pub ordered_there : (leaves other : Leaves) (system : Name) (owed : Owed) (ordered : Ordered) → AreSameInStore leaves other → IsInStore system → AreOrderedAt leaves system owed ordered → AreOrderedAt other system owed ordered
-ordered_there leaves other system owed ordered same inside = same_in_order (text_of leaves system) (text_of other system) owed.starts ordered (text_same leaves other same system inside)
+ordered_there leaves other system owed ordered same inside = same_in_order (text_of leaves system) (text_of other system) owed.lists.starts ordered (text_same leaves other same system inside)
 
 -- an order has the units that are started
 pub arranged : (leaves : Leaves) (system : Name) (owed : Owed) (ordered : Ordered) → AreOrderedAt leaves system owed ordered → ArrangesStarts owed ordered.units
-arranged leaves system owed ordered are unit = (rearranged_law owed.starts ordered.edges ordered.units are.is_ordered.order).same unit
+arranged leaves system owed ordered are unit = (rearranged_law owed.lists.starts ordered.edges ordered.units are.is_ordered.order).same unit
 
 pub arranges : (leaves : Leaves) (system : Name) (owed : Owed) (order : List Name) → IsOrderedAt leaves system owed order → ArrangesStarts owed order
 arranges leaves system owed order (ordered, are, is) unit = ap (λ (names : List Name). has names unit) is ∙ arranged leaves system owed ordered are unit

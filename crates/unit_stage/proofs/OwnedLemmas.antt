@@ -7,7 +7,7 @@ use Rattle.std.specs.List.{list_all}
 use Rattle.host_trait.specs.World.{WorldState, is_in_line, is_path, stage}
 use Rattle.log_text.specs.declared.lists.Which.{Which}
 use Rattle.log_text.specs.declared.lists.Which.TheVariants.{Starts, Restarts, Reloads}
-use Rattle.owed_lists.specs.Lists.{place_of, reloads_place, restarts_place, starts_place}
+use Rattle.owed_lists.specs.Lists.{place_of}
 use Rattle.owed_log.specs.Places.{log_place}
 use Rattle.owed_plan.specs.Store.{AreSameInStore, IsInStore}
 use Rattle.switch_names.specs.Names.{Name}
@@ -24,7 +24,7 @@ use Rattle.unit_stage.proofs.ElsewhereLemmas.{stage_not_own}
 
 -- what a proof opens to compute with the places of the units
 unfoldable pub units_open : Unit {0}
-unfolding current_place log_place reloads_place restarts_place starts_place
+unfolding current_place log_place place_of
 units_open = tt
 
 pub not_reads_stage : reads_units stage ≡ false
@@ -94,6 +94,6 @@ log_written = is_written log_place refl refl
 
 pub list_written : (which : Which) → IsWritten (place_of which)
 unfolding stage units_open
-list_written Starts = is_written starts_place refl refl
-list_written Restarts = is_written restarts_place refl refl
-list_written Reloads = is_written reloads_place refl refl
+list_written Starts = is_written (place_of Starts) refl refl
+list_written Restarts = is_written (place_of Restarts) refl refl
+list_written Reloads = is_written (place_of Reloads) refl refl

@@ -1,20 +1,23 @@
 -- The calls of a plan, cut into the stops and those of each list.
-use Rattle.std.proofs.Common.{◌≡◌, ℕ, List, ◌++◌, take, drop, length, not, filter, refl, sym, ◌∙◌}
-use Rattle.std.proofs.lemmas.List.{append_assoc, length-append, length-map}
+use Rattle.std.proofs.Common.{◌≡◌, ℕ, List, [], ◌∷◌, ◌++◌, take, drop, length, not, filter, refl, sym, ◌∙◌}
+use Rattle.std.proofs.lemmas.List.{length-append, length-map}
 use Rattle.std.proofs.lemmas.List.Filters.{length-filter_both}
 use Rattle.std.proofs.Math.Seq.{drop-append_seam, take-append_seam}
-use Rattle.host_trait.specs.declared.entry.Act.TheVariants.{Stop, Restart}
+use Rattle.std.specs.List.{AllByRecursion, flat_map}
+use Rattle.host_trait.specs.declared.entry.Act.TheVariants.{Stop}
 use Rattle.host_trait.specs.declared.unit_state.State.{State}
 use Rattle.log_text.specs.declared.lists.Which.{Which}
-use Rattle.log_text.specs.declared.lists.Which.TheVariants.{Starts, Restarts, Reloads}
+use Rattle.log_text.specs.declared.lists.Which.TheVariants.{Starts}
+use Rattle.log_text.specs.Lists.{list_names, with_list}
 use Rattle.owed_plan.specs.declared.duty.Duty.{Duty}
 use Rattle.owed_plan.specs.declared.owed.Owed.{Owed}
-use Rattle.owed_plan.specs.Calls.{calls_of, duty, listed_calls, reload_act, reload_calls, restart_calls, start_calls, stop_calls}
+use Rattle.owed_plan.specs.Calls.{act_on, calls_of, duty, give_order, listed_calls, stop_calls}
 use Rattle.owed_plan.specs.Owed.{sockets_first}
 use Rattle.switch_names.specs.declared.unit_kind.UnitKind.TheVariants.{Socket}
 use Rattle.switch_names.specs.Names.{Name}
 use Rattle.unit_stage.specs.declared.plan_calls.PlanCalls.{PlanCalls}
 use Rattle.unit_stage.specs.PlanCalls.{AreCallsOf, calls_in}
+use Rattle.unit_stage.proofs.ListCallLemmas.{each_given}
 use Rattle.unit_decide.specs.Facts.{unit_kind}
 use Rattle.unit_decide.specs.Kinds.{is_kind}
 
@@ -32,34 +35,32 @@ stops_length owed =
     ∙ length-filter_both (λ unit. is_kind (unit_kind unit) Socket) (λ unit. not (is_kind (unit_kind unit) Socket)) (λ unit. refl) owed.stops
 
 module _ (owed : Owed) (order : List Name) (states : Name → State) where
-  all_calls : calls_of owed order states ≡ stop_calls owed ++ (reload_calls owed states ++ (restart_calls owed ++ start_calls order))
-  all_calls =
-      append_assoc (stop_calls owed ++ reload_calls owed states) (restart_calls owed) (start_calls order)
-      ∙ append_assoc (stop_calls owed) (reload_calls owed states) (restart_calls owed ++ start_calls order)
+  abbrev listed : Which → List Duty
+  listed = listed_calls owed order states
 
-  -- cut after as many calls as there are units to stop, to reload and to restart
-  pub are_parts : (all others later stops : List Duty) (calls : PlanCalls) → all ≡ calls_of owed order states →
-      stops ≡ take (length owed.stops) all → others ≡ drop (length owed.stops) all →
-      calls_in calls Reloads ≡ take (length owed.reloads) others → later ≡ drop (length owed.reloads) others →
-      calls_in calls Restarts ≡ take (length owed.restarts) later → calls_in calls Starts ≡ drop (length owed.restarts) later →
+  -- how many calls a list has
+  abbrev pub call_count : Which → ℕ
+  call_count which = length (list_names (with_list owed.lists Starts order) which)
+
+  -- the calls are cut after as many as each list has, one list after the other
+  abbrev pub AreCut : (Which → List Duty) → List Which → List Duty → Type 0
+  AreCut calls [] rest = Unit {0}
+  AreCut calls (which ∷ left) rest = (calls which ≡ take (call_count which) rest) × AreCut calls left (drop (call_count which) rest)
+
+  list_length : (which : Which) → length (listed which) ≡ call_count which
+  list_length which = length-map (list_names (with_list owed.lists Starts order) which) (λ unit. duty (act_on which states owed.stops unit) unit)
+
+  are_cut : (calls : Which → List Duty) (left : List Which) (rest : List Duty) → rest ≡ flat_map listed left → AreCut calls left rest → AllByRecursion (λ which. calls which ≡ listed which) left
+  are_cut calls [] rest is cut = tt
+  are_cut calls (which ∷ left) rest is cut = (
+    front (call_count which) (listed which) (flat_map listed left) rest (calls which) (list_length which) is cut.0,
+    are_cut calls left (drop (call_count which) rest) (after (call_count which) (listed which) (flat_map listed left) rest (drop (call_count which) rest) (list_length which) is refl) cut.1,
+  )
+
+  pub are_parts : (all stops : List Duty) (calls : PlanCalls) → all ≡ calls_of owed order states → stops ≡ take (length owed.stops) all → AreCut (calls_in calls) give_order (drop (length owed.stops) all) →
       AreCallsOf owed order states stops (calls_in calls)
-  are_parts all others later stops calls are stopped first reloaded second restarted started =
-      let reload = reload_calls owed states in let restart = restart_calls owed in let start = start_calls order in
-      let whole : all ≡ stop_calls owed ++ (reload ++ (restart ++ start)) = are ∙ all_calls in
-      let rest : others ≡ reload ++ (restart ++ start) = after (length owed.stops) (stop_calls owed) (reload ++ (restart ++ start)) all others (stops_length owed) whole first in
-      let reloads_length = length-map owed.reloads (λ unit. duty (reload_act states owed.stops unit) unit) in
-      let last : later ≡ restart ++ start = after (length owed.reloads) reload (restart ++ start) others later reloads_length rest second in
-      let restarts_length = length-map owed.restarts (duty Restart) in
-      record {
-        are_stops = front (length owed.stops) (stop_calls owed) (reload ++ (restart ++ start)) all stops (stops_length owed) whole stopped;
-        are_listed = by
-            (front (length owed.reloads) reload (restart ++ start) others (calls_in calls Reloads) reloads_length rest reloaded)
-            (front (length owed.restarts) restart start later (calls_in calls Restarts) restarts_length last restarted)
-            (after (length owed.restarts) restart start later (calls_in calls Starts) restarts_length last started);
-      }
-    where
-      by : calls_in calls Reloads ≡ reload_calls owed states → calls_in calls Restarts ≡ restart_calls owed → calls_in calls Starts ≡ start_calls order →
-          (which : Which) → calls_in calls which ≡ listed_calls owed order states which
-      by reloads restarts starts Reloads = reloads
-      by reloads restarts starts Restarts = restarts
-      by reloads restarts starts Starts = starts
+  are_parts all stops calls are stopped cut = record {
+    are_stops = front (length owed.stops) (stop_calls owed) (flat_map listed give_order) all stops (stops_length owed) are stopped;
+    are_listed = each_given (λ which. calls_in calls which ≡ listed which)
+        (are_cut (calls_in calls) give_order (drop (length owed.stops) all) (after (length owed.stops) (stop_calls owed) (flat_map listed give_order) all (drop (length owed.stops) all) (stops_length owed) are refl) cut);
+  }

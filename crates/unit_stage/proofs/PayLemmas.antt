@@ -3,11 +3,12 @@ use Rattle.std.proofs.Common.{◌≡◌, ◌&&◌, ◌++◌, ◌∷◌, ℕ, Boo
 use Rattle.std.proofs.lemmas.Bool.{and_from, or_cases, or_left, or_right}
 use Rattle.std.specs.List.{AllByRecursion, flat_map, list_any}
 use Rattle.host_trait.specs.declared.entry.Act.{Act}
-use Rattle.host_trait.specs.declared.entry.Act.TheVariants.{Stop, Reload, Restart, Start}
+use Rattle.host_trait.specs.declared.entry.Act.TheVariants.{Stop}
 use Rattle.host_trait.specs.declared.entry.Entry.{Entry}
 use Rattle.log_text.specs.declared.lists.Which.{Which}
 use Rattle.owed_plan.specs.declared.duty.Duty.{Duty}
 use Rattle.owed_plan.specs.Calls.{duty}
+use Rattle.owed_plan.specs.Lists.{OnList, ToStop}
 use Rattle.switch_names.specs.Names.{Name, has, is_name}
 use Rattle.host_trait.proofs.NameOrder.{name_itself}
 use Rattle.unit_stage.specs.Acts.{entry_of}
@@ -60,9 +61,9 @@ all_implied P Q implies [] all = tt
 all_implied P Q implies (entry ∷ entries) all = (implies entry all.0, all_implied P Q implies entries all.1)
 
 -- a stop pays a stop
-pub stop_paid : (system : Name) (loaded : List ℕ) (unit : Name) (names : List Name) → has names unit ≡ true → list_any (pays system Stop unit) (map (entry_of loaded) (map (duty Stop) names)) ≡ true
+pub stop_paid : (system : Name) (loaded : List ℕ) (unit : Name) (names : List Name) → has names unit ≡ true → list_any (pays system ToStop unit) (map (entry_of loaded) (map (duty Stop) names)) ≡ true
 stop_paid system loaded unit names found =
-    any_called (pays system Stop unit) loaded (map (duty Stop) names) unit (all_of (λ call. is_name unit call.unit ≡ true → pays system Stop unit (entry_of loaded call) ≡ true) (λ u. Stop) names (λ u among is. is))
+    any_called (pays system ToStop unit) loaded (map (duty Stop) names) unit (all_of (λ call. is_name unit call.unit ≡ true → pays system ToStop unit (entry_of loaded call) ≡ true) (λ u. Stop) names (λ u among is. is))
     (called_on (λ u. Stop) names unit ∙ found)
 
 -- any other act under the definitions of the system pays the others
@@ -72,12 +73,8 @@ other_pays system unit call other is =
     and_from (not (is_stop call.act) && is_name unit call.unit) (is_name (definitions_of system) (definitions_of system))
     (and_from (not (is_stop call.act)) (is_name unit call.unit) (ap not other) is) (name_itself (definitions_of system))
 
-pub other_paid : (system : Name) (act : Act) (unit : Name) (calls : List Duty) → is_stop act ≡ false → AllByRecursion (λ call. is_stop call.act ≡ false) calls → is_called calls unit ≡ true →
-    list_any (pays system act unit) (map (entry_of (definitions_of system)) calls) ≡ true
-other_paid system Stop unit calls other all found = absurd cc
-other_paid system Reload unit calls other all found =
-    any_called (pays system Reload unit) (definitions_of system) calls unit (all_weaker _ (λ call. is_name unit call.unit ≡ true → pays system Reload unit (entry_of (definitions_of system) call) ≡ true) (other_pays system unit) calls all) found
-other_paid system Restart unit calls other all found =
-    any_called (pays system Restart unit) (definitions_of system) calls unit (all_weaker _ (λ call. is_name unit call.unit ≡ true → pays system Restart unit (entry_of (definitions_of system) call) ≡ true) (other_pays system unit) calls all) found
-other_paid system Start unit calls other all found =
-    any_called (pays system Start unit) (definitions_of system) calls unit (all_weaker _ (λ call. is_name unit call.unit ≡ true → pays system Start unit (entry_of (definitions_of system) call) ≡ true) (other_pays system unit) calls all) found
+pub other_paid : (system : Name) (which : Which) (unit : Name) (calls : List Duty) → AllByRecursion (λ call. is_stop call.act ≡ false) calls → is_called calls unit ≡ true →
+    list_any (pays system (OnList which) unit) (map (entry_of (definitions_of system)) calls) ≡ true
+other_paid system which unit calls all found =
+    any_called (pays system (OnList which) unit) (definitions_of system) calls unit
+    (all_weaker _ (λ call. is_name unit call.unit ≡ true → pays system (OnList which) unit (entry_of (definitions_of system) call) ≡ true) (other_pays system unit) calls all) found

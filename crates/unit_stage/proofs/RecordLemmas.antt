@@ -10,7 +10,7 @@ use Rattle.host_trait.proofs.Places.{at_same}
 use Rattle.host_trait.proofs.Seen.{seen_at}
 use Rattle.log_text.specs.declared.lists.Lists.{Lists}
 use Rattle.log_text.specs.declared.lists.Which.{Which}
-use Rattle.log_text.specs.declared.lists.Which.TheVariants.{Starts, Restarts, Reloads}
+use Rattle.log_text.specs.declared.lists.Which.TheVariants.{Starts}
 use Rattle.log_text.specs.Lists.{block_of, with_list}
 use Rattle.log_text.specs.Log.{block_text}
 use Rattle.owed_lists.specs.Lists.{place_of}

@@ -1,14 +1,13 @@
 -- How long the names are of the units that are owed something, and the log that records them.
-use Rattle.std.proofs.Common.{◌≡◌, ◌↔◌, ◌||◌, ◌∷◌, ◌++◌, ◌+◌, ◌*◌, ◌^◌, ◌≤◌, ◌<◌, ℕ, Bool, true, false, cond, IsTrue, List, [], IsSome, MatchOption, Option, None, Some, get_or, is_some, length, take, refl, sym, ap, subst, ◌∙◌, inl, inr, arith}
+use Rattle.std.proofs.Common.{◌≡◌, ◌↔◌, ◌||◌, ◌∷◌, ◌++◌, ◌+◌, ◌*◌, ◌^◌, ◌/◌, ◌-◌, ◌≤◌, ◌<◌, ℕ, Bool, true, false, cond, IsTrue, List, [], MatchOption, Option, None, Some, get_or, is_some, length, map, take, refl, sym, ap, subst, ◌∙◌, inl, inr, arith}
 use Rattle.std.proofs.lemmas.Bool.{or_cases, or_left, or_right}
 use Rattle.std.proofs.lemmas.Fmt.{length-decimal-le}
 use Rattle.std.proofs.lemmas.Grind.{flat_map-append}
-use Rattle.std.proofs.lemmas.List.{append-nil, length-append}
+use Rattle.std.proofs.lemmas.List.{append-nil, append_assoc, length-append, take_all}
 use Rattle.std.proofs.lemmas.List.Folds.{length-flat_map-take, list_any-append}
 use Rattle.std.specs.Fmt.{decimal}
+use Rattle.std.specs.List.{flat_map, list_any}
 use Rattle.std.specs.List.Sorted.{IsStrictlySortedBy}
-use Rattle.host_trait.specs.declared.entry.Act.{Act}
-use Rattle.host_trait.specs.declared.entry.Act.TheVariants.{Stop, Reload, Restart, Start}
 use Rattle.host_trait.specs.declared.unit_state.State.{State}
 use Rattle.host_trait.specs.States.{state_of}
 use Rattle.host_trait.specs.World.{WorldState, bytes_cmp}
@@ -17,18 +16,19 @@ use Rattle.leaf_limits.specs.Limits.{leaf_max}
 use Rattle.log_text.specs.declared.lists.Lists.{Lists}
 use Rattle.log_text.specs.declared.lists.Which.{Which}
 use Rattle.log_text.specs.declared.lists.Which.TheVariants.{Starts, Restarts, Reloads}
-use Rattle.log_text.specs.Lists.{block_of}
-use Rattle.log_text.specs.Log.{block_text, header_of, last_line, list_text, word}
+use Rattle.log_text.specs.Lists.{block_of, list_names, record_order}
+use Rattle.log_text.specs.Log.{block_text, header_of, last_line, list_text, log_text, word}
 use Rattle.owed_lists.proofs.ListLemmas.{one_list}
 use Rattle.owed_lists.proofs.OrderLemmas.{has_ordered, ordered, ordered_sorted}
 use Rattle.owed_log.specs.Lengths.{log_length}
 use Rattle.owed_plan.specs.declared.owed.Owed.{Owed}
-use Rattle.owed_plan.specs.Law.{lists_of}
-use Rattle.owed_plan.specs.Owed.{IsOwed, IsOwedAct}
+use Rattle.owed_plan.specs.Lists.{Debt, OnList, ToStop, is_listed}
+use Rattle.owed_plan.specs.Owed.{IsDue, IsOwed}
+use Rattle.owed_plan.proofs.KindLemmas.{listed_on, on_list}
 use Rattle.owed_plan.specs.Systems.{Systems, systems_at}
 use Rattle.switch_names.specs.Names.{IsListOf, Name, has, is_name}
 use Rattle.switch_names.proofs.Names.{name_turned}
-use Rattle.unit_stage.specs.Owes.{FitThrice, IsSteadyWorld, OwesUnit}
+use Rattle.unit_stage.specs.Owes.{FitInEach, IsSteadyWorld, OwesUnit}
 use Rattle.unit_stage.specs.Plan.{IsOwedIn}
 use Rattle.unit_stage.specs.Room.{is_owed}
 use Rattle.unit_stage.specs.System.{current_system}
@@ -95,20 +95,26 @@ no_longer (name ∷ names) others sorted within =
     omega (arith, lines_more name names, first, rest)
 
 -- where the others fit, they do
-fit_among : (names others : List Name) → IsStrictlySortedBy bytes_cmp names → ((unit : Name) → has names unit ≡ true → has others unit ≡ true) → FitThrice others → FitThrice names
+fit_among : (names others : List Name) → IsStrictlySortedBy bytes_cmp names → ((unit : Name) → has names unit ≡ true → has others unit ≡ true) → FitInEach others → FitInEach names
 fit_among names others sorted within fits = omega (arith, no_longer names others sorted within, fits)
 
 -- ---- all units that are owed something
 
--- the names of all lists
+-- the names of some lists, one list after the other
+abbrev pub names_on : Owed → List Which → List Name
+names_on owed order = flat_map (list_names owed.lists) order
+
+-- the names of the stops, and of all lists
 abbrev pub each_owed : Owed → List Name
-each_owed owed = ((owed.stops ++ owed.reloads) ++ owed.restarts) ++ owed.starts
+each_owed owed = owed.stops ++ names_on owed record_order
+
+has_on : (owed : Owed) (unit : Name) (order : List Which) → has (names_on owed order) unit ≡ list_any (λ which. has (list_names owed.lists which) unit) order
+has_on owed unit [] = refl
+has_on owed unit (which ∷ order) =
+    list_any-append (is_name unit) (list_names owed.lists which) (names_on owed order) ∙ ap (λ b. has (list_names owed.lists which) unit || b) (has_on owed unit order)
 
 pub has_each : (owed : Owed) (unit : Name) → has (each_owed owed) unit ≡ is_owed owed unit
-has_each owed unit =
-    list_any-append (is_name unit) ((owed.stops ++ owed.reloads) ++ owed.restarts) owed.starts
-    ∙ ap (λ b. b || has owed.starts unit) (list_any-append (is_name unit) (owed.stops ++ owed.reloads) owed.restarts
-    ∙ ap (λ b. b || has owed.restarts unit) (list_any-append (is_name unit) owed.stops owed.reloads))
+has_each owed unit = list_any-append (is_name unit) owed.stops (names_on owed record_order) ∙ ap (λ b. has owed.stops unit || b) (has_on owed unit record_order)
 
 -- each once
 abbrev pub union_of : Owed → List Name
@@ -122,34 +128,20 @@ union_list owed = record { sorted = ordered_sorted (each_owed owed); exact = λ 
 
 module _ (owed : Owed) (unit : Name) where
   pub stop_among : has owed.stops unit ≡ true → is_owed owed unit ≡ true
-  stop_among is = or_left _ (has owed.starts unit) (or_left _ (has owed.restarts unit) (or_left (has owed.stops unit) (has owed.reloads unit) is))
+  stop_among is = or_left (has owed.stops unit) (is_listed owed.lists unit) is
 
-  pub reload_among : has owed.reloads unit ≡ true → is_owed owed unit ≡ true
-  reload_among is = or_left _ (has owed.starts unit) (or_left _ (has owed.restarts unit) (or_right (has owed.stops unit) (has owed.reloads unit) is))
-
-  pub restart_among : has owed.restarts unit ≡ true → is_owed owed unit ≡ true
-  restart_among is = or_left _ (has owed.starts unit) (or_right (has owed.stops unit || has owed.reloads unit) (has owed.restarts unit) is)
-
-  pub start_among : has owed.starts unit ≡ true → is_owed owed unit ≡ true
-  start_among is = or_right (has owed.stops unit || has owed.reloads unit || has owed.restarts unit) (has owed.starts unit) is
+  pub listed_among : (which : Which) → has (list_names owed.lists which) unit ≡ true → is_owed owed unit ≡ true
+  listed_among which is = or_right (has owed.stops unit) (is_listed owed.lists unit) (listed_on owed.lists unit which is)
 
 module _ (systems : Systems) (states : Name → State) (lists : Lists) (owed : Owed) (owes : IsOwed systems states lists owed) (unit : Name) where
-  pub is_owed_act : (act : Act) → IsOwedAct systems states lists act unit → is_owed owed unit ≡ true
-  is_owed_act Stop owing = stop_among owed unit (((owes Stop).exact unit).1 owing)
-  is_owed_act Reload owing = reload_among owed unit (((owes Reload).exact unit).1 owing)
-  is_owed_act Restart owing = restart_among owed unit (((owes Restart).exact unit).1 owing)
-  is_owed_act Start owing = start_among owed unit (((owes Start).exact unit).1 owing)
+  pub due_among : (debt : Debt) → IsDue systems states lists debt unit → is_owed owed unit ≡ true
+  due_among ToStop owing = stop_among owed unit (((owes ToStop).exact unit).1 owing)
+  due_among (OnList which) owing = listed_among owed unit which (((owes (OnList which)).exact unit).1 owing)
 
-  pub act_owed : is_owed owed unit ≡ true → (act : Act) × IsOwedAct systems states lists act unit
-  act_owed is = elim (or_cases (has owed.stops unit || has owed.reloads unit || has owed.restarts unit) (has owed.starts unit) is) [
-    | inl three ↦ elim (or_cases (has owed.stops unit || has owed.reloads unit) (has owed.restarts unit) three) [
-      | inl two ↦ elim (or_cases (has owed.stops unit) (has owed.reloads unit) two) [
-        | inl stop ↦ (Stop, ((owes Stop).exact unit).0 stop)
-        | inr reload ↦ (Reload, ((owes Reload).exact unit).0 reload)
-      ]
-      | inr restart ↦ (Restart, ((owes Restart).exact unit).0 restart)
-    ]
-    | inr start ↦ (Start, ((owes Start).exact unit).0 start)
+  pub is_due : is_owed owed unit ≡ true → (debt : Debt) × IsDue systems states lists debt unit
+  is_due is = elim (or_cases (has owed.stops unit) (is_listed owed.lists unit) is) [
+    | inl stop ↦ (ToStop, ((owes ToStop).exact unit).0 stop)
+    | inr found ↦ let one = on_list owed.lists unit found in (OnList one.0, ((owes (OnList one.0)).exact unit).0 one.1)
   ]
 
 module _ (start_up : Bool) (system : Name) (lists : Lists) (owed : Owed) (w : WorldState) (owes : IsOwedIn start_up system w lists owed) where
@@ -160,12 +152,12 @@ module _ (start_up : Bool) (system : Name) (lists : Lists) (owed : Owed) (w : Wo
   states = state_of w.manager.states
 
   unit_among : (unit : Name) → OwesUnit start_up system w unit → is_owed owed unit ≡ true
-  unit_among unit (act, (others, listed, owing)) =
-      is_owed_act systems states lists owed owes.is_owed unit act
-      (subst (λ (l : Lists). IsOwedAct systems states l act unit) (same_waiting start_up w.leaves system others lists listed owes.listed) owing)
+  unit_among unit (debt, (others, listed, owing)) =
+      due_among systems states lists owed owes.is_owed unit debt
+      (subst (λ (l : Lists). IsDue systems states l debt unit) (same_waiting start_up w.leaves system others lists listed owes.listed) owing)
 
   owed_unit : (unit : Name) → is_owed owed unit ≡ true → OwesUnit start_up system w unit
-  owed_unit unit is = let one = act_owed systems states lists owed owes.is_owed unit is in (one.0, (lists, owes.listed, one.1))
+  owed_unit unit is = let one = is_due systems states lists owed owes.is_owed unit is in (one.0, (lists, owes.listed, one.1))
 
   union_here : IsListOf (union_of owed) (OwesUnit start_up system w)
   union_here = record {
@@ -175,7 +167,7 @@ module _ (start_up : Bool) (system : Name) (lists : Lists) (owed : Owed) (w : Wo
 
 -- where no other units are owed something than in a world with room, there is room
 pub still_room : (start_up : Bool) (system : Name) (w m : WorldState) → ((unit : Name) → OwesUnit start_up system m unit → OwesUnit start_up system w unit) → IsSteadyWorld start_up system w →
-    (names : List Name) → IsListOf names (OwesUnit start_up system m) → FitThrice names
+    (names : List Name) → IsListOf names (OwesUnit start_up system m) → FitInEach names
 still_room start_up system w m fewer steady names are =
     let owed = owed_in start_up system w in
     let union = union_here start_up system owed.1.0 owed.0 w owed.1.1 in
@@ -185,84 +177,65 @@ still_room start_up system w m fewer steady names are =
 
 -- the most bytes of names that fit
 abbrev pub names_max : ℕ
-names_max = 5592341
+names_max = leaf_max / length record_order - 64
 
--- where the names of all lists leave something of the bytes, those of the units fit
-pub left_fits : (owed : Owed) (stops reloads restarts starts : List Name) (one two three : ℕ) (last : Option ℕ) → stops ≡ owed.stops → reloads ≡ owed.reloads → restarts ≡ owed.restarts → starts ≡ owed.starts →
-    one + length (list_text stops) ≡ names_max → two + length (list_text reloads) ≡ one → three + length (list_text restarts) ≡ two →
-    MatchOption last (three < length (list_text starts)) (λ left. left + length (list_text starts) ≡ three) → IsSome last → (names : List Name) → IsListOf names (λ unit. IsTrue (is_owed owed unit)) → FitThrice names
-left_fits owed stops reloads restarts starts one two three None _ _ _ _ _ _ _ _ some names are = absurd cc
-left_fits owed stops reloads restarts starts one two three (Some left) a b c d first second third fourth some names are =
-    let len : List Name → ℕ = λ names. length (list_text names) in
+-- where the names of the stops and of all lists leave something of the bytes, those of the units fit
+pub left_fits : (owed : Owed) (count left : ℕ) → length record_order ≤ count → left + length (list_text (owed.stops ++ names_on owed (take count record_order))) ≡ names_max →
+    (names : List Name) → IsListOf names (λ unit. IsTrue (is_owed owed unit)) → FitInEach names
+left_fits owed count left past fits names are =
     fit_among names (each_owed owed) are.sorted (λ unit found. has_each owed unit ∙ (are.exact unit).0 found)
-    (omega (
-      arith,
-      lines_joined ((owed.stops ++ owed.reloads) ++ owed.restarts) owed.starts,
-      lines_joined (owed.stops ++ owed.reloads) owed.restarts,
-      lines_joined owed.stops owed.reloads,
-      ap len a,
-      ap len b,
-      ap len c,
-      ap len d,
-      first,
-      second,
-      third,
-      fourth,
-    ))
+    (let whole = ap (λ order. length (list_text (owed.stops ++ names_on owed order))) (take_all count record_order past) in omega (arith, fits, whole))
 
-told_fits : (units : List Name) (after : Option ℕ) → MatchOption after (names_max < length (list_text units)) (λ left. left + length (list_text units) ≡ names_max) → IsTrue (is_some after) ↔ FitThrice units
+-- what the names of one list more leave
+pub room_more : (owed : Owed) (which : Which) (done : List Which) (names : List Name) (before left : ℕ) → names ≡ list_names owed.lists which →
+    before + length (list_text (owed.stops ++ names_on owed done)) ≡ names_max → left + length (list_text names) ≡ before → left + length (list_text (owed.stops ++ names_on owed (done ++ which ∷ []))) ≡ names_max
+room_more owed which done names before left same so_far more =
+    let joined : names_on owed (done ++ which ∷ []) ≡ names_on owed done ++ names = flat_map-append (list_names owed.lists) done (which ∷ []) ∙ ap (λ ns. names_on owed done ++ ns) (append-nil (list_names owed.lists which) ∙ sym same) in
+    let whole : owed.stops ++ names_on owed (done ++ which ∷ []) ≡ (owed.stops ++ names_on owed done) ++ names = ap (λ ns. owed.stops ++ ns) joined ∙ sym (append_assoc owed.stops (names_on owed done) names) in
+    omega (arith, so_far, more, ap (λ ns. length (list_text ns)) whole, lines_joined (owed.stops ++ names_on owed done) names)
+
+told_fits : (units : List Name) (after : Option ℕ) → MatchOption after (names_max < length (list_text units)) (λ left. left + length (list_text units) ≡ names_max) → IsTrue (is_some after) ↔ FitInEach units
 told_fits units None past = (λ none. absurd cc, λ fits. absurd (omega (arith, past, fits)))
 told_fits units (Some left) some = (λ told. omega (arith, some), λ fits. refl)
 
 -- and so it is told of the units, each once
 pub union_told : (owed : Owed) (units : List Name) (after : Option ℕ) (told : Bool) → IsListOf units (λ unit. IsTrue (is_owed owed unit)) → told ≡ is_some after →
-    MatchOption after (names_max < length (list_text units)) (λ left. left + length (list_text units) ≡ names_max) → (names : List Name) → IsListOf names (λ unit. IsTrue (is_owed owed unit)) → IsTrue told ↔ FitThrice names
+    MatchOption after (names_max < length (list_text units)) (λ left. left + length (list_text units) ≡ names_max) → (names : List Name) → IsListOf names (λ unit. IsTrue (is_owed owed unit)) → IsTrue told ↔ FitInEach names
 union_told owed units after told are is fits names also =
     let fit = told_fits units after fits in
     let same = one_list units names (λ unit. IsTrue (is_owed owed unit)) are also in
-    (λ yes. subst FitThrice same (fit.0 (sym is ∙ yes)), λ room. is ∙ fit.1 (subst FitThrice (sym same) room))
+    (λ yes. subst FitInEach same (fit.0 (sym is ∙ yes)), λ room. is ∙ fit.1 (subst FitInEach (sym same) room))
 
 -- ---- how long the log is
 
-abbrev ends : Which → ℕ
-ends Starts = 31
-ends Restarts = 33
-ends Reloads = 32
-
-word_length : (which : Which) → length (word which) + 26 ≡ ends which
-word_length Starts = refl
-word_length Restarts = refl
-word_length Reloads = refl
+-- the word for a list is short
+short_word : (which : Which) → length (word which) ≤ 16
+short_word Starts = omega arith
+short_word Restarts = omega arith
+short_word Reloads = omega arith
 
 -- a block has its names, and few bytes more
-block_length : (which : Which) (names : List Name) → length names < 2 ^ 64 → length (block_text (block_of which names)) ≤ length (list_text names) + ends which
+block_length : (which : Which) (names : List Name) → length names < 2 ^ 64 → length (block_text (block_of which names)) ≤ length (list_text names) + 42
 block_length which names few =
     let digits = length-decimal-le 20 (length names) (omega arith) (omega arith) few in
     let header = length-append (word which) (32 ∷ decimal (length names)) in
     let whole = length-append (header_of which (length names)) (10 ∷ (list_text names ++ last_line)) in
     let rest = length-append (list_text names) last_line in
     let last : length last_line ≡ 4 = refl in
-    omega (arith, digits, header, whole, rest, last, word_length which)
+    omega (arith, digits, header, whole, rest, last, short_word which)
 
-three_length : (one two three : List ℕ) → length (one ++ (two ++ (three ++ []))) ≡ length one + length two + length three
-three_length one two three = omega (arith, length-append one (two ++ (three ++ [])), length-append two (three ++ []), ap length (append-nil three))
+-- so have the blocks of some lists
+blocks_length : (lists : Lists) (most : ℕ) → most < 2 ^ 63 → ((which : Which) → length (list_text (list_names lists which)) ≤ most) → (order : List Which) →
+    length (log_text (map (λ which. block_of which (list_names lists which)) order)) ≤ length order * (most + 42)
+blocks_length lists most small fits [] = omega arith
+blocks_length lists most small fits (which ∷ order) =
+    let names = list_names lists which in
+    let rest = map (λ one. block_of one (list_names lists one)) order in
+    let first = block_length which names (omega (arith, names_few names, fits which, small)) in
+    omega (arith, length-append (block_text (block_of which names)) (log_text rest), first, fits which, blocks_length lists most small fits order)
 
-within_sum : (whole one two three starts restarts reloads most : ℕ) → whole ≡ one + two + three → one ≤ starts + 31 → two ≤ restarts + 33 → three ≤ reloads + 32 → starts ≤ most → restarts ≤ most → reloads ≤ most →
-    whole + 64 ≤ 3 * most + 160
-within_sum whole one two three starts restarts reloads most is first second third a b c = omega arith
-
-lists_length : (lists : Lists) (most : ℕ) → most < 2 ^ 63 → length (list_text lists.starts) ≤ most → length (list_text lists.restarts) ≤ most → length (list_text lists.reloads) ≤ most →
-    log_length lists ≤ 3 * most + 160
-lists_length lists most small starts restarts reloads =
-    let first = block_text (block_of Starts lists.starts) in
-    let second = block_text (block_of Restarts lists.restarts) in
-    let third = block_text (block_of Reloads lists.reloads) in
-    within_sum (length (first ++ (second ++ (third ++ [])))) (length first) (length second) (length third) (length (list_text lists.starts)) (length (list_text lists.restarts)) (length (list_text lists.reloads)) most
-    (three_length first second third)
-    (block_length Starts lists.starts (omega (arith, names_few lists.starts, starts, small)))
-    (block_length Restarts lists.restarts (omega (arith, names_few lists.restarts, restarts, small)))
-    (block_length Reloads lists.reloads (omega (arith, names_few lists.reloads, reloads, small)))
-    starts restarts reloads
+lists_length : (lists : Lists) (most : ℕ) → most < 2 ^ 63 → ((which : Which) → length (list_text (list_names lists which)) ≤ most) → log_length lists ≤ length record_order * (most + 64)
+lists_length lists most small fits = omega (arith, blocks_length lists most small fits record_order)
 
 -- in a steady world the log that records what is owed can be read again
 module _ (start_up : Bool) (system : Name) (lists : Lists) (owed : Owed) (w : WorldState) (owes : IsOwedIn start_up system w lists owed) (steady : IsSteadyWorld start_up system w) where
@@ -272,10 +245,7 @@ module _ (start_up : Bool) (system : Name) (lists : Lists) (owed : Owed) (w : Wo
   among : (names : List Name) → IsStrictlySortedBy bytes_cmp names → ((unit : Name) → has names unit ≡ true → is_owed owed unit ≡ true) → length (list_text names) ≤ length (list_text union)
   among names sorted are = no_longer names union sorted (λ unit found. has_union owed unit ∙ are unit found)
 
-  pub log_fits : log_length (lists_of owed) ≤ leaf_max
+  pub log_fits : log_length owed.lists ≤ leaf_max
   log_fits =
       let room = steady.room union (union_here start_up system lists owed w owes) in
-      let starts = among owed.starts (owes.is_owed Start).sorted (start_among owed) in
-      let restarts = among owed.restarts (owes.is_owed Restart).sorted (restart_among owed) in
-      let reloads = among owed.reloads (owes.is_owed Reload).sorted (reload_among owed) in
-      omega (arith, room, lists_length (lists_of owed) (length (list_text union)) (omega (arith, room)) starts restarts reloads)
+      omega (arith, room, lists_length owed.lists (length (list_text union)) (omega (arith, room)) (λ which. among (list_names owed.lists which) (owes.is_owed (OnList which)).sorted (λ unit. listed_among owed unit which)))

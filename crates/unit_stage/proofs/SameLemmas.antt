@@ -9,16 +9,17 @@ use Rattle.host_trait.specs.World.{Leaves, WorldState, bytes_cmp, extended, seen
 use Rattle.host_trait.proofs.Places.{bytes_total}
 use Rattle.host_trait.proofs.Seen.{seen_at}
 use Rattle.log_text.specs.declared.lists.Which.{Which}
-use Rattle.log_text.specs.declared.lists.Which.TheVariants.{Starts, Restarts, Reloads}
+use Rattle.log_text.specs.declared.lists.Which.TheVariants.{Starts}
 use Rattle.log_text.specs.Lists.{block_of}
 use Rattle.log_text.specs.Log.{block_text}
 use Rattle.owed_log.specs.Places.{log_place}
 use Rattle.owed_log.specs.Writing.{clearing}
 use Rattle.owed_plan.specs.declared.duty.Duty.{Duty}
+use Rattle.owed_plan.specs.Calls.{give_order}
 use Rattle.switch_names.specs.Names.{Name}
 use Rattle.unit_stage.specs.Acts.{IsPerforming, performed, with_calls}
 use Rattle.unit_stage.specs.Owned.{owns_units}
-use Rattle.unit_stage.specs.Steps.{AreSameUnits, IsBringStep, IsClearingMoment, IsGiveMoment, IsListMoment, give_order, with_cleared, with_current, with_given, with_loaded}
+use Rattle.unit_stage.specs.Steps.{AreSameUnits, IsBringStep, IsClearingMoment, IsGiveMoment, IsListMoment, with_cleared, with_current, with_given, with_loaded}
 use Rattle.unit_stage.specs.System.{current_place, definitions_of, system_leaf}
 use Rattle.unit_stage.proofs.ElsewhereLemmas.{own_log}
 use Rattle.unit_stage.proofs.OwnedLemmas.{owned_not_stage}

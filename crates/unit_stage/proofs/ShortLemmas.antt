@@ -17,15 +17,14 @@ use Rattle.owed_log.specs.Writing.{IsPrepared, recorded}
 use Rattle.owed_log.proofs.LengthLemmas.{old_is, roomy_clear_law, roomy_record_law, short_record_law}
 use Rattle.owed_plan.specs.declared.duty.Duty.{Duty}
 use Rattle.owed_plan.specs.declared.owed.Owed.{Owed}
-use Rattle.owed_plan.specs.Calls.{listed_calls, stop_calls}
-use Rattle.owed_plan.specs.Law.{lists_of}
+use Rattle.owed_plan.specs.Calls.{give_order, listed_calls, stop_calls}
 use Rattle.owed_plan.specs.Store.{AreSameInStore}
 use Rattle.owed_plan.proofs.StoreLemmas.{leaf_same}
 use Rattle.switch_names.specs.Names.{Name, has, is_name}
 use Rattle.switch_parts.proofs.StoreLemmas.{store_not_stage}
 use Rattle.unit_stage.specs.Acts.{with_calls}
 use Rattle.unit_stage.specs.Laws.{AreSameBeside}
-use Rattle.unit_stage.specs.Steps.{IsBringStep, IsClearingMoment, IsGiveMoment, IsListMoment, IsStopStep, IsUnitMoment, give_order, with_cleared, with_current, with_given, with_loaded, with_stops}
+use Rattle.unit_stage.specs.Steps.{IsBringStep, IsClearingMoment, IsGiveMoment, IsListMoment, IsStopStep, IsUnitMoment, with_cleared, with_current, with_given, with_loaded, with_stops}
 use Rattle.unit_stage.proofs.ElsewhereLemmas.{bring_elsewhere, leaves_performing, lists_elsewhere, stop_elsewhere}
 use Rattle.unit_stage.proofs.ListsLemmas.{AreSameLists}
 use Rattle.unit_stage.proofs.OwnedLemmas.{not_owns_store, reads_store}
@@ -45,8 +44,11 @@ room_short more leaves room q there = elim (or_cases (is_name q log_place) (has 
 ]
 
 -- and has less room too
+room_at_most : (less more : ℕ) → less ≤ more → (leaves : Leaves) → HaveRoom more leaves → HaveRoom less leaves
+room_at_most less more within leaves room = record { log = let log = room.log in omega (arith, within, log); old = room.old }
+
 room_less : (more : ℕ) (leaves : Leaves) → HaveRoom (more + 16) leaves → HaveRoom more leaves
-room_less more leaves room = record { log = let log = room.log in omega (arith, log); old = room.old }
+room_less more = room_at_most more (more + 16) (omega arith)
 
 -- ---- trees with the same lists
 
@@ -120,15 +122,15 @@ module _ (calls : Which → List Duty) where
   bring_short system v u room (IsBringStep.Linked is) =
       subst (λ (y : WorldState). AreOwedShort y.leaves) (sym is) (short_same v.leaves (with_current system v).leaves (store_beside system v) (lists_beside system v) (room_short 64 v.leaves room))
   bring_short system v u room (IsBringStep.Giving moment) =
-      give_short give_order (with_loaded system v) u (room_less 48 (with_current system v).leaves (room_same v.leaves (with_current system v).leaves (store_beside system v) (lists_beside system v) 64 room)) moment
+      give_short give_order (with_loaded system v) u (room_at_most (room_of give_order) 64 (omega arith) (with_current system v).leaves (room_same v.leaves (with_current system v).leaves (store_beside system v) (lists_beside system v) 64 room)) moment
 
 -- ---- each moment
 
-pub unit_short : (system : Name) (owed : Owed) (order : List Name) (w m : WorldState) → log_length (lists_of owed) ≤ leaf_max → AreSameBeside w m → IsUnitMoment system owed order w m → AreOwedShort w.leaves → AreOwedShort m.leaves
+pub unit_short : (system : Name) (owed : Owed) (order : List Name) (w m : WorldState) → log_length owed.lists ≤ leaf_max → AreSameBeside w m → IsUnitMoment system owed order w m → AreOwedShort w.leaves → AreOwedShort m.leaves
 unit_short system owed order w m fits beside (IsUnitMoment.Stopping write is u step same) short =
     short_same u.leaves m.leaves
     (λ q inside. beside q (reads_store q inside) (not_owns_store q inside) ∙ sym (stop_elsewhere write (stop_calls owed) w u q (not_owns_store q inside) (store_not_stage q inside) step))
-    (same_lists_of u m same) (stop_short (lists_of owed) write w is.prepared fits short (stop_calls owed) u step)
+    (same_lists_of u m same) (stop_short owed.lists write w is.prepared fits short (stop_calls owed) u step)
 unit_short system owed order w m fits beside (IsUnitMoment.Bringing write is u step same) short =
     let calls = listed_calls owed order (state_of w.manager.states) in
     let v = with_stops write (stop_calls owed) w in
@@ -136,4 +138,4 @@ unit_short system owed order w m fits beside (IsUnitMoment.Bringing write is u s
     (λ q inside.
     beside q (reads_store q inside) (not_owns_store q inside)
     ∙ sym (bring_elsewhere q (not_owns_store q inside) calls system v u step ∙ lists_elsewhere write w q (not_owns_store q inside) (store_not_stage q inside)))
-    (same_lists_of u m same) (bring_short calls system v u (recorded_room (lists_of owed) write w is.prepared fits short) step)
+    (same_lists_of u m same) (bring_short calls system v u (recorded_room owed.lists write w is.prepared fits short) step)

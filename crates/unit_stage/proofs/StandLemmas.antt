@@ -15,7 +15,7 @@ use Rattle.log_text.specs.declared.lists.Lists.{Lists}
 use Rattle.log_text.specs.declared.lists.Which.{Which}
 use Rattle.log_text.specs.declared.lists.Which.TheVariants.{Starts, Restarts, Reloads}
 use Rattle.log_text.specs.Lists.{no_lists, with_list}
-use Rattle.owed_lists.specs.Lists.{place_of, reloads_place, restarts_place, starts_place}
+use Rattle.owed_lists.specs.Lists.{place_of}
 use Rattle.owed_log.specs.declared.log_write.LogWrite.{LogWrite}
 use Rattle.owed_log.specs.Laws.{AreAlone}
 use Rattle.owed_log.specs.Places.{log_place, old_places}
@@ -55,7 +55,7 @@ pub current_not_log : current_place ≢ log_place
 current_not_log same = both_ways _ current_log (subst (λ x. is_name current_place x ≡ true) same (name_itself current_place))
 
 current_list : (which : Which) → is_name current_place (place_of which) ≡ false
-unfolding current_place starts_place restarts_place reloads_place
+unfolding current_place place_of
 current_list Starts = refl
 current_list Restarts = refl
 current_list Reloads = refl
@@ -68,7 +68,7 @@ unfolding current_place log_place
 log_current = refl
 
 list_current : (which : Which) → eq_by_cmp bytes_cmp (place_of which) current_place ≡ false
-unfolding current_place starts_place restarts_place reloads_place
+unfolding current_place place_of
 list_current Starts = refl
 list_current Restarts = refl
 list_current Reloads = refl

@@ -10,7 +10,7 @@ use Rattle.host_trait.specs.World.{IsFileAt, Leaves, WorldState, file_bytes, see
 use Rattle.host_trait.proofs.Seen.{other_of, seen_at}
 use Rattle.host_trait.proofs.Sound.{get_other}
 use Rattle.log_text.specs.declared.lists.Which.{Which}
-use Rattle.log_text.specs.declared.lists.Which.TheVariants.{Starts, Restarts, Reloads}
+use Rattle.log_text.specs.declared.lists.Which.TheVariants.{Starts}
 use Rattle.log_text.specs.Lists.{block_of}
 use Rattle.log_text.specs.Log.{block_text}
 use Rattle.owed_log.specs.declared.log_write.LogWrite.{LogWrite}
@@ -18,11 +18,12 @@ use Rattle.owed_log.specs.Places.{log_place}
 use Rattle.owed_log.specs.Writing.{IsRecordMoment, clearing, recorded}
 use Rattle.owed_log.proofs.BesideLemmas.{cleared_seen, clearing_seen}
 use Rattle.owed_plan.specs.declared.duty.Duty.{Duty}
+use Rattle.owed_plan.specs.Calls.{give_order}
 use Rattle.switch_names.specs.Names.{Name}
 use Rattle.tree_put.specs.Put.{AreApart, IsOldOrNew}
 use Rattle.tree_put.proofs.PutLemmas.{apart_ne}
 use Rattle.unit_stage.specs.Acts.{CanPerform, IsPerforming, performed, with_calls}
-use Rattle.unit_stage.specs.Steps.{CanLoad, HasLogFor, IsBringMoment, IsBringStep, IsClearingMoment, IsGiveMoment, IsListMoment, IsLoadMoment, IsStopMoment, IsStopStep, give_order, with_all_given, with_brought, with_cleared, with_current, with_given, with_loaded}
+use Rattle.unit_stage.specs.Steps.{CanLoad, HasLogFor, IsBringMoment, IsBringStep, IsClearingMoment, IsGiveMoment, IsListMoment, IsLoadMoment, IsStopMoment, IsStopStep, with_all_given, with_brought, with_cleared, with_current, with_given, with_loaded}
 use Rattle.unit_stage.specs.System.{current_place, definitions_of, system_leaf}
 use Rattle.unit_stage.proofs.RecordLemmas.{more_file}
 

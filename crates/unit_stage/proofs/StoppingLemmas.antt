@@ -2,22 +2,21 @@
 use Rattle.std.proofs.Common.{◌≡◌, ◌⊎◌, ◌++◌, ℕ, true, false, List, map, take, if◌then◌else◌, sym, ap, subst, ◌∙◌, Bool, inl, inr}
 use Rattle.std.proofs.lemmas.Bool.{cases_Bool, false_from_ne_true}
 use Rattle.std.specs.List.{AllByRecursion}
-use Rattle.host_trait.specs.declared.entry.Act.{Act}
-use Rattle.host_trait.specs.declared.entry.Act.TheVariants.{Stop, Reload, Restart, Start}
+use Rattle.host_trait.specs.declared.entry.Act.TheVariants.{Stop}
 use Rattle.host_trait.specs.declared.entry.Entry.{Entry}
 use Rattle.host_trait.specs.declared.unit_state.State.{State}
 use Rattle.host_trait.specs.declared.unit_state.State.TheVariants.{Inactive}
 use Rattle.host_trait.specs.States.{state_of}
 use Rattle.host_trait.specs.World.{WorldState}
 use Rattle.log_text.specs.declared.lists.Lists.{Lists}
-use Rattle.log_text.specs.declared.lists.Which.TheVariants.{Starts, Restarts, Reloads}
 use Rattle.owed_log.specs.Lengths.{AreOwedShort}
 use Rattle.owed_plan.specs.Called as kinds
 use Rattle.owed_plan.specs.declared.owed.Owed.{Owed}
 use Rattle.owed_plan.specs.Calls.{duty}
 use Rattle.owed_plan.specs.FinalStates.{final_state}
 use Rattle.owed_plan.specs.Law.{AreStopped, IsRecorded, SameOwed}
-use Rattle.owed_plan.specs.Owed.{IsOwed, IsOwedAct, Stops, stop_order}
+use Rattle.owed_plan.specs.Lists.{Debt, OnList, ToStop}
+use Rattle.owed_plan.specs.Owed.{IsDue, IsOwed, Stops, stop_order}
 use Rattle.owed_plan.specs.Steady.{IsSteady}
 use Rattle.owed_plan.specs.Systems.{Systems, systems_at}
 use Rattle.owed_plan.proofs.CoreLemmas.{stops_active}
@@ -72,7 +71,7 @@ module _ (start_up : Bool) (system : Name) (lists : Lists) (owed : Owed) (w m : 
 
   taken_owed : (unit : Name) → has taken unit ≡ true → Stops both states lists unit
   taken_owed unit found =
-      ((owes.is_owed Stop).exact unit).0 (sym (has-sockets_first (λ u. (both.facts u).kind) owed.stops unit) ∙ has-take moment.count (stop_order both owed.stops) unit found)
+      ((owes.is_owed ToStop).exact unit).0 (sym (has-sockets_first (λ u. (both.facts u).kind) owed.stops unit) ∙ has-take moment.count (stop_order both owed.stops) unit found)
 
   untaken : (unit : Name) → has taken unit ≡ false → now unit ≡ states unit
   untaken unit other = moment.stopped unit ∙ ap (λ b. if b then Inactive else states unit) other
@@ -84,7 +83,7 @@ module _ (start_up : Bool) (system : Name) (lists : Lists) (owed : Owed) (w m : 
   by_kept P others listed holds = subst P (same_waiting start_up m.leaves system others moment.kept listed moment.listed) holds
 
   owes_then : (unit : Name) → kinds.OwesUnit both states lists unit → OwesUnit start_up system w unit
-  owes_then unit (act, owing) = (act, (lists, owes.listed, owing))
+  owes_then unit (debt, owing) = (debt, (lists, owes.listed, owing))
 
   end_now : (next : Owed) → IsOwedBy start_up system m next → (unit : Name) → state_after system next m unit ≡ state_after system owed w unit
   end_now next (others, is) unit =
@@ -99,37 +98,33 @@ module _ (start_up : Bool) (system : Name) (lists : Lists) (owed : Owed) (w m : 
   entered_owed : AllByRecursion (λ (entry : Entry). OwesUnit start_up system w entry.unit) entered
   entered_owed =
       all_entries (OwesUnit start_up system w) w.manager.loaded (map (duty Stop) taken)
-      (all_of (λ call. OwesUnit start_up system w call.unit) (λ u. Stop) taken (λ unit found. owes_then unit (Stop, taken_owed unit found)))
+      (all_of (λ call. OwesUnit start_up system w call.unit) (λ u. Stop) taken (λ unit found. owes_then unit (ToStop, taken_owed unit found)))
 
-  owes_still : (act : Act) (unit : Name) → IsOwedAct both now moment.kept act unit → Owes start_up system m act unit
-  owes_still act unit owing = (moment.kept, moment.listed, subst (λ (systems : Systems). IsOwedAct systems now moment.kept act unit) (sym moment.systems) owing)
+  owes_still : (debt : Debt) (unit : Name) → IsDue both now moment.kept debt unit → Owes start_up system m debt unit
+  owes_still debt unit owing = (moment.kept, moment.listed, subst (λ (systems : Systems). IsDue systems now moment.kept debt unit) (sym moment.systems) owing)
 
-  paid_or_owed_act : (act : Act) (unit : Name) → IsOwedAct both states lists act unit → IsPaid system act unit entered ⊎ Owes start_up system m act unit
-  paid_or_owed_act Stop unit owing =
+  paid_or_due : (debt : Debt) (unit : Name) → IsDue both states lists debt unit → IsPaid system debt unit entered ⊎ Owes start_up system m debt unit
+  paid_or_due ToStop unit owing =
       elim (cases_Bool (has taken unit)) [
         | inl found ↦ inl (stop_paid system w.manager.loaded unit taken found)
-        | inr other ↦ inr (owes_still Stop unit ((same.stops unit).1 (owing, untaken unit other ∙ stops_active both states lists unit owing)))
+        | inr other ↦ inr (owes_still ToStop unit ((same.stops unit).1 (owing, untaken unit other ∙ stops_active both states lists unit owing)))
       ]
-  paid_or_owed_act Reload unit owing = inr (owes_still Reload unit ((same.others Reloads unit).1 owing))
-  paid_or_owed_act Restart unit owing = inr (owes_still Restart unit ((same.others Restarts unit).1 owing))
-  paid_or_owed_act Start unit owing = inr (owes_still Start unit ((same.others Starts unit).1 owing))
+  paid_or_due (OnList which) unit owing = inr (owes_still (OnList which) unit ((same.others which unit).1 owing))
 
-  paid_or_owed : (act : Act) (unit : Name) → Owes start_up system w act unit → IsPaid system act unit entered ⊎ Owes start_up system m act unit
-  paid_or_owed act unit (others, listed, owing) = paid_or_owed_act act unit (by_first (λ (l : Lists). IsOwedAct both states l act unit) others listed owing)
+  paid_or_owed : (debt : Debt) (unit : Name) → Owes start_up system w debt unit → IsPaid system debt unit entered ⊎ Owes start_up system m debt unit
+  paid_or_owed debt unit (others, listed, owing) = paid_or_due debt unit (by_first (λ (l : Lists). IsDue both states l debt unit) others listed owing)
 
-  owed_before : (act : Act) (unit : Name) → IsOwedAct both now moment.kept act unit → IsOwedAct both states lists act unit
-  owed_before Stop unit owing = ((same.stops unit).0 owing).0
-  owed_before Reload unit owing = (same.others Reloads unit).0 owing
-  owed_before Restart unit owing = (same.others Restarts unit).0 owing
-  owed_before Start unit owing = (same.others Starts unit).0 owing
+  owed_before : (debt : Debt) (unit : Name) → IsDue both now moment.kept debt unit → IsDue both states lists debt unit
+  owed_before ToStop unit owing = ((same.stops unit).0 owing).0
+  owed_before (OnList which) unit owing = (same.others which unit).0 owing
 
   no_more_owed : (unit : Name) → OwesUnit start_up system m unit → OwesUnit start_up system w unit
-  no_more_owed unit (act, (others, listed, owing)) =
-      let kept = by_kept (λ (l : Lists). IsOwedAct (systems_of_world system m) now l act unit) others listed owing in
-      (act, (lists, owes.listed, owed_before act unit (subst (λ (systems : Systems). IsOwedAct systems now moment.kept act unit) moment.systems kept)))
+  no_more_owed unit (debt, (others, listed, owing)) =
+      let kept = by_kept (λ (l : Lists). IsDue (systems_of_world system m) now l debt unit) others listed owing in
+      (debt, (lists, owes.listed, owed_before debt unit (subst (λ (systems : Systems). IsDue systems now moment.kept debt unit) moment.systems kept)))
 
   others_kept : (unit : Name) → ¬ OwesUnit start_up system w unit → now unit ≡ states unit
-  others_kept unit none = untaken unit (false_from_ne_true (has taken unit) (λ found. none (owes_then unit (Stop, taken_owed unit found))))
+  others_kept unit none = untaken unit (false_from_ne_true (has taken unit) (λ found. none (owes_then unit (ToStop, taken_owed unit found))))
 
   are_marks : (others : Lists) → AreListsFor start_up m.leaves system others → IsSteady (systems_of_world system m) now others
   are_marks others listed =

@@ -1,7 +1,9 @@
 -- The states and the journal after all that is owed.
-use Rattle.std.proofs.Common.{◌≡◌, ◌&&◌, ◌||◌, Bool, true, false, not, ℕ, List, [], ◌++◌, map, if◌then◌else◌, refl, sym, ap, ◌∙◌}
-use Rattle.std.proofs.lemmas.List.{append_assoc}
-use Rattle.std.specs.List.{flat_map}
+use Rattle.std.proofs.Common.{◌≡◌, ◌&&◌, ◌||◌, Bool, true, false, ℕ, List, [], ◌++◌, ◌∷◌, map, if◌then◌else◌, refl, sym, ap, subst, ◌∙◌, inl, inr}
+use Rattle.std.proofs.lemmas.List.{append-nil, append_assoc}
+use Rattle.std.proofs.lemmas.List.Concat.{flat_map-append}
+use Rattle.std.proofs.Math.Bool.{or-false, or_assoc}
+use Rattle.std.specs.List.{AllByRecursion, flat_map, list_any}
 use Rattle.host_trait.specs.declared.entry.Act.{Act}
 use Rattle.host_trait.specs.declared.entry.Act.TheVariants.{Reload, Restart, Start}
 use Rattle.host_trait.specs.declared.entry.Bad.{Bad}
@@ -10,114 +12,98 @@ use Rattle.host_trait.specs.declared.unit_state.State.{State}
 use Rattle.host_trait.specs.declared.unit_state.State.TheVariants.{Active, Inactive, Failed}
 use Rattle.host_trait.specs.Manager.{is_active, is_bad, loading}
 use Rattle.host_trait.specs.States.{state_of}
+use Rattle.log_text.specs.declared.lists.Which.{Which}
+use Rattle.log_text.specs.declared.lists.Which.TheVariants.{Starts}
+use Rattle.log_text.specs.Lists.{list_names, with_list}
 use Rattle.owed_plan.specs.declared.duty.Duty.{Duty}
 use Rattle.owed_plan.specs.declared.owed.Owed.{Owed}
-use Rattle.owed_plan.specs.Calls.{listed_calls, reload_act, reload_calls, restart_calls, start_calls, stop_calls}
+use Rattle.owed_plan.specs.Calls.{act_on, give_order, listed_calls, stop_calls}
 use Rattle.owed_plan.specs.FinalStates.{brought_by, final_state}
+use Rattle.owed_plan.specs.Law.{stopped}
+use Rattle.owed_plan.specs.Lists.{is_listed, is_renewed, renews}
 use Rattle.owed_plan.specs.Owed.{sockets_first}
+use Rattle.owed_plan.proofs.FinalLemmas.{final_by, final_of}
 use Rattle.owed_plan.proofs.NameLemmas.{has-sockets_first}
 use Rattle.switch_names.specs.Names.{Name, has}
 use Rattle.unit_stage.specs.Acts.{CanPerform, entry_of, performed}
 use Rattle.unit_stage.specs.Order.{ArrangesStarts}
-use Rattle.unit_stage.specs.Steps.{give_order}
-use Rattle.unit_stage.proofs.ActLemmas.{after_stops, brought_from, brought_to, can_act, can_restart, can_start, can_stop}
+use Rattle.unit_stage.proofs.ActLemmas.{after_stops, brought_from, brought_to, can_act, can_stop}
 use Rattle.unit_stage.proofs.CallLemmas.{can-append, entered, performed-append, same_bad, same_loaded}
+use Rattle.unit_stage.proofs.ListCallLemmas.{CanFollow, IsActBy, act_by, any_given, can_follow, in_any_order}
 use Rattle.unit_decide.specs.Facts.{unit_kind}
 
--- the state after a stop, where there is one
-abbrev after_stop : Bool → State → State
-after_stop stops was = if stops then Inactive else was
+-- ---- one unit, and the calls of one list more
 
--- the state after a reload, or the start in its place
-abbrev after_reload : Bool → Bool → State → State → State
-after_reload reloads stops to was = if reloads then if is_active was && not stops then Active else to else after_stop stops was
+-- a restart brings a unit up anew, a start brings up one that isn't, and a reload leaves one that is
+given_more : (renewing on : Bool) (act : Act) (loaded : List ℕ) (bad : List Bad) (unit : Name) (was : State) → IsActBy renewing was act → (renewed listed : Bool) →
+    (if on then brought_from act loaded bad unit (final_of renewed listed was (brought_by loaded bad unit)) else final_of renewed listed was (brought_by loaded bad unit))
+    ≡ final_of (renewed || renewing && on) (listed || on) was (brought_by loaded bad unit)
+given_more true true act loaded bad unit was is renewed listed =
+    ap (λ a. brought_from a loaded bad unit (final_of renewed listed was (brought_by loaded bad unit))) is ∙ anew renewed
+  where
+    anew : (renewed : Bool) → brought_by loaded bad unit ≡ final_of (renewed || true) (listed || true) was (brought_by loaded bad unit)
+    anew true = refl
+    anew false = refl
+given_more false true act loaded bad unit was (inl start) renewed listed =
+    ap (λ a. brought_from a loaded bad unit (final_of renewed listed was (brought_by loaded bad unit))) start ∙ started (is_bad bad loaded unit) renewed listed was
+  where
+    started : (is renewed listed : Bool) (was : State) →
+        (
+        if is_active (final_of renewed listed was (if is then Failed else Active)) then Active
+        else if is then Failed else Active)
+        ≡ final_of (renewed || false) (listed || true) was (if is then Failed else Active)
+    started true true listed was = refl
+    started false true listed was = refl
+    started true false true Active = refl
+    started true false true Inactive = refl
+    started true false true Failed = refl
+    started false false true Active = refl
+    started false false true Inactive = refl
+    started false false true Failed = refl
+    started true false false Active = refl
+    started true false false Inactive = refl
+    started true false false Failed = refl
+    started false false false Active = refl
+    started false false false Inactive = refl
+    started false false false Failed = refl
+given_more false true act loaded bad unit was (inr reload) renewed listed =
+    ap (λ a. brought_from a loaded bad unit (final_of renewed listed was (brought_by loaded bad unit))) reload.0 ∙ left (brought_by loaded bad unit) renewed listed was reload.1
+  where
+    left : (to : State) (renewed listed : Bool) (was : State) → was ≡ Active → final_of renewed listed was to ≡ final_of (renewed || false) (listed || true) was to
+    left to true listed was up = refl
+    left to false true was up = refl
+    left to false false Active up = refl
+    left to false false Inactive up = absurd cc
+    left to false false Failed up = absurd cc
+given_more true false act loaded bad unit was is renewed listed = λ i. final_of (sym (or-false renewed) i) (sym (or-false listed) i) was (brought_by loaded bad unit)
+given_more false false act loaded bad unit was is renewed listed = λ i. final_of (sym (or-false renewed) i) (sym (or-false listed) i) was (brought_by loaded bad unit)
 
--- what is told to reload is active, and stays so; what is started in its place isn't
-reloaded : (stops : Bool) (to was : State) (loaded : List ℕ) (bad : List Bad) (unit : Name) → to ≡ brought_by loaded bad unit →
-    brought_from (if is_active was && not stops then Reload else Start) loaded bad unit (after_stop stops was) ≡ (if is_active was && not stops then Active else to)
-reloaded true to Active loaded bad unit is = sym is
-reloaded true to Inactive loaded bad unit is = sym is
-reloaded true to Failed loaded bad unit is = sym is
-reloaded false to Active loaded bad unit is = refl
-reloaded false to Inactive loaded bad unit is = sym is
-reloaded false to Failed loaded bad unit is = sym is
+-- what is up after the stops is so still, until units are brought up anew
+still_up : (listed : Bool) (was to : State) → was ≡ Active → final_of false listed was to ≡ Active
+still_up true Active to up = refl
+still_up true Inactive to up = absurd cc
+still_up true Failed to up = absurd cc
+still_up false was to up = up
 
--- a unit that is told to reload is active
-still_active : (stops : Bool) (was : State) → (if is_active was && not stops then Reload else Start) ≡ Reload → after_stop stops was ≡ Active
-still_active false Active is = refl
-still_active false Inactive is = absurd cc
-still_active false Failed is = absurd cc
-still_active true Active is = absurd cc
-still_active true Inactive is = absurd cc
-still_active true Failed is = absurd cc
+-- no list among these that brings units up anew
+none_renewed : (on : Which → Bool) (done : List Which) → AllByRecursion (λ which. renews which ≡ false) done → list_any (λ which. renews which && on which) done ≡ false
+none_renewed on [] none = refl
+none_renewed on (which ∷ done) none = ap (λ b. b && on which || list_any (λ one. renews one && on one) done) none.0 ∙ none_renewed on done none.1
 
--- the state after a start, where there is one
-abbrev after_start : Bool → State → State → State
-after_start starts to was = if starts then if is_active was then Active else to else was
-
--- a start leaves a unit that stays active or has been started as it is
-started_still : (active is : Bool) →
-    after_start true (if is then Failed else Active) (if active then Active else if is then Failed else Active) ≡ (if active then Active else if is then Failed else Active)
-started_still true is = refl
-started_still false true = refl
-started_still false false = refl
-
--- the table of the states after all that is owed
-table : (restarts reloads starts stops is : Bool) (was : State) →
-    after_start starts (if is then Failed else Active) (if restarts then if is then Failed else Active else after_reload reloads stops (if is then Failed else Active) was)
-    ≡ (
-    if restarts then if is then Failed else Active
-    else if (starts || reloads) && is_active was && not stops then Active
-    else if starts || reloads then if is then Failed else Active
-    else if stops then Inactive
-    else was)
-table true reloads false stops is was = refl
-table true reloads true stops true was = refl
-table true reloads true stops false was = refl
-table false true false stops is was = refl
-table false false false stops is was = refl
-table false true true stops is was = started_still (is_active was && not stops) is
-table false false true true is Active = refl
-table false false true true is Inactive = refl
-table false false true true is Failed = refl
-table false false true false is Active = refl
-table false false true false is Inactive = refl
-table false false true false is Failed = refl
+-- ---- the stops
 
 module _ (owed : Owed) (manager : ManagerState) where
   pub can_stops : CanPerform (stop_calls owed) manager
   can_stops = can_stop (sockets_first unit_kind owed.stops) manager
 
-  pub can_restarts : CanPerform (restart_calls owed) manager
-  can_restarts = can_restart owed.restarts manager
-
   -- the stops leave their units inactive
-  pub after_all_stops : (unit : Name) → state_of (performed (stop_calls owed) manager).states unit ≡ (if has owed.stops unit then Inactive else state_of manager.states unit)
+  pub after_all_stops : (unit : Name) → state_of (performed (stop_calls owed) manager).states unit ≡ stopped owed.stops (state_of manager.states) unit
   after_all_stops unit =
       after_stops (sockets_first unit_kind owed.stops) manager unit
-      ∙ ap (λ b. after_stop b (state_of manager.states unit)) (has-sockets_first unit_kind owed.stops unit)
+      ∙ ap (λ b. if b then Inactive else state_of manager.states unit) (has-sockets_first unit_kind owed.stops unit)
 
-  module _ (states : Name → State) where
-    abbrev reload_of : Name → Act
-    reload_of unit = reload_act states owed.stops unit
+-- ---- all that is owed: the stops, and, with the definitions loaded, the calls of each list
 
-    -- the reloads can be made after the stops
-    pub can_reloads : ((unit : Name) → state_of manager.states unit ≡ (if has owed.stops unit then Inactive else states unit)) → CanPerform (reload_calls owed states) manager
-    can_reloads stopped = can_act reload_of owed.reloads manager (λ unit reload. stopped unit ∙ still_active (has owed.stops unit) (states unit) reload)
-
-    -- what is told to reload stays active, and what is started in its place becomes so or fails
-    pub after_reloads : (unit : Name) → state_of manager.states unit ≡ (if has owed.stops unit then Inactive else states unit) →
-        state_of (performed (reload_calls owed states) manager).states unit
-        ≡ (
-        if has owed.reloads unit then if is_active (states unit) && not (has owed.stops unit) then Active else brought_by manager.loaded manager.bad unit
-        else if has owed.stops unit then Inactive
-        else states unit)
-    after_reloads unit stopped =
-        brought_to reload_of owed.reloads manager manager.loaded manager.bad unit (after_stop (has owed.stops unit) (states unit)) refl refl stopped
-        ∙ ap (λ state. if has owed.reloads unit then state else after_stop (has owed.stops unit) (states unit))
-        (reloaded (has owed.stops unit) (brought_by manager.loaded manager.bad unit) (states unit) manager.loaded manager.bad unit refl)
-
--- a manager after all that is owed: the stops, and, with the definitions loaded, the calls of each list
 module _ (owed : Owed) (text : List ℕ) (before : ManagerState) where
   abbrev states : Name → State
   states = state_of before.states
@@ -125,46 +111,15 @@ module _ (owed : Owed) (text : List ℕ) (before : ManagerState) where
   abbrev pub ready : ManagerState
   ready = loading text (performed (stop_calls owed) before)
 
-  abbrev reloaded_all : ManagerState
-  reloaded_all = performed (reload_calls owed states) ready
-
-  abbrev restarted_all : ManagerState
-  restarted_all = performed (restart_calls owed) reloaded_all
-
   module _ (order : List Name) where
+    abbrev listed : Which → List Duty
+    listed = listed_calls owed order states
+
     abbrev pub calls : List Duty
-    calls = flat_map (listed_calls owed order states) give_order
+    calls = flat_map listed give_order
 
     abbrev pub given_all : ManagerState
     given_all = performed calls ready
-
-    abbrev started_all : ManagerState
-    started_all = performed (start_calls order) restarted_all
-
-    -- one list after the other
-    in_order : given_all ≡ started_all
-    in_order =
-        performed-append (reload_calls owed states) (restart_calls owed ++ (start_calls order ++ [])) ready ∙ performed-append (restart_calls owed) (start_calls order ++ []) reloaded_all
-        ∙ performed-append (start_calls order) [] restarted_all
-
-    -- each unit is in the state of the table
-    pub final_states : ArrangesStarts owed order → (unit : Name) → state_of given_all.states unit ≡ final_state owed text before.bad states unit
-    final_states arranges unit =
-        let stops = has owed.stops unit in
-        let to = brought_by text before.bad unit in
-        let bad_ready = same_bad (stop_calls owed) before in
-        let bad_reloaded = same_bad (reload_calls owed states) ready ∙ bad_ready in
-        let loaded_reloaded = same_loaded (reload_calls owed states) ready in
-        let bad_restarted = same_bad (restart_calls owed) reloaded_all ∙ bad_reloaded in
-        let loaded_restarted = same_loaded (restart_calls owed) reloaded_all ∙ loaded_reloaded in
-        let reloads : state_of reloaded_all.states unit ≡ after_reload (has owed.reloads unit) stops to (states unit) =
-        after_reloads owed ready states unit (after_all_stops owed before unit)
-        ∙ ap (λ bad. after_reload (has owed.reloads unit) stops (brought_by text bad unit) (states unit)) bad_ready in
-        let restarts = brought_to (λ u. Restart) owed.restarts reloaded_all text before.bad unit (after_reload (has owed.reloads unit) stops to (states unit)) loaded_reloaded bad_reloaded reloads in
-        let before_starts = if has owed.restarts unit then to else after_reload (has owed.reloads unit) stops to (states unit) in
-        ap (λ (m : ManagerState). state_of m.states unit) in_order ∙ brought_to (λ u. Start) order restarted_all text before.bad unit before_starts loaded_restarted bad_restarted restarts
-        ∙ ap (λ b. after_start b to before_starts) (arranges unit)
-        ∙ table (has owed.restarts unit) (has owed.reloads unit) (has owed.starts unit) stops (is_bad before.bad text unit) (states unit)
 
     -- each stop is entered with what was loaded before, and each other call with what is loaded now
     pub all_entered : given_all.journal ≡ before.journal ++ (map (entry_of before.loaded) (stop_calls owed) ++ map (entry_of text) calls)
@@ -172,9 +127,74 @@ module _ (owed : Owed) (text : List ℕ) (before : ManagerState) where
         entered calls ready ∙ ap (λ entries. entries ++ map (entry_of text) calls) (entered (stop_calls owed) before)
         ∙ append_assoc before.journal (map (entry_of before.loaded) (stop_calls owed)) (map (entry_of text) calls)
 
-    -- the calls after the stops can be made
-    pub can_rest : CanPerform calls ready
-    can_rest =
-        can-append (reload_calls owed states) (restart_calls owed ++ (start_calls order ++ [])) ready (can_reloads owed ready states (λ unit. after_all_stops owed before unit))
-        (can-append (restart_calls owed) (start_calls order ++ []) reloaded_all (can_restarts owed reloaded_all)
-        (can-append (start_calls order) [] restarted_all (can_start order restarted_all) tt))
+    module _ (arranges : ArrangesStarts owed order) where
+      module _ (unit : Name) where
+        abbrev was : State
+        was = stopped owed.stops states unit
+
+        abbrev to : State
+        to = brought_by text before.bad unit
+
+        abbrev on : Which → Bool
+        on which = has (list_names owed.lists which) unit
+
+        abbrev renewed : List Which → Bool
+        renewed done = list_any (λ which. renews which && on which) done
+
+        abbrev found : List Which → Bool
+        found done = list_any on done
+
+        -- the calls of one list more
+        one_more : (which : Which) (made : List Duty) (is_renewed is_found : Bool) → state_of (performed made ready).states unit ≡ final_of is_renewed is_found was to →
+            state_of (performed (made ++ listed which) ready).states unit ≡ final_of (is_renewed || renews which && on which) (is_found || on which) was to
+        one_more which made is_renewed is_found so_far =
+            ap (λ (m : ManagerState). state_of m.states unit) (performed-append made (listed which) ready)
+            ∙ brought_to (act_on which states owed.stops) (list_names (with_list owed.lists Starts order) which) (performed made ready) text before.bad unit (final_of is_renewed is_found was to)
+            (same_loaded made ready) (same_bad made ready ∙ same_bad (stop_calls owed) before) so_far
+            ∙ ap (λ b. if b then brought_from (act_on which states owed.stops unit) text before.bad unit (final_of is_renewed is_found was to) else final_of is_renewed is_found was to)
+            (in_any_order owed order arranges which unit)
+            ∙ given_more (renews which) (on which) (act_on which states owed.stops unit) text before.bad unit was (act_by which states owed.stops unit) is_renewed is_found
+
+        all_more : (left : List Which) (made : List Duty) (is_renewed is_found : Bool) → state_of (performed made ready).states unit ≡ final_of is_renewed is_found was to →
+            state_of (performed (made ++ flat_map listed left) ready).states unit ≡ final_of (is_renewed || renewed left) (is_found || found left) was to
+        all_more [] made is_renewed is_found so_far =
+            ap (λ cs. state_of (performed cs ready).states unit) (append-nil made) ∙ so_far ∙ (λ i. final_of (sym (or-false is_renewed) i) (sym (or-false is_found) i) was to)
+        all_more (which ∷ left) made is_renewed is_found so_far =
+            ap (λ cs. state_of (performed cs ready).states unit) (sym (append_assoc made (listed which) (flat_map listed left)))
+            ∙ all_more left (made ++ listed which) (is_renewed || renews which && on which) (is_found || on which) (one_more which made is_renewed is_found so_far)
+            ∙ (λ i. final_of (or_assoc is_renewed (renews which && on which) (renewed left) i) (or_assoc is_found (on which) (found left) i) was to)
+
+        -- after the calls of some lists
+        after_lists : (done : List Which) → state_of (performed (flat_map listed done) ready).states unit ≡ final_of (renewed done) (found done) was to
+        after_lists done = all_more done [] false false (after_all_stops owed before unit)
+
+        -- each unit is in the state of the table
+        pub final_states : state_of given_all.states unit ≡ final_state owed text before.bad states unit
+        final_states =
+            after_lists give_order ∙ (λ i. final_of (any_given (λ which. renews which && on which) i) (any_given on i) was to)
+            ∙ sym (final_by (is_renewed owed.lists unit) (is_listed owed.lists unit) (has owed.stops unit) (states unit) to)
+
+      -- the calls of the lists that are left can be made
+      can_left : (done left : List Which) → CanFollow states owed.stops done left → CanPerform (flat_map listed left) (performed (flat_map listed done) ready)
+      can_left done [] can = tt
+      can_left done (which ∷ left) can =
+          can-append (listed which) (flat_map listed left) (performed (flat_map listed done) ready)
+          (can_act (act_on which states owed.stops) (list_names (with_list owed.lists Starts order) which) (performed (flat_map listed done) ready) up)
+          (subst (CanPerform (flat_map listed left)) (ap (λ cs. performed cs ready) joined ∙ performed-append (flat_map listed done) (listed which) ready) (can_left (done ++ which ∷ []) left can.1))
+        where
+          joined : flat_map listed (done ++ which ∷ []) ≡ flat_map listed done ++ listed which
+          joined = flat_map-append listed done (which ∷ []) ∙ ap (λ cs. flat_map listed done ++ cs) (append-nil (listed which))
+
+          up : (unit : Name) → act_on which states owed.stops unit ≡ Reload → state_of (performed (flat_map listed done) ready).states unit ≡ Active
+          up unit reload =
+              after_lists unit done ∙ ap (λ b. final_of b (found unit done) (was unit) (to unit)) (none_renewed (on unit) done (can.0 unit reload))
+              ∙ still_up (found unit done) (was unit) (to unit) (up_before (renews which) (act_on which states owed.stops unit) (act_by which states owed.stops unit) reload)
+            where
+              up_before : (renewing : Bool) (act : Act) → IsActBy renewing (was unit) act → act ≡ Reload → was unit ≡ Active
+              up_before true act restart reload = absurd (let same : Restart ≡ Reload = sym restart ∙ reload in cc same)
+              up_before false act (inl start) reload = absurd (let same : Start ≡ Reload = sym start ∙ reload in cc same)
+              up_before false act (inr is) reload = is.1
+
+      -- the calls after the stops can be made
+      pub can_rest : CanPerform calls ready
+      can_rest = can_left [] give_order (can_follow states owed.stops)

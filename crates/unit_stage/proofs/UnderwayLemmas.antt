@@ -1,25 +1,21 @@
 -- While the calls after the stops are made, a switch of the units is underway.
-use Rattle.std.proofs.Common.{◌≡◌, ◌⊎◌, ◌++◌, Bool, false, List, Some, refl, sym, ap, subst, ◌∙◌, inl, inr}
+use Rattle.std.proofs.Common.{◌≡◌, ◌⊎◌, ◌++◌, Bool, List, Some, sym, ap, subst, ◌∙◌, inl, inr}
 use Rattle.std.specs.List.{flat_map}
-use Rattle.host_trait.specs.declared.entry.Act.{Act}
-use Rattle.host_trait.specs.declared.entry.Act.TheVariants.{Stop, Reload, Restart, Start}
 use Rattle.host_trait.specs.declared.entry.Entry.{Entry}
 use Rattle.host_trait.specs.declared.unit_state.State.{State}
 use Rattle.host_trait.specs.States.{state_of}
 use Rattle.host_trait.specs.World.{WorldState}
 use Rattle.log_text.specs.declared.lists.Lists.{Lists}
-use Rattle.log_text.specs.declared.lists.Which.{Which}
-use Rattle.log_text.specs.declared.lists.Which.TheVariants.{Starts, Restarts, Reloads}
 use Rattle.owed_log.specs.Lengths.{AreOwedShort}
 use Rattle.owed_plan.specs.Called.{AreCalled, IsOnTheWay}
 use Rattle.owed_plan.specs.Called as kinds
 use Rattle.owed_plan.specs.declared.duty.Duty.{Duty}
 use Rattle.owed_plan.specs.declared.owed.Owed.{Owed}
-use Rattle.owed_plan.specs.Calls.{listed_calls}
+use Rattle.owed_plan.specs.Calls.{give_order, listed_calls}
 use Rattle.owed_plan.specs.FinalStates.{brought_by, final_state}
 use Rattle.owed_plan.specs.Law.{stopped}
-use Rattle.owed_plan.specs.Lists.{act_of}
-use Rattle.owed_plan.specs.Owed.{IsOwed, IsOwedAct}
+use Rattle.owed_plan.specs.Lists.{Debt, OnList, ToStop}
+use Rattle.owed_plan.specs.Owed.{IsDue, IsOwed}
 use Rattle.owed_plan.specs.Steady.{IsSteady}
 use Rattle.owed_plan.specs.Systems.{Systems, Texts, systems_at, systems_of, text_at}
 use Rattle.owed_plan.proofs.CalledLemmas.{after_link_law}
@@ -28,9 +24,8 @@ use Rattle.switch_names.specs.Names.{Name}
 use Rattle.unit_defs.specs.Units.{text_of, wanted_of}
 use Rattle.unit_stage.specs.End.{entries_by, state_after}
 use Rattle.unit_stage.specs.Order.{ArrangesStarts}
-use Rattle.unit_stage.specs.Owes.{IsPaid, IsSteadyWorld, Owes, OwesUnit, is_stop}
+use Rattle.unit_stage.specs.Owes.{IsPaid, IsSteadyWorld, Owes, OwesUnit}
 use Rattle.unit_stage.specs.Plan.{IsOwedBy, IsOwedIn}
-use Rattle.unit_stage.specs.Steps.{give_order}
 use Rattle.unit_stage.specs.System.{current_system, definitions_of}
 use Rattle.unit_stage.specs.Units.{AreUnitsFree, AreUnitsUnderway}
 use Rattle.unit_stage.specs.Waiting.{AreListsFor}
@@ -88,14 +83,14 @@ module _ (start_up : Bool) (system : Name) (first_lists : Lists) (owed : Owed) (
   by_kept P lists listed holds = subst P (same_waiting start_up m.leaves system lists moment.kept listed moment.listed) holds
 
   owes_now : (unit : Name) → OwesUnit start_up system m unit → kinds.OwesUnit after now moment.kept unit
-  owes_now unit (act, (lists, listed, owing)) = (
-    act,
-    subst (λ (systems : Systems). IsOwedAct systems now moment.kept act unit) moment.systems
-        (by_kept (λ (l : Lists). IsOwedAct at_moment now l act unit) lists listed owing),
+  owes_now unit (debt, (lists, listed, owing)) = (
+    debt,
+    subst (λ (systems : Systems). IsDue systems now moment.kept debt unit) moment.systems
+        (by_kept (λ (l : Lists). IsDue at_moment now l debt unit) lists listed owing),
   )
 
   owes_then : (unit : Name) → kinds.OwesUnit before states first_lists unit → OwesUnit start_up system w unit
-  owes_then unit (act, owing) = (act, (first_lists, owes.listed, owing))
+  owes_then unit (debt, owing) = (debt, (first_lists, owes.listed, owing))
 
   -- the end is the same
   end_now : (next : Owed) → IsOwedBy start_up system m next → (unit : Name) → state_after system next m unit ≡ state_after system owed w unit
@@ -108,24 +103,20 @@ module _ (start_up : Bool) (system : Name) (first_lists : Lists) (owed : Owed) (
   abbrev entered : List Entry
   entered = entries_by system owed w moment.made
 
-  owes_still : (act : Act) (unit : Name) → IsOwedAct after now moment.kept act unit → Owes start_up system m act unit
-  owes_still act unit owing = (moment.kept, moment.listed, subst (λ (systems : Systems). IsOwedAct systems now moment.kept act unit) (sym moment.systems) owing)
+  owes_still : (debt : Debt) (unit : Name) → IsDue after now moment.kept debt unit → Owes start_up system m debt unit
+  owes_still debt unit owing = (moment.kept, moment.listed, subst (λ (systems : Systems). IsDue systems now moment.kept debt unit) (sym moment.systems) owing)
 
-  paid_or_left : (which : Which) (unit : Name) → is_stop (act_of which) ≡ false → IsOwedAct before states first_lists (act_of which) unit → IsPaid system (act_of which) unit entered ⊎ Owes start_up system m (act_of which) unit
-  paid_or_left which unit other owing =
+  paid_or_due : (debt : Debt) (unit : Name) → IsDue before states first_lists debt unit → IsPaid system debt unit entered ⊎ Owes start_up system m debt unit
+  paid_or_due ToStop unit owing =
+      inl (paid_by_stop start_up system first_lists owed order arranges w owes moment.made moment.rest moment.prefix unit (((owes.is_owed ToStop).exact unit).1 owing))
+  paid_or_due (OnList which) unit owing =
       elim (way.owed_yet which unit owing) [
-        | inl paid ↦ inl (paid_by_call start_up system first_lists owed order arranges w owes moment.made moment.rest moment.prefix (act_of which) unit other paid)
-        | inr still ↦ inr (owes_still (act_of which) unit still)
+        | inl paid ↦ inl (paid_by_call start_up system first_lists owed order arranges w owes moment.made moment.rest moment.prefix which unit paid)
+        | inr still ↦ inr (owes_still (OnList which) unit still)
       ]
 
-  paid_or_owed_act : (act : Act) (unit : Name) → IsOwedAct before states first_lists act unit → IsPaid system act unit entered ⊎ Owes start_up system m act unit
-  paid_or_owed_act Stop unit owing = inl (paid_by_stop start_up system first_lists owed order arranges w owes moment.made moment.rest moment.prefix unit (((owes.is_owed Stop).exact unit).1 owing))
-  paid_or_owed_act Reload unit owing = paid_or_left Reloads unit refl owing
-  paid_or_owed_act Restart unit owing = paid_or_left Restarts unit refl owing
-  paid_or_owed_act Start unit owing = paid_or_left Starts unit refl owing
-
-  paid_or_owed : (act : Act) (unit : Name) → Owes start_up system w act unit → IsPaid system act unit entered ⊎ Owes start_up system m act unit
-  paid_or_owed act unit (lists, listed, owing) = paid_or_owed_act act unit (by_first (λ (l : Lists). IsOwedAct before states l act unit) lists listed owing)
+  paid_or_owed : (debt : Debt) (unit : Name) → Owes start_up system w debt unit → IsPaid system debt unit entered ⊎ Owes start_up system m debt unit
+  paid_or_owed debt unit (lists, listed, owing) = paid_or_due debt unit (by_first (λ (l : Lists). IsDue before states l debt unit) lists listed owing)
 
   are_marks : (lists : Lists) → AreListsFor start_up m.leaves system lists → IsSteady at_moment now lists
   are_marks lists listed =

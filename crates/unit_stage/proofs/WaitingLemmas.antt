@@ -2,13 +2,13 @@
 use Rattle.std.proofs.Common.{◌≡◌, ◌≢◌, ◌&&◌, ◌||◌, ◌∷◌, Bool, true, false, cond, IsTrue, List, Option, is_some, refl, sym, ap, subst, ◌∙◌, inl, inr, ⊎_elim}
 use Rattle.std.proofs.lemmas.Bool.{and_parts, both_ways, cases_Bool, or_cases, or_left, or_right}
 use Rattle.std.specs.List.Sorted.{IsStrictlySortedBy}
-use Rattle.host_trait.specs.declared.entry.Act.TheVariants.{Start}
+use Rattle.host_trait.specs.States.{state_of}
 use Rattle.host_trait.specs.World.{Leaves, WorldState, bytes_cmp}
 use Rattle.host_trait.proofs.NameOrder.{name_exact}
 use Rattle.log_text.specs.declared.lists.Lists.{Lists}
 use Rattle.log_text.specs.declared.lists.Which.{Which}
-use Rattle.log_text.specs.declared.lists.Which.TheVariants.{Starts, Restarts, Reloads}
-use Rattle.log_text.specs.Lists.{list_names}
+use Rattle.log_text.specs.declared.lists.Which.TheVariants.{Starts}
+use Rattle.log_text.specs.Lists.{list_names, with_list}
 use Rattle.log_text.proofs.WhichLemmas.{same_by_names}
 use Rattle.owed_lists.proofs.ListLemmas.{one_list}
 use Rattle.owed_lists.proofs.OrderLemmas.{has_ordered, ordered, ordered_sorted}
@@ -17,8 +17,10 @@ use Rattle.owed_log.proofs.ListLemmas.{one_lists, some_lists, starts_sorted}
 use Rattle.owed_plan.specs.declared.owed.Owed.{Owed}
 use Rattle.owed_plan.specs.Called.{IsLeftOf}
 use Rattle.owed_plan.specs.Collected.{IsListBy}
-use Rattle.owed_plan.specs.Owed as kinds
+use Rattle.owed_plan.specs.Lists.{OnList}
 use Rattle.owed_plan.specs.Systems.{Systems, systems_at}
+use Rattle.owed_plan.proofs.CoreLemmas.{owed_listed}
+use Rattle.owed_plan.proofs.KindLemmas.{starts_or_other}
 use Rattle.switch_names.specs.Names as names
 use Rattle.switch_names.specs.Names.{Name, has, is_name}
 use Rattle.switch_names.specs.UnitKind.{kind_of}
@@ -27,8 +29,10 @@ use Rattle.unit_defs.specs.declared.unit.Unit.{Unit}
 use Rattle.unit_defs.specs.Defs.{AreDefsOf, found_in}
 use Rattle.unit_defs.specs.Units.{text_of}
 use Rattle.unit_text.specs.declared.assignment.Assignment.{Assignment}
+use Rattle.owed_plan.proofs.TableLemmas.{other_names}
 use Rattle.unit_stage.specs.Known.{AreTaken}
 use Rattle.unit_stage.specs.Plan.{IsOwedIn}
+use Rattle.unit_stage.specs.System.{current_system}
 use Rattle.unit_stage.specs.Waiting.{AreListsFor, start_up_target, waits_besides}
 
 -- ---- a world has one set of lists
@@ -41,19 +45,11 @@ same_by one other test is also = one_list one other _ (by_test one test is) (by_
 
 -- what holds of the units to start and of each other list holds of each
 by_start : (P : Which → Type 0) → P Starts → ((which : Which) → which ≢ Starts → P which) → (which : Which) → P which
-by_start P first others Starts = first
-by_start P first others Restarts = others Restarts (λ same. absurd cc)
-by_start P first others Reloads = others Reloads (λ same. absurd cc)
-
--- some lists with these units to start
-abbrev pub with_starts : List Name → Lists → Lists
-with_starts starts lists = record { starts = starts; restarts = lists.restarts; reloads = lists.reloads }
-
--- the other lists stay
-pub others_stay : (starts : List Name) (lists : Lists) (which : Which) → which ≢ Starts → list_names (with_starts starts lists) which ≡ list_names lists which
-others_stay starts lists Starts no_start = absurd (no_start refl)
-others_stay starts lists Restarts no_start = refl
-others_stay starts lists Reloads no_start = refl
+by_start P first others which =
+    elim (starts_or_other which) [
+      | inl starts ↦ subst P (sym starts) first
+      | inr other ↦ others which other
+    ]
 
 pub same_waiting : (start_up : Bool) (leaves : Leaves) (system : Name) (one other : Lists) → AreListsFor start_up leaves system one → AreListsFor start_up leaves system other → one ≡ other
 same_waiting start_up leaves system one other is also =
@@ -102,12 +98,12 @@ module _ (start_up : Bool) (leaves : Leaves) (system : Name) (list : List Name) 
 pub waiting_in : (start_up : Bool) (leaves : Leaves) (system : Name) → (lists : Lists) × AreListsFor start_up leaves system lists
 waiting_in start_up leaves system =
     let stored = some_lists leaves in (
-      with_starts (joined start_up leaves system stored.0.starts) stored.0,
+      with_list stored.0 Starts (joined start_up leaves system stored.0.starts),
       record {
         stored = stored.0;
         standing = stored.1;
         starts = joined_list start_up leaves system stored.0.starts;
-        others = others_stay (joined start_up leaves system stored.0.starts) stored.0;
+        others = other_names stored.0 (joined start_up leaves system stored.0.starts);
       },
     )
 
@@ -123,10 +119,10 @@ besides_parts start_up leaves system unit is =
     (and_parts (is_name unit start_up_target) (is_some (text_of leaves system unit)) (and_parts start_up (is_name unit start_up_target && is_some (text_of leaves system unit)) is).1).1
 
 module _ (start_up : Bool) (system : Name) (lists : Lists) (owed : Owed) (w : WorldState) (owes : IsOwedIn start_up system w lists owed) where
-  pub besides_owed : (unit : Name) → waits_besides start_up w.leaves system unit ≡ true → has owed.starts unit ≡ true
+  pub besides_owed : (unit : Name) → waits_besides start_up w.leaves system unit ≡ true → has owed.lists.starts unit ≡ true
   besides_owed unit is =
-      ((owes.is_owed Start).exact unit).1
-      (kinds.Starts.ByStartList
+      ((owes.is_owed (OnList Starts)).exact unit).1
+      (owed_listed (systems_at w.leaves (current_system w.leaves) system) (state_of w.manager.states) lists Starts unit
       (owes.listed.starts.exact unit ∙ or_left (waits_besides start_up w.leaves system unit) (has owes.listed.stored.starts unit) is)
       (besides_parts start_up w.leaves system unit is))
 
@@ -208,7 +204,7 @@ joined_test false f false there = refl
 
 -- where it does, the target is among the units to start
 pub taken_with : (new : List Unit) (stored : Lists) (target : Name) (list : List Name) → target ≡ start_up_target → is_some (found_in new target) ≡ true → IsStrictlySortedBy bytes_cmp list →
-    ((unit : Name) → has list unit ≡ (has stored.starts unit || is_name unit target)) → AreTaken true new stored (with_starts list stored)
+    ((unit : Name) → has list unit ≡ (has stored.starts unit || is_name unit target)) → AreTaken true new stored (with_list stored Starts list)
 taken_with new stored target list is some sorted has_list = record {
   starts = λ old. record {
     sorted = sorted;
@@ -217,5 +213,5 @@ taken_with new stored target list is some sorted has_list = record {
         ∙ joined_test (is_name unit start_up_target) (is_some (found_in new unit)) (has stored.starts unit)
         (λ same. ap (λ name. is_some (found_in new name)) (name_exact unit start_up_target same ∙ sym is) ∙ some);
   };
-  others = others_stay list stored;
+  others = other_names stored list;
 }

@@ -1,11 +1,13 @@
 -- What a switch of the units writes.
-use Rattle.std.proofs.Common.{◌≡◌, ◌∷◌, ◌++◌, true, List, [], append-nil, refl, sym, ap, subst, ◌∙◌}
+use Rattle.std.proofs.Common.{◌≡◌, ◌∷◌, ◌++◌, true, List, [], append-nil, map, refl, sym, ap, subst, ◌∙◌}
 use Rattle.std.specs.Cmp.Lexicographic.{texts_ties}
 use Rattle.std.specs.List.{AllByRecursion, list_any}
 use Rattle.host_trait.specs.Change.{DaemonReload, finished}
 use Rattle.host_trait.specs.World.{WorldState}
 use Rattle.log_text.specs.declared.lists.Which.{Which}
-use Rattle.log_text.specs.declared.lists.Which.TheVariants.{Starts, Restarts, Reloads}
+use Rattle.log_text.specs.declared.lists.Which.TheVariants.{Starts}
+use Rattle.log_text.specs.Lists.{record_order}
+use Rattle.owed_lists.specs.Lists.{place_of}
 use Rattle.owed_log.specs.Places.{is_owed_place, log_place, old_places}
 use Rattle.owed_plan.specs.declared.duty.Duty.{Duty}
 use Rattle.switch_names.specs.Names.{Name}
@@ -18,8 +20,12 @@ use Rattle.unit_stage.specs.Steps.{with_all_given, with_cleared, with_given}
 use Rattle.unit_stage.specs.System.{current_place}
 use Rattle.unit_stage.proofs.ElsewhereLemmas.{own_current, own_list, own_log}
 
+owns_lists : (order : List Which) → AllByRecursion (λ at. owns_units at ≡ true) (map place_of order)
+owns_lists [] = tt
+owns_lists (which ∷ order) = (own_list which, owns_lists order)
+
 owns_owed : AllByRecursion (λ at. owns_units at ≡ true) (log_place ∷ old_places)
-owns_owed = (own_log, (own_list Starts, (own_list Restarts, (own_list Reloads, tt))))
+owns_owed = (own_log, owns_lists record_order)
 
 -- the log and the lists of an older program are owned
 owed_owned : (q : Name) → is_owed_place q ≡ true → owns_units q ≡ true

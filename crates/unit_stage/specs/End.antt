@@ -8,11 +8,10 @@ use Rattle.host_trait.specs.World.{WorldState}
 use Rattle.owed_plan.specs.declared.duty.Duty.{Duty}
 use Rattle.owed_plan.specs.declared.owed.Owed.{Owed}
 use Rattle.owed_plan.specs.FinalStates.{final_state}
-use Rattle.owed_plan.specs.Calls.{listed_calls, stop_calls}
+use Rattle.owed_plan.specs.Calls.{give_order, listed_calls, stop_calls}
 use Rattle.switch_names.specs.Names.{Name}
 use Rattle.unit_stage.specs.Acts.{entry_of}
 use Rattle.unit_stage.specs.Plan.{IsOwedBy}
-use Rattle.unit_stage.specs.Steps.{give_order}
 use Rattle.unit_stage.specs.System.{definitions_of}
 
 -- the entries of the stops under the old definitions, and then those of other calls under the new ones

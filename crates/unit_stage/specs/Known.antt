@@ -1,7 +1,6 @@
 -- What is read of a world before a switch is planned: NixOS manual, "What happens during a system switch?".
 use Rattle.std.specs.Prelude.{◌≡◌, ◌≢◌, ◌&&◌, ◌||◌, ◌↔◌, ℕ, Bool, IsTrue, List, is_some}
 use Rattle.std.specs.List.Sorted.{IsStrictlySortedBy}
-use Rattle.host_trait.specs.declared.entry.Act.{Act}
 use Rattle.host_trait.specs.States.{state_of}
 use Rattle.host_trait.specs.World.{Leaves, WorldState, bytes_cmp}
 use Rattle.log_text.specs.declared.lists.Lists.{Lists}
@@ -12,7 +11,8 @@ use Rattle.owed_log.specs.Standing.{IsLogState}
 use Rattle.owed_log.specs.Writing.{IsWriteFor}
 use Rattle.owed_plan.specs.Calls.{calls_of}
 use Rattle.owed_plan.specs.Collected.{IsListBy}
-use Rattle.owed_plan.specs.Owed.{IsOwedAct, IsPlan}
+use Rattle.owed_plan.specs.Lists.{Debt}
+use Rattle.owed_plan.specs.Owed.{IsDue, IsPlan}
 use Rattle.owed_plan.specs.Steady.{IsSteady}
 use Rattle.owed_plan.specs.Systems.{AreOldDefs, systems_in}
 use Rattle.switch_names.specs.Names.{IsListOf, Name, has, is_name}
@@ -24,8 +24,7 @@ use Rattle.unit_stage.specs.declared.known.UnitStates.{UnitStates}
 use Rattle.unit_stage.specs.declared.unit_plan.UnitPlan.{UnitPlan}
 use Rattle.unit_stage.specs.declared.planning.OwedCalls.{OwedCalls}
 use Rattle.unit_stage.specs.Order.{AreInOrder}
-use Rattle.unit_stage.specs.Owes.{FitThrice}
-use Rattle.unit_stage.specs.Plan.{owed_of}
+use Rattle.unit_stage.specs.Owes.{FitInEach}
 use Rattle.unit_stage.specs.System.{current_system}
 use Rattle.unit_stage.specs.Waiting.{AreListsFor, start_up_target}
 
@@ -54,27 +53,27 @@ pub record IsKnownOf (start_up : Bool) (system : List ℕ) (w : WorldState) (kno
 
 -- by what is known a unit is owed something
 abbrev pub OwesKnown : Known → Name → Type 0
-OwesKnown known unit = (act : Act) × IsOwedAct (systems_in known.old.defs known.new) (state_of known.units.states) known.units.lists act unit
+OwesKnown known unit = (debt : Debt) × IsDue (systems_in known.old.defs known.new) (state_of known.units.states) known.units.lists debt unit
 
 -- by what is known the marks of the targets and the lists don't contradict each other, and a log has room for the names of the
 -- units that are owed something in each of its lists
 pub record IsKnownSteady (known : Known) : Type 0 where
   pub marks : IsSteady (systems_in known.old.defs known.new) (state_of known.units.states) known.units.lists
-  pub room : (names : List Name) → IsListOf names (OwesKnown known) → FitThrice names
+  pub room : (names : List Name) → IsListOf names (OwesKnown known) → FitInEach names
 
 -- what is owed by what is known, with its calls
 pub record AreOwedCalls (known : Known) (calls : OwedCalls) : Type 0 where
   pub owed : IsPlan (systems_in known.old.defs known.new) (state_of known.units.states) known.units.lists calls.owed
   pub steady : IsTrue calls.steady ↔ IsKnownSteady known
-  pub in_order : AreInOrder (found_in known.new) calls.owed.starts calls.ordered
+  pub in_order : AreInOrder (found_in known.new) calls.owed.lists.starts calls.ordered
   pub duties : calls.duties ≡ calls_of calls.owed calls.ordered.units (state_of known.units.states)
 
 -- the plan of a switch by what is known
 pub record IsPlanBy (known : Known) (plan : UnitPlan) : Type 0 where
   pub from : plan.from ≡ known.old.name
   pub defs : plan.defs ≡ known.new
-  pub owed : IsPlan (systems_in known.old.defs known.new) (state_of known.units.states) known.units.lists (owed_of plan)
+  pub owed : IsPlan (systems_in known.old.defs known.new) (state_of known.units.states) known.units.lists plan.owed
   pub steady : IsTrue plan.steady ↔ IsKnownSteady known
-  pub in_order : AreInOrder (found_in known.new) (owed_of plan).starts plan.ordered
-  pub duties : plan.duties ≡ calls_of (owed_of plan) plan.ordered.units (state_of known.units.states)
-  pub write : (leaves : Leaves) → IsLogState leaves known.units.log → IsWriteFor leaves plan.recorded plan.write
+  pub in_order : AreInOrder (found_in known.new) plan.owed.lists.starts plan.ordered
+  pub duties : plan.duties ≡ calls_of plan.owed plan.ordered.units (state_of known.units.states)
+  pub write : (leaves : Leaves) → IsLogState leaves known.units.log → IsWriteFor leaves plan.owed.lists plan.write

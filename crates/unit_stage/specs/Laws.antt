@@ -41,12 +41,12 @@ UnitMomentLaw =
     IsOnly (units_part start_up system) w m → IsPartMoment (units_part start_up system) w m
 
 -- a world has one length of the log
-abbrev pub OneLogLaw : Type 0
-OneLogLaw = (start_up : Bool) (w : WorldState) (system : Name) (one other : Option TooLong) → IsLongLog start_up system w one → IsLongLog start_up system w other → one ≡ other
+abbrev pub OneLengthLaw : Type 0
+OneLengthLaw = (start_up : Bool) (w : WorldState) (system : Name) (one other : Option TooLong) → IsLongLog start_up system w one → IsLongLog start_up system w other → one ≡ other
 
 -- each world has one
-abbrev pub SomeLogLaw : Type 0
-SomeLogLaw = (start_up : Bool) (w : WorldState) (system : Name) → (long : Option TooLong) × IsLongLog start_up system w long
+abbrev pub SomeLengthLaw : Type 0
+SomeLengthLaw = (start_up : Bool) (w : WorldState) (system : Name) → (long : Option TooLong) × IsLongLog start_up system w long
 
 -- in a steady world the log isn't too long
 abbrev pub SteadyLogLaw : Type 0

@@ -16,7 +16,7 @@ pub record AreInOrder (texts : Texts) (starts : List Name) (ordered : Ordered) :
 
 -- the starts of what is owed in order, by what a system says of its units
 abbrev pub AreOrderedAt : Leaves → Name → Owed → Ordered → Type 0
-AreOrderedAt leaves system owed ordered = AreInOrder (text_of leaves system) owed.starts ordered
+AreOrderedAt leaves system owed ordered = AreInOrder (text_of leaves system) owed.lists.starts ordered
 
 -- the order of the starts of what is owed, by what a system says of its units
 abbrev pub IsOrderedAt : Leaves → Name → Owed → List Name → Type 0
@@ -24,4 +24,4 @@ IsOrderedAt leaves system owed order = (ordered : Ordered) × AreOrderedAt leave
 
 -- the units of an order are those that are started
 abbrev pub ArrangesStarts : Owed → List Name → Type 0
-ArrangesStarts owed order = (unit : Name) → has order unit ≡ has owed.starts unit
+ArrangesStarts owed order = (unit : Name) → has order unit ≡ has owed.lists.starts unit

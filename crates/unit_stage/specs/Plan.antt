@@ -10,7 +10,6 @@ use Rattle.owed_log.specs.Lengths.{long_log}
 use Rattle.owed_log.specs.Writing.{IsWriteFor}
 use Rattle.owed_plan.specs.declared.owed.Owed.{Owed}
 use Rattle.owed_plan.specs.Calls.{calls_of}
-use Rattle.owed_plan.specs.Law.{lists_of}
 use Rattle.owed_plan.specs.Owed.{IsOwed, IsPlan}
 use Rattle.owed_plan.specs.Systems.{systems_at}
 use Rattle.unit_defs.specs.Defs.{AreDefsOf}
@@ -30,36 +29,30 @@ IsOwedBy start_up system w owed = (lists : Lists) × IsOwedIn start_up system w 
 
 -- the log in which a switch to a system records what it owes the units of a world, where it would be too long
 abbrev pub IsLongLog : Bool → List ℕ → WorldState → Option TooLong → Type 0
-IsLongLog start_up system w long = (owed : Owed) × IsOwedBy start_up system w owed × (long ≡ long_log (lists_of owed))
+IsLongLog start_up system w long = (owed : Owed) × IsOwedBy start_up system w owed × (long ≡ long_log owed.lists)
 
 -- what a switch to a system owes the units of a world, and the changed units that it leaves
 pub record IsPlannedIn (start_up : Bool) (system : List ℕ) (w : WorldState) (lists : Lists) (owed : Owed) : Type 0 where
   pub listed : AreListsFor start_up w.leaves system lists
   pub planned : IsPlan (systems_at w.leaves (current_system w.leaves) system) (state_of w.manager.states) lists owed
 
--- what is owed by a plan: the units to stop, those of its lists, and those that it leaves
-abbrev pub owed_of : UnitPlan → Owed
-owed_of plan = record { stops = plan.stops; reloads = plan.recorded.reloads; restarts = plan.recorded.restarts; starts = plan.recorded.starts; left = plan.left }
-
 -- the plan of a switch to a system: the units that it defines, what is owed, what has to be written to record it, the starts in order, and the calls by which it is given
 pub record IsUnitPlanOf (start_up : Bool) (system : List ℕ) (w : WorldState) (plan : UnitPlan) : Type 0 where
   pub from : plan.from ≡ current_system w.leaves
   pub defs : AreDefsOf w.leaves system plan.defs
   pub lists : Lists
-  pub planned : IsPlannedIn start_up system w lists (owed_of plan)
-  pub write : IsWriteFor w.leaves plan.recorded plan.write
-  pub in_order : AreOrderedAt w.leaves system (owed_of plan) plan.ordered
-  pub duties : plan.duties ≡ calls_of (owed_of plan) plan.ordered.units (state_of w.manager.states)
+  pub planned : IsPlannedIn start_up system w lists plan.owed
+  pub write : IsWriteFor w.leaves plan.owed.lists plan.write
+  pub in_order : AreOrderedAt w.leaves system plan.owed plan.ordered
+  pub duties : plan.duties ≡ calls_of plan.owed plan.ordered.units (state_of w.manager.states)
 
 -- the plan that does nothing to the units
 abbrev pub no_units : UnitPlan
 no_units = record {
   from = None;
   defs = [];
-  stops = [];
-  recorded = no_lists;
+  owed = record { stops = []; lists = no_lists; left = [] };
   write = Nothing;
-  left = [];
   steady = true;
   ordered = record { units = []; edges = []; broken = []; cycles = [] };
   duties = [];

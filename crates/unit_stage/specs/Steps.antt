@@ -8,22 +8,17 @@ use Rattle.host_trait.specs.Manager.{loading}
 use Rattle.host_trait.specs.States.{state_of}
 use Rattle.host_trait.specs.World.{IsClear, IsFileAt, Leaves, WorldState, seen, stage, with_leaf, with_manager}
 use Rattle.log_text.specs.declared.lists.Which.{Which}
-use Rattle.log_text.specs.declared.lists.Which.TheVariants.{Starts, Restarts, Reloads}
+use Rattle.log_text.specs.declared.lists.Which.TheVariants.{Starts}
 use Rattle.owed_log.specs.declared.log_write.LogWrite.{LogWrite}
 use Rattle.owed_log.specs.Places.{log_place}
 use Rattle.owed_log.specs.Writing.{IsRecordMoment, IsWriteFor, clearing, recorded}
 use Rattle.owed_plan.specs.declared.duty.Duty.{Duty}
 use Rattle.owed_plan.specs.declared.owed.Owed.{Owed}
-use Rattle.owed_plan.specs.Law.{lists_of}
-use Rattle.owed_plan.specs.Calls.{listed_calls, stop_calls}
+use Rattle.owed_plan.specs.Calls.{give_order, listed_calls, stop_calls}
 use Rattle.switch_names.specs.Names.{Name}
 use Rattle.unit_stage.specs.Acts.{CanPerform, IsPerforming, with_calls}
 use Rattle.unit_stage.specs.Owned.{owns_units}
 use Rattle.unit_stage.specs.System.{current_place, definitions_of, system_leaf}
-
--- the lists in the order in which what they have is given
-abbrev pub give_order : List Which
-give_order = Reloads ∷ Restarts ∷ Starts ∷ []
 
 -- the world in which what is owed is recorded, after the stops
 abbrev pub with_stops : LogWrite → List Duty → WorldState → WorldState
@@ -104,8 +99,8 @@ pub record AreSameUnits (w m : WorldState) : Type 0 where
 
 -- at a moment of a switch the log, the lists, the system in use and the manager are exactly at one of its steps
 pub data IsUnitMoment (system : Name) (owed : Owed) (order : List Name) (w m : WorldState) : Type 0 where
-  Stopping : (write : LogWrite) → IsWriteFor w.leaves (lists_of owed) write → (u : WorldState) → IsStopStep write (stop_calls owed) w u → AreSameUnits u m → IsUnitMoment system owed order w m
-  Bringing : (write : LogWrite) → IsWriteFor w.leaves (lists_of owed) write → (u : WorldState) →
+  Stopping : (write : LogWrite) → IsWriteFor w.leaves owed.lists write → (u : WorldState) → IsStopStep write (stop_calls owed) w u → AreSameUnits u m → IsUnitMoment system owed order w m
+  Bringing : (write : LogWrite) → IsWriteFor w.leaves owed.lists write → (u : WorldState) →
       IsBringStep system (listed_calls owed order (state_of w.manager.states)) (with_stops write (stop_calls owed) w) u → AreSameUnits u m → IsUnitMoment system owed order w m
 
 -- a system can be brought into use, and its definitions are what will be loaded

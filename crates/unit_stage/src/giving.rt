@@ -6,12 +6,13 @@ ghost use Rattle.host_trait.specs.World.{IsFileAt};
 ghost use Rattle.log_text.specs.declared.lists.Which.{Which};
 ghost use Rattle.log_text.specs.declared.lists.Which.TheVariants.{Starts};
 ghost use Rattle.owed_log.specs.Places.{is_owed_place, log_place};
+ghost use Rattle.owed_plan.specs.Calls.{give_order};
 ghost use Rattle.owed_log.specs.Writing.{CanWrite, IsFilled, IsRecordMoment, recorded};
 ghost use Rattle.tree_put.specs.Written.{WritesOnly};
 ghost use Rattle.unit_stage.specs.Acts.{CanPerform, IsPerforming, with_calls};
 ghost use Rattle.unit_stage.specs.Owned.{owns_units};
 ghost use Rattle.unit_stage.specs.PlanCalls.{calls_in};
-ghost use Rattle.unit_stage.specs.Steps.{CanBring, HasLogFor, IsBringMoment, IsClearingMoment, IsGiveMoment, IsListMoment, IsStopMoment, give_order, with_all_given, with_brought, with_cleared, with_given, with_stops};
+ghost use Rattle.unit_stage.specs.Steps.{CanBring, HasLogFor, IsBringMoment, IsClearingMoment, IsGiveMoment, IsListMoment, IsStopMoment, with_all_given, with_brought, with_cleared, with_given, with_stops};
 ghost use Rattle.unit_stage.specs.System.{system_leaf};
 
 use crate::acting::call_units;
@@ -20,7 +21,7 @@ use crate::plan_calls::PlanCalls;
 use host_trait::{HostFault, Leaf, Manager, Tree};
 use log_text::Which;
 use owed_log::{LogWrite, clear, record};
-use owed_plan::Duty;
+use owed_plan::{Duty, GIVE_ORDER};
 use std::alloc::Global;
 use switch_names::SystemName;
 
@@ -95,10 +96,7 @@ fn call_listed<H: Manager>(
 fn takes_log(which: Which) -> bool
     ensures { IsTrue result ↔ (which ≡ Starts) }
 {
-    match which {
-        Which::Starts => true,
-        Which::Restarts | Which::Reloads => false,
-    }
+    matches!(which, Which::Starts)
 }
 
 /// Makes the calls of a list, and clears it; the log goes with the starts. Where another list has no calls, no name was recorded, and nothing is done.
@@ -129,9 +127,9 @@ fn give_all<H: Manager>(alloc: Global, host: &mut H, calls: PlanCalls<'_>) -> Re
     ensures moments { Passes (H.host host.old) (H.host host.new) (IsGiveMoment (calls_in calls.entry) give_order) }
     ensures cause { HasCause (H.host host.old) (H.host host.new) result }
 {
-    give(alloc, host, calls, Which::Reloads)?;
-    give(alloc, host, calls, Which::Restarts)?;
-    give(alloc, host, calls, Which::Starts)?;
+    for which in GIVE_ORDER {
+        give(alloc, host, calls, which)?;
+    }
     Ok(())
 }
 

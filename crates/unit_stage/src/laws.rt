@@ -1,5 +1,5 @@
 //! What holds at each moment of a switch of the units.
-ghost use Rattle.unit_stage.specs.Laws.{FreeLaw, OneLogLaw, SomeLogLaw, SteadyLogLaw, UnderwayLaw, UnitMomentLaw, UnitsPartLaw};
+ghost use Rattle.unit_stage.specs.Laws.{FreeLaw, OneLengthLaw, SomeLengthLaw, SteadyLogLaw, UnderwayLaw, UnitMomentLaw, UnitsPartLaw};
 
 /// At each moment of a switch nothing is in the way that wasn't at its beginning.
 pub fn nothing_gets_in_the_way()
@@ -26,12 +26,12 @@ pub fn moments_are_of_the_part()
 
 /// A world has one length of the log that records what is owed.
 pub fn one_length_of_the_log()
-    ensures { OneLogLaw }
+    ensures { OneLengthLaw }
 {}
 
 /// Each world has one.
 pub fn each_world_has_a_length_of_the_log()
-    ensures { SomeLogLaw }
+    ensures { SomeLengthLaw }
 {}
 
 /// In a steady world that log can be read again.

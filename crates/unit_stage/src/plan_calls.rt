@@ -2,7 +2,6 @@
 ghost use Rattle.std.specs.Prelude.{◌≡◌, take, drop};
 ghost use Rattle.host_trait.specs.declared.unit_state.State.{State};
 ghost use Rattle.owed_plan.specs.Calls.{calls_of};
-ghost use Rattle.unit_stage.specs.Plan.{owed_of};
 ghost use Rattle.unit_stage.specs.PlanCalls.{AreCallsOf, calls_in};
 ghost use Rattle.switch_names.specs.Names.{Name};
 
@@ -48,20 +47,22 @@ fn calls_after(calls: &[Duty], count: usize) -> &[Duty]
 
 /// The calls of a plan.
 pub fn calls_of(plan: &UnitPlan) -> PlanCalls<'_>
-    ensures { (states : Name → State) → plan.now.duties ≡ calls_of (owed_of plan.now) plan.now.ordered.units states
-        → AreCallsOf (owed_of plan.now) plan.now.ordered.units states result.stops.now (calls_in result) }
+    ensures { (states : Name → State) → plan.now.duties ≡ calls_of plan.now.owed plan.now.ordered.units states
+        → AreCallsOf plan.now.owed plan.now.ordered.units states result.stops.now (calls_in result) }
 {
     let lists = plan.recorded();
     let calls = plan.duties().as_slice();
     let stops = plan.stops().as_slice();
     let reloads = lists.reloads.as_slice();
     let restarts = lists.restarts.as_slice();
+    let starts = plan.ordered().units.as_slice();
     let others = calls_after(calls, stops.len());
     let later = calls_after(others, reloads.len());
+    let last = calls_after(later, restarts.len());
     PlanCalls {
         stops: first_calls(calls, stops.len()),
         reloads: first_calls(others, reloads.len()),
         restarts: first_calls(later, restarts.len()),
-        starts: calls_after(later, restarts.len()),
+        starts: first_calls(last, starts.len()),
     }
 }

@@ -87,7 +87,7 @@ fn owed_calls(alloc: Global, known: &Known) -> Result<OwedCalls, AllocError>
     let owed = owed_by(alloc, known, &pulled)?;
     let marks = is_steady(&known.new, &known.units.lists, &pulled);
     let room = have_room(alloc, &owed)?;
-    let ordered = ordered_by(alloc, &known.new, &owed.starts)?;
+    let ordered = ordered_by(alloc, &known.new, &owed.lists.starts)?;
     let duties = calls(alloc, &owed, &ordered, &known.units.states)?;
     Ok(OwedCalls {
         owed,
@@ -104,17 +104,14 @@ fn plan_of(alloc: Global, known: Known, calls: OwedCalls) -> Result<UnitPlan, Al
     ensures filled { IfOk result (λ plan. IsFilled plan.write) }
 {
     let Known { old, new, units } = known;
-    let lists = calls.owed.into_lists();
-    let write = units.log.prepare(alloc, &lists.1)?;
-    Ok(UnitPlan::new(
-        old.name,
-        new,
-        lists,
-        write,
-        calls.steady,
-        calls.ordered,
-        calls.duties,
-    ))
+    let OwedCalls {
+        owed,
+        steady,
+        ordered,
+        duties,
+    } = calls;
+    let write = units.log.prepare(alloc, &owed.lists)?;
+    Ok(UnitPlan::new(old.name, new, owed, write, steady, ordered, duties))
 }
 
 /// The plan of a switch by what is known.

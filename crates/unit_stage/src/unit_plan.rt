@@ -8,7 +8,7 @@ ghost use Rattle.unit_stage.specs.Plan.{IsLongLog, IsUnitPlanOf, no_units};
 use leaf_limits::TooLong;
 use log_text::Lists;
 use owed_log::{LogWrite, long_log};
-use owed_plan::Duty;
+use owed_plan::{Duty, Owed};
 use start_order::Ordered;
 use std::alloc::{AllocError, Global};
 use switch_names::{Listed, SystemName, UnitName};
@@ -18,10 +18,8 @@ use unit_defs::Defs;
 pub struct UnitPlan {
     from: Option<SystemName>,
     defs: Defs,
-    stops: Listed<UnitName>,
-    recorded: Lists,
+    owed: Owed,
     write: LogWrite,
-    left: Listed<UnitName>,
     steady: bool,
     ordered: Ordered,
     duties: Listed<Duty>,
@@ -33,10 +31,8 @@ impl Drop for UnitPlan {
         let UnitPlan {
             from: _,
             defs: _,
-            stops: _,
-            recorded: _,
+            owed: _,
             write: _,
-            left: _,
             steady: _,
             ordered: _,
             duties: _,
@@ -45,26 +41,23 @@ impl Drop for UnitPlan {
 }
 
 impl UnitPlan {
-    /// A plan of these parts; of the lists, the units to stop, those that are recorded, and the changed ones that get nothing.
+    /// A plan of these parts.
     pub(crate) fn new(
         from: Option<SystemName>,
         defs: Defs,
-        lists: (Listed<UnitName>, Lists, Listed<UnitName>),
+        owed: Owed,
         write: LogWrite,
         steady: bool,
         ordered: Ordered,
         duties: Listed<Duty>,
     ) -> UnitPlan
-        ensures { result ≡ record { from = from; defs = defs; stops = lists.0; recorded = lists.1; write = write; left = lists.2; steady = steady; ordered = ordered; duties = duties } }
+        ensures { result ≡ record { from = from; defs = defs; owed = owed; write = write; steady = steady; ordered = ordered; duties = duties } }
     {
-        let (stops, recorded, left) = lists;
         UnitPlan {
             from,
             defs,
-            stops,
-            recorded,
+            owed,
             write,
-            left,
             steady,
             ordered,
             duties,
@@ -78,10 +71,12 @@ impl UnitPlan {
         UnitPlan {
             from: None,
             defs: Defs::none(alloc),
-            stops: Listed::new(alloc),
-            recorded: Lists::new(alloc),
+            owed: Owed {
+                stops: Listed::new(alloc),
+                lists: Lists::new(alloc),
+                left: Listed::new(alloc),
+            },
             write: LogWrite::Nothing,
-            left: Listed::new(alloc),
             steady: true,
             ordered: Ordered {
                 units: Listed::new(alloc),
@@ -109,9 +104,9 @@ impl UnitPlan {
 
     /// The units to stop, in byte order.
     pub(crate) fn stops(&self) -> &Listed<UnitName>
-        ensures { result.now ≡ self.now.stops }
+        ensures { result.now ≡ self.now.owed.stops }
     {
-        &self.stops
+        &self.owed.stops
     }
 
     /// Whether the marks of the targets and the lists of the world that the plan was made from don't
@@ -124,9 +119,9 @@ impl UnitPlan {
 
     /// The units to start, to restart and to reload, as they are recorded.
     pub fn recorded(&self) -> &Lists
-        ensures { result.now ≡ self.now.recorded }
+        ensures { result.now ≡ self.now.owed.lists }
     {
-        &self.recorded
+        &self.owed.lists
     }
 
     /// What has to be written to record these.
@@ -159,8 +154,8 @@ impl UnitPlan {
 
     /// The changed units that get nothing, in byte order.
     pub fn left(&self) -> &Listed<UnitName>
-        ensures { result.now ≡ self.now.left }
+        ensures { result.now ≡ self.now.owed.left }
     {
-        &self.left
+        &self.owed.left
     }
 }

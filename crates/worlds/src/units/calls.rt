@@ -35,7 +35,7 @@ fn show_calls(
     states: &States,
 ) -> Result<(), AllocError> {
     show_names(lines, "left", owed.left.as_slice());
-    let ordered = without_edges(alloc, owed.starts.as_slice())?;
+    let ordered = without_edges(alloc, owed.lists.starts.as_slice())?;
     let duties = calls(alloc, owed, &ordered, states)?;
     for duty in duties.as_slice() {
         lines.add_value(&duty.act);
@@ -57,9 +57,11 @@ pub fn show_calls_of(
     };
     let owed = Owed {
         stops: names_of(alloc, stops)?,
-        reloads: names_of(alloc, reloads)?,
-        restarts: names_of(alloc, restarts)?,
-        starts: names_of(alloc, starts)?,
+        lists: Lists {
+            starts: names_of(alloc, starts)?,
+            restarts: names_of(alloc, restarts)?,
+            reloads: names_of(alloc, reloads)?,
+        },
         left: names_of(alloc, left)?,
     };
     Ok(show_calls(alloc, lines, &owed, states)?)

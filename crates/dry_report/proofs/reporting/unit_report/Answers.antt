@@ -9,7 +9,7 @@ pub returns : goal.returns
 returns c leaves planned some is =
     let units = units_of c.args.plan.now in
     let system = c.args.plan.now.row.system in
-    let front = report_front units.from system (number_of c.args.plan.now) units.duties units.left in
+    let front = report_front units.from system (number_of c.args.plan.now) units.duties units.owed.left in
     let told = c.in_ok-write_activated.ensures system leaves planned (c.activation.ensures ∙ some) is in
     let cycles = c.as_slice.result.now in
     let others = other_lines c.as_slice-2.result.now in

@@ -1,5 +1,4 @@
-use Rattle.std.proofs.Common.{◌≡◌, [], refl, sym, ap, ◌∙◌, arith}
-use Rattle.log_text.specs.declared.lists.Lists.{Lists}
+use Rattle.std.proofs.Common.{◌≡◌, [], refl, sym, ◌∙◌, arith}
 use Rattle.log_text.specs.Lists.{list_names, no_lists}
 use Rattle.log_text.proofs.WhichLemmas.{each_recorded, no_names, same_by_names}
 use Rattle.owed_log.proofs.standing.are_empty.Goals as goal

@@ -11,7 +11,6 @@ use Rattle.switch_engine.specs.Quiet.{IsQuietSwitch}
 use Rattle.unit_defs.specs.declared.unit.Unit.{Unit}
 use Rattle.switch_parts.proofs.Faults.{handed}
 use Rattle.unit_stage.proofs.CauseLemmas.{cause_end}
-use Rattle.unit_stage.specs.Plan.{owed_of}
 use Rattle.switch_engine.proofs.carrying.carry_switch.Goals as goal
 
 -- what each moment of a switch is, each moment is while what it leaves is kept
@@ -24,8 +23,8 @@ returns-in_err-states-clause-moments g c = kept c.switch_units.ensures.moments c
 
 pub returns-clause-ok : goal.returns-clause-ok
 returns-clause-ok g c =
-    leads_then c.in_ok-switch_units.ensures.ok c.units.ensures.reads.moments.tells (IsSwitched c.args.system.now (owed_of c.args.plan.now) c.args.plan.now.ordered.units)
-    (λ w v u is is_v final same. subst (IsSwitched c.args.system.now (owed_of c.args.plan.now) c.args.plan.now.ordered.units w) (sym same) final)
+    leads_then c.in_ok-switch_units.ensures.ok c.units.ensures.reads.moments.tells (IsSwitched c.args.system.now c.args.plan.now.owed c.args.plan.now.ordered.units)
+    (λ w v u is is_v final same. subst (IsSwitched c.args.system.now c.args.plan.now.owed c.args.plan.now.ordered.units w) (sym same) final)
 
 pub returns-clause-moments : goal.returns-clause-moments
 returns-clause-moments g c = kept c.switch_units.ensures.moments c.units.ensures.reads.moments

@@ -1,6 +1,5 @@
-use Rattle.std.proofs.Common.{◌<◌, arith, drop, sym, ap, ◌∙◌}
+use Rattle.std.proofs.Common.{◌<◌, arith, sym, ◌∙◌}
 use Rattle.leaf_limits.specs.Limits.{first_long}
-use Rattle.switch_parts.specs.Puts.{long_put, long_with}
 use Rattle.switch_parts.proofs.LongLemmas.{long_before, long_none}
 use Rattle.switch_parts.proofs.puts.long_with.Goals as goal
 

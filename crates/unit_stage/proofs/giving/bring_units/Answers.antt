@@ -6,10 +6,11 @@ use Rattle.host_trait.proofs.Causes.{cause_on}
 use Rattle.host_trait.proofs.Moments.{goes_on, leads_then, passes_as, told_after, told_as}
 use Rattle.log_text.specs.declared.lists.Which.{Which}
 use Rattle.tree_put.specs.Written.{WritesOnly}
+use Rattle.owed_plan.specs.Calls.{give_order}
 use Rattle.unit_stage.specs.Acts.{CanPerform}
 use Rattle.unit_stage.specs.Owned.{owns_units}
 use Rattle.unit_stage.specs.PlanCalls.{calls_in}
-use Rattle.unit_stage.specs.Steps.{CanLoad, HasLogFor, IsBringMoment, give_order, with_brought, with_loaded}
+use Rattle.unit_stage.specs.Steps.{CanLoad, HasLogFor, IsBringMoment, with_brought, with_loaded}
 use Rattle.switch_parts.proofs.Faults.{handed}
 use Rattle.unit_stage.proofs.CauseLemmas.{cause_end}
 use Rattle.unit_stage.proofs.StandLemmas.{loaded_log}

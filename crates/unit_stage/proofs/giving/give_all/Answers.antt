@@ -1,20 +1,19 @@
-use Rattle.std.proofs.Common.{◌≡◌, ◌≢◌, ◌++◌, ◌∷◌, List, [], sym, ap, subst, ◌∙◌, inl}
-use Rattle.std.proofs.lemmas.Result.{err_from_is_err_and}
+use Rattle.std.proofs.Common.{◌≡◌, ◌≢◌, ◌<◌, ◌+◌, ◌++◌, ◌∷◌, ℕ, List, [], drop, get_or, length, refl, suc, sym, ap, subst, take, ◌∙◌, inl, rules}
+use Rattle.std.proofs.lemmas.List.{take_all, take_more}
 use Rattle.std.specs.List.{AllByRecursion, flat_map}
 use Rattle.host_trait.specs.Host.{Becomes, HostState, Passes, Told}
 use Rattle.host_trait.specs.World.{WorldState}
-use Rattle.host_trait.proofs.Causes.{cause_on, cause_then}
-use Rattle.host_trait.proofs.Moments.{goes_on, leads_then, passes_as, told_after, told_as}
+use Rattle.host_trait.proofs.Moments.{goes_on, leads_as, leads_then, started, told_after}
 use Rattle.log_text.specs.declared.lists.Which.{Which}
-use Rattle.log_text.specs.declared.lists.Which.TheVariants.{Starts, Restarts, Reloads}
+use Rattle.log_text.specs.declared.lists.Which.TheVariants.{Starts}
 use Rattle.owed_plan.specs.declared.duty.Duty.{Duty}
+use Rattle.owed_plan.specs.Calls.{give_order}
 use Rattle.unit_stage.specs.Acts.{CanPerform}
 use Rattle.unit_stage.specs.PlanCalls.{calls_in}
-use Rattle.unit_stage.specs.Steps.{HasLogFor, IsGiveMoment, IsListMoment, give_order, with_all_given, with_given}
-use Rattle.switch_parts.proofs.Faults.{handed}
-use Rattle.unit_stage.proofs.CauseLemmas.{cause_end}
+use Rattle.unit_stage.specs.Steps.{HasLogFor, IsGiveMoment, IsListMoment, with_all_given, with_given}
 use Rattle.unit_stage.proofs.GivenLemmas.{can_next, log_next}
-use Rattle.unit_stage.proofs.StepLemmas.{given_then, one_more_given}
+use Rattle.unit_stage.proofs.ListCallLemmas.{others_first, split_at}
+use Rattle.unit_stage.proofs.StepLemmas.{given_then, nothing_given, one_more_given}
 use Rattle.unit_stage.proofs.giving.give_all.Goals as goal
 
 -- the calls of some lists, and then those of one more
@@ -39,81 +38,65 @@ module _ (calls : Which → List Duty) (done : List Which) (which : Which) (left
       told_after way made (λ w. HasLogFor which (calls which) w.leaves)
       (λ w v is so_far. subst (λ (x : WorldState). HasLogFor which (calls which) x.leaves) (sym so_far) (log_next calls done others which (calls which) w (log.has w is which)))
 
--- the reloads, and then the restarts
-module _ (calls : Which → List Duty) {a b c : HostState} (reloads : Passes a b (IsListMoment Reloads (calls Reloads))) (reloaded : Becomes a b (with_given Reloads (calls Reloads))) (restarts : Passes b c (IsListMoment Restarts (calls Restarts))) where
-  first_way : Passes a b (IsGiveMoment calls give_order)
-  first_way = passes_as reloads (IsGiveMoment calls give_order) (λ w m is moment. inl moment)
+-- at the turn of a list
+module _ (calls : Which → List Duty) (count : ℕ) (inside : count < length give_order) {a b : HostState} (way : Passes a b (IsGiveMoment calls give_order)) (made : Becomes a b (with_all_given calls (take count give_order))) where
+  abbrev done : List Which
+  done = take count give_order
 
-  second_way : Passes a c (IsGiveMoment calls give_order)
-  second_way = give_way calls (Reloads ∷ []) Restarts (Starts ∷ []) first_way reloaded restarts
+  abbrev which : Which
+  which = get_or give_order count Starts
 
-  second_made : Becomes b c (with_given Restarts (calls Restarts)) → Becomes a c (with_all_given calls (Reloads ∷ Restarts ∷ []))
-  second_made restarted = give_made calls (Reloads ∷ []) Restarts (Starts ∷ []) first_way reloaded restarted
+  abbrev left : List Which
+  left = drop (suc count) give_order
+
+  split : give_order ≡ done ++ which ∷ left
+  split = split_at Starts give_order count inside
+
+  way_here : Passes a b (IsGiveMoment calls (done ++ which ∷ left))
+  way_here = subst (λ order. Passes a b (IsGiveMoment calls order)) split way
+
+  turn_way : {c : HostState} → Passes b c (IsListMoment which (calls which)) → Passes a c (IsGiveMoment calls give_order)
+  turn_way {c} next = subst (λ order. Passes a c (IsGiveMoment calls order)) (sym split) (give_way calls done which left way_here made next)
+
+  turn_made : {c : HostState} → Becomes b c (with_given which (calls which)) → Becomes a c (with_all_given calls (take (count + 1) give_order))
+  turn_made {c} next = subst (λ order. Becomes a c (with_all_given calls order)) (sym (take_more give_order count Starts inside)) (give_made calls done which left way_here made next)
+
+  turn_can : Told a (λ w. CanPerform (flat_map calls give_order) w.manager) → Told b (λ w. CanPerform (calls which) w.manager)
+  turn_can can = next_can calls done which left way_here made (subst (λ order. Told a (λ w. CanPerform (flat_map calls order) w.manager)) split can)
+
+  turn_log : Told a (λ w. (one : Which) → HasLogFor one (calls one) w.leaves) → Told b (λ w. HasLogFor which (calls which) w.leaves)
+  turn_log log = next_log calls done which left way_here made (others_first count inside) log
+
+pub loop-which-init : goal.loop-which-init
+loop-which-init g c = record {
+  way = started (IsGiveMoment (calls_in c.args.calls) give_order) (λ w is. nothing_given (calls_in c.args.calls) give_order w);
+  made = record { to = λ w is. (w, is, refl) };
+  cause = search rules;
+}
 
 pub give-requires-clause-calls : goal.give-requires-clause-calls
 give-requires-clause-calls g c =
-    let calls = calls_in c.args.calls in
-    told_as c.requires.calls (λ w. CanPerform (calls Reloads) w.manager) (λ w is can. can_next calls [] Reloads (Restarts ∷ Starts ∷ []) w can)
+    turn_can (calls_in c.args.calls) c.loop-which.which-index c.loop-which-test.true c.loop-which.invariant.way c.loop-which.invariant.made c.requires.calls
 
 pub give-requires-clause-log : goal.give-requires-clause-log
-give-requires-clause-log g c = let calls = calls_in c.args.calls in told_as c.requires.log (λ w. HasLogFor Reloads (calls Reloads) w.leaves) (λ w is log. log Reloads)
+give-requires-clause-log g c =
+    turn_log (calls_in c.args.calls) c.loop-which.which-index c.loop-which-test.true c.loop-which.invariant.way c.loop-which.invariant.made c.requires.log
 
 pub returns-in_err-give-clause-moments : goal.returns-in_err-give-clause-moments
-returns-in_err-give-clause-moments g c = passes_as c.give.ensures.moments (IsGiveMoment (calls_in c.args.calls) give_order) (λ w m is moment. inl moment)
+returns-in_err-give-clause-moments g c =
+    turn_way (calls_in c.args.calls) c.loop-which.which-index c.loop-which-test.true c.loop-which.invariant.way c.loop-which.invariant.made c.give.ensures.moments
 
-pub give-requires-2-clause-calls : goal.give-requires-2-clause-calls
-give-requires-2-clause-calls g c =
+pub loop-which-preserved : goal.loop-which-preserved
+loop-which-preserved g c =
     let calls = calls_in c.args.calls in
-    next_can calls (Reloads ∷ []) Restarts (Starts ∷ []) (passes_as c.give.ensures.moments (IsGiveMoment calls give_order) (λ w m is moment. inl moment)) c.in_ok-give.ensures.ok c.requires.calls
-
-pub give-requires-2-clause-log : goal.give-requires-2-clause-log
-give-requires-2-clause-log g c =
-    let calls = calls_in c.args.calls in
-    next_log calls (Reloads ∷ []) Restarts (Starts ∷ []) (passes_as c.give.ensures.moments (IsGiveMoment calls give_order) (λ w m is moment. inl moment)) c.in_ok-give.ensures.ok
-    (λ same. cc same, tt) c.requires.log
-
-pub returns-in_err-give-2-clause-moments : goal.returns-in_err-give-2-clause-moments
-returns-in_err-give-2-clause-moments g c = second_way (calls_in c.args.calls) c.give.ensures.moments c.in_ok-give.ensures.ok c.give-2.ensures.moments
-
-pub give-requires-3-clause-calls : goal.give-requires-3-clause-calls
-give-requires-3-clause-calls g c =
-    let calls = calls_in c.args.calls in
-    next_can calls (Reloads ∷ Restarts ∷ []) Starts [] (second_way calls c.give.ensures.moments c.in_ok-give.ensures.ok c.give-2.ensures.moments)
-    (second_made calls c.give.ensures.moments c.in_ok-give.ensures.ok c.give-2.ensures.moments c.in_ok-give-2.ensures.ok) c.requires.calls
-
-pub give-requires-3-clause-log : goal.give-requires-3-clause-log
-give-requires-3-clause-log g c =
-    let calls = calls_in c.args.calls in
-    next_log calls (Reloads ∷ Restarts ∷ []) Starts [] (second_way calls c.give.ensures.moments c.in_ok-give.ensures.ok c.give-2.ensures.moments)
-    (second_made calls c.give.ensures.moments c.in_ok-give.ensures.ok c.give-2.ensures.moments c.in_ok-give-2.ensures.ok) (λ same. cc same, (λ same. cc same, tt)) c.requires.log
-
-pub returns-in_err-give-3-clause-moments : goal.returns-in_err-give-3-clause-moments
-returns-in_err-give-3-clause-moments g c =
-    let calls = calls_in c.args.calls in
-    give_way calls (Reloads ∷ Restarts ∷ []) Starts [] (second_way calls c.give.ensures.moments c.in_ok-give.ensures.ok c.give-2.ensures.moments)
-    (second_made calls c.give.ensures.moments c.in_ok-give.ensures.ok c.give-2.ensures.moments c.in_ok-give-2.ensures.ok) c.give-3.ensures.moments
+    record {
+      way = turn_way calls c.loop-which.which-index c.loop-which-test.true c.loop-which.invariant.way c.loop-which.invariant.made c.give.ensures.moments;
+      made = turn_made calls c.loop-which.which-index c.loop-which-test.true c.loop-which.invariant.way c.loop-which.invariant.made c.in_ok-give.ensures.ok;
+      cause = search rules;
+    }
 
 pub returns-clause-ok : goal.returns-clause-ok
 returns-clause-ok g c =
     let calls = calls_in c.args.calls in
-    give_made calls (Reloads ∷ Restarts ∷ []) Starts [] (second_way calls c.give.ensures.moments c.in_ok-give.ensures.ok c.give-2.ensures.moments)
-    (second_made calls c.give.ensures.moments c.in_ok-give.ensures.ok c.give-2.ensures.moments c.in_ok-give-2.ensures.ok) c.in_ok-give-3.ensures.ok
-
-pub returns-clause-moments : goal.returns-clause-moments
-returns-clause-moments g c =
-    let calls = calls_in c.args.calls in
-    give_way calls (Reloads ∷ Restarts ∷ []) Starts [] (second_way calls c.give.ensures.moments c.in_ok-give.ensures.ok c.give-2.ensures.moments)
-    (second_made calls c.give.ensures.moments c.in_ok-give.ensures.ok c.give-2.ensures.moments c.in_ok-give-2.ensures.ok) c.give-3.ensures.moments
-
-pub returns-in_err-give-2-clause-cause : goal.returns-in_err-give-2-clause-cause
-returns-in_err-give-2-clause-cause g c =
-    let p = err_from_is_err_and c.from_residual-in_err-give-2.result c.from_residual-in_err-give-2.ensures.1 in
-    cause_on c.give.ensures.cause c.in_err-give-2.ensures.cause (λ e. handed _ p.0 _ _ p.1 p.2 e)
-
-pub returns-in_err-give-3-clause-cause : goal.returns-in_err-give-3-clause-cause
-returns-in_err-give-3-clause-cause g c =
-    let p = err_from_is_err_and c.from_residual-in_err-give-3.result c.from_residual-in_err-give-3.ensures.1 in
-    cause_on (cause_then c.give.ensures.cause c.give-2.ensures.cause) c.in_err-give-3.ensures.cause (λ e. handed _ p.0 _ _ p.1 p.2 e)
-
-pub returns-clause-cause : goal.returns-clause-cause
-returns-clause-cause g c = cause_end (cause_then c.give.ensures.cause c.give-2.ensures.cause) c.give-3.ensures.cause
+    leads_as c.loop-which.invariant.made (λ w v. v ≡ with_all_given calls give_order w)
+    (λ w v is made. made ∙ ap (λ order. with_all_given calls order w) (take_all c.loop-which.which-index give_order c.loop-which-test.false))

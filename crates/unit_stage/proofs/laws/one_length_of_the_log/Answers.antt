@@ -1,5 +1,5 @@
-use Rattle.unit_stage.proofs.LogLemmas.{one_log_law}
+use Rattle.unit_stage.proofs.LogLemmas.{one_length_law}
 use Rattle.unit_stage.proofs.laws.one_length_of_the_log.Goals as goal
 
 pub returns : goal.returns
-returns c = one_log_law
+returns c = one_length_law

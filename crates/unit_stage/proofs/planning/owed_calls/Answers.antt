@@ -1,11 +1,12 @@
 use Rattle.std.proofs.Common.{◌≡◌, ◌&&◌, sym, ap, ◌∙◌}
-use Rattle.host_trait.specs.declared.entry.Act.TheVariants.{Start}
+use Rattle.log_text.specs.declared.lists.Which.TheVariants.{Starts}
+use Rattle.owed_plan.specs.Lists.{OnList}
 use Rattle.unit_stage.proofs.KnownLemmas.{known_told}
 use Rattle.unit_stage.proofs.planning.owed_calls.Goals as goal
 use Rattle.unit_stage.proofs.planning.owed_calls.Goals.{then-marks, else-marks}
 
 pub ordered_by-requires : goal.ordered_by-requires
-ordered_by-requires c = (c.in_ok-owed.ensures.is_owed Start).sorted
+ordered_by-requires c = (c.in_ok-owed.ensures.is_owed (OnList Starts)).sorted
 
 pub returns : goal.returns
 returns c =
